@@ -34,8 +34,12 @@ get_left (x ∷ xs) ys zero within = refl
 get_left (x ∷ xs) ys (suc k) within = get_left xs ys k (omega arith)
 
 get_right : (xs ys : List Action) (k : ℕ) → slice_get (xs ++ ys) (length xs + k) ≡ slice_get ys k
-get_right [] ys k = refl
-get_right (x ∷ xs) ys k = get_right xs ys k
+get_right [] ys k =
+    let none : 0 + k ≡ k = omega arith in
+    ap (slice_get ys) none
+get_right (x ∷ xs) ys k =
+    let next : suc (length xs) + k ≡ suc (length xs + k) = omega arith in
+    ap (slice_get (x ∷ (xs ++ ys))) next ∙ get_right xs ys k
 
 -- a page and the place in it
 abbrev pub in_page : Option Page → ℕ → Option Action

@@ -40,9 +40,9 @@ found_within [] k a found = absurd cc
 found_within (x ∷ rest) zero a found = omega arith
 found_within (x ∷ rest) (suc k) a found = let less = found_within rest k a found in omega arith
 
-pub is_missed : (found : Option Action) → ((a : Action) → found ≡ Some a → ⊥) → found ≡ None
-is_missed None never = refl
-is_missed (Some a) never = absurd (never a refl)
+pub map_missed : {X Y : Type 0} (f : X → Y) (found : Option X) → ((x : X) → found ≡ Some x → ⊥) → option_map f found ≡ None
+map_missed f None never = refl
+map_missed f (Some x) never = absurd (never x refl)
 
 pub missed_past : (front : List Action) (k : ℕ) → slice_get front k ≡ None → length front ≤ k
 missed_past [] k missed = omega arith

@@ -19,7 +19,7 @@ pub(crate) struct Pages {
 }
 
 impl Model for Pages {
-    ghost use Rattle.rp_log.specs.Pages.{Paged, paged_of};
+    ghost use Rattle.rp_log.specs.Pages.{Paged, paged_of, AreFilled};
 
     ghost Value = { Paged };
 

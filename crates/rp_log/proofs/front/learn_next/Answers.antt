@@ -31,8 +31,8 @@ returns-then-is_empty c =
       bound = omega (arith, longer, c.requires.bound);
     }
 
-pub push_reserved-2-requires-clause-room : goal.push_reserved-2-requires-clause-room
-push_reserved-2-requires-clause-room c =
+pub push_reserved-requires-2-clause-room : goal.push_reserved-requires-2-clause-room
+push_reserved-requires-2-clause-room c =
     let front = c.args.front.now.items in
     let ahead = c.args.ahead.now.entries in
     let at : c.len.result + 1 ≡ length front + 1 = omega (arith, c.len.ensures) in

@@ -22,8 +22,8 @@ push_reserved-requires c =
     let few : c.self.inside.len < 64 * length pages = omega (arith, room, joined_length pages c.self.inside.len c.self.invariant) in
     subst (λ (p : Page). vec_len p < vec_capacity p) (sym c.index_mut.ensures.value) (page_room pages c.self.inside.len page c.self.invariant few)
 
-pub overflow_add-self-inside : goal.overflow_add-self-inside
-overflow_add-self-inside c =
+pub overflow_add-self : goal.overflow_add-self
+overflow_add-self c =
     let long = ap (λ (p : Paged). length p.items) c.self.view_is in
     omega (arith, long, joined_length c.self.inside.pages.items c.self.inside.len c.self.invariant, c.requires.bound)
 

@@ -1,9 +1,9 @@
 -- Pages of 64 actions, against the list of all actions.
-use Rattle.std.proofs.Common.{◌≡◌, ℕ, zero, suc, ◌+◌, ◌-◌, ◌*◌, ◌/◌, ◌%◌, ◌<◌, ◌≤◌, Option, Some, None, List, [], ◌∷◌, ◌++◌, length, get_or, set, refl, sym, ap, ap₂, subst, ◌∙◌, arith, append_assoc, append-nil, length-append}
-use Rattle.std.specs.Prelude.{min, option_and_then, vec_len, vec_capacity}
+use Rattle.std.proofs.Common.{◌≡◌, ℕ, zero, suc, ◌+◌, ◌-◌, ◌*◌, ◌/◌, ◌%◌, ◌<◌, ◌≤◌, Bool, true, false, nat_lt, lt-ltb, ltb-true, Option, Some, None, List, [], ◌∷◌, ◌++◌, length, get_or, set, refl, sym, ap, ap₂, subst, ◌∙◌, arith, append_assoc, append-nil, length-append}
+use Rattle.std.specs.Prelude.{min, is_some, IfSome, option_map, option_and_then, vec_len, vec_capacity}
 use Rattle.std.specs.List.{slice_get}
 use Rattle.std.proofs.lemmas.Bool.{cases_lt}
-use Rattle.std.proofs.lemmas.Option.{slice_get_past}
+use Rattle.std.proofs.lemmas.Option.{slice_get_past, slice_get_read}
 use Rattle.std.proofs.Math.Logic.{⊎_elim}
 use Rattle.rp_base.specs.declared.action.Action.{Action}
 use Rattle.rp_log.specs.Pages.{Page, joined, IsPage, AreFilled}
@@ -40,6 +40,16 @@ get_right [] ys k =
 get_right (x ∷ xs) ys k =
     let next : suc (length xs) + k ≡ suc (length xs + k) = omega arith in
     ap (slice_get (x ∷ (xs ++ ys))) next ∙ get_right xs ys k
+
+-- what a slice lends at a place is its item
+pub lent : {R X : Type 0} (now : R → X) (xs : List X) (i : ℕ) (found : Option R) → is_some found ≡ nat_lt i (length xs) → IfSome found (λ r. now r ≡ get_or xs i (now r)) → option_map now found ≡ slice_get xs i
+lent now xs i None there read =
+    let past : length xs ≤ i = ⊎_elim (λ (within : i < length xs). absurd (no (there ∙ lt-ltb i (length xs) within))) (λ (past : length xs ≤ i). past) (cases_lt i (length xs)) in
+    sym (slice_get_past xs i past)
+  where
+    no : ◌≡◌ {A = Bool} false true → ⊥
+    no e = absurd cc
+lent now xs i (Some r) there read = sym (slice_get_read xs (length xs) i (now r) refl (ltb-true i (length xs) (sym there)) read)
 
 -- a page and the place in it
 abbrev pub in_page : Option Page → ℕ → Option Action

@@ -124,8 +124,10 @@ impl Log {
     pub fn is_learned(&self, position: Position) -> bool
         ensures { result ≡ is_some (action_at self.now position) }
     {
-        usize::from(position.get()) <= self.front.len()
-            || learned_at(&self.ahead, u32::from(position.get())).is_some()
+        if usize::from(position.get()) <= self.front.len() {
+            return true;
+        }
+        learned_at(&self.ahead, u32::from(position.get())).is_some()
     }
 
     /// The action that was learned first at the position, or `None`.

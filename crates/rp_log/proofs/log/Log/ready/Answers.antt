@@ -8,6 +8,8 @@ pub returns : goal.returns
 returns c =
     let front = c.self.inside.front.items in
     let taken = c.self.inside.taken in
-    c.get.ensures ∙ ap (slice_get front) c.from.ensures
-    ∙ ready_front front c.self.inside.next_reserved c.self.inside.ahead.entries taken c.self.invariant.taken_within c.self.invariant.gap
-    ∙ ap ready_of c.self.view_is
+    record {
+      ready = c.get.ensures ∙ ap (slice_get front) c.from.ensures
+      ∙ ready_front front c.self.inside.next_reserved c.self.inside.ahead.entries taken c.self.invariant.taken_within c.self.invariant.gap
+      ∙ ap ready_of c.self.view_is;
+    }

@@ -10,6 +10,6 @@ returns c =
     let taken = c.self.inside.taken in
     record {
       ready = c.get.ensures ∙ ap (slice_get front) c.from.ensures
-      ∙ ready_front front c.self.inside.next_reserved c.self.inside.ahead.entries taken c.self.invariant.taken_within c.self.invariant.gap
-      ∙ ap ready_of c.self.view_is;
+          ∙ ready_front front c.self.inside.next_reserved c.self.inside.ahead.entries taken c.self.invariant.taken_within c.self.invariant.gap
+          ∙ ap ready_of c.self.view_is;
     }

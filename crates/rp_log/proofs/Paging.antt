@@ -1,12 +1,12 @@
 -- Pages of 64 actions, against the list of all actions.
 use Rattle.std.proofs.Common.{◌≡◌, ℕ, zero, suc, ◌+◌, ◌-◌, ◌*◌, ◌/◌, ◌%◌, ◌<◌, ◌≤◌, Bool, true, false, nat_lt, lt-ltb, ltb-true, Option, Some, None, List, [], ◌∷◌, ◌++◌, length, get_or, set, refl, sym, ap, ap₂, subst, ◌∙◌, arith, append_assoc, append-nil, length-append}
-use Rattle.std.specs.Prelude.{min, is_some, IfSome, option_map, option_and_then, vec_len, vec_capacity}
+use Rattle.std.specs.Prelude.{is_some, IfSome, option_map, option_and_then, vec_len, vec_capacity}
 use Rattle.std.specs.List.{slice_get}
 use Rattle.std.proofs.lemmas.Bool.{cases_lt}
 use Rattle.std.proofs.lemmas.Option.{slice_get_past, slice_get_read}
 use Rattle.std.proofs.Math.Logic.{⊎_elim}
 use Rattle.rp_base.specs.declared.action.Action.{Action}
-use Rattle.rp_log.specs.Pages.{Page, joined, IsPage, AreFilled}
+use Rattle.rp_log.specs.Pages.{Page, joined, AreFilled}
 
 nothing : (actions : List Action) → length actions ≡ 0 → actions ≡ []
 nothing [] none = refl

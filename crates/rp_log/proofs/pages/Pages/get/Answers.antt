@@ -3,7 +3,7 @@ use Rattle.std.proofs.Common.{◌≡◌, ◌/◌, ◌%◌, None, Some, ap, sym, 
 use Rattle.std.specs.Prelude.{option_copied}
 use Rattle.std.specs.List.{slice_get}
 use Rattle.std.proofs.lemmas.Grind.{common_steps}
-use Rattle.rp_log.specs.Pages.{Page, Paged}
+use Rattle.rp_log.specs.Pages.{Paged}
 use Rattle.rp_log.proofs.Paging.{lent, in_page, page_get}
 use Rattle.rp_log.proofs.pages.Pages.get.Goals as goal
 

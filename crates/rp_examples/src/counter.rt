@@ -90,7 +90,7 @@ impl Machine for BoundedCounter {
         })
     }
 
-    fn apply(&mut self, action: &Action, answers: &mut Answers) {
+    fn apply(&mut self, action: &Action, into: &mut Answers) {
         if let Action::Call {
             task,
             number,
@@ -100,7 +100,7 @@ impl Machine for BoundedCounter {
         } = *action
         {
             let reply = self.call(operation, arg);
-            answers.push(Answer {
+            into.push(Answer {
                 task,
                 number,
                 reply,

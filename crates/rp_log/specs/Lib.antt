@@ -1,4 +1,4 @@
 pub mod Contents
 pub mod Holding
-pub mod Recorded
 pub mod Pages
+pub mod Recorded

@@ -1,6 +1,6 @@
 -- Actions in pages (callers see none of it).
-use Rattle.std.specs.Prelude.{◌≡◌, ◌<◌, ◌≤◌, ℕ, ◌+◌, ◌*◌, ◌∸◌, List, [], ◌∷◌, ◌++◌, length, vec_len, vec_capacity}
-use Rattle.std.specs.List.{AllByRecursion}
+use Rattle.std.specs.Prelude.{◌≡◌, ◌≤◌, ℕ, ◌*◌, ◌-◌, min, Vec, List, [], ◌∷◌, ◌++◌, length, vec_capacity}
+use Rattle.std.specs.declared.alloc.Global.{Global}
 use Rattle.rp_base.specs.declared.action.Action.{Action}
 
 -- the actions in order, and how many there is room for
@@ -8,19 +8,22 @@ pub record Paged : Type 0 where
   pub items : List Action
   pub room : ℕ
 
+abbrev pub Page : Type 0
+Page = Vec Action Global
+
 -- the actions of all pages
-abbrev pub joined : List (Vec Action) → List Action
+abbrev pub joined : List Page → List Action
 joined [] = []
 joined (page ∷ rest) = page.items ++ joined rest
 
-abbrev pub paged_of : List (Vec Action) → Paged
+abbrev pub paged_of : List Page → Paged
 paged_of pages = record { items = joined pages; room = 64 * length pages }
 
--- each page has room for 64, all those before the one of this length are full, and those after it are empty
-abbrev pub AreFilled : List (Vec Action) → ℕ → Type 0
-AreFilled [] count = count ≡ 0
-AreFilled (page ∷ rest) count =
-    (64 ≤ vec_capacity page) × (length page.items ≡ min 64 count) × AreFilled rest (count ∸ 64)
+-- a page has room for 64, and has the first 64 of so many actions
+abbrev pub IsPage : Page → ℕ → Type 0
+IsPage page count = (64 ≤ vec_capacity page) × (length page.items ≡ min 64 count)
 
-abbrev pub ArePages : List (Vec Action) → ℕ → Type 0
-ArePages pages count = AreFilled pages count × (count ≡ length (joined pages))
+-- the pages have so many actions: each is full where one more follows, and those after the last action are empty
+abbrev pub AreFilled : List Page → ℕ → Type 0
+AreFilled [] count = count ≡ 0
+AreFilled (page ∷ rest) count = IsPage page count × AreFilled rest (count - 64)

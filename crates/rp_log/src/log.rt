@@ -1,8 +1,7 @@
 //! What a node learned, and how far it is taken.
 
-ghost use Rattle.std.specs.Prelude.{◌≡◌, ℕ, ◌^◌, ◌<◌, ◌≤◌, [], ◌∷◌, ◌++◌, length, is_some, IfSome, IfNone, IfErr, OnOk, OnErr};
+ghost use Rattle.std.specs.Prelude.{◌≡◌, ℕ, ◌<◌, ◌≤◌, [], ◌∷◌, ◌++◌, length, is_some, Some, None, IsSome, IfSome, IfNone, OnOk, OnErr, option_copied, option_map};
 ghost use Rattle.std.specs.FinMap.{get};
-ghost use Rattle.rp_base.specs.declared.fault.Fault.TheVariants.{OutOfMemory};
 ghost use Rattle.rp_log.specs.Contents.{empty_log, HasRoom, action_at, IsLearned, with_room, with_action, next_to_take, ready_of, IsTakenInOrder};
 
 use crate::front::{learn_ahead, learn_next, learned_at};
@@ -30,7 +29,7 @@ pub struct Log {
 }
 
 impl Model for Log {
-    ghost use Rattle.std.specs.Prelude.{take, vec_capacity};
+    ghost use Rattle.std.specs.Prelude.{take};
     ghost use Rattle.rp_log.specs.Contents.{Contents, contents_code};
     ghost use Rattle.rp_log.specs.Holding.{places_of, Fits};
 
@@ -44,7 +43,7 @@ impl Model for Log {
     } };
 
     ghost invariant = { λ l. Fits l.front.items l.next_reserved l.ahead.entries
-        (vec_capacity l.front) l.taken l.top };
+        l.front.room l.taken l.top };
 }
 
 impl Log {
@@ -61,8 +60,8 @@ impl Log {
         }
     }
 
-    /// Makes room for learning at the position, and at no other, or is refused with `OutOfMemory`,
-    /// which leaves the log as it was. Where there is room already no memory is asked for.
+    /// Makes room for learning at the position, and at no other, or is refused memory, which leaves
+    /// the log as it was. Where there is room already no memory is asked for.
     #[inline(always)]
     pub fn reserve(&mut self, position: Position) -> Result<(), AllocError>
         // claim (ok, err, refused): Reserving and learning change one position and no other
@@ -117,11 +116,7 @@ impl Log {
             return;
         }
         self.next_reserved = false;
-        if self.ahead.is_empty() {
-            self.front.push_reserved(*action);
-        } else {
-            learn_next(&mut self.front, &mut self.ahead, *action);
-        }
+        learn_next(&mut self.front, &mut self.ahead, *action);
     }
 
     /// Whether an action was learned at the position.
@@ -129,8 +124,10 @@ impl Log {
     pub fn is_learned(&self, position: Position) -> bool
         ensures { result ≡ is_some (action_at self.now position) }
     {
-        usize::from(position.get()) <= self.front.len()
-            || learned_at(&self.ahead, u32::from(position.get())).is_some()
+        if usize::from(position.get()) <= self.front.len() {
+            return true;
+        }
+        learned_at(&self.ahead, u32::from(position.get())).is_some()
     }
 
     /// The action that was learned first at the position, or `None`.

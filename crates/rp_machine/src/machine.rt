@@ -44,12 +44,12 @@ pub trait Machine: Drop {
     /// Applies an action, and puts its answers where the caller holds none, so that they are not
     /// copied. It takes no memory and always succeeds. The caller sees to it that no call of the
     /// action's task waits.
-    fn apply(&mut self, action: &Action, answers: &mut Answers)
-        requires none { answers.old ≡ [] }
+    fn apply(&mut self, action: &Action, into: &mut Answers)
+        requires none { into.old ≡ [] }
         requires right { IsRight action.now }
         requires free { MayApply (waiting self.old) action.now }
         ensures next { self.new ≡ next self.old action.now }
-        ensures answers { answers.new ≡ answers self.old action.now };
+        ensures answers { into.new ≡ answers self.old action.now };
 
     /// Lines that show the state, each ended by a line feed.
     fn image(&self, alloc: Global) -> Result<Vec<u8>, AllocError>

@@ -96,11 +96,13 @@ impl<M: Machine> Numbered<M> {
     {
         replay_may_go_on::<M>();
         answers.clear();
-        if self.counts(action) {
-            self.machine.apply(action, answers);
-            note(&mut self.callers, &mut self.occurrences, action);
-            hear(&mut self.callers, answers.as_slice());
+        if !self.counts(action) {
+            self.actions.push(action);
+            return;
         }
+        self.machine.apply(action, answers);
+        note(&mut self.callers, &mut self.occurrences, action);
+        hear(&mut self.callers, answers.as_slice());
         self.actions.push(action);
     }
 

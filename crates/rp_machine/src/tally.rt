@@ -119,7 +119,7 @@ impl Machine for Tally {
     }
 
     #[inline(never)]
-    fn apply(&mut self, action: &Action, answers: &mut Answers) {
+    fn apply(&mut self, action: &Action, into: &mut Answers) {
         if let Action::Call {
             task,
             number,
@@ -132,7 +132,7 @@ impl Machine for Tally {
                 Operation::Procedure(1) => self.add(object, arg),
                 _ => Reply::NoSuchOperation,
             };
-            answers.push(Answer {
+            into.push(Answer {
                 task,
                 number,
                 reply,

@@ -1,3 +1,4 @@
+mod Promised
 mod Splitting
 mod Raising
 mod Noting

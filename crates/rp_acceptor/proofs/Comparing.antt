@@ -8,7 +8,7 @@ use Rattle.rp_base.specs.declared.record.Rec.{Rec}
 use Rattle.rp_acceptor.specs.declared.comparison.Comparison.{Comparison}
 use Rattle.rp_acceptor.specs.declared.comparison.Comparison.TheVariants.{Above, Below, Equal}
 use Rattle.rp_acceptor.specs.Comparing.{not_above, compared, compared_at, followed_by, combined, Bound, compared_bounds}
-use Rattle.rp_acceptor.specs.Slots.{Kept, bound_of, kept_at, kept_in_page, bounds_from}
+use Rattle.rp_acceptor.specs.Slots.{Kept, nothing_kept, bound_of, kept_at, kept_in_page, bounds_from}
 use Rattle.rp_acceptor.specs.Steps.{Level, ballot_at, ballot_before}
 use Rattle.rp_acceptor.proofs.Splitting.{ballot_by}
 
@@ -294,16 +294,17 @@ pub compared_places : (records : List Rec) (places : List Kept) (b first n : ℕ
 compared_places records [] b first zero some few right = refl
 compared_places records (kept ∷ places) b first zero some few right = absurd (omega (arith, few))
 compared_places records [] b first (suc n) some few right =
-    let here : bound_of (kept_at records first) ≡ 0 = sym (ap bound_of (right 0 (omega arith) ∙ ap (kept_at records) (omega arith))) in
+    let same : nothing_kept ≡ kept_at records first = right 0 (omega arith) ∙ ap (kept_at records) (omega arith) in
+    let none : bound_of (kept_at records first) ≡ 0 = ap bound_of (sym same) in
     let rest : List ℕ = range_with_len (first + 1) n in
     compared_places records [] b (first + 1) n some (omega arith) (λ k within. right (suc k) (omega (arith, within)) ∙ ap (kept_at records) (omega arith))
     ∙ ap (λ (c : Comparison). followed_by c (compared (λ i. bound_of (kept_at records i)) b rest))
-    (sym (ap (λ (x : ℕ). compared_at first x b) here ∙ here_below b first 0 some))
+    (sym (ap (λ (x : ℕ). compared_at first x b) none ∙ here_below b first 0 some))
     ∙ sym (compared_next (λ i. bound_of (kept_at records i)) b first rest)
 compared_places records (kept ∷ places) b first (suc n) some few right =
+    let same : kept ≡ kept_at records first = right 0 (omega arith) ∙ ap (kept_at records) (omega arith) in
     let rest : List ℕ = range_with_len (first + 1) n in
     ap (followed_by (compared_at first (bound_of kept) b))
     (compared_places records places b (first + 1) n some (omega (arith, few)) (λ k within. right (suc k) (omega (arith, within)) ∙ ap (kept_at records) (omega arith)))
-    ∙ ap (λ (k : Kept). followed_by (compared_at first (bound_of k) b) (compared (λ i. bound_of (kept_at records i)) b rest))
-    (right 0 (omega arith) ∙ ap (kept_at records) (omega arith))
+    ∙ ap (λ (k : Kept). followed_by (compared_at first (bound_of k) b) (compared (λ i. bound_of (kept_at records i)) b rest)) same
     ∙ sym (compared_next (λ i. bound_of (kept_at records i)) b first rest)

@@ -1,9 +1,10 @@
 -- One more record: what is kept for a position, and what the bounds are then.
-use Rattle.std.proofs.Common.{◌≡◌, ℕ, suc, ◌+◌, ◌≢◌, max, Bool, true, false, cond, Option, Some, None, List, [], ◌∷◌, ◌++◌, nat_eq, refl, sym, ap, ◌∙◌, inl, inr, arith}
+use Rattle.std.proofs.Common.{◌≡◌, ℕ, suc, ◌+◌, ◌/◌, ◌%◌, ◌≢◌, max, Bool, true, false, cond, Option, Some, None, List, [], ◌∷◌, ◌++◌, nat_eq, set, refl, sym, ap, ◌∙◌, inl, inr, arith}
 use Rattle.std.specs.Prelude.{option_to_list}
 use Rattle.std.specs.List.{cons_option}
-use Rattle.std.proofs.lemmas.Bool.{ne_eqb, eq-eqb}
+use Rattle.std.proofs.lemmas.Bool.{cases_eq, ne_eqb, eq-eqb}
 use Rattle.std.proofs.lemmas.Bool.Decides.{leb_tells}
+use Rattle.rp_base.specs.declared.action.Action.{Action}
 use Rattle.rp_base.specs.declared.record.Vote.{Vote}
 use Rattle.rp_base.specs.declared.record.Rec.{Rec}
 use Rattle.rp_base.specs.declared.record.Rec.TheVariants.{Started, Promised, Voted, Learned, PromisedRange}
@@ -11,7 +12,8 @@ use Rattle.rp_base.specs.Sets.{Has}
 use Rattle.rp_base.specs.Records.{bound_in, bound_at, highest, vote_in, last_vote_at}
 use Rattle.rp_base.proofs.MoreRecords.{bound_push, last_push}
 use Rattle.rp_acceptor.specs.Steps.{Level, ballot_at}
-use Rattle.rp_acceptor.specs.Slots.{Kept, ballot_of_vote, bound_of, stretch_in, promise_at, promise_in, promised_at, kept_at, with_promise, with_vote, with_record, single_in, AreBounds, KeepsRecords}
+use Rattle.rp_acceptor.specs.Slots.{Kept, ballot_of_vote, stretch_in, promise_at, promise_in, promised_at, kept_at, with_promise, with_vote, with_record, single_in, page_at, kept_in_page, kept_of, HasSlot, AreBounds, KeepsRecords}
+use Rattle.rp_acceptor.proofs.Pages.{written_slot, other_slot}
 
 bound_more : (records : List Rec) (rec : Rec) (i : ℕ) → bound_at (records ++ rec ∷ []) i ≡ max (bound_at records i) (bound_in i rec)
 bound_more records rec i = let h = bound_push records rec i in omega (arith, h)
@@ -26,6 +28,10 @@ one_item (Some v) = refl
 
 last_more : (records : List Rec) (rec : Rec) (i : ℕ) → last_vote_at (records ++ rec ∷ []) i ≡ highest (option_to_list (last_vote_at records i) ++ option_to_list (vote_in i rec))
 last_more records rec i = last_push records rec i ∙ ap (λ (l : List Vote). highest (option_to_list (last_vote_at records i) ++ l)) (one_item (vote_in i rec))
+
+-- a vote of these parts
+abbrev pub cast : ℕ → Action → Vote
+cast ballot action = record { ballot = ballot; action = action }
 
 abbrev kept : ℕ → Option Vote → Kept
 kept promised last = record { promised = promised; last = last }
@@ -65,7 +71,7 @@ elsewhere i (Promised position ballot) k other =
     unsaid i (Promised position ballot) k (ap (λ (t : Bool). cond t ballot 0) (ne_eqb position i (λ e. other position (inl refl) (sym e)))) refl
 elsewhere i (Voted position ballot action) k other =
     unsaid i (Voted position ballot action) k refl
-    (ap (λ (t : Bool). cond t (Some (record { ballot = ballot; action = action })) None) (ne_eqb position i (λ e. other position (inl refl) (sym e))))
+    (ap (λ (t : Bool). cond t (Some (cast ballot action)) None) (ne_eqb position i (λ e. other position (inl refl) (sym e))))
 elsewhere i (Learned position action) k other = unsaid i (Learned position action) k refl refl
 elsewhere i (PromisedRange range ballot) k other = unsaid i (PromisedRange range ballot) k refl refl
 
@@ -76,10 +82,25 @@ promised_here i position ballot k here =
     ∙ ap (kept (max k.promised ballot)) (highest_again k.last)
 
 -- a vote at its position
-pub voted_here : (i position : ℕ) (vote : Vote) (k : Kept) → i ≡ position → with_record i (Voted position vote.ballot vote.action) k ≡ with_vote k vote
-voted_here i position vote k here =
-    ap (λ (t : Bool). kept (max k.promised 0) (highest (option_to_list k.last ++ option_to_list (cond t (Some vote) None)))) (eq-eqb position i (sym here))
-    ∙ ap (λ (n : ℕ). kept n (highest (option_to_list k.last ++ vote ∷ []))) (no_more k.promised)
+pub voted_here : (i position ballot : ℕ) (action : Action) (k : Kept) → i ≡ position → with_record i (Voted position ballot action) k ≡ with_vote k (cast ballot action)
+voted_here i position ballot action k here =
+    ap (λ (t : Bool). kept (max k.promised 0) (highest (option_to_list k.last ++ option_to_list (cond t (Some (cast ballot action)) None)))) (eq-eqb position i (sym here))
+    ∙ ap (λ (n : ℕ). kept n (highest (option_to_list k.last ++ cast ballot action ∷ []))) (no_more k.promised)
+
+-- one place written, that of the single position of a record
+pub written_right : (pages : List (List Kept)) (k : ℕ) (page : List Kept) (slot : Kept) (rec : Rec) → HasSlot pages k → page ≡ page_at pages (k / 64)
+    → ((j : ℕ) → Has j (single_in rec) → k + 1 ≡ j) → slot ≡ with_record (k + 1) rec (kept_in_page page (k % 64))
+    → (index : ℕ) → kept_of (set pages (k / 64) (set page (k % 64) slot)) index ≡ with_record (index + 1) rec (kept_of pages index)
+written_right pages k page slot rec has is only right index =
+    elim (cases_eq index k) [
+      | inl e ↦
+          ap (kept_of (set pages (k / 64) (set page (k % 64) slot))) e ∙ written_slot pages k page slot has is ∙ right
+          ∙ ap (λ (p : List Kept). with_record (k + 1) rec (kept_in_page p (k % 64))) is
+          ∙ ap (λ (i : ℕ). with_record (i + 1) rec (kept_of pages i)) (sym e)
+      | inr other ↦
+          other_slot pages k page slot index has is other
+          ∙ sym (elsewhere (index + 1) rec (kept_of pages index) (λ j h e. let at = only j h in other (omega (arith, at, e))))
+    ]
 
 -- ---- the bound
 
@@ -97,7 +118,7 @@ range_promise n = omega arith
 bound_of_record : (i : ℕ) (rec : Rec) → bound_in i rec ≡ max (promise_at i (stretch_in rec)) (max (promise_in i rec) (ballot_of_vote (vote_in i rec)))
 bound_of_record i (Started ballot) = refl
 bound_of_record i (Promised position ballot) = one_promise (bound_in i (Promised position ballot))
-bound_of_record i (Voted position ballot action) = one_vote (nat_eq position i) ballot (record { ballot = ballot; action = action }) refl
+bound_of_record i (Voted position ballot action) = one_vote (nat_eq position i) ballot (cast ballot action) refl
 bound_of_record i (Learned position action) = refl
 bound_of_record i (PromisedRange range ballot) = range_promise (bound_in i (PromisedRange range ballot))
 

@@ -1,4 +1,3 @@
-mod Promised
 mod Splitting
 mod Raising
 mod Noting

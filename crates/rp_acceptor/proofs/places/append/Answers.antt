@@ -17,7 +17,7 @@ returns-in_err-push-clause-full c =
     let rest : List Kept = drop (offset + 1) places in
     let within : offset < length places = omega (arith, c.loop-offset-test.true) in
     let kept : Kept = c.index-places-offset.result in
-    let left : drop offset places ≡ kept ∷ rest = drop_more places offset kept within in
+    let left : drop offset places ≡ kept ∷ rest = drop_more places offset kept within ∙ ap (λ (k : Kept). k ∷ rest) (sym c.index-places-offset.is) in
     let last : kept.last ≡ Some c.in-Some.vote = sym c.last.ensures ∙ c.in-Some.is in
     on_err c.from_residual.result
     (one_left c.args.votes.now.items votes (votes_from from places) (votes_from (from + offset + 1) rest) (record { position = from + offset; vote = c.in-Some.vote })

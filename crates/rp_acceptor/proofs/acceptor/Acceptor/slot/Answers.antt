@@ -1,4 +1,5 @@
 use Rattle.std.proofs.Common.{◌≡◌, ℕ, max, List, sym, ap, ◌∙◌}
+use Rattle.rp_base.specs.Ballot.{number_of}
 use Rattle.rp_base.specs.Records.{bound_at, last_vote_at}
 use Rattle.rp_acceptor.specs.Noted.{Noted}
 use Rattle.rp_acceptor.specs.Steps.{ballot_at}
@@ -12,6 +13,7 @@ returns-clause-bound c =
     c.kept_at-kept.ensures ∙ ap (λ (l : List (List Kept)). kept_of l c.index_of_position.result) c.deref.ensures.value
     ∙ c.self.invariant.kept.right c.index_of_position.result ∙ ap (kept_at c.self.inside.records) c.index_of_position.ensures in
     c.greater.ensures
+    ∙ ap (λ (n : ℕ). max (number_of c.ballot-promised.result) n) c.bound.ensures
     ∙ ap (λ (n : ℕ). max n (bound_of c.kept_at-kept.result)) (c.ballot-promised.ensures ∙ ap (ballot_at c.self.inside.steps) at)
     ∙ ap (λ (k : Kept). max (ballot_at c.self.inside.steps c.args.position) (bound_of k)) kept
     ∙ c.self.invariant.bounds c.args.position

@@ -1,6 +1,6 @@
 //! The learner of one node.
 
-ghost use Rattle.std.specs.Prelude.{◌≡◌, ◌≤◌, ◌-◌, ℕ, nat_lt, replicate, None, Some, if◌then◌else◌, OnOk, OnErr, IfOk};
+ghost use Rattle.std.specs.Prelude.{◌≡◌, ◌≤◌, ◌-◌, ℕ, nat_lt, replicate, None, Some, if◌then◌else◌, OnOk, OnErr, IfOk, IsOkUnless};
 ghost use Rattle.circular_buffer.specs.Buffer.{buffer};
 ghost use Rattle.rp_base.specs.declared.record.Vote.{Vote};
 ghost use Rattle.rp_learner.specs.Learning.{Learning};
@@ -10,7 +10,7 @@ ghost use Rattle.rp_learner.specs.Status.{SameLearning, SameSizes, fresh, vote_f
 
 use crate::place::Place;
 use circular_buffer::HeapCircularBuffer;
-use rp_base::{Action, Ballot, NodeId, Position, majority};
+use rp_base::{Action, Ballot, Fault, NodeId, Position, majority};
 use std::alloc::{AllocError, Global};
 use std::marker::Model;
 

@@ -1,8 +1,8 @@
 -- What a proposal keeps says of the promises what they say themselves.
-use Rattle.std.proofs.Common.{◌≡◌, ℕ, List, [], ◌∷◌, ◌++◌, length, map, nat_eq, sym, ap, subst, ◌∙◌}
+use Rattle.std.proofs.Common.{◌≡◌, ℕ, List, [], ◌∷◌, ◌++◌, length, map, nat_eq, sym, subst}
 use Rattle.std.proofs.lemmas.Bool.Decides.{Decides-eqb}
 use Rattle.rp_base.specs.Number.{in_range}
-use Rattle.rp_base.specs.Sets.{IsSet, SameMembers, with_member, with_members}
+use Rattle.rp_base.specs.Sets.{IsSet, SameMembers, with_member}
 use Rattle.rp_base.specs.Majority.{nodes_among}
 use Rattle.rp_base.specs.Promises.{Promise, same_promise, promisers_of}
 use Rattle.rp_base.proofs.Members.{same_with, same_size, same_passing, set_passing, set_members, with_members-append}

@@ -1,4 +1,4 @@
-use Rattle.std.proofs.Common.{◌+◌, List, sym, subst}
+use Rattle.std.proofs.Common.{List, sym, subst}
 use Rattle.rp_base.specs.declared.record.Rec.{Rec}
 use Rattle.rp_acceptor.specs.Noted.{Noted, HasRoom}
 use Rattle.rp_acceptor.specs.Slots.{AreKept}

@@ -1,4 +1,4 @@
-use Rattle.std.proofs.Common.{◌≡◌, ℕ, max, List, sym, ap, ◌∙◌}
+use Rattle.std.proofs.Common.{◌≡◌, ℕ, max, List, ap, ◌∙◌}
 use Rattle.rp_base.specs.Ballot.{number_of}
 use Rattle.rp_base.specs.Records.{bound_at, last_vote_at}
 use Rattle.rp_acceptor.specs.Noted.{Noted}

@@ -20,9 +20,9 @@ returns-clause-full c =
     let l = c.self.inside in
     after_errs c.hear.result (λ more unheard. rw (← c.self.view_is) (more unheard))
     (after_errs c.hear.result
-    (λ open few. one_more_here l.nodes l.max_positions l.first l.places.items c.args.position c.in-Some.offset c.in-Some-get_mut.place.now
+    (λ free few. one_more_here l.nodes l.max_positions l.first l.places.items c.args.position c.in-Some.offset c.in-Some-get_mut.place.now
     (offset_at l.first c.args.position c.in-Some.offset c.in-Some.ensures) c.self.invariant.2 (sym c.in-Some-get_mut.ensures.value)
-    c.args.from (vote_for c.args.ballot c.args.action.now) c.self.invariant.0 open few)
+    c.args.from (vote_for c.args.ballot c.args.action.now) c.self.invariant.0 free few)
     c.hear.ensures.open c.hear.ensures.few)
     c.hear.ensures.unheard
 

@@ -1,12 +1,11 @@
 //! The acceptor's questions and notes.
 
-ghost use Rattle.std.specs.Prelude.{◌≡◌, ◌≤◌, ◌<◌, [], ◌∷◌, ◌++◌, max, flat_map, IfOk, IfSome, IfNone, OnOk, OnErr, IsOkUnless};
+ghost use Rattle.std.specs.Prelude.{◌≡◌, ◌≤◌, ◌<◌, [], ◌∷◌, flat_map, IfOk, IfSome, IfNone, OnOk, OnErr};
 ghost use Rattle.rp_base.specs.Ballot.{number_of};
 ghost use Rattle.rp_base.specs.Records.{bound_at, last_vote_at};
 ghost use Rattle.rp_base.specs.Ranges.{positions_of};
 ghost use Rattle.rp_base.specs.Sets.{Has};
 ghost use Rattle.rp_acceptor.specs.Noted.{nothing_noted, places_in, HasRoom, reserves, reserves_vote, reserves_range, reserves_for, notes, restored};
-ghost use Rattle.rp_acceptor.specs.Slots.{ballot_of_vote};
 ghost use Rattle.rp_base.specs.Voting.{prepare_answer, vote_answer, accept_answer};
 
 use crate::page::{Page, kept_at, make, note};
@@ -175,15 +174,10 @@ impl Acceptor {
         ensures last { result.last ≡ last_vote_at self.now.records position }
     {
         let promised = self.steps.ballot(usize::from(position.get()));
-        match kept_at(&self.pages, index_of_position(position)) {
-            Some(kept) => Slot {
-                bound: Ballot::greater(promised, kept.bound()),
-                last: kept.last,
-            },
-            None => Slot {
-                bound: promised,
-                last: None,
-            },
+        let kept = kept_at(&self.pages, index_of_position(position));
+        Slot {
+            bound: Ballot::greater(promised, kept.bound()),
+            last: kept.last(),
         }
     }
 

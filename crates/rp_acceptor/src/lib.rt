@@ -9,7 +9,7 @@
 //! - `steps`: the ballots that it promised for ranges
 //! - `page`: what it keeps for single positions, in pages, each made when a position of it is first
 //!   reserved
-//! - `places`: the last votes at the positions of a range
+//! - `places`: what it keeps for the positions of a range
 #![tactic(auto)]
 
 mod acceptor;

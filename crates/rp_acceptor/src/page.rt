@@ -1,14 +1,12 @@
 //! What an acceptor keeps for single positions, in pages, each made when a position of it is first
 //! reserved.
 
-ghost use Rattle.std.specs.Prelude.{Option, option_to_list, ◌≡◌, ◌+◌, ◌<◌, ◌≤◌, ◌∷◌, [], ℕ, length, slice_set, nat_eq, ◌/◌, ◌%◌, OnOk, OnErr, IfOk, List, None, ◌++◌};
+ghost use Rattle.std.specs.Prelude.{◌≡◌, ◌+◌, ◌<◌, ◌≤◌, [], ℕ, length, slice_set, nat_eq, ◌/◌, ◌%◌, OnOk, OnErr, IfOk};
+ghost use Rattle.rp_base.specs.Ballot.{number_of};
 ghost use Rattle.rp_base.specs.Sets.{Has};
-ghost use Rattle.rp_base.specs.Records.{highest};
-ghost use Rattle.rp_base.specs.declared.record.Rec.{Rec};
-ghost use Rattle.rp_acceptor.specs.Noted.{voted_in};
-ghost use Rattle.rp_acceptor.specs.Slots.{vote_in_page, page_at, vote_of, HasSlot, HasMore, IsWhole, AreVotes};
+ghost use Rattle.rp_acceptor.specs.Slots.{nothing_kept, bound_of, with_promise, with_vote, with_record, single_in, kept_in_page, page_at, kept_of, HasSlot, HasMore, IsWhole};
 
-use crate::slot::index_of_position;
+use crate::slot::{ballot_of, index_of_position};
 use rp_base::{Ballot, Rec, Vote};
 use std::alloc::{AllocError, Global};
 use std::marker::Model;
@@ -20,26 +18,70 @@ pub const PAGE: usize = 64;
 /// where none was, and the last vote there.
 #[derive(Clone, Copy)]
 pub struct Kept {
-    pub promised: u64,
-    pub last: Option<Vote>,
+    promised: u64,
+    last: Option<Vote>,
+}
+
+impl Model for Kept {
+    ghost use Rattle.rp_acceptor.specs.Slots as slots;
+    ghost use Rattle.rp_acceptor.specs.Steps.{IsPromised};
+
+    ghost Value = { slots.Kept };
+
+    ghost view = { λ k. record { promised = k.promised; last = k.last } };
+
+    ghost invariant = { λ k. IsPromised k.promised };
+
+    ghost inverse = { λ k. record { promised = k.promised; last = k.last } };
 }
 
 impl Kept {
     /// Nothing.
-    const NOTHING: Kept = Kept {
-        promised: 0,
-        last: None,
-    };
+    fn nothing() -> Kept
+        ensures { result ≡ nothing_kept }
+    {
+        Kept {
+            promised: 0,
+            last: None,
+        }
+    }
+
+    /// The last vote.
+    #[inline(always)]
+    pub fn last(&self) -> Option<Vote>
+        ensures { result ≡ self.now.last }
+    {
+        self.last
+    }
 
     /// The greater of the ballot that was promised and the last vote's.
     #[inline(always)]
     pub fn bound(&self) -> Option<Ballot>
-        ensures { number_of result ≡ max self.now.promised (ballot_of_vote self.now.last) }
+        ensures { number_of result ≡ bound_of self.now }
     {
-        let promised = Ballot::new(self.promised);
+        let promised = ballot_of(self.promised);
         match &self.last {
             Some(vote) => Ballot::greater(promised, Some(vote.ballot)),
             None => promised,
+        }
+    }
+
+    /// Notes a promise: the greatest ballot counts.
+    #[inline(always)]
+    fn promise(&mut self, ballot: Ballot)
+        ensures { self.new ≡ with_promise self.old ballot }
+    {
+        self.promised = self.promised.max(ballot.get());
+    }
+
+    /// Notes a vote: the last is the higher one.
+    #[inline(always)]
+    fn vote(&mut self, vote: Vote)
+        ensures { self.new ≡ with_vote self.old vote }
+    {
+        match &self.last {
+            Some(last) if last.ballot.get() >= vote.ballot.get() => {}
+            _ => self.last = Some(vote),
         }
     }
 }
@@ -47,16 +89,16 @@ impl Kept {
 /// What is kept for 64 positions in a row, or nothing where no position of them was reserved.
 #[derive(Drop)]
 pub struct Page {
-    kept: Vec<Kept>,
+    places: Vec<Kept>,
 }
 
 impl Model for Page {
-    ghost use Rattle.std.specs.Prelude.{List, Option};
-    ghost use Rattle.rp_base.specs.declared.record.Vote.{Vote};
+    ghost use Rattle.std.specs.Prelude.{List};
+    ghost use Rattle.rp_acceptor.specs.Slots as slots;
 
-    ghost Value = { List (Option Vote) };
+    ghost Value = { List slots.Kept };
 
-    ghost view = { λ p. p.kept.items };
+    ghost view = { λ p. p.places.items };
 }
 
 impl Page {
@@ -65,56 +107,68 @@ impl Page {
         ensures { result ≡ [] }
     {
         Page {
-            kept: Vec::new(alloc),
+            places: Vec::new(alloc),
         }
     }
 
-    /// A page without a vote.
+    /// A page that keeps nothing.
     fn new(alloc: Global) -> Result<Page, AllocError>
         ensures len { IfOk result (λ page. length page ≡ 64) }
-        ensures empty { IfOk result (λ page. (offset : ℕ) → vote_in_page page offset ≡ None) }
+        ensures empty { IfOk result (λ page. (offset : ℕ)
+            → kept_in_page page offset ≡ nothing_kept) }
     {
-        let mut kept = Vec::new(alloc);
-        kept.resize(PAGE, Kept::NOTHING)?;
-        Ok(Page { kept })
+        let mut places = Vec::new(alloc);
+        places.resize(PAGE, Kept::nothing())?;
+        Ok(Page { places })
     }
 
     fn is_absent(&self) -> bool
         ensures { result ≡ nat_eq (length self.now) 0 }
     {
-        self.kept.is_empty()
+        self.places.is_empty()
     }
 
-    /// Notes a vote at an offset: the last vote there is the higher one.
+    /// What is kept at an offset, nothing past the end.
     #[inline(always)]
-    fn note_at(&mut self, offset: usize, vote: Vote)
-        requires within { offset < length self.old }
-        ensures { self.new ≡ slice_set self.old offset (with_vote (slice_index_or self.old offset nothing_kept) vote) }
+    fn kept(&self, offset: usize) -> Kept
+        ensures { result ≡ kept_in_page self.now offset }
     {
-        let kept = &mut self.kept[offset];
-        match &kept.last {
-            Some(last) if vote.ballot <= last.ballot => {}
-            _ => kept.last = Some(vote),
+        match self.places.get(offset) {
+            Some(kept) => *kept,
+            None => Kept::nothing(),
         }
     }
 
-    /// Notes a promise at an offset: the greatest ballot counts.
+    /// Notes a promise at an offset.
     #[inline(always)]
-    fn promise_at(&mut self, offset: usize, ballot: Ballot)
+    fn note_promise(&mut self, offset: usize, ballot: Ballot)
         requires within { offset < length self.old }
-        ensures { self.new ≡ slice_set self.old offset (with_promise (slice_index_or self.old offset nothing_kept) ballot) }
+        ensures { self.new ≡ slice_set self.old offset
+            (with_promise (kept_in_page self.old offset) ballot) }
     {
-        let kept = &mut self.kept[offset];
-        kept.promised = kept.promised.max(ballot.get());
+        self.places[offset].promise(ballot);
+    }
+
+    /// Notes a vote at an offset.
+    #[inline(always)]
+    fn note_vote(&mut self, offset: usize, vote: Vote)
+        requires within { offset < length self.old }
+        ensures { self.new ≡ slice_set self.old offset
+            (with_vote (kept_in_page self.old offset) vote) }
+    {
+        self.places[offset].vote(vote);
     }
 }
 
 /// What is kept at an index, nothing in a page that is absent.
 #[inline(always)]
-pub fn kept_at(pages: &[Page], index: usize) -> Option<&Kept>
-    ensures { option_copied result ≡ kept_of pages.now index }
+pub fn kept_at(pages: &[Page], index: usize) -> Kept
+    ensures { result ≡ kept_of pages.now index }
 {
-    pages.get(index / PAGE)?.kept.get(index % PAGE)
+    match pages.get(index / PAGE) {
+        Some(page) => page.kept(index % PAGE),
+        None => Kept::nothing(),
+    }
 }
 
 /// The places at indices of one page, this many from the first on; none in a page that is absent.
@@ -122,13 +176,13 @@ pub fn places_at(pages: &[Page], index: usize, count: usize) -> &[Kept]
     requires whole { (n : ℕ) → IsWhole (page_at pages.now n) }
     requires within { index % 64 + count ≤ 64 }
     ensures few { length result.now ≤ count }
-    ensures votes { (k : ℕ) → k < count
-        → vote_in_page result.now k ≡ vote_of pages.now (index + k) }
+    ensures kept { (k : ℕ) → k < count
+        → kept_in_page result.now k ≡ kept_of pages.now (index + k) }
 {
     match pages.get(index / PAGE) {
         Some(page) if !page.is_absent() => {
             let offset = index % PAGE;
-            &page.kept[offset..offset + count]
+            &page.places[offset..offset + count]
         }
         _ => &[],
     }
@@ -146,6 +200,17 @@ fn grow(pages: &mut Vec<Page>, alloc: Global, number: usize) -> Result<(), Alloc
     Ok(())
 }
 
+/// Whether the page of this number is absent.
+#[inline(always)]
+fn is_absent(pages: &[Page], number: usize) -> bool
+    ensures { result ≡ nat_eq (length (page_at pages.now number)) 0 }
+{
+    match pages.get(number) {
+        Some(page) => page.is_absent(),
+        None => true,
+    }
+}
+
 /// Makes the page of an index, unless it is there. Refused for memory, each place stays.
 #[inline(always)]
 pub fn make(pages: &mut Vec<Page>, alloc: Global, index: usize) -> Result<(), AllocError>
@@ -155,16 +220,17 @@ pub fn make(pages: &mut Vec<Page>, alloc: Global, index: usize) -> Result<(), Al
     ensures full { OnErr result (length (page_at pages.old.items (index / 64)) ≡ 0) }
 {
     let number = index / PAGE;
-    if number < pages.len() && !pages[number].is_absent() {
-        return Ok(());
+    if is_absent(pages, number) {
+        make_anew(pages, alloc, number)
+    } else {
+        Ok(())
     }
-    make_anew(pages, alloc, number)
 }
 
-/// Makes the page of this number, which is absent.
+/// Makes the page of this number, which is absent. Refused for memory, each place stays.
 #[inline(never)]
 fn make_anew(pages: &mut Vec<Page>, alloc: Global, number: usize) -> Result<(), AllocError>
-    requires { (n : ℕ) → IsWhole (page_at pages.old.items n) }
+    requires { length (page_at pages.old.items number) ≡ 0 }
     ensures more { HasMore pages.old.items pages.new.items }
     ensures made { OnOk result (length (page_at pages.new.items number) ≡ 64) }
 {
@@ -177,16 +243,16 @@ fn make_anew(pages: &mut Vec<Page>, alloc: Global, number: usize) -> Result<(), 
 /// position is there.
 #[inline(always)]
 pub fn note(pages: &mut Vec<Page>, rec: &Rec)
-    requires { (index : ℕ) → Has (index + 1) (placed_at rec.now) → HasSlot pages.old.items index }
+    requires { (index : ℕ) → Has (index + 1) (single_in rec.now) → HasSlot pages.old.items index }
     ensures len { (n : ℕ) → length (page_at pages.new.items n)
         ≡ length (page_at pages.old.items n) }
-    ensures right { (records : List Rec) → AreKept (kept_of pages.old.items) records
-        → AreKept (kept_of pages.new.items) (records ++ rec.now ∷ []) }
+    ensures noted { (index : ℕ) → kept_of pages.new.items index
+        ≡ with_record (index + 1) rec.now (kept_of pages.old.items index) }
 {
     match rec {
         Rec::Promised(position, ballot) => {
             let index = index_of_position(*position);
-            pages[index / PAGE].promise_at(index % PAGE, *ballot);
+            pages[index / PAGE].note_promise(index % PAGE, *ballot);
         }
         Rec::Voted(position, ballot, action) => {
             let index = index_of_position(*position);
@@ -194,7 +260,7 @@ pub fn note(pages: &mut Vec<Page>, rec: &Rec)
                 ballot: *ballot,
                 action: *action,
             };
-            pages[index / PAGE].note_at(index % PAGE, vote);
+            pages[index / PAGE].note_vote(index % PAGE, vote);
         }
         Rec::Started(_) | Rec::Learned(_, _) | Rec::PromisedRange(_, _) => {}
     }

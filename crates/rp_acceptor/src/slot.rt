@@ -1,8 +1,9 @@
 //! What the records say of a position, and what a record adds.
 
 ghost use Rattle.std.specs.Prelude.{◌≡◌, ◌+◌, ◌<◌, IfSome};
-ghost use Rattle.rp_acceptor.specs.Noted.{placed_in};
+ghost use Rattle.rp_base.specs.Ballot.{number_of};
 ghost use Rattle.rp_acceptor.specs.Slots.{stretch_in};
+ghost use Rattle.rp_acceptor.specs.Steps.{IsPromised};
 
 use rp_base::{Ballot, Position, Rec, Vote};
 use std::marker::Model;
@@ -46,6 +47,15 @@ pub fn stretch_in(rec: &Rec) -> Option<Stretch>
         }),
         Rec::Started(_) | Rec::Promised(_, _) | Rec::Voted(_, _, _) | Rec::Learned(_, _) => None,
     }
+}
+
+/// The ballot of this number, or none where it is 0.
+#[inline(always)]
+pub fn ballot_of(number: u64) -> Option<Ballot>
+    requires { IsPromised number }
+    ensures { number_of result ≡ number }
+{
+    Ballot::new(number)
 }
 
 /// The index of a position's place.

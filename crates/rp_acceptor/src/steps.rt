@@ -6,11 +6,11 @@ ghost use Rattle.std.specs.List.{range_with_len};
 ghost use Rattle.rp_base.specs.Ballot.{number_of};
 ghost use Rattle.rp_base.specs.Ranges.{end_of, positions_of};
 ghost use Rattle.rp_acceptor.specs.Comparing.{compared};
-ghost use Rattle.rp_acceptor.specs.Steps.{Level, IsRising, IsCountBelow, ballot_at, ballot_before, begins_at, HasStep, raised_at, raised_step};
+ghost use Rattle.rp_acceptor.specs.Steps.{Level, IsPromised, IsRising, IsCountBelow, ballot_at, ballot_before, begins_at, HasStep, raised_at, raised_step};
 ghost use Rattle.rp_acceptor.specs.Slots.{stretch_in, promise_at, HasEnds};
 
 use crate::comparison::Comparison;
-use crate::slot::stretch_in;
+use crate::slot::{ballot_of, stretch_in};
 use rp_base::{Ballot, PositionRange, Rec};
 use std::alloc::{AllocError, Global};
 use std::marker::Model;
@@ -27,15 +27,13 @@ struct Step {
 }
 
 impl Model for Step {
-    ghost use Rattle.rp_base.specs.Ballot.{IsBallot};
-    ghost use Rattle.std.specs.Prelude.{◌≡◌, ◌⊎◌};
-    ghost use Rattle.rp_acceptor.specs.Steps.{Level};
+    ghost use Rattle.rp_acceptor.specs.Steps.{Level, IsPromised};
 
     ghost Value = { Level };
 
     ghost view = { λ s. record { from = s.from; ballot = s.ballot } };
 
-    ghost invariant = { λ s. (s.ballot ≡ 0) ⊎ IsBallot s.ballot };
+    ghost invariant = { λ s. IsPromised s.ballot };
 }
 
 impl Step {
@@ -156,10 +154,20 @@ fn ballot_before(steps: &[Step], count: usize) -> Option<Ballot>
     requires { count ≤ length steps.now }
     ensures { number_of result ≡ ballot_before 0 steps.now count }
 {
+    ballot_of(number_before(steps, count))
+}
+
+/// Its number, or 0 where nothing is promised.
+fn number_before(steps: &[Step], count: usize) -> u64
+    requires { count ≤ length steps.now }
+    ensures value { result ≡ ballot_before 0 steps.now count }
+    ensures promised { IsPromised result }
+{
     if count == 0 {
-        None
+        0
     } else {
-        Ballot::new(steps[count - 1].ballot)
+        let step = &steps[count - 1];
+        step.ballot
     }
 }
 
@@ -224,11 +232,7 @@ fn split(steps: &mut Vec<Step>, position: usize) -> Result<(), AllocError>
 {
     let count = count_below(steps, position);
     if !begins_at(steps, count, position) {
-        let ballot = if count == 0 {
-            0
-        } else {
-            steps[count - 1].ballot
-        };
+        let ballot = number_before(steps, count);
         let step = Step {
             from: position,
             ballot,

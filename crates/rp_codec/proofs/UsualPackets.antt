@@ -11,7 +11,7 @@ use Rattle.rp_codec.specs.declared.packet.Body.TheVariants as bodies
 use Rattle.rp_codec.specs.declared.packet.Party.TheVariants.{Node, Task}
 use Rattle.rp_codec.specs.declared.usual_texts.Place.{Place}
 use Rattle.rp_codec.specs.Message.{Message, IsBody, IsCallOf, MaySay, KeepsRules}
-use Rattle.rp_codec.specs.Text.{position_text, ballot_text, vote_text, text_of}
+use Rattle.rp_codec.specs.Text.{position_text, ballot_text, text_of}
 use Rattle.rp_codec.specs.Decoding.{IsDecoded}
 use Rattle.rp_codec.specs.Usual.{IsPlace, between, prepare_at, promise_at, accept_at, accepted_at}
 use Rattle.rp_codec.proofs.Steps.{IsBytes}

@@ -25,7 +25,10 @@ pub fn is_call(action: &Action) -> bool
 
 /// The bytes of one array, and those of the other after them.
 #[inline(always)]
-fn joined<const A: usize, const B: usize, const N: usize>(front: &[u8; A], rest: &[u8; B]) -> [u8; N]
+fn joined<const A: usize, const B: usize, const N: usize>(
+    front: &[u8; A],
+    rest: &[u8; B],
+) -> [u8; N]
     requires { A + B ≡ N }
     ensures { result ≡ front.now ++ rest.now }
 {

@@ -1,4 +1,4 @@
-use Rattle.std.proofs.Common.{◌≡◌, ◌+◌, get_or, [], ◌∷◌, ◌++◌, refl, subst, sym, arith}
+use Rattle.std.proofs.Common.{◌≡◌, ◌+◌, get_or, [], ◌∷◌, refl, subst, sym, arith}
 use Rattle.rp_base.specs.Number.{IsNode, IsTask}
 use Rattle.rp_codec.specs.Text.{action_text}
 use Rattle.rp_codec.proofs.UsualTexts.{joined, front_long, four, call_sent_joined}

@@ -1,5 +1,5 @@
 -- A text of version 2 is read as the packet of the fields that are in it.
-use Rattle.std.proofs.Common.{◌≡◌, ℕ, List, [], ◌∷◌, ◌++◌, ◌+◌, Ok, None, subst, sym, ap, ◌∙◌, append_assoc}
+use Rattle.std.proofs.Common.{◌≡◌, ℕ, List, [], ◌∷◌, ◌++◌, Ok, None, subst, sym, ap, ◌∙◌, append_assoc}
 use Rattle.std.proofs.lemmas.List.{append-nil}
 use Rattle.rp_base.specs.Number.{IsNode, IsTask, IsPosition}
 use Rattle.rp_base.specs.Action.{IsRight, IsCount}

@@ -1,14 +1,21 @@
 -- The packets of the usual kinds, by the fields that are read from their texts.
-use Rattle.std.specs.Prelude.{◌≡◌, ℕ, Bool, true, false, None, Some, List, ◌++◌, ◌+◌, take, drop, length}
+use Rattle.std.specs.Prelude.{None}
+use Rattle.rp_base.specs.Number.{IsNode, IsPosition}
+use Rattle.rp_base.specs.Ballot.{IsBallot}
 use Rattle.rp_base.specs.declared.action.Action.{Action}
 use Rattle.rp_base.specs.declared.action.Action.TheVariants as actions
 use Rattle.rp_codec.specs.Message.{Message}
+use Rattle.rp_codec.specs.declared.packet.Body.{Body}
 use Rattle.rp_codec.specs.declared.packet.Body.TheVariants as bodies
 use Rattle.rp_codec.specs.declared.packet.Party.TheVariants.{Node, Task}
 use Rattle.rp_codec.specs.declared.usual_texts.Place.{Place}
 use Rattle.rp_codec.specs.declared.usual_texts.SentCall.{SentCall}
 use Rattle.rp_codec.specs.declared.usual_texts.SentDecision.{SentDecision}
 use Rattle.rp_codec.specs.declared.usual_texts.SentReply.{SentReply}
+
+-- each number of the place is within its range
+abbrev pub IsPlace : Place → Type 0
+IsPlace place = IsNode place.from × IsNode place.to × IsPosition place.position × IsBallot place.ballot
 
 -- the packet between the two nodes of a place that says this
 abbrev pub between : Place → Body → Message
@@ -37,9 +44,7 @@ reply_sent r = record { from = Node r.from; to = Task r.task; body = bodies.Repl
 
 -- the action is a call
 abbrev pub IsCall : Action → Type 0
+IsCall actions.Noop = ⊥
 IsCall (actions.Call task number object operation arg) = Unit {0}
-IsCall _ = ⊥
-
--- the bytes with a piece in place of as many from a place on
-abbrev pub overwritten : List ℕ → ℕ → List ℕ → List ℕ
-overwritten bytes from piece = take from bytes ++ piece ++ drop (from + length piece) bytes
+IsCall (actions.Interrupt source occurrence) = ⊥
+IsCall (actions.Tick now) = ⊥

@@ -1,8 +1,10 @@
 //! Bytes to packets.
 
-ghost use Rattle.std.specs.Prelude.{◌≡◌, ◌↔◌, ℕ, List, length, Some, IsSome, IfSome, IfOk, OnErr};
-ghost use Rattle.rp_codec.specs.Message.{Message, IsPacket};
+ghost use Rattle.std.specs.Prelude.{◌≡◌, ◌↔◌, ℕ, List, length, Some, Ok, IsSome, IfSome, IfOk, OnErr};
+ghost use Rattle.rp_codec.specs.Message.{Message, IsPacket, MaySay};
+ghost use Rattle.rp_codec.specs.declared.packet.Party.TheVariants.{Node};
 ghost use Rattle.rp_codec.specs.Text.{text_of, IsTextBefore};
+ghost use Rattle.rp_codec.specs.Usual.{between};
 ghost use Rattle.rp_codec.specs.Reading.{Gives, node_at, task_at, audit_at, from_at, to_at, version_at, kind_at, packet_at, all_of};
 ghost use Rattle.rp_codec.specs.Found.{Skips, FindsPacket, FindsWhole, KeepsRulesAt, IsListed, IsList};
 ghost use Rattle.rp_codec.specs.Decoding.{IsDecoded, IsLongText, BeginsWithPacket};
@@ -15,8 +17,8 @@ use crate::packet::{Body, Packet, Party};
 use crate::reader::Reader;
 use crate::report_text::list_actions;
 use crate::usual_texts::{
-    Place, SentCall, SentDecision, SentReply, usual_accept, usual_accepted, usual_call,
-    usual_decided, usual_prepare, usual_promise, usual_reply,
+    Place, usual_accept, usual_accepted, usual_call, usual_decided, usual_prepare, usual_promise,
+    usual_reply,
 };
 use crate::version::Version;
 use crate::votes_text::list_votes;
@@ -212,13 +214,99 @@ pub fn decode_fields(
     }
 }
 
-/// The packet between two nodes.
+/// The packet between the two nodes of a place that says this.
 #[inline(always)]
 fn between(place: Place, body: Body) -> Packet
     requires { MaySay (Node place.from) (Node place.to) body }
-    ensures { result ≡ record { from = Node place.from; to = Node place.to; body = body } }
+    ensures { result ≡ between place body }
 {
     Packet::new(Party::Node(place.from), Party::Node(place.to), body)
+}
+
+#[inline(always)]
+fn call_packet(bytes: &[u8]) -> Option<Packet>
+    ensures { IfSome result (λ packet. IsDecoded bytes.now (Ok packet)) }
+{
+    let call = usual_call(bytes)?;
+    let body = Body::Call {
+        action: call.action,
+    };
+    Some(Packet::new(Party::Task(call.task), Party::Node(call.to), body))
+}
+
+#[inline(always)]
+fn prepare_packet(bytes: &[u8]) -> Option<Packet>
+    ensures { IfSome result (λ packet. IsDecoded bytes.now (Ok packet)) }
+{
+    let place = usual_prepare(bytes)?;
+    let body = Body::Prepare {
+        position: place.position,
+        ballot: place.ballot,
+    };
+    Some(between(place, body))
+}
+
+#[inline(always)]
+fn promise_packet(bytes: &[u8]) -> Option<Packet>
+    ensures { IfSome result (λ packet. IsDecoded bytes.now (Ok packet)) }
+{
+    let place = usual_promise(bytes)?;
+    let body = Body::Promise {
+        position: place.position,
+        ballot: place.ballot,
+        last: None,
+    };
+    Some(between(place, body))
+}
+
+#[inline(always)]
+fn accept_packet(bytes: &[u8]) -> Option<Packet>
+    ensures { IfSome result (λ packet. IsDecoded bytes.now (Ok packet)) }
+{
+    let (place, action) = usual_accept(bytes)?;
+    let body = Body::Accept {
+        position: place.position,
+        ballot: place.ballot,
+        action,
+    };
+    Some(between(place, body))
+}
+
+#[inline(always)]
+fn accepted_packet(bytes: &[u8]) -> Option<Packet>
+    ensures { IfSome result (λ packet. IsDecoded bytes.now (Ok packet)) }
+{
+    let (place, action) = usual_accepted(bytes)?;
+    let body = Body::Accepted {
+        position: place.position,
+        ballot: place.ballot,
+        action,
+    };
+    Some(between(place, body))
+}
+
+#[inline(always)]
+fn decided_packet(bytes: &[u8]) -> Option<Packet>
+    ensures { IfSome result (λ packet. IsDecoded bytes.now (Ok packet)) }
+{
+    let decision = usual_decided(bytes)?;
+    let body = Body::Decided {
+        position: decision.position,
+        action: decision.action,
+    };
+    Some(Packet::new(Party::Node(decision.from), Party::Node(decision.to), body))
+}
+
+#[inline(always)]
+fn reply_packet(bytes: &[u8]) -> Option<Packet>
+    ensures { IfSome result (λ packet. IsDecoded bytes.now (Ok packet)) }
+{
+    let sent = usual_reply(bytes)?;
+    let body = Body::Reply {
+        number: sent.number,
+        reply: sent.reply,
+    };
+    Some(Packet::new(Party::Node(sent.from), Party::Task(sent.task), body))
 }
 
 /// The packet of which the bytes are a text, whatever its kind, if it is read in one piece.
@@ -226,67 +314,13 @@ fn any_usual(bytes: &[u8]) -> Option<Packet>
     ensures { IfSome result (λ packet. IsDecoded bytes.now (Ok packet)) }
 {
     match Kind::of_text(bytes)? {
-        Kind::Call => {
-            let SentCall { task, to, action } = usual_call(bytes)?;
-            let body = Body::Call { action };
-            Some(Packet::new(Party::Task(task), Party::Node(to), body))
-        }
-        Kind::Prepare => {
-            let place = usual_prepare(bytes)?;
-            let Place {
-                position,
-                ballot,
-                ..
-            } = place;
-            Some(between(place, Body::Prepare { position, ballot }))
-        }
-        Kind::Promise => {
-            let place = usual_promise(bytes)?;
-            let body = Body::Promise {
-                position: place.position,
-                ballot: place.ballot,
-                last: None,
-            };
-            Some(between(place, body))
-        }
-        Kind::Accept => {
-            let (place, action) = usual_accept(bytes)?;
-            let body = Body::Accept {
-                position: place.position,
-                ballot: place.ballot,
-                action,
-            };
-            Some(between(place, body))
-        }
-        Kind::Accepted => {
-            let (place, action) = usual_accepted(bytes)?;
-            let body = Body::Accepted {
-                position: place.position,
-                ballot: place.ballot,
-                action,
-            };
-            Some(between(place, body))
-        }
-        Kind::Decided => {
-            let SentDecision {
-                from,
-                to,
-                position,
-                action,
-            } = usual_decided(bytes)?;
-            let body = Body::Decided { position, action };
-            Some(Packet::new(Party::Node(from), Party::Node(to), body))
-        }
-        Kind::Reply => {
-            let SentReply {
-                from,
-                task,
-                number,
-                reply,
-            } = usual_reply(bytes)?;
-            let body = Body::Reply { number, reply };
-            Some(Packet::new(Party::Node(from), Party::Task(task), body))
-        }
+        Kind::Call => call_packet(bytes),
+        Kind::Prepare => prepare_packet(bytes),
+        Kind::Promise => promise_packet(bytes),
+        Kind::Accept => accept_packet(bytes),
+        Kind::Accepted => accepted_packet(bytes),
+        Kind::Decided => decided_packet(bytes),
+        Kind::Reply => reply_packet(bytes),
         Kind::Ask | Kind::Nack | Kind::Report | Kind::PrepareRange | Kind::PromiseRange => None,
     }
 }

@@ -1,7 +1,17 @@
 //! Packets and records of the usual kinds to bytes, each in an array, since its text has one length:
-//! those whose action, if any, is a call.
+//! those whose action, if any, is a call. An array is joined of its fields, and the compiler stores
+//! each field straight into the place where the array is copied.
+
+ghost use Rattle.std.specs.Prelude.{◌≡◌, ◌↔◌, ◌+◌, [], ◌∷◌, ◌++◌, IsTrue};
+ghost use Rattle.std.specs.Int.{w32};
+ghost use Rattle.rp_base.specs.declared.record.Rec.TheVariants.{Promised, Voted, Learned};
+ghost use Rattle.rp_base.specs.declared.reply.Reply.TheVariants.{Value};
+ghost use Rattle.rp_codec.specs.Text.{number_text, signed_text, position_text, ballot_text, operation_text, action_text, vote_text, text_of};
+ghost use Rattle.rp_codec.specs.Record.{record_text};
+ghost use Rattle.rp_codec.specs.Usual.{IsCall, prepare_at, promise_at, accept_at, accepted_at, decided_of, reply_sent};
 
 use crate::fields::{TASK_BASE, VERSION};
+use crate::short_text::overwrite;
 use crate::usual_texts::{Place, SentDecision, SentReply};
 use rp_base::{Action, Ballot, Operation, Position};
 
@@ -13,42 +23,71 @@ pub fn is_call(action: &Action) -> bool
     matches!(action, Action::Call { .. })
 }
 
+/// The bytes of one array, and those of the other after them.
 #[inline(always)]
-fn put_position(text: &mut [u8], from: usize, position: Position)
-    requires { from + 2 ≤ length text.old }
-    ensures { text.new ≡ overwritten text.old from (position_text position) }
+fn joined<const A: usize, const B: usize, const N: usize>(
+    front: &[u8; A],
+    rest: &[u8; B],
+) -> [u8; N]
+    requires { A + B ≡ N }
+    ensures { result ≡ front.now ++ rest.now }
 {
-    text[from..from + 2].copy_from_slice(&position.get().to_be_bytes());
+    let mut text = [0; N];
+    let (first, last) = text.as_mut_slice().split_at_mut(A);
+    overwrite(first, front);
+    overwrite(last, rest);
+    text
 }
 
 #[inline(always)]
-fn put_ballot(text: &mut [u8], from: usize, ballot: Ballot)
-    requires { from + 8 ≤ length text.old }
-    ensures { text.new ≡ overwritten text.old from (ballot_text ballot) }
+#[tactic(auto, unfolding(crate::specs::Text::number_text))]
+fn count_bytes(number: u32) -> [u8; 4]
+    ensures { result ≡ number_text w32 number }
 {
-    text[from..from + 8].copy_from_slice(&ballot.get().to_be_bytes());
+    number.to_be_bytes()
 }
 
-/// The bytes that say which operation is called.
 #[inline(always)]
-fn operation_bytes(operation: Operation) -> (u8, u8)
-    ensures { result.0 ∷ result.1 ∷ [] ≡ operation_text operation }
+#[tactic(auto, unfolding(crate::specs::Text::number_text))]
+fn value_bytes(value: i64) -> [u8; 8]
+    ensures { result ≡ signed_text value }
+{
+    value.to_be_bytes()
+}
+
+#[inline(always)]
+#[tactic(auto, unfolding(crate::specs::Text::number_text))]
+fn position_bytes(position: Position) -> [u8; 2]
+    ensures { result ≡ position_text position }
+{
+    position.get().to_be_bytes()
+}
+
+#[inline(always)]
+#[tactic(auto, unfolding(crate::specs::Text::number_text))]
+fn ballot_bytes(ballot: Ballot) -> [u8; 8]
+    ensures { result ≡ ballot_text ballot }
+{
+    ballot.get().to_be_bytes()
+}
+
+#[inline(always)]
+fn operation_bytes(operation: Operation) -> [u8; 2]
+    ensures { result ≡ operation_text operation }
 {
     match operation {
-        Operation::Function(index) => (1, index),
-        Operation::Procedure(index) => (2, index),
-        Operation::Entry(index) => (3, index),
-        Operation::SetTimer(index) => (4, index),
-        Operation::CancelTimer(index) => (5, index),
+        Operation::Function(index) => [1, index],
+        Operation::Procedure(index) => [2, index],
+        Operation::Entry(index) => [3, index],
+        Operation::SetTimer(index) => [4, index],
+        Operation::CancelTimer(index) => [5, index],
     }
 }
 
-/// Puts a call's text in place of the 17 bytes from a place on.
 #[inline(always)]
-fn put_call(text: &mut [u8], from: usize, action: &Action)
-    requires room { from + 17 ≤ length text.old }
-    requires call { IsCall action.now }
-    ensures { text.new ≡ overwritten text.old from (action_text action.now) }
+fn call_bytes(action: &Action) -> [u8; 17]
+    requires { IsCall action.now }
+    ensures { result ≡ action_text action.now }
 {
     let Action::Call {
         task,
@@ -60,28 +99,36 @@ fn put_call(text: &mut [u8], from: usize, action: &Action)
     else {
         unreachable!()
     };
-    let (kind, index) = operation_bytes(operation);
-    text[from] = 1;
-    text[from + 1] = task.get();
-    text[from + 2..from + 6].copy_from_slice(&number.to_be_bytes());
-    text[from + 6] = object;
-    text[from + 7] = kind;
-    text[from + 8] = index;
-    text[from + 9..from + 17].copy_from_slice(&arg.to_be_bytes());
+    let caller: [u8; 6] = joined(&[1, task.get()], &count_bytes(number));
+    let called: [u8; 3] = joined(&[object], &operation_bytes(operation));
+    let rest: [u8; 11] = joined(&called, &value_bytes(arg));
+    joined(&caller, &rest)
 }
 
-/// Puts what is before the action of a packet of a kind.
+/// A position and a ballot.
 #[inline(always)]
-fn put_place(text: &mut [u8], kind: u8, place: Place)
-    requires { 14 ≤ length text.old }
-    ensures { text.new ≡ overwritten text.old 0 (place_text kind place) }
+fn bound_bytes(position: Position, ballot: Ballot) -> [u8; 10]
+    ensures { result ≡ position_text position ++ ballot_text ballot }
 {
-    text[0] = VERSION;
-    text[1] = kind;
-    text[2] = place.from.get();
-    text[3] = place.to.get();
-    put_position(text, 4, place.position);
-    put_ballot(text, 6, place.ballot);
+    joined(&position_bytes(position), &ballot_bytes(ballot))
+}
+
+/// A position, a ballot, and a call.
+#[inline(always)]
+fn vote_bytes(position: Position, ballot: Ballot, action: &Action) -> [u8; 27]
+    requires { IsCall action.now }
+    ensures { result ≡ vote_text position ballot action.now }
+{
+    let rest: [u8; 25] = joined(&ballot_bytes(ballot), &call_bytes(action));
+    joined(&position_bytes(position), &rest)
+}
+
+/// The version, a kind, and who says it to whom.
+#[inline(always)]
+fn head_bytes(kind: u8, place: Place) -> [u8; 4]
+    ensures { result ≡ 2 ∷ kind ∷ place.from ∷ place.to ∷ [] }
+{
+    [VERSION, kind, place.from.get(), place.to.get()]
 }
 
 /// The text of a prepare.
@@ -89,9 +136,8 @@ fn put_place(text: &mut [u8], kind: u8, place: Place)
 pub fn prepare_text(place: Place) -> [u8; 14]
     ensures { result ≡ text_of (prepare_at place) }
 {
-    let mut text = [0; 14];
-    put_place(&mut text, 2, place);
-    text
+    let body = bound_bytes(place.position, place.ballot);
+    joined(&head_bytes(2, place), &body)
 }
 
 /// The text of a promise that reports no vote.
@@ -99,9 +145,9 @@ pub fn prepare_text(place: Place) -> [u8; 14]
 pub fn promise_text(place: Place) -> [u8; 15]
     ensures { result ≡ text_of (promise_at place) }
 {
-    let mut text = [0; 15];
-    put_place(&mut text, 3, place);
-    text
+    let ballot: [u8; 9] = joined(&ballot_bytes(place.ballot), &[0]);
+    let body: [u8; 11] = joined(&position_bytes(place.position), &ballot);
+    joined(&head_bytes(3, place), &body)
 }
 
 /// The text of an accept whose action is a call.
@@ -110,10 +156,8 @@ pub fn accept_text(place: Place, action: &Action) -> [u8; 31]
     requires { IsCall action.now }
     ensures { result ≡ text_of (accept_at place action.now) }
 {
-    let mut text = [0; 31];
-    put_place(&mut text, 4, place);
-    put_call(&mut text, 14, action);
-    text
+    let body = vote_bytes(place.position, place.ballot, action);
+    joined(&head_bytes(4, place), &body)
 }
 
 /// The text of a vote for a call.
@@ -122,10 +166,8 @@ pub fn accepted_text(place: Place, action: &Action) -> [u8; 31]
     requires { IsCall action.now }
     ensures { result ≡ text_of (accepted_at place action.now) }
 {
-    let mut text = [0; 31];
-    put_place(&mut text, 5, place);
-    put_call(&mut text, 14, action);
-    text
+    let body = vote_bytes(place.position, place.ballot, action);
+    joined(&head_bytes(5, place), &body)
 }
 
 /// The text of a decided call.
@@ -134,14 +176,10 @@ pub fn decided_text(decision: &SentDecision) -> [u8; 23]
     requires { IsCall decision.now.action }
     ensures { result ≡ text_of (decided_of decision.now) }
 {
-    let mut text = [0; 23];
-    text[0] = VERSION;
-    text[1] = 6;
-    text[2] = decision.from.get();
-    text[3] = decision.to.get();
-    put_position(&mut text, 4, decision.position);
-    put_call(&mut text, 6, &decision.action);
-    text
+    let head = [VERSION, 6, decision.from.get(), decision.to.get()];
+    let call = call_bytes(&decision.action);
+    let body: [u8; 19] = joined(&position_bytes(decision.position), &call);
+    joined(&head, &body)
 }
 
 /// The text of a reply with this value.
@@ -150,15 +188,10 @@ pub fn value_reply_text(sent: &SentReply, value: i64) -> [u8; 17]
     requires { sent.now.reply ≡ Value value }
     ensures { result ≡ text_of (reply_sent sent.now) }
 {
-    let mut text = [0; 17];
-    text[0] = VERSION;
-    text[1] = 9;
-    text[2] = sent.from.get();
-    text[3] = TASK_BASE + sent.task.get();
-    text[4..8].copy_from_slice(&sent.number.to_be_bytes());
-    text[8] = 1;
-    text[9..17].copy_from_slice(&value.to_be_bytes());
-    text
+    let head = [VERSION, 9, sent.from.get(), TASK_BASE + sent.task.get()];
+    let reply: [u8; 9] = joined(&[1], &value_bytes(value));
+    let body: [u8; 13] = joined(&count_bytes(sent.number), &reply);
+    joined(&head, &body)
 }
 
 /// The text of a record of a promise.
@@ -166,12 +199,7 @@ pub fn value_reply_text(sent: &SentReply, value: i64) -> [u8; 17]
 pub fn promised_text(position: Position, ballot: Ballot) -> [u8; 12]
     ensures { result ≡ record_text (Promised position ballot) }
 {
-    let mut text = [0; 12];
-    text[0] = VERSION;
-    text[1] = 2;
-    put_position(&mut text, 2, position);
-    put_ballot(&mut text, 4, ballot);
-    text
+    joined(&[VERSION, 2], &bound_bytes(position, ballot))
 }
 
 /// The text of a record of a vote for a call.
@@ -180,13 +208,7 @@ pub fn voted_text(position: Position, ballot: Ballot, action: &Action) -> [u8; 2
     requires { IsCall action.now }
     ensures { result ≡ record_text (Voted position ballot action.now) }
 {
-    let mut text = [0; 29];
-    text[0] = VERSION;
-    text[1] = 3;
-    put_position(&mut text, 2, position);
-    put_ballot(&mut text, 4, ballot);
-    put_call(&mut text, 12, action);
-    text
+    joined(&[VERSION, 3], &vote_bytes(position, ballot, action))
 }
 
 /// The text of a record of a call that is learned.
@@ -195,10 +217,7 @@ pub fn learned_text(position: Position, action: &Action) -> [u8; 21]
     requires { IsCall action.now }
     ensures { result ≡ record_text (Learned position action.now) }
 {
-    let mut text = [0; 21];
-    text[0] = VERSION;
-    text[1] = 4;
-    put_position(&mut text, 2, position);
-    put_call(&mut text, 4, action);
-    text
+    let call = call_bytes(action);
+    let body: [u8; 19] = joined(&position_bytes(position), &call);
+    joined(&[VERSION, 4], &body)
 }

@@ -1,16 +1,22 @@
 //! Packets of the usual kinds, in texts of version 2, each read in one piece since its text has one
 //! length: those between nodes whose action, if any, is a call, a task's call, and a reply with a value.
 
-ghost use Rattle.std.specs.Prelude.{◌≡◌, [], ◌∷◌, ◌++◌, FitsSigned, IfSome};
+ghost use Rattle.std.specs.Prelude.{◌≡◌, [], ◌∷◌, ◌++◌, Ok, FitsSigned, IfSome};
 ghost use Rattle.std.specs.Int.{w32, w64};
+ghost use Rattle.rp_base.specs.Number.{IsNode, IsPosition};
+ghost use Rattle.rp_base.specs.Ballot.{IsBallot};
 ghost use Rattle.rp_base.specs.Action.{IsCount, IsRight, IsRightOperation};
-ghost use Rattle.rp_codec.specs.Text.{number_text, signed_text, position_text, ballot_text, operation_text, action_text, vote_text, text_of};
+ghost use Rattle.rp_codec.specs.Text.{number_text, signed_text, position_text, ballot_text, operation_text, action_text, vote_text};
+ghost use Rattle.rp_codec.specs.Message.{IsCallOf};
+ghost use Rattle.rp_codec.specs.declared.packet.Party.TheVariants.{Task};
+ghost use Rattle.rp_codec.specs.Decoding.{IsDecoded};
+ghost use Rattle.rp_codec.specs.Usual.{IsPlace, prepare_at, promise_at, accept_at, accepted_at, decided_of, call_sent, reply_sent};
 
 use crate::action_text::MOST_ENTRIES;
 use crate::fields::{TASK_BASE, VERSION};
 use crate::packet::Party;
 use crate::rules::is_call_of;
-use rp_base::{Action, Ballot, NodeId, Operation, Position, Reply, TaskId, Vote};
+use rp_base::{Action, Ballot, NodeId, Operation, Position, Reply, TaskId};
 
 /// From whom a packet is and to whom, and its position and ballot: what is before the action in most
 /// packets between nodes.
@@ -50,7 +56,8 @@ pub struct SentCall {
 
 #[inline(always)]
 fn position_of(field: &[u8; 2]) -> Option<Position>
-    ensures { IfSome result (λ position. field.now ≡ position_text position) }
+    ensures text { IfSome result (λ position. field.now ≡ position_text position) }
+    ensures in_range { IfSome result IsPosition }
 {
     let position = Position::new(u16::from_be_bytes(*field))?;
     Some(position)
@@ -58,7 +65,8 @@ fn position_of(field: &[u8; 2]) -> Option<Position>
 
 #[inline(always)]
 fn ballot_of(field: &[u8; 8]) -> Option<Ballot>
-    ensures { IfSome result (λ ballot. field.now ≡ ballot_text ballot) }
+    ensures text { IfSome result (λ ballot. field.now ≡ ballot_text ballot) }
+    ensures in_range { IfSome result IsBallot }
 {
     let ballot = Ballot::new(u64::from_be_bytes(*field))?;
     Some(ballot)
@@ -125,10 +133,26 @@ fn call_of(bytes: &[u8]) -> Option<Action>
     })
 }
 
+/// The same, if it is this task's own.
+#[inline(always)]
+fn own_call_of(bytes: &[u8], task: TaskId) -> Option<Action>
+    ensures text { IfSome result (λ action. bytes.now ≡ action_text action) }
+    ensures right { IfSome result IsRight }
+    ensures own { IfSome result (λ action. IsCallOf (Task task) action) }
+{
+    let action = call_of(bytes)?;
+    if is_call_of(&Party::Task(task), &action) {
+        Some(action)
+    } else {
+        None
+    }
+}
+
 /// The two nodes of a packet of this kind.
 #[inline(always)]
 fn nodes_of(head: &[u8; 4], kind: u8) -> Option<(NodeId, NodeId)>
-    ensures { IfSome result (λ nodes. head.now ≡ 2 ∷ kind ∷ nodes.0 ∷ nodes.1 ∷ []) }
+    ensures text { IfSome result (λ nodes. head.now ≡ 2 ∷ kind ∷ nodes.0 ∷ nodes.1 ∷ []) }
+    ensures in_range { IfSome result (λ nodes. IsNode nodes.0 × IsNode nodes.1) }
 {
     if head[0] != VERSION || head[1] != kind {
         return None;
@@ -140,8 +164,9 @@ fn nodes_of(head: &[u8; 4], kind: u8) -> Option<(NodeId, NodeId)>
 
 #[inline(always)]
 fn place_of(front: &[u8; 14], kind: u8) -> Option<Place>
-    ensures { IfSome result (λ place. front.now ≡ (2 ∷ kind ∷ place.from ∷ place.to ∷ [])
+    ensures text { IfSome result (λ place. front.now ≡ (2 ∷ kind ∷ place.from ∷ place.to ∷ [])
         ++ position_text place.position ++ ballot_text place.ballot) }
+    ensures in_range { IfSome result IsPlace }
 {
     let (head, rest) = front.split_first_chunk::<4>()?;
     let (position, rest) = rest.split_first_chunk::<2>()?;
@@ -163,6 +188,7 @@ fn place_of(front: &[u8; 14], kind: u8) -> Option<Place>
 fn vote_of(bytes: &[u8], kind: u8) -> Option<(Place, Action)>
     ensures text { IfSome result (λ vote. bytes.now ≡ (2 ∷ kind ∷ vote.0.from ∷ vote.0.to ∷ [])
         ++ vote_text vote.0.position vote.0.ballot vote.1) }
+    ensures in_range { IfSome result (λ vote. IsPlace vote.0) }
     ensures right { IfSome result (λ vote. IsRight vote.1) }
 {
     let (front, rest) = bytes.split_first_chunk::<14>()?;
@@ -183,7 +209,8 @@ pub fn usual_prepare(bytes: &[u8]) -> Option<Place>
         return None;
     }
     let (front, _) = bytes.split_first_chunk::<14>()?;
-    place_of(front, 2)
+    let place = place_of(front, 2)?;
+    Some(place)
 }
 
 /// The same, of a promise that reports no vote.
@@ -191,11 +218,16 @@ pub fn usual_prepare(bytes: &[u8]) -> Option<Place>
 pub fn usual_promise(bytes: &[u8]) -> Option<Place>
     ensures { IfSome result (λ place. IsDecoded bytes.now (Ok (promise_at place))) }
 {
-    let (front, rest) = bytes.split_first_chunk::<14>()?;
-    let [0] = rest else {
+    if bytes.len() != 15 {
         return None;
-    };
-    place_of(front, 3)
+    }
+    let (front, rest) = bytes.split_first_chunk::<14>()?;
+    let (tag, _) = rest.split_first_chunk::<1>()?;
+    if tag[0] != 0 {
+        return None;
+    }
+    let place = place_of(front, 3)?;
+    Some(place)
 }
 
 /// The same, of an accept whose action is a call.
@@ -203,7 +235,8 @@ pub fn usual_promise(bytes: &[u8]) -> Option<Place>
 pub fn usual_accept(bytes: &[u8]) -> Option<(Place, Action)>
     ensures { IfSome result (λ vote. IsDecoded bytes.now (Ok (accept_at vote.0 vote.1))) }
 {
-    vote_of(bytes, 4)
+    let (place, action) = vote_of(bytes, 4)?;
+    Some((place, action))
 }
 
 /// The same, of a vote for a call.
@@ -211,7 +244,8 @@ pub fn usual_accept(bytes: &[u8]) -> Option<(Place, Action)>
 pub fn usual_accepted(bytes: &[u8]) -> Option<(Place, Action)>
     ensures { IfSome result (λ vote. IsDecoded bytes.now (Ok (accepted_at vote.0 vote.1))) }
 {
-    vote_of(bytes, 5)
+    let (place, action) = vote_of(bytes, 5)?;
+    Some((place, action))
 }
 
 /// The same, of a decided call.
@@ -222,11 +256,13 @@ pub fn usual_decided(bytes: &[u8]) -> Option<SentDecision>
     let (head, rest) = bytes.split_first_chunk::<4>()?;
     let (position, rest) = rest.split_first_chunk::<2>()?;
     let (from, to) = nodes_of(head, 6)?;
+    let position = position_of(position)?;
+    let action = call_of(rest)?;
     Some(SentDecision {
         from,
         to,
-        position: position_of(position)?,
-        action: call_of(rest)?,
+        position,
+        action,
     })
 }
 
@@ -241,10 +277,7 @@ pub fn usual_call(bytes: &[u8]) -> Option<SentCall>
     }
     let task = TaskId::new(head[2] - TASK_BASE)?;
     let to = NodeId::new(head[3])?;
-    let action = call_of(rest)?;
-    if !is_call_of(&Party::Task(task), &action) {
-        return None;
-    }
+    let action = own_call_of(rest, task)?;
     Some(SentCall { task, to, action })
 }
 
@@ -263,10 +296,14 @@ pub fn usual_reply(bytes: &[u8]) -> Option<SentReply>
     if head[0] != VERSION || head[1] != 9 || head[3] < TASK_BASE || tag[0] != 1 {
         return None;
     }
+    let from = NodeId::new(head[2])?;
+    let task = TaskId::new(head[3] - TASK_BASE)?;
+    let number = number_of(number)?;
+    let reply = Reply::Value(value_of(value));
     Some(SentReply {
-        from: NodeId::new(head[2])?,
-        task: TaskId::new(head[3] - TASK_BASE)?,
-        number: number_of(number)?,
-        reply: Reply::Value(value_of(value)),
+        from,
+        task,
+        number,
+        reply,
     })
 }

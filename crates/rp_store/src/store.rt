@@ -3,6 +3,7 @@
 ghost use Rattle.std.specs.Prelude.{◌≡◌, ◌⊎◌, ◌+◌, ◌<◌, length, IfOk, IfErr, OnOk, OnErr, IsErrOf, false};
 ghost use Rattle.rp_base.specs.declared.fault.Fault.TheVariants as faults;
 ghost use Rattle.rp_base.specs.Right.{IsRightRecord};
+ghost use Rattle.rp_base.specs.WriteFaults.{fault_of};
 ghost use Rattle.rp_codec.specs.Record.{record_text};
 ghost use Rattle.rp_store.specs.Disk.{appended, stopped, synced, AppendFailed, IsTrimmed, KeepsFront};
 ghost use Rattle.rp_store.specs.Opening.{IsOpened, IsNotOpened};
@@ -160,7 +161,7 @@ impl<D: Device> Store<D> {
         //   fault says what is left
         ensures ok { OnOk result (IsPut D.disk (record_text rec.now) self.old self.new) }
         ensures err { IfErr result (λ fault.
-            IsNotPut D.disk (record_text rec.now) self.old fault self.new) }
+            IsNotPut D.disk (record_text rec.now) self.old (fault_of fault) self.new) }
     {
         if self.failed {
             return Err(WriteFault::Failed);

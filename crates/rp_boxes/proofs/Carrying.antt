@@ -1,5 +1,5 @@
 -- What is put into boxes and got out of them, where one packet more is put or got.
-use Rattle.std.proofs.Common.{◌≡◌, ◌≢◌, ℕ, ◌<◌, Bool, true, false, if◌then◌else◌, eqb, List, [], ◌∷◌, ◌++◌, inl, refl, sym, ap, subst, ◌∙◌, append-nil, append_assoc}
+use Rattle.std.proofs.Common.{◌≡◌, ◌≢◌, ℕ, ◌<◌, Bool, true, false, cond, eqb, List, [], ◌∷◌, ◌++◌, inl, refl, sym, ap, subst, ◌∙◌, append-nil, append_assoc}
 use Rattle.std.specs.Prelude.{filter}
 use Rattle.std.proofs.lemmas.Bool.{ne_eqb, eq-eqb}
 use Rattle.std.proofs.lemmas.List.Elements.{filter-append}
@@ -10,10 +10,10 @@ use Rattle.rp_boxes.specs.Parts.{Part, actor_of, from_actor, to_actor}
 use Rattle.rp_boxes.specs.Rule.{IsCarriedOver}
 
 passing : {A : Type 0} (test : A → Bool) (x : A) (xs : List A) → test x ≡ true → filter test (xs ++ x ∷ []) ≡ filter test xs ++ x ∷ []
-passing test x xs passes = filter-append test xs (x ∷ []) ∙ ap (λ (b : Bool). filter test xs ++ (if b then x ∷ [] else [])) passes
+passing test x xs passes = filter-append test xs (x ∷ []) ∙ ap (λ (b : Bool). filter test xs ++ cond b (x ∷ []) []) passes
 
 failing : {A : Type 0} (test : A → Bool) (x : A) (xs : List A) → test x ≡ false → filter test (xs ++ x ∷ []) ≡ filter test xs
-failing test x xs fails = filter-append test xs (x ∷ []) ∙ (ap (λ (b : Bool). filter test xs ++ (if b then x ∷ [] else [])) fails ∙ append-nil (filter test xs))
+failing test x xs fails = filter-append test xs (x ∷ []) ∙ (ap (λ (b : Bool). filter test xs ++ cond b (x ∷ []) []) fails ∙ append-nil (filter test xs))
 
 module _ (m : Message) (packets : List Message) where
   pub to_this : (y : ℕ) → actor_of m.to ≡ y → to_actor y (packets ++ m ∷ []) ≡ to_actor y packets ++ m ∷ []

@@ -13,7 +13,7 @@ ghosts-claim_empty g a = record {
 
 abbrev pub ghosts-deliver : goal.ghosts-deliver
 ghosts-deliver g a = record {
-  says = λ part. IsPutBy a.from a.to a.packet.items (part_in a.place.now.me.0) part
+  says = λ part. IsPutBy a.from a.to a.packet.items (record (part_in a.place.now.me.0) { fills = [] }) part
       × WasFull (setting_for g.M.Machine.next g.M.Machine.answers g.M.Machine.begin a.slots.now.key.config a.slots.now.key.program.value)
       ((a.from, part) ∷ []) (box_of a.from a.to) a.packet.items;
 }

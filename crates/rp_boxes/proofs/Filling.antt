@@ -10,8 +10,8 @@ use Rattle.rp_base.specs.Sets.{Has}
 use Rattle.rp_base.proofs.Members.{has_split}
 use Rattle.rp_codec.specs.Message.{Message}
 use Rattle.rp_model.specs.Effect.{Setting}
-use Rattle.rp_boxes.specs.Parts.{Part, View, actor_of, box_of, from_actor, filling, filled, to_actor}
-use Rattle.rp_boxes.specs.Rule.{Slot, IsBox, IsCarried, IsCarriedOver, Ruled}
+use Rattle.rp_boxes.specs.Parts.{Part, View, box_of, from_actor, filling, filled, to_actor}
+use Rattle.rp_boxes.specs.Rule.{Slot, IsBox, IsCarried, Ruled}
 use Rattle.rp_boxes.specs.Plays.{alone, holding, Claimed, IsPublished}
 use Rattle.rp_boxes.specs.Moments.{IsMoment}
 use Rattle.rp_boxes.proofs.Carrying.{carried_in, carried_still, to_other}

@@ -1,5 +1,5 @@
 -- What the last look, of all seats as one, says of the audit, of nodes and of tasks.
-use Rattle.std.proofs.Common.{◌≡◌, ℕ, zero, suc, ◌+◌, ◌<◌, All, Some, List, [], ◌∷◌, ◌++◌, length, map, slice_get, slice_index_or, inl, inr, refl, sym, ap, subst, ◌∙◌, arith, append_assoc, append-nil}
+use Rattle.std.proofs.Common.{◌≡◌, ℕ, zero, suc, ◌+◌, All, Some, List, [], ◌∷◌, ◌++◌, length, map, slice_get, inl, inr, refl, sym, ap, subst, ◌∙◌, arith, append_assoc, append-nil}
 use Rattle.rp_base.specs.Records.{applied_of}
 use Rattle.rp_base.specs.Sets.{Has}
 use Rattle.rp_base.proofs.Members.{has_left, has_right, has_mapped}

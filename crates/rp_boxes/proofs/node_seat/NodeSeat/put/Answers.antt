@@ -3,7 +3,7 @@ use Rattle.std.proofs.Common.{◌≡◌, ◌≢◌, ℕ, refl, sym, ap, subst, �
 use Rattle.std.specs.Arc.{arc_value}
 use Rattle.rp_agreement.specs.Answered.{setting_for}
 use Rattle.rp_boxes.specs.Moments.{WasFull, WasWord}
-use Rattle.rp_boxes.specs.Plays.{IsPutBy, Sight, alone}
+use Rattle.rp_boxes.specs.Plays.{IsPutBy, alone}
 use Rattle.rp_codec.specs.declared.packet.Party.TheVariants.{Node}
 use Rattle.rp_base.specs.Sets.{Has}
 use Rattle.rp_codec.specs.Message.{Message}

@@ -137,8 +137,8 @@ impl<M: Machine, D: Device> NodeSeat<M, D> {
     pub fn put(&mut self, packet: Vec<u8>) -> Result<(), Vec<u8>>
         requires sent { IsSentText self.old.part packet.items }
         // claim (put, full, back, unchanged, used): At Ok the packet is put: it went into the box to
-        //   its receiver, which was full of it at a moment when the seat knew that. Else it is given
-        //   back unchanged, the seat does not change, and the box was in use at a moment
+        //   its receiver, which holds it until the receiver takes it. Else it is given back
+        //   unchanged, the seat does not change, and the box was in use at a moment
         ensures put { OnOk result (IsPut packet.items self.old self.new) }
         ensures full { OnOk result (WasPut M.next M.answers M.begin (Node self.new.number)
             packet.items self.new) }

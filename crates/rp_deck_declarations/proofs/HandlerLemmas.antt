@@ -1,8 +1,8 @@
 -- Handlers stay procedures of objects as more is declared.
 use Rattle.std.proofs.Common.{◌≡◌, ℕ, zero, suc, ◌+◌, ◌≤◌, List, [], ◌∷◌, ◌++◌, true, length, map, Some, arith, ap, refl, sym, subst, ◌∙◌}
-use Rattle.std.specs.Prelude.{All, String, is_some, slice_get, slice_set, option_map, Vec}
+use Rattle.std.specs.Prelude.{All, is_some, slice_get, slice_set, option_map, Vec}
 use Rattle.std.specs.declared.alloc.Global.{Global}
-use Rattle.indexmap.specs.IndexMap.{IndexMap, values}
+use Rattle.indexmap.specs.IndexMap.{values}
 use Rattle.rp_body.specs.declared.statement.Stmt.{Stmt}
 use Rattle.rp_deck_bodies.specs.BodyViews.{body_text}
 use Rattle.std.proofs.lemmas.List.{map-set}
@@ -88,17 +88,18 @@ handled_more counts before after handler is all new = subst (λ (l : List Handle
 
 -- ---- a draft with other handlers
 
-pub with_handlers : (draft : Draft) (interrupts timers : IndexMap (String Global) Handler Global) → IsDraft draft → IsNameTable interrupts → IsNameTable timers
-    → All (IsHandled (procedure_counts draft.drafts.items)) (values interrupts) → All (IsHandled (procedure_counts draft.drafts.items)) (values timers) → IsDraft (record draft { interrupts = interrupts; timers = timers })
-with_handlers draft interrupts timers d some_interrupts some_timers interrupts_handled timers_handled = record {
-  nodes = d.nodes;
-  tasks = d.tasks;
-  objects = d.objects;
-  counted = d.counted;
-  drafts = d.drafts;
-  kept = d.kept;
-  interrupts = some_interrupts;
-  timers = some_timers;
-  interrupts_handled = interrupts_handled;
-  timers_handled = timers_handled;
-}
+pub with_handlers : (old new : Draft) → record old { interrupts = new.interrupts; timers = new.timers } ≡ new → IsDraft old → IsNameTable new.interrupts → IsNameTable new.timers
+    → All (IsHandled (procedure_counts old.drafts.items)) (values new.interrupts) → All (IsHandled (procedure_counts old.drafts.items)) (values new.timers) → IsDraft new
+with_handlers old new is d interrupts timers interrupts_handled timers_handled =
+    subst (λ (draft : Draft). IsDraft draft) is (record {
+      nodes = d.nodes;
+      tasks = d.tasks;
+      objects = d.objects;
+      counted = d.counted;
+      drafts = d.drafts;
+      kept = d.kept;
+      interrupts = interrupts;
+      timers = timers;
+      interrupts_handled = interrupts_handled;
+      timers_handled = timers_handled;
+    })

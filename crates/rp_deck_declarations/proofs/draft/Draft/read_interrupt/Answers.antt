@@ -14,4 +14,4 @@ returns-clause-draft c =
     let table : IsNameTable c.declare.new.table = grind (arith, common_steps) in
     let new = c.in_ok-name.ensures.handled (unwrap_or self.profile Ravenscar) d.kept in
     let handled = handled_more (procedure_counts self.drafts.items) (values self.interrupts) (values c.declare.new.table) c.in_ok-name.handler c.in_ok-declare.ensures.values d.interrupts_handled new in
-    (with_handlers self c.declare.new.table self.timers d table d.timers handled d.timers_handled, refl)
+    (with_handlers self (record self { interrupts = c.declare.new.table }) refl d table d.timers handled d.timers_handled, refl)

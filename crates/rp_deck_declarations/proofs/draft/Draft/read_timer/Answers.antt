@@ -14,4 +14,4 @@ returns-clause-draft c =
     let table : IsNameTable c.declare.new.table = grind (arith, common_steps) in
     let new = c.in_ok-name.ensures.handled (unwrap_or self.profile Ravenscar) d.kept in
     let handled = handled_more (procedure_counts self.drafts.items) (values self.timers) (values c.declare.new.table) c.in_ok-name.handler c.in_ok-declare.ensures.values d.timers_handled new in
-    (with_handlers self self.interrupts c.declare.new.table d d.interrupts table d.interrupts_handled handled, refl)
+    (with_handlers self (record self { timers = c.declare.new.table }) refl d d.interrupts table d.interrupts_handled handled, refl)

@@ -1,21 +1,20 @@
 -- The packet is put, or given back.
-use Rattle.std.proofs.Common.{ℕ, sym, ap, subst, ◌∙◌}
-use Rattle.rp_boxes.specs.Moments.{WasInUse, WasPut}
+use Rattle.std.proofs.Common.{true, sym, subst}
 use Rattle.rp_boxes.specs.Seats.{SeatState}
 use Rattle.rp_codec.specs.declared.packet.Party.TheVariants.{Task}
+use Rattle.rp_threads.specs.Turns.{IsOffered}
+use Rattle.rp_threads.proofs.Puts.{given_back, went_in}
 use Rattle.rp_threads.proofs.tasks.put_text.Goals as goal
 
 pub returns-in-Ok : goal.returns-in-Ok
 returns-in-Ok g c =
     let m = g.M.Machine in
-    let put = c.in-Ok.ensures.put in
-    let number = ap (λ (s : SeatState g.row.M-Program.Denot). s.number) put.after in
-    (put, subst (λ (n : ℕ). WasPut m.next m.answers m.begin (Task n) c.args.packet.items c.put.new.self) number c.in-Ok.ensures.full)
+    went_in m.next m.answers m.begin Task c.args.packet.items c.args.seat.now c.put.new.self c.in-Ok.ensures.put c.in-Ok.ensures.full
 
 pub returns-in-Err : goal.returns-in-Err
 returns-in-Err g c =
     let m = g.M.Machine in
-    let seat = c.args.seat.now in
-    let same = c.lend.ensures ∙ c.in-Err.ensures.unchanged in
-    (same, subst (λ (s : SeatState g.row.M-Program.Denot). WasInUse m.next m.answers m.begin (Task seat.number) c.args.packet.items s) (sym c.lend.ensures)
-    (subst (λ (s : SeatState g.row.M-Program.Denot). WasInUse m.next m.answers m.begin (Task s.number) c.args.packet.items c.put.new.self) c.in-Err.ensures.unchanged c.in-Err.ensures.used))
+    let old = c.args.seat.now in
+    let text = c.args.packet.items in
+    subst (λ (s : SeatState g.row.M-Program.Denot). IsOffered m.next m.answers m.begin (Task old.number) text old s true) (sym c.lend.ensures)
+    (given_back m.next m.answers m.begin Task text old c.put.new.self c.in-Err.ensures.unchanged c.in-Err.ensures.used)

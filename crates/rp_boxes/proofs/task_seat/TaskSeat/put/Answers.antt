@@ -11,6 +11,7 @@ use Rattle.rp_boxes.specs.Parts.{Part, box_of, part_in}
 use Rattle.rp_boxes.specs.Rule.{IsCarried}
 use Rattle.rp_boxes.specs.Seats.{SeatState, IsPut, IsSentText}
 use Rattle.rp_boxes.proofs.SeatBoxes.{at_put, carries, put_seat, put_state, used_state}
+use Rattle.rp_boxes.proofs.TaskTurns.{task_stays}
 use Rattle.rp_boxes.proofs.task_seat.TaskSeat.put.Goals as goal
 
 pub fill-requires-clause-packet : goal.fill-requires-clause-packet
@@ -22,6 +23,21 @@ fill-requires-clause-packet g c =
     let actor : c.actor_of-actor.result ≡ 7 + number = c.actor_of-actor.ensures.actor in
     subst (λ (k : ℕ). (m : Message) × Has m part.sent × IsCarried k c.receiver-to.result text m) (sym actor)
     (carries (7 + number) c.receiver-to.result part text c.self.invariant.0.own sent (λ m right is. c.receiver-to.ensures.named m right (c.as_slice.ensures.value ∙ is)))
+
+pub invariant_of-self : goal.invariant_of-self
+invariant_of-self g c =
+    let shared = (arc_value c.self.inside.board).shared in
+    let number = c.self.inside.number in
+    let place = c.self.inside.place in
+    let new = c.fill.new.place in
+    let to = c.receiver-to.result in
+    let text = c.args.packet.items in
+    let from : c.actor_of-actor.result ≡ 7 + number = c.actor_of-actor.ensures.actor in
+    let put = subst (λ (j : ℕ). IsPutBy j to text (part_in place.me.0) (part_in new.me.0)) from c.in-Ok.ensures.put in
+    let sees = subst (λ (j : ℕ). new.me ≡ alone j (part_in new.me.0)) from c.fill.ensures.place in (
+      at_put shared.table_id place.table_id new.table_id (7 + number) to text place.me new.me c.self.invariant.0 c.fill.ensures.table sees put,
+      task_stays number shared.key.config c.self.inside.config c.self.inside.task (part_in place.me.0) (part_in new.me.0) (ap (λ (p : Part). p.role) put.is) c.self.invariant.1,
+    )
 
 pub returns-in-Ok-clause-put : goal.returns-in-Ok-clause-put
 returns-in-Ok-clause-put g c =

@@ -2,6 +2,7 @@
 use Rattle.std.proofs.Common.{◌≡◌, ℕ, ◌+◌, ◌≤◌, List, take, drop, length, refl, ◌∙◌, sym, ap, subst, arith}
 use Rattle.rp_codec.specs.declared.packet.Party.TheVariants.{Node}
 use Rattle.rp_boxes.specs.Seats.{SeatState, IsSentText}
+use Rattle.rp_boxes.proofs.Auditing.{on_any_error}
 use Rattle.rp_threads.specs.Turns.{AreSentTexts, AreTextsOfferedInPart, IsOffered}
 use Rattle.rp_threads.proofs.Cuts.{begins, is_first, none_left, some_left}
 use Rattle.rp_threads.proofs.Offers.{IsPartOffered, all_offered, none_offered, offered_in_part, one_at_most, one_if_is, one_less, one_more_offered, part_puts, still_sent_text}
@@ -65,8 +66,9 @@ returns-in_err-put_copy-clause-cut g c =
     let rest = c.packets.rest.now in
     let inv = c.packets.invariant in
     let some = some_left rest c.is_empty.result c.is_empty.ensures c.packets-test.true in
-    subst (λ (s : SeatState g.row.M-Program.Denot). AreTextsOfferedInPart m.next m.answers m.begin (Node seat.number) texts seat s) (sym c.in_err-put_copy.ensures.unchanged)
-    (offered_in_part m.next m.answers m.begin (Node seat.number) seat c.packets.seat texts rest c.packets.lost inv.offered inv.texts some)
+    on_any_error c.from_residual.result
+    (subst (λ (s : SeatState g.row.M-Program.Denot). AreTextsOfferedInPart m.next m.answers m.begin (Node seat.number) texts seat s) (sym c.in_err-put_copy.ensures.unchanged)
+    (offered_in_part m.next m.answers m.begin (Node seat.number) seat c.packets.seat texts rest c.packets.lost inv.offered inv.texts some))
 
 pub returns-clause-offered : goal.returns-clause-offered
 returns-clause-offered g c =

@@ -1,5 +1,5 @@
 -- The text of the first packet is split off and put, as long as there is one.
-use Rattle.std.proofs.Common.{◌≡◌, ℕ, ◌+◌, ◌≤◌, List, take, drop, length, refl, ◌∙◌, sym, ap, subst, arith}
+use Rattle.std.proofs.Common.{ℕ, ◌+◌, ◌≤◌, List, take, drop, length, ◌∙◌, sym, ap, subst, arith}
 use Rattle.rp_codec.specs.declared.packet.Party.TheVariants.{Node}
 use Rattle.rp_boxes.specs.Seats.{SeatState, IsSentText}
 use Rattle.rp_boxes.proofs.Auditing.{on_any_error}

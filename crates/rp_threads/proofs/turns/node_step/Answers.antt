@@ -1,5 +1,5 @@
 -- The step is the seat's turn, and its packets are put.
-use Rattle.std.proofs.Common.{◌≡◌, inr, refl}
+use Rattle.std.proofs.Common.{◌≡◌}
 use Rattle.rp_base.specs.declared.fault.Fault.{Fault}
 use Rattle.rp_base.specs.declared.fault.Fault.TheVariants.{OutOfMemory}
 use Rattle.rp_boxes.proofs.TaskTurns.{at_fault}

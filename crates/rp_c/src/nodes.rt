@@ -54,7 +54,7 @@ fn opened(
     node: &mut Handle,
     found: &mut Found,
 ) -> Option<Refusal>
-    ensures { OpensByHandle asked.deck.now asked.number asked.device.now
+    ensures { OpensByHandle asked.entry.deck.now asked.entry.number asked.entry.device.now
         node.old.kept node.new.kept found.old found.new result }
 {
     if asked.deck.len() > MOST_BYTES {

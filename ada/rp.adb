@@ -57,35 +57,27 @@ package body RP is
 
    None : aliased Byte := 0;
 
-   --  Where an array is: also where it has no byte, an address that is not null.
-   function Place (Of_First : System.Address; Count : Interfaces.C.size_t) return System.Address is
-     (if Of_First = System.Null_Address and then Count = 0 then None'Address else Of_First);
+   --  Whether an array has bytes, and is nowhere.
+   function Is_Null (First : System.Address; Count : Interfaces.C.size_t) return Boolean is
+     (First = System.Null_Address and then Count > 0);
+
+   --  Where an array is that is not null: also where it has no byte, an address that is not null.
+   function Place (First : System.Address) return System.Address is
+     (if First = System.Null_Address then None'Address else First);
 
    function Packet_Length
      (Text   : System.Address;
       Count  : Interfaces.C.size_t;
-      Length : in out Interfaces.C.size_t) return Status
-   is
-      Text_Place : constant System.Address := Place (Text, Count);
-   begin
-      if Text_Place = System.Null_Address then
-         return Null_Pointer;
-      end if;
-      return Library.Packet_Length (Text_Place, Count, Length);
-   end Packet_Length;
+      Length : in out Interfaces.C.size_t) return Status is
+     (if Is_Null (Text, Count) then Null_Pointer
+      else Library.Packet_Length (Place (Text), Count, Length));
 
    function Packet_Check
      (Text   : System.Address;
       Count  : Interfaces.C.size_t;
-      Reason : in out Packet_Reason) return Status
-   is
-      Text_Place : constant System.Address := Place (Text, Count);
-   begin
-      if Text_Place = System.Null_Address then
-         return Null_Pointer;
-      end if;
-      return Library.Packet_Check (Text_Place, Count, Reason);
-   end Packet_Check;
+      Reason : in out Packet_Reason) return Status is
+     (if Is_Null (Text, Count) then Null_Pointer
+      else Library.Packet_Check (Place (Text), Count, Reason));
 
    function Run_Deck
      (Deck   : System.Address;
@@ -93,16 +85,9 @@ package body RP is
       Traced : Interfaces.C.C_bool;
       Answer : System.Address;
       Size   : Interfaces.C.size_t;
-      Used   : in out Interfaces.C.size_t) return Status
-   is
-      Deck_Place   : constant System.Address := Place (Deck, Count);
-      Answer_Place : constant System.Address := Place (Answer, Size);
-   begin
-      if Deck_Place = System.Null_Address or else Answer_Place = System.Null_Address then
-         return Null_Pointer;
-      end if;
-      return Library.Run_Deck (Deck_Place, Count, Traced, Answer_Place, Size, Used);
-   end Run_Deck;
+      Used   : in out Interfaces.C.size_t) return Status is
+     (if Is_Null (Deck, Count) or else Is_Null (Answer, Size) then Null_Pointer
+      else Library.Run_Deck (Place (Deck), Count, Traced, Place (Answer), Size, Used));
 
    function Node_Open
      (Deck   : System.Address;
@@ -111,16 +96,9 @@ package body RP is
       Device : System.Address;
       Held   : Interfaces.C.size_t;
       Handle : in out Node;
-      What   : in out Found) return Status
-   is
-      Deck_Place   : constant System.Address := Place (Deck, Count);
-      Device_Place : constant System.Address := Place (Device, Held);
-   begin
-      if Deck_Place = System.Null_Address or else Device_Place = System.Null_Address then
-         return Null_Pointer;
-      end if;
-      return Library.Node_Open (Deck_Place, Count, Number, Device_Place, Held, Handle, What);
-   end Node_Open;
+      What   : in out Found) return Status is
+     (if Is_Null (Deck, Count) or else Is_Null (Device, Held) then Null_Pointer
+      else Library.Node_Open (Place (Deck), Count, Number, Place (Device), Held, Handle, What));
 
    function Node_Call
      (Handle  : in out Node;
@@ -128,16 +106,9 @@ package body RP is
       Count   : Interfaces.C.size_t;
       Answer  : System.Address;
       Size    : Interfaces.C.size_t;
-      Length  : in out Lengths) return Status
-   is
-      Request_Place : constant System.Address := Place (Request, Count);
-      Answer_Place  : constant System.Address := Place (Answer, Size);
-   begin
-      if Request_Place = System.Null_Address or else Answer_Place = System.Null_Address then
-         return Null_Pointer;
-      end if;
-      return Library.Node_Call (Handle, Request_Place, Count, Answer_Place, Size, Length);
-   end Node_Call;
+      Length  : in out Lengths) return Status is
+     (if Is_Null (Request, Count) or else Is_Null (Answer, Size) then Null_Pointer
+      else Library.Node_Call (Handle, Place (Request), Count, Place (Answer), Size, Length));
 
    function Task_Call
      (Handle  : in out Task_Stub;
@@ -145,15 +116,7 @@ package body RP is
       Count   : Interfaces.C.size_t;
       Answer  : System.Address;
       Size    : Interfaces.C.size_t;
-      Length  : in out Lengths) return Status
-   is
-      Request_Place : constant System.Address := Place (Request, Count);
-      Answer_Place  : constant System.Address := Place (Answer, Size);
-   begin
-      if Request_Place = System.Null_Address or else Answer_Place = System.Null_Address then
-         return Null_Pointer;
-      end if;
-      return Library.Task_Call (Handle, Request_Place, Count, Answer_Place, Size, Length);
-   end Task_Call;
-
+      Length  : in out Lengths) return Status is
+     (if Is_Null (Request, Count) or else Is_Null (Answer, Size) then Null_Pointer
+      else Library.Task_Call (Handle, Place (Request), Count, Place (Answer), Size, Length));
 end RP;

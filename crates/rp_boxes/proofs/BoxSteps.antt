@@ -22,13 +22,14 @@ use Rattle.rp_boxes.proofs.Turns.{IsGoodAt, IsSeenAlike, alike_itself, box_stays
 pub same_box : (x y x' y' : ℕ) → y < 16 → y' < 16 → box_of x y ≡ box_of x' y' → (x ≡ x') × (y ≡ y')
 same_box x y x' y' less fewer same = (omega (arith, less, fewer, same), omega (arith, less, fewer, same))
 
--- what a box step leaves of a part, and the packets that the actor got by it
-pub record IsBoxStep (parts : ℕ → Part) (k b : ℕ) (p p' : Part) : Type 0 where
+-- what a step at the box from x to y leaves of the part of actor k, and the packets that the actor put and got by it
+pub record IsBoxStep (parts : ℕ → Part) (k x y : ℕ) (p p' : Part) : Type 0 where
   pub role : p'.role ≡ p.role
   pub events : p'.events ≡ p.events
   pub sent : p'.sent ≡ p.sent
+  pub put : (m : Message) → Has m p'.put → Has m p.put ⊎ Has m p.sent
   pub got : (m : Message) → Has m p'.got → Has m p.got ⊎ ((actor_of m.to ≡ k) × Has m (all_sent parts 16))
-  pub alike : (other : ℕ) → other ≢ b → IsSeenAlike other p p'
+  pub alike : (x' y' : ℕ) → x' < 16 → y' < 16 → box_of x' y' ≢ box_of x y → IsSeenAlike x' y' k p p'
 
 module _ {S : Type 0} (s : Setting S) (t : State Slot View) (r : Ruled s t) (id k : ℕ) (p p' : Part) (here : get_elem? t.views id ≡ some ((k, p) ∷ [])) where
   pub was : r.parts k ≡ p
@@ -44,7 +45,7 @@ module _ {S : Type 0} (s : Setting S) (t : State Slot View) (r : Ruled s t) (id 
   part_now = value_here r.parts k p'
 
   -- a step at the box from x to y
-  pub boxed : (x y word : ℕ) (homes : List (maybe.Option Slot)) → x < 16 → y < 16 → IsBoxStep r.parts k (box_of x y) p p'
+  pub boxed : (x y word : ℕ) (homes : List (maybe.Option Slot)) → x < 16 → y < 16 → IsBoxStep r.parts k x y p p'
       → ((other : ℕ) → other ≢ box_of x y → get_elem? homes other ≡ get_elem? t.homes other)
       → IsBox now x y word (λ slot. get_elem? homes (box_of x y) ≡ some (some slot))
       → Ruled s record { words = set t.words (box_of x y) word; homes = homes; views = set t.views id ((k, p') ∷ []) }
@@ -57,6 +58,7 @@ module _ {S : Type 0} (s : Setting S) (t : State Slot View) (r : Ruled s t) (id 
     good = good_after;
     counted = λ j small. get_or-set_other t.words (box_of x y) (256 + j) word 0 (omega (arith, less, fewer)) ∙ (r.counted j small ∙ ap (λ (n : ℕ). n % 2 ^ 64) (sym (same_events j)));
     sends = λ j small m h. r.sends j small m (subst (Has m) (sym (sent_alike j)) h);
+    puts = puts_after;
     gets = gets_after;
     boxes = boxes_after;
   }
@@ -93,10 +95,19 @@ module _ {S : Type 0} (s : Setting S) (t : State Slot View) (r : Ruled s t) (id 
           ])
           (λ j other small m h. let fact = r.gets j small m h in (fact.0, subst (Has m) all_alike fact.1))
 
+      puts_after : (j : ℕ) → j < 16 → (m : Message) → Has m (now j).put → Has m (now j).sent
+      puts_after = at_each r.parts k p' (λ j q. j < 16 → (m : Message) → Has m q.put → Has m q.sent)
+          (λ small m h. subst (Has m) (sym step.sent) (elim (step.put m h) [
+            | inl old ↦ subst (λ (q : Part). Has m q.sent) was (r.puts k small m (subst (λ (q : Part). Has m q.put) (sym was) old))
+            | inr new ↦ new
+          ]))
+          (λ j other. r.puts j)
+
       other_box : (x' y' : ℕ) → x' < 16 → y' < 16 → box_of x' y' ≢ box_of x y
           → IsBox now x' y' (slice_index (set t.words (box_of x y) word) (box_of x' y')) (λ slot. get_elem? homes (box_of x' y') ≡ some (some slot))
       other_box x' y' less' fewer' other =
-          let seen = each (IsSeenAlike (box_of x' y')) (step.alike (box_of x' y') other) (alike_itself (box_of x' y')) in
+          let seen : (j : ℕ) → IsSeenAlike x' y' j (r.parts j) (now j) = at_each r.parts k p' (λ j q. IsSeenAlike x' y' j (r.parts j) q)
+          (subst (λ (q : Part). IsSeenAlike x' y' k q p') (sym was) (step.alike x' y' less' fewer' other)) (λ j different. alike_itself x' y' j (r.parts j)) in
           box_stays r.parts now x' y' (slice_index t.words (box_of x' y')) _ (λ slot. get_elem? t.homes (box_of x' y') ≡ some (some slot)) _ (seen x') (seen y')
           (get_or-set_other t.words (box_of x y) (box_of x' y') word 0 other) (λ slot h. away (box_of x' y') other ∙ h) (r.boxes x' y' less' fewer')
 

@@ -10,10 +10,11 @@ use Rattle.rp_base.specs.Sets.{Has}
 use Rattle.rp_base.proofs.Members.{has_split}
 use Rattle.rp_codec.specs.Message.{Message}
 use Rattle.rp_model.specs.Effect.{Setting}
-use Rattle.rp_boxes.specs.Parts.{Part, View, actor_of, box_of, emptying, emptied}
-use Rattle.rp_boxes.specs.Rule.{Slot, IsBox, IsCarried, IsVacant, Ruled, all_sent}
+use Rattle.rp_boxes.specs.Parts.{Part, View, actor_of, box_of, emptying, emptied, from_actor, to_actor}
+use Rattle.rp_boxes.specs.Rule.{Slot, IsBox, IsCarried, IsCarriedOver, IsVacant, Ruled, all_sent}
 use Rattle.rp_boxes.specs.Plays.{alone, Took, Cleared}
 use Rattle.rp_boxes.specs.Moments.{IsMoment}
+use Rattle.rp_boxes.proofs.Carrying.{carried_out, carried_still, from_other, inside_put}
 use Rattle.rp_boxes.proofs.Worlds.{from_each, sent_by}
 use Rattle.rp_boxes.proofs.BoxSteps.{IsBoxStep, boxed, was, now, part_now, still, held_alone, none_both, as_it_is}
 
@@ -23,11 +24,14 @@ module _ {S : Type 0} (s : Setting S) (slots id x y : ℕ) (p : Part) (less : x 
 
   -- the receiver holds no box, and a full one is claimed with the packet in it
   taken : p.takes ≡ [] → (m : Message) (t : State Slot View) (r : Ruled s t) → get_elem? t.views id ≡ some ((y, p) ∷ []) → slice_index t.words b ≡ 2
-      → (text : Vec ℕ Global) → IsCarried x y text.items m → Has m (r.parts x).sent
+      → (text : Vec ℕ Global) → IsCarried x y text.items m → IsCarriedOver x y (r.parts x) (r.parts y) (m ∷ [])
       → Ruled s record { words = set t.words b 3; homes = set t.homes b none; views = set t.views id ((y, emptying b m p) ∷ []) }
-  taken free m t r here word text carried sent =
+  taken free m t r here word text carried over =
       boxed s t r id y p (emptying b m p) here x y 3 (set t.homes b none) less fewer step (λ other apart. set_else t.homes b other none apart) box
     where
+      sent : Has m (r.parts x).sent
+      sent = r.puts x less m (inside_put x y (r.parts x) (r.parts y) m over)
+
       by_sender : (n : Message) → Has n (p.got ++ m ∷ []) → Has n p.got ⊎ ((actor_of n.to ≡ y) × Has n (all_sent r.parts 16))
       by_sender n h = elim (has_split n p.got (m ∷ []) h) [
         | inl old ↦ inl old
@@ -37,16 +41,18 @@ module _ {S : Type 0} (s : Setting S) (slots id x y : ℕ) (p : Part) (less : x 
         ]
       ]
 
-      step : IsBoxStep r.parts y b p (emptying b m p)
+      step : IsBoxStep r.parts y x y p (emptying b m p)
       step = record {
         role = refl;
         events = refl;
         sent = refl;
+        put = λ n h. inl h;
         got = by_sender;
-        alike = λ other apart. record {
+        alike = λ x' y' less' fewer' apart. record {
           fills = as_it_is;
-          takes = none_both (λ h. subst (λ (replica : List ℕ). Has other replica) free h) (held_alone b other apart);
-          sent = λ m h. h;
+          takes = none_both (λ h. subst (λ (replica : List ℕ). Has (box_of x' y') replica) free h) (held_alone b (box_of x' y') apart);
+          puts = λ e. refl;
+          gets = λ e. from_other m p.got x' (λ from. apart (λ i. box_of ((sym from ∙ carried.from) i) (sym e i)));
         };
       }
 
@@ -59,11 +65,18 @@ module _ {S : Type 0} (s : Setting S) (slots id x y : ℕ) (p : Part) (less : x 
       same_fills : (j : ℕ) → (after j).fills ≡ (r.parts j).fills
       same_fills = from_each r.parts y p (emptying b m p) (λ q q'. q'.fills ≡ q.fills) (was s t r id y p (emptying b m p) here) refl (λ q. refl)
 
+      same_put : (j : ℕ) → (after j).put ≡ (r.parts j).put
+      same_put = from_each r.parts y p (emptying b m p) (λ q q'. q'.put ≡ q.put) (was s t r id y p (emptying b m p) here) refl (λ q. refl)
+
+      new_got : (after y).got ≡ (r.parts y).got ++ m ∷ []
+      new_got = ap (λ (q : Part). q.got) (part_now s t r id y p (emptying b m p) here) ∙ ap (λ (q : Part). q.got ++ m ∷ []) (sym (was s t r id y p (emptying b m p) here))
+
       box : IsBox after x y 3 (λ slot. get_elem? (set t.homes b none) b ≡ some (some slot))
       box = record {
         empty = λ e. absurd (omega (arith, e));
         filling = none_both (λ e. omega (arith, e)) (λ h. not_filling (subst (Has b) (same_fills x) h));
         full = λ e. absurd (omega (arith, e));
+        not_full = λ other. carried_out x y (r.parts x) (after x) (r.parts y) (after y) m carried.from (same_put x) new_got over;
         emptying = (λ e. subst (λ (q : Part). Has b q.takes) (sym (part_now s t r id y p (emptying b m p) here)) (inl refl), λ h. refl);
       }
 
@@ -93,16 +106,18 @@ module _ {S : Type 0} (s : Setting S) (slots id x y : ℕ) (p : Part) (less : x 
   cleared holds slot vacant t r buffer here =
       boxed s t r id y p (emptied p) here x y 0 (set t.homes b (some slot)) less fewer step (λ other apart. set_else t.homes b other (some slot) apart) box
     where
-      step : IsBoxStep r.parts y b p (emptied p)
+      step : IsBoxStep r.parts y x y p (emptied p)
       step = record {
         role = refl;
         events = refl;
         sent = refl;
+        put = λ m h. inl h;
         got = λ m h. inl h;
-        alike = λ other apart. record {
+        alike = λ x' y' less' fewer' apart. record {
           fills = as_it_is;
-          takes = none_both (λ h. held_alone b other apart (subst (λ (replica : List ℕ). Has other replica) holds h)) (λ h. h);
-          sent = λ m h. h;
+          takes = none_both (λ h. held_alone b (box_of x' y') apart (subst (λ (replica : List ℕ). Has (box_of x' y') replica) holds h)) (λ h. h);
+          puts = λ e. refl;
+          gets = λ e. refl;
         };
       }
 
@@ -118,6 +133,12 @@ module _ {S : Type 0} (s : Setting S) (slots id x y : ℕ) (p : Part) (less : x 
       same_fills : (j : ℕ) → (after j).fills ≡ (r.parts j).fills
       same_fills = from_each r.parts y p (emptied p) (λ q q'. q'.fills ≡ q.fills) (was s t r id y p (emptied p) here) refl (λ q. refl)
 
+      same_put : (j : ℕ) → (after j).put ≡ (r.parts j).put
+      same_put = from_each r.parts y p (emptied p) (λ q q'. q'.put ≡ q.put) (was s t r id y p (emptied p) here) refl (λ q. refl)
+
+      same_got : (j : ℕ) → (after j).got ≡ (r.parts j).got
+      same_got = from_each r.parts y p (emptied p) (λ q q'. q'.got ≡ q.got) (was s t r id y p (emptied p) here) refl (λ q. refl)
+
       inside : b < length t.homes
       inside = omega (arith, less, fewer, buffer)
 
@@ -126,6 +147,8 @@ module _ {S : Type 0} (s : Setting S) (slots id x y : ℕ) (p : Part) (less : x 
         empty = λ e. (slot, set_here t.homes b (some slot) inside, vacant);
         filling = none_both (λ e. omega (arith, e)) (λ h. not_filling (subst (Has b) (same_fills x) h));
         full = λ e. absurd (omega (arith, e));
+        not_full = λ other. carried_still x y (r.parts x) (after x) (r.parts y) (after y) [] (ap (to_actor y) (same_put x)) (ap (from_actor x) (same_got y))
+            ((r.boxes x y less fewer).not_full (λ e. omega (arith, e, was_emptying)));
         emptying = none_both (λ e. omega (arith, e)) (λ h. subst (λ (q : Part). Has b q.takes) (part_now s t r id y p (emptied p) here) h);
       }
 

@@ -1,5 +1,5 @@
 -- The sender's steps at a box: it claims an empty one, and publishes what it put there.
-use Rattle.std.proofs.Common.{◌≡◌, ◌≢◌, ℕ, ◌<◌, ◌≤◌, eqb, Some, Vec, List, [], ◌∷◌, length, set, slice_index, inl, refl, sym, subst, arith, get_or-set_same}
+use Rattle.std.proofs.Common.{◌≡◌, ◌≢◌, ℕ, ◌<◌, ◌≤◌, eqb, Some, Vec, List, [], ◌∷◌, ◌++◌, length, set, slice_index, inl, inr, refl, sym, ap, subst, ◌∙◌, arith, get_or-set_same}
 use Rattle.std.specs.declared.alloc.Global.{Global}
 use mathlib.Core.Option.{some, none}
 use lib.ListN.{get_elem?}
@@ -7,12 +7,14 @@ use prog.Atomic.{either}
 use Rattle.atomic_table.specs.Table.{State, Act, keeps, takes as takes_slot, gives, stepped, carried_after, Valid, Allows}
 use Rattle.atomic_table.proofs.Lists.{set_here, set_else, exchanged}
 use Rattle.rp_base.specs.Sets.{Has}
+use Rattle.rp_base.proofs.Members.{has_split}
 use Rattle.rp_codec.specs.Message.{Message}
 use Rattle.rp_model.specs.Effect.{Setting}
-use Rattle.rp_boxes.specs.Parts.{Part, View, box_of, filling, filled}
+use Rattle.rp_boxes.specs.Parts.{Part, View, box_of, from_actor, filling, filled, to_actor}
 use Rattle.rp_boxes.specs.Rule.{Slot, IsBox, IsCarried, Ruled}
-use Rattle.rp_boxes.specs.Plays.{alone, holding, Claimed, Published}
+use Rattle.rp_boxes.specs.Plays.{alone, holding, Claimed, IsPublished}
 use Rattle.rp_boxes.specs.Moments.{IsMoment}
+use Rattle.rp_boxes.proofs.Carrying.{carried_in, carried_still, to_other}
 use Rattle.rp_boxes.proofs.Worlds.{at_below, from_each}
 use Rattle.rp_boxes.proofs.BoxSteps.{IsBoxStep, boxed, was, now, part_now, still, held_alone, none_both, as_it_is}
 
@@ -25,16 +27,18 @@ module _ {S : Type 0} (s : Setting S) (slots id x y : ℕ) (p : Part) (less : x 
       → Ruled s record { words = set t.words b 1; homes = set t.homes b none; views = set t.views id ((x, filling b p) ∷ []) }
   claimed free t r here word = boxed s t r id x p (filling b p) here x y 1 (set t.homes b none) less fewer step (λ other apart. set_else t.homes b other none apart) box
     where
-      step : IsBoxStep r.parts x b p (filling b p)
+      step : IsBoxStep r.parts x x y p (filling b p)
       step = record {
         role = refl;
         events = refl;
         sent = refl;
+        put = λ m h. inl h;
         got = λ m h. inl h;
-        alike = λ other apart. record {
-          fills = none_both (λ h. subst (λ (replica : List ℕ). Has other replica) free h) (held_alone b other apart);
+        alike = λ x' y' less' fewer' apart. record {
+          fills = none_both (λ h. subst (λ (replica : List ℕ). Has (box_of x' y') replica) free h) (held_alone b (box_of x' y') apart);
           takes = as_it_is;
-          sent = λ m h. h;
+          puts = λ e. refl;
+          gets = λ e. refl;
         };
       }
 
@@ -47,11 +51,19 @@ module _ {S : Type 0} (s : Setting S) (slots id x y : ℕ) (p : Part) (less : x 
       same_takes : (j : ℕ) → (after j).takes ≡ (r.parts j).takes
       same_takes = from_each r.parts x p (filling b p) (λ q q'. q'.takes ≡ q.takes) (was s t r id x p (filling b p) here) refl (λ q. refl)
 
+      same_put : (j : ℕ) → (after j).put ≡ (r.parts j).put
+      same_put = from_each r.parts x p (filling b p) (λ q q'. q'.put ≡ q.put) (was s t r id x p (filling b p) here) refl (λ q. refl)
+
+      same_got : (j : ℕ) → (after j).got ≡ (r.parts j).got
+      same_got = from_each r.parts x p (filling b p) (λ q q'. q'.got ≡ q.got) (was s t r id x p (filling b p) here) refl (λ q. refl)
+
       box : IsBox after x y 1 (λ slot. get_elem? (set t.homes b none) b ≡ some (some slot))
       box = record {
         empty = λ e. absurd (omega (arith, e));
         filling = (λ e. subst (λ (q : Part). Has b q.fills) (sym (part_now s t r id x p (filling b p) here)) (inl refl), λ h. refl);
         full = λ e. absurd (omega (arith, e));
+        not_full = λ other. carried_still x y (r.parts x) (after x) (r.parts y) (after y) [] (ap (to_actor y) (same_put x)) (ap (from_actor x) (same_got y))
+            ((r.boxes x y less fewer).not_full (λ e. omega (arith, e, word)));
         emptying = none_both (λ e. omega (arith, e)) (λ h. not_taken (subst (Has b) (same_takes y) h));
       }
 
@@ -71,37 +83,48 @@ module _ {S : Type 0} (s : Setting S) (slots id x y : ℕ) (p : Part) (less : x 
 
   -- the sender put a packet into the box that it claimed
   published : p.fills ≡ b ∷ [] → (m : Message) (text : Vec ℕ Global) → Has m p.sent → IsCarried x y text.items m → (t : State Slot View) (r : Ruled s t) → 256 ≤ length t.homes
-      → get_elem? t.views id ≡ some ((x, p) ∷ []) → Ruled s record { words = set t.words b 2; homes = set t.homes b (some (Some text)); views = set t.views id ((x, filled p) ∷ []) }
+      → get_elem? t.views id ≡ some ((x, p) ∷ []) → Ruled s record { words = set t.words b 2; homes = set t.homes b (some (Some text)); views = set t.views id ((x, filled m p) ∷ []) }
   published holds m text sent carried t r buffer here =
-      boxed s t r id x p (filled p) here x y 2 (set t.homes b (some (Some text))) less fewer step (λ other apart. set_else t.homes b other (some (Some text)) apart) box
+      boxed s t r id x p (filled m p) here x y 2 (set t.homes b (some (Some text))) less fewer step (λ other apart. set_else t.homes b other (some (Some text)) apart) box
     where
-      step : IsBoxStep r.parts x b p (filled p)
+      step : IsBoxStep r.parts x x y p (filled m p)
       step = record {
         role = refl;
         events = refl;
         sent = refl;
-        got = λ m h. inl h;
-        alike = λ other apart. record {
-          fills = none_both (λ h. held_alone b other apart (subst (λ (replica : List ℕ). Has other replica) holds h)) (λ h. h);
+        put = λ n h. elim (has_split n p.put (m ∷ []) h) [
+          | inl old ↦ inl old
+          | inr new ↦ elim new [ inl same ↦ inr (subst (λ (k : Message). Has k p.sent) (sym same) sent) | inr never ↦ absurd never ]
+        ];
+        got = λ n h. inl h;
+        alike = λ x' y' less' fewer' apart. record {
+          fills = none_both (λ h. held_alone b (box_of x' y') apart (subst (λ (replica : List ℕ). Has (box_of x' y') replica) holds h)) (λ h. h);
           takes = as_it_is;
-          sent = λ m h. h;
+          puts = λ e. to_other m p.put y' (λ to. apart (λ i. box_of (sym e i) ((sym to ∙ carried.to) i)));
+          gets = λ e. refl;
         };
       }
 
       after : ℕ → Part
-      after = now s t r id x p (filled p) here
+      after = now s t r id x p (filled m p) here
 
       was_filling : slice_index t.words b ≡ 1
-      was_filling = (r.boxes x y less fewer).filling.1 (subst (λ (q : Part). Has b q.fills) (sym (was s t r id x p (filled p) here)) (subst (λ (replica : List ℕ). Has b replica) (sym holds) (inl refl)))
+      was_filling = (r.boxes x y less fewer).filling.1 (subst (λ (q : Part). Has b q.fills) (sym (was s t r id x p (filled m p) here)) (subst (λ (replica : List ℕ). Has b replica) (sym holds) (inl refl)))
 
       not_taken : ¬ Has b (r.parts y).takes
       not_taken h = let e : slice_index t.words b ≡ 3 = (r.boxes x y less fewer).emptying.1 h in omega (arith, e, was_filling)
 
       same_takes : (j : ℕ) → (after j).takes ≡ (r.parts j).takes
-      same_takes = from_each r.parts x p (filled p) (λ q q'. q'.takes ≡ q.takes) (was s t r id x p (filled p) here) refl (λ q. refl)
+      same_takes = from_each r.parts x p (filled m p) (λ q q'. q'.takes ≡ q.takes) (was s t r id x p (filled m p) here) refl (λ q. refl)
 
-      new_part : after x ≡ filled p
-      new_part = part_now s t r id x p (filled p) here
+      new_part : after x ≡ filled m p
+      new_part = part_now s t r id x p (filled m p) here
+
+      new_put : (after x).put ≡ (r.parts x).put ++ m ∷ []
+      new_put = ap (λ (q : Part). q.put) new_part ∙ ap (λ (q : Part). q.put ++ m ∷ []) (sym (was s t r id x p (filled m p) here))
+
+      same_got : (j : ℕ) → (after j).got ≡ (r.parts j).got
+      same_got = from_each r.parts x p (filled m p) (λ q q'. q'.got ≡ q.got) (was s t r id x p (filled m p) here) refl (λ q. refl)
 
       inside : b < length t.homes
       inside = omega (arith, less, fewer, buffer)
@@ -110,16 +133,23 @@ module _ {S : Type 0} (s : Setting S) (slots id x y : ℕ) (p : Part) (less : x 
       box = record {
         empty = λ e. absurd (omega (arith, e));
         filling = none_both (λ e. omega (arith, e)) (λ h. subst (λ (q : Part). Has b q.fills) new_part h);
-        full = λ e. (m, text, set_here t.homes b (some (Some text)) inside, carried, subst (λ (q : Part). Has m q.sent) (sym new_part) sent);
+        full = λ e. (
+          m,
+          text,
+          set_here t.homes b (some (Some text)) inside,
+          carried,
+          carried_in x y (r.parts x) (after x) (r.parts y) (after y) m carried.to new_put (same_got y) ((r.boxes x y less fewer).not_full (λ e. omega (arith, e, was_filling))),
+        );
+        not_full = λ other. absurd (other refl);
         emptying = none_both (λ e. omega (arith, e)) (λ h. not_taken (subst (Has b) (same_takes y) h));
       }
 
   pub publish_allows : 256 ≤ slots → p.fills ≡ b ∷ [] → (m : Message) (text : Vec ℕ Global) → Has m p.sent → IsCarried x y text.items m
-      → (says : Type 0) → ((t : State Slot View) → IsMoment s ((x, filled p) ∷ []) t → slice_index t.words b ≡ 2 → get_elem? t.homes b ≡ some (some (Some text)) → says)
-      → Allows (Ruled s) slots id (holding x p b (Some text)) b (λ n. 2) (λ found me. Published (holding x p b (Some text)) me × says)
+      → (says : Part → Type 0) → ((t : State Slot View) → IsMoment s ((x, filled m p) ∷ []) t → slice_index t.words b ≡ 2 → get_elem? t.homes b ≡ some (some (Some text)) → says (filled m p))
+      → Allows (Ruled s) slots id (holding x p b (Some text)) b (λ n. 2) (λ found me. IsPublished says x (holding x p b (Some text)) me)
   publish_allows buffer holds m text sent carried says follows = λ t r size here fits.
       let after = published holds m text sent carried t r (omega (arith, size, buffer)) here in
       let word : slice_index (set t.words b 2) b ≡ 2 = get_or-set_same t.words b 2 0 (rw r.long (omega (arith, less, fewer))) in
       let slot : get_elem? (set t.homes b (some (Some text))) b ≡ some (some (Some text)) = set_here t.homes b (some (Some text)) (omega (arith, less, fewer, size, buffer)) in
-      let sees = set_here t.views id ((x, filled p) ∷ []) (at_below t.views id ((x, p) ∷ []) here) in
-      ((x, filled p) ∷ [], gives, tt, after, (refl, follows _ (record { rule = after; seat = id; sees = sees }) word slot))
+      let sees = set_here t.views id ((x, filled m p) ∷ []) (at_below t.views id ((x, p) ∷ []) here) in
+      ((x, filled m p) ∷ [], gives, tt, after, record { part = filled m p; is = refl; said = follows _ (record { rule = after; seat = id; sees = sees }) word slot })

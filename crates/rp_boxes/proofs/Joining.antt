@@ -125,6 +125,7 @@ join_allows s id mine other k q = λ t r here apart there.
       good = r.good;
       counted = r.counted;
       sends = r.sends;
+      puts = r.puts;
       gets = r.gets;
       boxes = r.boxes;
     }

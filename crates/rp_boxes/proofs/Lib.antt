@@ -19,3 +19,4 @@ pub mod TaskOrder
 pub mod Joining
 pub mod AuditOrder
 pub mod OneWorld
+pub mod Carrying

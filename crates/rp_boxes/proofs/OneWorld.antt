@@ -1,5 +1,5 @@
 -- What the last look, of all seats as one, says of the audit, of nodes and of tasks.
-use Rattle.std.proofs.Common.{◌≡◌, ℕ, zero, suc, ◌+◌, ◌<◌, All, Some, List, [], ◌∷◌, ◌++◌, length, map, slice_get, slice_index_or, inl, inr, refl, sym, ap, subst, ◌∙◌, arith, append_assoc, append-nil}
+use Rattle.std.proofs.Common.{◌≡◌, ℕ, zero, suc, ◌+◌, All, Some, List, [], ◌∷◌, ◌++◌, length, map, slice_get, inl, inr, refl, sym, ap, subst, ◌∙◌, arith, append_assoc, append-nil}
 use Rattle.rp_base.specs.Records.{applied_of}
 use Rattle.rp_base.specs.Sets.{Has}
 use Rattle.rp_base.proofs.Members.{has_left, has_right, has_mapped}
@@ -16,9 +16,9 @@ use Rattle.rp_boxes.specs.Audits.{Audited, AreAllReported, known_of, report}
 use Rattle.rp_boxes.specs.Looks.{IsWorldOf}
 use Rattle.rp_boxes.specs.Parts.{Part, View, node_of}
 use Rattle.rp_boxes.specs.Plays.{Sight, alone}
-use Rattle.rp_boxes.specs.Rule.{node_among, all_sent}
+use Rattle.rp_boxes.specs.Rule.{IsGotInOrder, node_among, all_sent}
 use Rattle.rp_boxes.specs.Seats.{SeatState, setting_at}
-use Rattle.rp_boxes.specs.Together.{AreTogether, HasReported, IsNodeOf, IsTaskOf, of_node, of_task}
+use Rattle.rp_boxes.specs.Together.{AreTogether, HasReported, IsNodeOf, IsTaskOf, known_together, of_node, of_task}
 use Rattle.rp_boxes.proofs.AuditOrder.{OrderExists, ReportsFollow, known_begins, replies_answer}
 use Rattle.rp_boxes.proofs.TaskOrder.{RepliesFollow, CallsCount, calls_ordered}
 use Rattle.rp_boxes.proofs.Worlds.{is_sent}
@@ -54,7 +54,7 @@ module _ {S P : Type 0} (next : S → Action → S) (answers : S → Action → 
   s = setting_at next answers begin audit.seat
 
   abbrev view : View
-  view = ((0, audit.seat.part) ∷ map of_node nodes) ++ map of_task tasks
+  view = known_together audit.seat nodes tasks
 
   module _ (parts : ℕ → Part) (world : IsWorldOf s view parts) (exists : OrderExists) (follow : ReportsFollow) where
     abbrev order : List Action
@@ -102,4 +102,8 @@ module _ {S P : Type 0} (next : S → Action → S) (answers : S → Action → 
         replies = replies_answer s view parts world replies seat.number seat.part (task_here seat has);
         calls = calls_ordered s view parts world seat.number seat.part (task_here seat has) calls;
       });
+      carried = λ x y sender receiver there here.
+          let from = world.knows x sender there in
+          let to = world.knows y receiver here in
+          subst (λ (z : Part × Part). IsGotInOrder x y z.0 z.1) (λ i. (from.0 i, to.0 i)) (world.carries x y from.1 to.1);
     }

@@ -140,11 +140,13 @@ module _ {S : Type 0} (s : Setting S) (right : IsRightConfig s.config) (world : 
     good = first_good;
     counted = λ k small. zeros (256 + k);
     sends = λ k small m h. absurd h;
+    puts = λ k small m h. absurd h;
     gets = λ k small m h. absurd h;
     boxes = λ x y less fewer. record {
       empty = λ e. (None, vacant 256 (box_of x y) (omega (arith, less, fewer)), tt);
       filling = (λ e. absurd (omega (arith, e, zeros (box_of x y))), λ h. absurd h);
       full = λ e. absurd (omega (arith, e, zeros (box_of x y)));
+      not_full = λ other. refl;
       emptying = (λ e. absurd (omega (arith, e, zeros (box_of x y))), λ h. absurd h);
     };
   }

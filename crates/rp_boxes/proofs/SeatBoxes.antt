@@ -17,10 +17,10 @@ use Rattle.rp_agreement.specs.Answered.{setting_for}
 use Rattle.rp_replica.specs.State.{ReplicaState}
 use Rattle.rp_boxes.specs.Looks.{IsWorldOf, WasSent}
 use Rattle.rp_boxes.specs.Moments.{WasFull, WasInUse, WasNotFull, WasPut, WasWord}
-use Rattle.rp_boxes.specs.Parts.{Part, View, actor_of, box_of, part_in, with_got}
-use Rattle.rp_boxes.specs.Plays.{Sight, alone}
+use Rattle.rp_boxes.specs.Parts.{Part, View, actor_of, box_of, part_in, with_got, with_put}
+use Rattle.rp_boxes.specs.Plays.{IsPutBy, Sight, alone}
 use Rattle.rp_boxes.specs.Rule.{IsCarried, HasOwnPackets}
-use Rattle.rp_boxes.specs.Seats.{SeatState, IsAtTable, IsNodePlace, IsSentText, IsFetched}
+use Rattle.rp_boxes.specs.Seats.{SeatState, IsAtTable, IsNodePlace, IsPut, IsSentText, IsFetched}
 use Rattle.rp_boxes.proofs.Worlds.{is_sent}
 
 -- ---- parties
@@ -66,6 +66,7 @@ at_got table mine mine' x k me me' bytes m at same carried sees =
       takes = at.takes;
       own = record {
         sent = at.own.sent;
+        put = at.own.put;
         got = λ n h. elim (has_split n part.got (m ∷ []) h) [
           | inl old ↦ at.own.got n old
           | inr new ↦ elim new [
@@ -76,6 +77,33 @@ at_got table mine mine' x k me me' bytes m at same carried sees =
       };
     } in
     subst (IsAtTable table mine' k) (sym sees) here
+
+-- it put a packet
+pub at_put : (table mine mine' : TableId) (k to : ℕ) (bytes : List ℕ) (me me' : Sight) → IsAtTable table mine k me → mine' ≡ mine → me' ≡ alone k (part_in me'.0)
+    → IsPutBy k to bytes (part_in me.0) (part_in me'.0) → IsAtTable table mine' k me'
+at_put table mine mine' k to bytes me me' at same sees put =
+    let part = part_in me.0 in
+    let m = put.packet in
+    let here : IsAtTable table mine' k (alone k (with_put m part)) = record {
+      same = same ∙ at.same;
+      sized = at.sized;
+      small = at.small;
+      place = refl;
+      fills = at.fills;
+      takes = at.takes;
+      own = record {
+        sent = at.own.sent;
+        put = λ n h. elim (has_split n part.put (m ∷ []) h) [
+          | inl old ↦ at.own.put n old
+          | inr new ↦ elim new [
+            | inl one ↦ subst (λ (p : Message). Has p part.sent) (sym one) put.sent
+            | inr never ↦ absurd never
+          ]
+        ];
+        got = at.own.got;
+      };
+    } in
+    subst (IsAtTable table mine' k) (sym (sees ∙ ap (alone k) put.is)) here
 
 -- what was found in the box from x to k, or nothing
 abbrev pub Finds : ℕ → ℕ → Sight → Sight → Vec ℕ Global → Type 0
@@ -103,6 +131,14 @@ module _ {P : Type 0} (config : Config) (program : P) (number failures k : ℕ) 
 
   pub same_state : me' ≡ me → seat_state mine' (part_in me'.0) ≡ seat_state mine (part_in me.0)
   same_state sees = λ i. seat_state (same i) (part_in (sees i).0)
+
+  pub put_seat : (to : ℕ) (bytes : List ℕ) → IsPutBy k to bytes (part_in me.0) (part_in me'.0) → IsPut bytes (seat_state mine (part_in me.0)) (seat_state mine' (part_in me'.0))
+  put_seat to bytes put = record {
+    packet = put.packet;
+    right = put.carried.packet;
+    text = put.carried.text;
+    after = λ i. seat_state (same i) (put.is i);
+  }
 
   module _ (from to : Party) (right_from : IsParty from) (right_to : IsParty to) (own : actor_of to ≡ k) where
     fetched : (text : Vec ℕ Global) → Finds (actor_of from) k me me' text → IsFetched from to text.items (seat_state mine (part_in me.0)) (seat_state mine' (part_in me'.0))

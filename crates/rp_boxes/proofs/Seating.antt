@@ -50,7 +50,7 @@ at_first table mine actor me same sized small is =
       place = refl;
       fills = refl;
       takes = refl;
-      own = record { sent = λ m h. absurd h; got = λ m h. absurd h };
+      own = record { sent = λ m h. absurd h; put = λ m h. absurd h; got = λ m h. absurd h };
     } in
     subst (IsAtTable table mine actor) (sym is) here
 

@@ -3,9 +3,9 @@ use Rattle.std.proofs.Common.{◌≡◌, ℕ, ◌<◌, Vec, Some, None, List, []
 use Rattle.std.specs.declared.alloc.Global.{Global}
 use Rattle.atomic_table.specs.Table.{rest}
 use Rattle.rp_codec.specs.Message.{Message}
-use Rattle.rp_boxes.specs.Parts.{Part, box_of, on_first, filling, filled, emptying, emptied, with_got}
+use Rattle.rp_boxes.specs.Parts.{Part, actor_in, box_of, on_first, filling, emptying, emptied, part_in, with_got}
 use Rattle.rp_boxes.specs.Rule.{Slot, IsCarried, IsVacant}
-use Rattle.rp_boxes.specs.Plays.{Sight, alone, holding, Claimed, Took, Published, Cleared}
+use Rattle.rp_boxes.specs.Plays.{Sight, alone, holding, Claimed, Took, IsPublished, Cleared}
 use Rattle.rp_boxes.proofs.BoxSteps.{same_box}
 
 pub sees_claimed : (k b : ℕ) (p : Part) (old new : Sight) (found : ℕ) → old ≡ alone k p → Claimed b old found new → found ≡ 0
@@ -17,9 +17,11 @@ sees_claimed k b p old new found is claimed hit =
 pub sees_written : (k b : ℕ) (p : Part) (slot slot' : Slot) (old new : Sight) → old ≡ holding k p b slot → new ≡ (old.0, (b, slot') ∷ rest old.1) → new ≡ holding k p b slot'
 sees_written k b p slot slot' old new is written = written ∙ ap (λ (me : Sight). (me.0, (b, slot') ∷ rest me.1)) is
 
-pub sees_published : (k b : ℕ) (p : Part) (slot : Slot) (old new : Sight) → p.fills ≡ [] → old ≡ holding k (filling b p) b slot → Published old new → new ≡ alone k p
-sees_published k b p slot old new free is published =
-    published ∙ (ap (λ (me : Sight). (on_first filled me.0, rest me.1)) is ∙ ap (λ (replica : List ℕ). alone k (record p { fills = replica })) (sym free))
+pub sees_published : (says : Part → Type 0) (k b : ℕ) (p : Part) (slot : Slot) (old new : Sight) → old ≡ holding k p b slot → IsPublished says (actor_in old.0) old new
+    → (new ≡ alone k (part_in new.0)) × says (part_in new.0)
+sees_published says k b p slot old new is published =
+    let sees : new ≡ alone k published.part = published.is ∙ ap (λ (me : Sight). ((actor_in me.0, published.part) ∷ [], rest me.1)) is in
+    (subst (λ (me : Sight). me ≡ alone k (part_in me.0)) (sym sees) refl, subst (λ (me : Sight). says (part_in me.0)) (sym sees) published.said)
 
 -- what was taken went through this box
 pub sees_taken : (x y : ℕ) (p : Part) (old new : Sight) (found : ℕ) → x < 16 → y < 16 → old ≡ alone y p → Took (box_of x y) old found new → found ≡ 2

@@ -129,6 +129,7 @@ split_allows s id k p others = λ t r here. record {
   good = r.good;
   counted = r.counted;
   sends = r.sends;
+  puts = r.puts;
   gets = r.gets;
   boxes = r.boxes;
 }

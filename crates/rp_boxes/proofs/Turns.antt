@@ -1,5 +1,5 @@
 -- One event of an actor keeps the rule.
-use Rattle.std.proofs.Common.{◌≡◌, ◌⊎◌, ◌↔◌, ℕ, ◌+◌, ◌%◌, ◌^◌, ◌<◌, Some, None, Ok, List, [], ◌∷◌, ◌++◌, length, set, slice_index, inl, inr, refl, sym, ap, subst, ◌∙◌, arith, length-set, get_or-set_same, get_or-set_other}
+use Rattle.std.proofs.Common.{◌≡◌, ◌⊎◌, ◌↔◌, ℕ, ◌+◌, ◌%◌, ◌^◌, ◌<◌, Some, Ok, List, [], ◌∷◌, ◌++◌, length, set, slice_index, inl, inr, refl, sym, ap, subst, ◌∙◌, arith, length-set, get_or-set_same, get_or-set_other}
 use Rattle.std.proofs.Math.Nat.{mod-add-mod}
 use mathlib.Core.Option.{some}
 use lib.ListN.{get_elem?}
@@ -15,11 +15,12 @@ use Rattle.rp_model.specs.Tasks.{TaskInput, task_effect}
 use Rattle.rp_model.specs.Parts.{NodePart}
 use Rattle.rp_model.specs.Parts.{TaskPart}
 use Rattle.rp_agreement.specs.Inputs.{IsInput, IsTaskInput, NodeMoves, TaskMoves}
-use Rattle.rp_boxes.specs.Parts.{Part, View, Role, OfNode, OfTask, actor_of, box_of, node_of, task_of, part_after}
-use Rattle.rp_boxes.specs.Rule.{Slot, IsGood, IsBox, Ruled, HasOwnPackets, node_among, task_among, all_sent}
+use Rattle.rp_boxes.specs.Parts.{Part, View, Role, OfNode, OfTask, actor_of, box_of, from_actor, node_of, task_of, part_after, to_actor}
+use Rattle.rp_boxes.specs.Rule.{Slot, IsGood, IsBox, IsCarriedOver, Ruled, HasOwnPackets, node_among, task_among, all_sent}
 use Rattle.rp_boxes.specs.Steps.{ResultsIn, IsNodeEvent, IsTaskEvent, IsEvent}
 use Rattle.rp_boxes.specs.Laws.{EventsKeep}
 use Rattle.rp_boxes.specs.Plays.{alone, IsNoted}
+use Rattle.rp_boxes.proofs.Carrying.{carried_still}
 use Rattle.rp_boxes.proofs.Worlds.{with_value, value_here, value_else, at_each, from_each, was_part, is_actor, seating_after, sent_by, is_sent}
 
 -- ---- what an actor got was sent
@@ -137,24 +138,29 @@ module _ {S : Type 0} (s : Setting S) (keep : EventsKeep s) (right : IsRightConf
 
 -- ---- the step
 
--- what a box sees of an actor's part: whether it holds the box, and what it has sent at least
-pub record IsSeenAlike (b : ℕ) (p p' : Part) : Type 0 where
-  pub fills : Has b p.fills ↔ Has b p'.fills
-  pub takes : Has b p.takes ↔ Has b p'.takes
-  pub sent : (m : Message) → Has m p.sent → Has m p'.sent
+-- what the box from x to y sees of the part of actor k: whether it holds the box, and what it put for y or got from x
+pub record IsSeenAlike (x y k : ℕ) (p p' : Part) : Type 0 where
+  pub fills : Has (box_of x y) p.fills ↔ Has (box_of x y) p'.fills
+  pub takes : Has (box_of x y) p.takes ↔ Has (box_of x y) p'.takes
+  pub puts : k ≡ x → to_actor y p'.put ≡ to_actor y p.put
+  pub gets : k ≡ y → from_actor x p'.got ≡ from_actor x p.got
 
-pub alike_itself : (b : ℕ) (p : Part) → IsSeenAlike b p p
-alike_itself b p = record { fills = (λ h. h, λ h. h); takes = (λ h. h, λ h. h); sent = λ m h. h }
+pub alike_itself : (x y k : ℕ) (p : Part) → IsSeenAlike x y k p p
+alike_itself x y k p = record { fills = (λ h. h, λ h. h); takes = (λ h. h, λ h. h); puts = λ e. refl; gets = λ e. refl }
 
 -- a box that sees the parts alike, and whose word and slot are as they were
-pub box_stays : (parts parts' : ℕ → Part) (x y word word' : ℕ) (home home' : Slot → Type 0) → IsSeenAlike (box_of x y) (parts x) (parts' x) → IsSeenAlike (box_of x y) (parts y) (parts' y)
+pub box_stays : (parts parts' : ℕ → Part) (x y word word' : ℕ) (home home' : Slot → Type 0) → IsSeenAlike x y x (parts x) (parts' x) → IsSeenAlike x y y (parts y) (parts' y)
     → word' ≡ word → ((slot : Slot) → home slot → home' slot) → IsBox parts x y word home → IsBox parts' x y word' home'
 box_stays parts parts' x y word word' home home' sender receiver same homes box = record {
   empty = λ e. let left = box.empty (sym same ∙ e) in (left.0, homes left.0 left.1, left.2);
   filling = (λ e. sender.fills.0 (box.filling.0 (sym same ∙ e)), λ h. same ∙ box.filling.1 (sender.fills.1 h));
-  full = λ e. let has = box.full (sym same ∙ e) in (has.0, has.1, homes (Some has.1) has.2, has.3, sender.sent has.0 has.4);
+  full = λ e. let has = box.full (sym same ∙ e) in (has.0, has.1, homes (Some has.1) has.2, has.3, still (has.0 ∷ []) has.4);
+  not_full = λ other. still [] (box.not_full (λ e. other (same ∙ e)));
   emptying = (λ e. receiver.takes.0 (box.emptying.0 (sym same ∙ e)), λ h. same ∙ box.emptying.1 (receiver.takes.1 h));
 }
+  where
+    still : (inside : List Message) → IsCarriedOver x y (parts x) (parts y) inside → IsCarriedOver x y (parts' x) (parts' y) inside
+    still inside = carried_still x y (parts x) (parts' x) (parts y) (parts' y) inside (sender.puts refl) (receiver.gets refl)
 
 module _ {S : Type 0} (s : Setting S) (keep : EventsKeep s) (t : State Slot View) (r : Ruled s t) (id k : ℕ) (p p' : Part) (here : get_elem? t.views id ≡ some ((k, p) ∷ []))
     (event : IsEvent s k p p') where
@@ -180,8 +186,8 @@ module _ {S : Type 0} (s : Setting S) (keep : EventsKeep s) (t : State Slot View
   from_old : (P : Part → Part → Type 0) → P p (part_after p kept.role kept.sends) → ((q : Part) → P q q) → (j : ℕ) → P (r.parts j) (now j)
   from_old P changed same = from_each r.parts k p p' P was (subst (P p) (sym kept.is) changed) same
 
-  seen_alike : (b j : ℕ) → IsSeenAlike b (r.parts j) (now j)
-  seen_alike b = from_old (IsSeenAlike b) (record { fills = (λ h. h, λ h. h); takes = (λ h. h, λ h. h); sent = λ m h. has_left m p.sent kept.sends h }) (alike_itself b)
+  seen_alike : (x y j : ℕ) → IsSeenAlike x y j (r.parts j) (now j)
+  seen_alike x y j = from_old (IsSeenAlike x y j) (record { fills = (λ h. h, λ h. h); takes = (λ h. h, λ h. h); puts = λ e. refl; gets = λ e. refl }) (alike_itself x y j) j
 
   counted_here : slice_index words word ≡ p'.events % 2 ^ 64
   counted_here =
@@ -210,9 +216,15 @@ module _ {S : Type 0} (s : Setting S) (keep : EventsKeep s) (t : State Slot View
       let old = r.gets j less m (from_old (λ q q'. Has m q'.got → Has m q.got) (λ g. g) (λ q g. g) j h) in
       (old.0, more_sent m old.1)
 
+  puts_after : (j : ℕ) → j < 16 → (m : Message) → Has m (now j).put → Has m (now j).sent
+  puts_after j less m h =
+      let old : Has m (r.parts j).put × (Has m (r.parts j).sent → Has m (now j).sent) = from_old (λ q q'. Has m q'.put → Has m q.put × (Has m q.sent → Has m q'.sent))
+      (λ g. (g, has_left m p.sent kept.sends)) (λ q g. (g, λ s. s)) j h in
+      old.1 (r.puts j less m old.0)
+
   box_after : (x y : ℕ) → x < 16 → y < 16 → IsBox now x y (slice_index words (box_of x y)) (λ slot. get_elem? t.homes (box_of x y) ≡ some (some slot))
   box_after x y less fewer =
-      box_stays r.parts now x y (slice_index t.words (box_of x y)) _ _ _ (seen_alike (box_of x y) x) (seen_alike (box_of x y) y)
+      box_stays r.parts now x y (slice_index t.words (box_of x y)) _ _ _ (seen_alike x y x) (seen_alike x y y)
       (get_or-set_other t.words word (box_of x y) _ 0 (omega (arith, less, fewer))) (λ slot h. h) (r.boxes x y less fewer)
 
   pub turned : Ruled s record { words = words; homes = t.homes; views = set t.views id ((k, p') ∷ []) }
@@ -225,6 +237,7 @@ module _ {S : Type 0} (s : Setting S) (keep : EventsKeep s) (t : State Slot View
     good = kept.good;
     counted = counted_after;
     sends = sends_after;
+    puts = puts_after;
     gets = gets_after;
     boxes = box_after;
   }
@@ -233,6 +246,7 @@ module _ {S : Type 0} (s : Setting S) (keep : EventsKeep s) (t : State Slot View
 pub own_packets : {S : Type 0} (s : Setting S) (t : State Slot View) (r : Ruled s t) (k : ℕ) → k < 16 → HasOwnPackets k (r.parts k)
 own_packets s t r k small = record {
   sent = λ m h. (r.good.packets m (sent_by r.parts 16 k m small h), r.sends k small m h);
+  put = r.puts k small;
   got = λ m h. let old = r.gets k small m h in (r.good.packets m old.1, old.0);
 }
 

@@ -9,7 +9,7 @@ use Rattle.rp_codec.specs.Text.{text_of}
 use Rattle.rp_codec.specs.declared.packet.Party.{Party}
 use Rattle.rp_model.specs.Effect.{Setting}
 use Rattle.rp_boxes.specs.Parts.{Part, View, actor_of}
-use Rattle.rp_boxes.specs.Rule.{IsGood, node_among, task_among, all_sent}
+use Rattle.rp_boxes.specs.Rule.{IsGood, IsGotInOrder, node_among, task_among, all_sent}
 use Rattle.rp_boxes.specs.Seats.{SeatState, setting_at}
 
 -- A world that keeps the rule, of which a view is a piece.
@@ -18,7 +18,9 @@ pub record IsWorldOf {S : Type 0} (s : Setting S) (view : View) (parts : ℕ →
   pub knows : (k : ℕ) (p : Part) → Has (k, p) view → (parts k ≡ p) × (k < 16)
   pub good : IsGood s (node_among parts) (task_among parts) (all_sent parts 16)
   pub sends : (k : ℕ) → k < 16 → (m : Message) → Has m (parts k).sent → actor_of m.from ≡ k
+  pub puts : (k : ℕ) → k < 16 → (m : Message) → Has m (parts k).put → Has m (parts k).sent
   pub gets : (k : ℕ) → k < 16 → (m : Message) → Has m (parts k).got → (actor_of m.to ≡ k) × Has m (all_sent parts 16)
+  pub carries : (x y : ℕ) → x < 16 → y < 16 → IsGotInOrder x y (parts x) (parts y)
 
 -- There is a world that keeps the rule, of which what the seat of one party knows is a piece, and in which the other
 -- party has sent the packet of this text.

@@ -6,7 +6,7 @@
 -- | task t, 1 to 8 | 7 + t      | 263 + t  |
 --
 -- The box from actor x to actor y has the word and the slot 16 x + y.
-use Rattle.std.specs.Prelude.{ℕ, zero, suc, ◌+◌, ◌*◌, List, [], ◌∷◌, ◌++◌, nat_eq, nat_lt, if◌then◌else◌}
+use Rattle.std.specs.Prelude.{ℕ, zero, suc, ◌+◌, ◌*◌, List, [], ◌∷◌, ◌++◌, filter, nat_eq, nat_lt, if◌then◌else◌}
 use Rattle.rp_codec.specs.Message.{Message}
 use Rattle.rp_codec.specs.declared.packet.Party.{Party}
 use Rattle.rp_codec.specs.declared.packet.Party.TheVariants.{Node, Task, Audit}
@@ -30,12 +30,13 @@ pub data Role : Type 0 where
   OfTask : TaskPart → Role
   OfAudit : Role
 
--- What is known of an actor: what it is in a world, the number of its events, the packets that it sent and got, and
--- the boxes that it holds while it fills or empties them.
+-- What is known of an actor: what it is in a world, the number of its events, the packets that it sent, those that it
+-- put into boxes and those that it got, and the boxes that it holds while it fills or empties them.
 pub record Part : Type 0 where
   pub role : Role
   pub events : ℕ
   pub sent : List Message
+  pub put : List Message
   pub got : List Message
   pub fills : List ℕ
   pub takes : List ℕ
@@ -58,7 +59,7 @@ task_of OfAudit = fresh_task
 
 -- an actor that did nothing
 abbrev pub fresh_part : Role → Part
-fresh_part role = record { role = role; events = 0; sent = []; got = []; fills = []; takes = [] }
+fresh_part role = record { role = role; events = 0; sent = []; put = []; got = []; fills = []; takes = [] }
 
 -- what the actor of a number is at first
 abbrev pub first_role : ℕ → Role
@@ -92,12 +93,26 @@ abbrev pub on_first : (Part → Part) → View → View
 on_first change [] = []
 on_first change (known ∷ rest) = (known.0, change known.1) ∷ rest
 
--- the part of a sender that fills a box, and that has filled it
+-- the packets of a list that go to an actor, and those that come from one
+abbrev pub to_actor : ℕ → List Message → List Message
+to_actor y packets = filter (λ m. nat_eq (actor_of m.to) y) packets
+
+abbrev pub from_actor : ℕ → List Message → List Message
+from_actor x packets = filter (λ m. nat_eq (actor_of m.from) x) packets
+
+-- the part once it put a packet into its box, and once it got one
+abbrev pub with_put : Message → Part → Part
+with_put m part = record part { put = part.put ++ m ∷ [] }
+
+abbrev pub with_got : Message → Part → Part
+with_got m part = record part { got = part.got ++ m ∷ [] }
+
+-- the part of a sender that fills a box, and that has filled it with this packet
 abbrev pub filling : ℕ → Part → Part
 filling b part = record part { fills = b ∷ [] }
 
-abbrev pub filled : Part → Part
-filled part = record part { fills = [] }
+abbrev pub filled : Message → Part → Part
+filled m part = record part { put = part.put ++ m ∷ []; fills = [] }
 
 -- the part of a receiver that takes this packet out of a box, and that has emptied it
 abbrev pub emptying : ℕ → Message → Part → Part
@@ -105,7 +120,3 @@ emptying b m part = record part { got = part.got ++ m ∷ []; takes = b ∷ [] }
 
 abbrev pub emptied : Part → Part
 emptied part = record part { takes = [] }
-
--- the part once it got a packet
-abbrev pub with_got : Message → Part → Part
-with_got m part = record part { got = part.got ++ m ∷ [] }

@@ -1,10 +1,11 @@
 -- What a seat that knows one actor learns from one atomic step.
-use Rattle.std.specs.Prelude.{◌≡◌, ◌≢◌, ℕ, ◌<◌, Vec, Some, [], ◌∷◌}
+use Rattle.std.specs.Prelude.{◌≡◌, ◌≢◌, ℕ, ◌<◌, Vec, Some, List, [], ◌∷◌}
 use Rattle.std.specs.declared.alloc.Global.{Global}
 use Rattle.atomic_table.specs.Table.{Me, rest}
 use Rattle.atomic_table.specs.Seated.{TableId}
+use Rattle.rp_base.specs.Sets.{Has}
 use Rattle.rp_codec.specs.Message.{Message}
-use Rattle.rp_boxes.specs.Parts.{Part, View, box_of, on_first, filling, filled, emptying, emptied}
+use Rattle.rp_boxes.specs.Parts.{Part, View, box_of, on_first, filling, emptying, emptied, with_put}
 use Rattle.rp_boxes.specs.Rule.{Slot, IsCarried, IsVacant, HasOwnPackets}
 
 -- what a seat knows, and the slots that it has taken out
@@ -44,10 +45,20 @@ pub record Took (b : ℕ) (old : Sight) (found : ℕ) (new : Sight) : Type 0 whe
   pub hit : found ≡ 2 → IsTaken b old new
   pub miss : found ≢ 2 → new ≡ old
 
--- the box that was filled, or emptied, goes back with its slot
-abbrev pub Published : Sight → Sight → Type 0
-Published old new = new ≡ (on_first filled old.0, rest old.1)
+-- The box that was filled goes back with its slot, and of the part of its sender this is said.
+pub record IsPublished (says : Part → Type 0) (k : ℕ) (old new : Sight) : Type 0 where
+  pub part : Part
+  pub is : new ≡ ((k, part) ∷ [], rest old.1)
+  pub said : says part
 
+-- A packet that the actor sent, from it to another and of this text, is put.
+pub record IsPutBy (from to : ℕ) (bytes : List ℕ) (old new : Part) : Type 0 where
+  pub packet : Message
+  pub sent : Has packet old.sent
+  pub carried : IsCarried from to bytes packet
+  pub is : new ≡ with_put packet old
+
+-- the box that was emptied goes back with its slot
 abbrev pub Cleared : Sight → Sight → Type 0
 Cleared old new = new ≡ (on_first emptied old.0, rest old.1)
 

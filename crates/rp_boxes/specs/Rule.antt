@@ -1,5 +1,5 @@
 -- The rule of the table: between any two atomic steps there is a world, of which each seat's view is a piece.
-use Rattle.std.specs.Prelude.{◌≡◌, ◌↔◌, ℕ, zero, suc, ◌+◌, ◌%◌, ◌^◌, ◌<◌, Vec, Option, Some, IfSome, List, [], ◌++◌}
+use Rattle.std.specs.Prelude.{◌≡◌, ◌≢◌, ◌↔◌, ℕ, zero, suc, ◌+◌, ◌%◌, ◌^◌, ◌<◌, ◌≤◌, Vec, Option, Some, IfSome, List, [], ◌∷◌, ◌++◌}
 use Rattle.std.specs.Prelude.{length, map, slice_index}
 use Rattle.std.specs.declared.alloc.Global.{Global}
 use mathlib.Core.Option.{some}
@@ -14,7 +14,7 @@ use Rattle.rp_model.specs.Parts.{NodePart}
 use Rattle.rp_model.specs.Parts.{TaskPart}
 use Rattle.rp_agreement.specs.Answered.{IsKept}
 use Rattle.rp_agreement.specs.Ranges.{IsRangedPart}
-use Rattle.rp_boxes.specs.Parts.{Part, View, actor_of, box_of, node_of, task_of}
+use Rattle.rp_boxes.specs.Parts.{Part, View, actor_of, box_of, from_actor, node_of, task_of, to_actor}
 
 -- what a box has: a packet's text, an empty buffer, or nothing
 abbrev pub Slot : Type 0
@@ -50,13 +50,24 @@ pub record IsCarried (x y : ℕ) (bytes : List ℕ) (m : Message) : Type 0 where
   pub from : actor_of m.from ≡ x
   pub to : actor_of m.to ≡ y
 
+-- The packets that x put for y are those that y got from x, in order, and then these.
+abbrev pub IsCarriedOver : ℕ → ℕ → Part → Part → List Message → Type 0
+IsCarriedOver x y sender receiver inside = to_actor y sender.put ≡ from_actor x receiver.got ++ inside
+
+-- The packets that y got from x are those that x put for y, in order: all of them, or all but the last.
+pub record IsGotInOrder (x y : ℕ) (sender receiver : Part) : Type 0 where
+  pub inside : List Message
+  pub one : length inside ≤ 1
+  pub carried : IsCarriedOver x y sender receiver inside
+
 -- The box from x to y: empty (0), being filled (1), full (2), or being emptied (3). An empty one may have a buffer,
--- which its receiver left there for the sender.
+-- which its receiver left there for the sender. All that x put for y is got, but for the packet in a full box.
 pub record IsBox (parts : ℕ → Part) (x y word : ℕ) (home : Slot → Type 0) : Type 0 where
   pub empty : word ≡ 0 → (slot : Slot) × home slot × IsVacant slot
   pub filling : (word ≡ 1) ↔ Has (box_of x y) (parts x).fills
   pub full : word ≡ 2 → (m : Message) × (text : Vec ℕ Global) × home (Some text) × IsCarried x y text.items m
-      × Has m (parts x).sent
+      × IsCarriedOver x y (parts x) (parts y) (m ∷ [])
+  pub not_full : word ≢ 2 → IsCarriedOver x y (parts x) (parts y) []
   pub emptying : (word ≡ 3) ↔ Has (box_of x y) (parts y).takes
 
 -- Each seat knows some of the actors with their parts, no two seats the same, and all actors are known.
@@ -67,8 +78,8 @@ pub record IsSeating (views : List View) (parts : ℕ → Part) (owner : ℕ →
   pub seated : (k : ℕ) → k < 16 → (v : View) × (get_elem? views (owner k) ≡ some v) × Has (k, parts k) v
 
 -- The parts that the seats know, and all packets that these sent, are a world that satisfies the invariant. An
--- actor's word is the number of its events modulo 2^64; what an actor sent is from it, and what it got was sent, to
--- it.
+-- actor's word is the number of its events modulo 2^64; what an actor sent is from it, what it put into a box it
+-- has sent, and what it got was sent, to it.
 pub record Ruled {S : Type 0} (s : Setting S) (t : State Slot View) : Type 0 where
   pub parts : ℕ → Part
   pub owner : ℕ → ℕ
@@ -78,11 +89,13 @@ pub record Ruled {S : Type 0} (s : Setting S) (t : State Slot View) : Type 0 whe
   pub good : IsGood s (node_among parts) (task_among parts) (all_sent parts 16)
   pub counted : (k : ℕ) → k < 16 → slice_index t.words (256 + k) ≡ (parts k).events % 2 ^ 64
   pub sends : (k : ℕ) → k < 16 → (m : Message) → Has m (parts k).sent → actor_of m.from ≡ k
+  pub puts : (k : ℕ) → k < 16 → (m : Message) → Has m (parts k).put → Has m (parts k).sent
   pub gets : (k : ℕ) → k < 16 → (m : Message) → Has m (parts k).got → (actor_of m.to ≡ k) × Has m (all_sent parts 16)
   pub boxes : (x y : ℕ) → x < 16 → y < 16
       → IsBox parts x y (slice_index t.words (box_of x y)) (λ slot. get_elem? t.homes (box_of x y) ≡ some (some slot))
 
--- all packets that an actor sent or got are right ones, from it or to it
+-- all packets that an actor sent or got are right ones, from it or to it, and what it put into boxes it has sent
 pub record HasOwnPackets (k : ℕ) (p : Part) : Type 0 where
   pub sent : (m : Message) → Has m p.sent → IsPacket m × (actor_of m.from ≡ k)
+  pub put : (m : Message) → Has m p.put → Has m p.sent
   pub got : (m : Message) → Has m p.got → IsPacket m × (actor_of m.to ≡ k)

@@ -27,7 +27,7 @@ use Rattle.rp_replica.specs.declared.input.Input.TheVariants.{Receive, Lead, Lea
 use Rattle.rp_replica.specs.declared.sent.Sent.{Sent}
 use Rattle.rp_world.specs.Callers.{Caller}
 use Rattle.rp_world.specs.Nodes.{member_of, RepresentsWhile, DescribesSent}
-use Rattle.rp_boxes.specs.Parts.{Part, OfNode, OfTask, part_in, part_after, with_got}
+use Rattle.rp_boxes.specs.Parts.{Part, OfNode, OfTask, part_in, part_after, with_put, with_got}
 use Rattle.rp_boxes.specs.Rule.{HasOwnPackets}
 use Rattle.rp_boxes.specs.Plays.{Sight, IsSized, alone}
 
@@ -143,6 +143,13 @@ module _ {S P : Type 0} (next : S → Action → S) (answers : S → Action → 
 -- the bytes are the text of a packet that the actor sent
 abbrev pub IsSentText : Part → List ℕ → Type 0
 IsSentText part bytes = (m : Message) × Has m part.sent × (bytes ≡ text_of m)
+
+-- The packet of this text went into its box.
+pub record IsPut {P : Type 0} (bytes : List ℕ) (old new : SeatState P) : Type 0 where
+  pub packet : Message
+  pub right : IsPacket packet
+  pub text : bytes ≡ text_of packet
+  pub after : new ≡ record old { part = with_put packet old.part }
 
 -- A packet from one party to another was taken out of their box: these bytes are its text, and it is got.
 pub record IsFetched {P : Type 0} (from to : Party) (bytes : List ℕ) (old new : SeatState P) : Type 0 where

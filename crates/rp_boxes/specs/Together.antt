@@ -1,5 +1,5 @@
 -- What the last look at the table, of all its seats as one, says.
-use Rattle.std.specs.Prelude.{◌≡◌, ℕ, suc, ◌+◌, ◌-◌, Some, All, List, slice_get}
+use Rattle.std.specs.Prelude.{◌≡◌, ℕ, suc, ◌+◌, ◌-◌, Some, All, List, ◌∷◌, ◌++◌, map, slice_get}
 use Rattle.rp_base.specs.Records.{applied_of}
 use Rattle.rp_base.specs.Sets.{Has}
 use Rattle.rp_base.specs.declared.action.Action.{Action}
@@ -9,7 +9,8 @@ use Rattle.rp_machine.specs.Replay.{kept_of}
 use Rattle.rp_agreement.specs.Answered.{named, AreItsCalls}
 use Rattle.rp_agreement.specs.Order.{Begins}
 use Rattle.rp_boxes.specs.Audits.{Audited, known_of, report}
-use Rattle.rp_boxes.specs.Parts.{Part, node_of, task_of}
+use Rattle.rp_boxes.specs.Parts.{Part, View, node_of, task_of}
+use Rattle.rp_boxes.specs.Rule.{IsGotInOrder}
 use Rattle.rp_boxes.specs.Seats.{SeatState}
 
 -- what the place of a node's seat knows, and of a task's
@@ -18,6 +19,10 @@ of_node seat = (seat.number, seat.part)
 
 abbrev pub of_task : {P : Type 0} → SeatState P → ℕ × Part
 of_task seat = (7 + seat.number, seat.part)
+
+-- what the audit, nodes and tasks know together
+abbrev pub known_together : {P : Type 0} → SeatState P → List (SeatState P) → List (SeatState P) → View
+known_together audit nodes tasks = ((0, audit.part) ∷ map of_node nodes) ++ map of_task tasks
 
 -- The node of this seat has reported, in a packet that it sent, that it applied this action next after n others.
 pub record HasReported {P : Type 0} (seat : SeatState P) (before : ℕ) (action : Action) : Type 0 where
@@ -46,10 +51,13 @@ pub record IsTaskOf {S P : Type 0} (next : S → Action → S) (answers : S → 
   pub calls : AreItsCalls seat.part.sent seat.number (task_of seat.part.role) (kept_of next answers begin order)
 
 -- One list of actions for all: what the audit knows of each node begins it, and so does what each node has applied, and
--- it answers the calls of all tasks.
+-- it answers the calls of all tasks. Of any two of the actors, what one got from the other is what the other put for
+-- it, in order: all of it, or all but the last packet.
 pub record AreTogether {S P : Type 0} (next : S → Action → S) (answers : S → Action → List Answer) (begin : P → S)
     (audit : Audited P) (nodes tasks : List (SeatState P)) : Type 0 where
   pub order : List Action
   pub known : (node : ℕ) → Begins (known_of audit.known node) order
   pub nodes_are : All (IsNodeOf order audit.known) nodes
   pub tasks_are : All (IsTaskOf next answers (begin audit.seat.program) order) tasks
+  pub carried : (x y : ℕ) (sender receiver : Part) → Has (x, sender) (known_together audit.seat nodes tasks)
+      → Has (y, receiver) (known_together audit.seat nodes tasks) → IsGotInOrder x y sender receiver

@@ -11,7 +11,7 @@ ghost use Rattle.rp_codec.specs.Message.{Message};
 ghost use Rattle.rp_boxes.specs.Looks.{IsWorldOf};
 ghost use Rattle.rp_boxes.specs.Moments.{IsMoment, WasFull, WasWord};
 ghost use Rattle.rp_boxes.specs.Parts.{Part, View, box_of, emptying, filled, filling, part_in, with_got};
-ghost use Rattle.rp_boxes.specs.Plays.{IsSized, alone, holding};
+ghost use Rattle.rp_boxes.specs.Plays.{IsPutBy, IsSized, alone, holding};
 ghost use Rattle.rp_boxes.specs.Rule.{IsCarried, IsVacant, Slot};
 
 use crate::board::{Known, Place, Slots};
@@ -45,16 +45,16 @@ impl<J: Fact> Play<Option<Vec<u8>>, Known> for Claim<J> {
         × (found ≢ 0 → J.says (part_in old.0)) };
 }
 
-/// The sender lets go of a box that it has filled, of which this is said.
+/// The sender lets go of a box that it has filled, and of its part this is said.
 struct Publish<J> {
     of: PhantomData<J>,
 }
 
 impl<J: Fact> Play<Option<Vec<u8>>, Known> for Publish<J> {
-    ghost use Rattle.rp_boxes.specs.Parts.{part_in};
-    ghost use Rattle.rp_boxes.specs.Plays.{Published};
+    ghost use Rattle.rp_boxes.specs.Parts.{actor_in};
+    ghost use Rattle.rp_boxes.specs.Plays.{IsPublished};
 
-    ghost then = { λ step old found new. Published old new × J.says (part_in old.0) };
+    ghost then = { λ step old found new. IsPublished J.says (actor_in old.0) old new };
 }
 
 /// The receiver claims a box that is full, and of one that is not this is said.
@@ -107,7 +107,8 @@ fn claim_empty<M: Machine, J: Fact>(
 }
 
 /// Puts a packet that the actor sent into the box that it claimed, and lets go of it. The buffer that
-/// was in the box, if there was one. What its caller picks is so of the full box.
+/// was in the box, if there was one. What its caller picks is so of the actor's part then, which has
+/// put that packet.
 fn deliver<M: Machine, J: Fact>(
     slots: &Slots<M>,
     place: &mut Place,
@@ -123,17 +124,17 @@ fn deliver<M: Machine, J: Fact>(
         × (place.old.me ≡ holding from (part_in place.old.me.0) (box_of from to) slot) }
     requires fills { (part_in place.old.me.0).fills ≡ box_of from to ∷ [] }
     requires packet { (m : Message) × Has m (part_in place.old.me.0).sent
-        × IsCarried from to packet.items m }
-    requires follows { (table : State Slot View)
+        × IsCarried from to packet.items m
+        × ((table : State Slot View)
         → IsMoment (setting_for M.next M.answers M.begin slots.now.key.config
         slots.now.key.program.value)
-        ((from, filled (part_in place.old.me.0)) ∷ []) table
+        ((from, filled m (part_in place.old.me.0)) ∷ []) table
         → slice_index table.words (box_of from to) ≡ 2
         → get_elem? table.homes (box_of from to) ≡ some (some (Some packet))
-        → J.says (part_in place.old.me.0) }
+        → J.says (filled m (part_in place.old.me.0))) }
     ensures table { place.new.table_id ≡ place.old.table_id }
-    ensures place { place.new.me ≡ alone from (filled (part_in place.old.me.0)) }
-    ensures said { J.says (part_in place.old.me.0) }
+    ensures place { place.new.me ≡ alone from (part_in place.new.me.0) }
+    ensures said { J.says (part_in place.new.me.0) }
     ensures vacant { IsVacant result }
 {
     let at = 16 * from + to;
@@ -160,11 +161,14 @@ pub(crate) fn fill<M: Machine>(
     requires packet { (m : Message) × Has m (part_in place.old.me.0).sent
         × IsCarried from to packet.items m }
     ensures table { place.new.table_id ≡ place.old.table_id }
-    ensures place { place.new.me ≡ place.old.me }
-    ensures put { OnOk result (WasFull (setting_for M.next M.answers M.begin slots.now.key.config
+    ensures place { place.new.me ≡ alone from (part_in place.new.me.0) }
+    ensures put { OnOk result (IsPutBy from to packet.items (part_in place.old.me.0)
+        (part_in place.new.me.0)) }
+    ensures full { OnOk result (WasFull (setting_for M.next M.answers M.begin slots.now.key.config
         slots.now.key.program.value) place.new.me.0 (box_of from to) packet.items) }
     ensures vacant { IfOk result IsVacant }
     ensures back { IfErr result (λ back. back ≡ packet) }
+    ensures unchanged { IfErr result (λ back. place.new.me ≡ place.old.me) }
     ensures used { IfErr result
         (λ back. WasWord (setting_for M.next M.answers M.begin slots.now.key.config
         slots.now.key.program.value) place.new.me.0 (box_of from to)

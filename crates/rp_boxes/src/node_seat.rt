@@ -10,7 +10,7 @@ ghost use Rattle.rp_replica.specs.Inputs.{IsRightInput};
 ghost use Rattle.rp_replica.specs.declared.input.Input.TheVariants.{Report};
 ghost use Rattle.rp_boxes.specs.Looks.{WasSent};
 ghost use Rattle.rp_boxes.specs.Moments.{WasInUse, WasNotFull, WasPut};
-ghost use Rattle.rp_boxes.specs.Seats.{IsGot, IsTurn, IsCutTurn, IsNoTurn, IsSentText, IsFetched, HasApplied, IsRunning, IsStopped, IsReport};
+ghost use Rattle.rp_boxes.specs.Seats.{IsGot, IsTurn, IsCutTurn, IsNoTurn, IsSentText, IsPut, IsFetched, HasApplied, IsRunning, IsStopped, IsReport};
 
 use crate::actors::{actor_of, receiver};
 use crate::board::{Board, Place};
@@ -148,13 +148,14 @@ impl<M: Machine, D: Device> NodeSeat<M, D> {
     /// given back where that box is not empty. The seat keeps the buffer that the receiver left there.
     pub fn put(&mut self, packet: Vec<u8>) -> Result<(), Vec<u8>>
         requires sent { IsSentText self.old.part packet.items }
-        // claim (put, used, back, unchanged): In a state of the table that keeps the rule and has
-        //   this seat's view, the box to the receiver had the packet that was put, or was in use if
-        //   the packet is given back; the seat does not change
-        ensures unchanged { self.new ≡ self.old }
-        ensures put { OnOk result (WasPut M.next M.answers M.begin (Node self.new.number)
+        // claim (put, full, back, unchanged, used): At Ok the packet is put: it went into the box to
+        //   its receiver, which holds it until the receiver takes it. Else it is given back
+        //   unchanged, the seat does not change, and the box was in use at a moment
+        ensures put { OnOk result (IsPut packet.items self.old self.new) }
+        ensures full { OnOk result (WasPut M.next M.answers M.begin (Node self.new.number)
             packet.items self.new) }
         ensures back { IfErr result (λ back. back ≡ packet) }
+        ensures unchanged { IfErr result (λ back. self.new ≡ self.old) }
         ensures used { IfErr result (λ back. WasInUse M.next M.answers M.begin
             (Node self.new.number) packet.items self.new) }
     {

@@ -12,7 +12,7 @@ ghost use Rattle.rp_world.specs.Going.{reply_in};
 ghost use Rattle.rp_boxes.specs.Looks.{WasSent};
 ghost use Rattle.rp_boxes.specs.Moments.{WasInUse, WasNotFull, WasPut};
 ghost use Rattle.rp_boxes.specs.Parts.{task_of};
-ghost use Rattle.rp_boxes.specs.Seats.{IsSentText, IsFetched};
+ghost use Rattle.rp_boxes.specs.Seats.{IsSentText, IsPut, IsFetched};
 ghost use Rattle.rp_boxes.specs.TaskSeats.{IsTaskTurn, IsNoTaskTurn, IsReplyTurn, HasOneOrder};
 ghost use Rattle.rp_boxes.specs.TaskSeats.{asked_of, DescribesPackets, reply_effect};
 
@@ -183,10 +183,11 @@ impl<M: Machine> TaskSeat<M> {
     pub fn put(&mut self, packet: Vec<u8>) -> Result<(), Vec<u8>>
         requires sent { IsSentText self.old.part packet.items }
         // claim as NodeSeat::put
-        ensures unchanged { self.new ≡ self.old }
-        ensures put { OnOk result (WasPut M.next M.answers M.begin (parties.Task self.new.number)
+        ensures put { OnOk result (IsPut packet.items self.old self.new) }
+        ensures full { OnOk result (WasPut M.next M.answers M.begin (parties.Task self.new.number)
             packet.items self.new) }
         ensures back { IfErr result (λ back. back ≡ packet) }
+        ensures unchanged { IfErr result (λ back. self.new ≡ self.old) }
         ensures used { IfErr result (λ back. WasInUse M.next M.answers M.begin
             (parties.Task self.new.number) packet.items self.new) }
     {

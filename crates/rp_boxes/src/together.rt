@@ -125,14 +125,17 @@ impl<M: Machine> Audit<M> {
     /// The audit, nodes and tasks of one table look at it together, and their seats end: there is one
     /// list of actions that what the audit knows of each node begins, that what each of the nodes has
     /// applied begins, and that answers the calls of all of the tasks; and what the audit knows of one
-    /// of the nodes is what that has reported.
+    /// of the nodes is what that has reported. Each of them has got what the others put for it, but for
+    /// packets that are still in their boxes.
     pub fn look_together<D: Device>(self, nodes: Vec<NodeSeat<M, D>>, tasks: Vec<TaskSeat<M>>)
         requires nodes { All (λ seat. seat.table ≡ self.seat.table) nodes.items }
         requires tasks { All (λ seat. seat.table ≡ self.seat.table) tasks.items }
         // claim: All seats of one table together have one order: what the audit knows of each node
         //   and what each node has applied is a prefix of it; each action known of a node was
         //   reported by that node's own seat; each reply of each task is the answer there, at one
-        //   place, and the task's calls that count are its own
+        //   place, and the task's calls that count are its own. Of any two of these actors, the
+        //   packets that one got from the other are those that the other put for it, in order: all
+        //   of them, or all but the last, so no box loses, repeats, reorders or changes a packet
         ensures { AreTogether M.next M.answers M.begin self nodes.items tasks.items }
     {
         the_order_exists();

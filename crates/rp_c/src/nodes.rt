@@ -31,25 +31,36 @@ pub extern "C" fn rp_node_open(
         × OpensByHandle deck.now number device.now node.old.kept node.new.kept
         found.old found.new refusal }
 {
-    code_of_opening(opened(alloc, deck, number, device, node, found))
+    let asked = DeckNode {
+        deck,
+        number,
+        device,
+    };
+    code_of_opening(opened(alloc, asked, node, found))
+}
+
+/// A node of a deck, by its number, over the bytes of its device.
+#[derive(Clone, Copy)]
+struct DeckNode<'a> {
+    deck: &'a [u8],
+    number: u8,
+    device: &'a [u8],
 }
 
 /// Opens a node, or returns why not.
 fn opened(
     alloc: Global,
-    deck: &[u8],
-    number: u8,
-    device: &[u8],
+    asked: DeckNode<'_>,
     node: &mut Handle,
     found: &mut Found,
 ) -> Option<Refusal>
-    ensures { OpensByHandle deck.now number device.now node.old.kept node.new.kept
-        found.old found.new result }
+    ensures { OpensByHandle asked.entry.deck.now asked.entry.number asked.entry.device.now
+        node.old.kept node.new.kept found.old found.new result }
 {
-    if deck.len() > MOST_BYTES {
+    if asked.deck.len() > MOST_BYTES {
         return Some(Refusal::Fault(Fault::Io));
     }
-    match open_node(alloc, deck, number, device, node) {
+    match open_node(alloc, asked.deck, asked.number, asked.device, node) {
         Ok(there) => {
             *found = there;
             None

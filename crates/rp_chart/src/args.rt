@@ -4,6 +4,7 @@ use clap::error::ErrorKind;
 use clap::{Arg, ArgAction, Command, Error, value_parser};
 use rp_base::Position;
 use rp_history::View;
+use rp_output::NoRun;
 use std::alloc::{AllocError, Global};
 use std::convert::AsStr;
 
@@ -55,11 +56,11 @@ fn not_utf8(alloc: Global) -> Result<Error, AllocError> {
     command(alloc)?.error(ErrorKind::InvalidValue, "a word is not UTF-8")
 }
 
-/// The status that the program ends with where its words were not read.
-pub fn words_status(error: &Error) -> u8 {
+/// Why words that were not read ask for no run.
+pub fn no_run(error: &Error) -> NoRun {
     match error.kind() {
-        ErrorKind::OutOfMemory => 4,
-        ErrorKind::DisplayHelp | ErrorKind::DisplayVersion => 0,
-        _ => 2,
+        ErrorKind::OutOfMemory => NoRun::OutOfMemory,
+        ErrorKind::DisplayHelp | ErrorKind::DisplayVersion => NoRun::Help,
+        _ => NoRun::Mistake,
     }
 }

@@ -67,6 +67,7 @@ fn draw_deck(alloc: Global, deck: Deck, view: View, lines: &[&[u8]]) -> Result<S
     let options = RunOptions {
         config,
         tasks: &tasks,
+        lines: script.as_slice(),
         traced: false,
         most: DRAIN_LIMIT,
     };
@@ -79,13 +80,12 @@ fn draw_deck(alloc: Global, deck: Deck, view: View, lines: &[&[u8]]) -> Result<S
         },
         lanes: &lanes,
     };
-    let script = script.as_slice();
     match program {
         DeckProgram::Tally(program) => {
-            draw_lines::<Tally, MemDevice>(alloc, &scene, program, devices, script)
+            draw_lines::<Tally, MemDevice>(alloc, &scene, program, devices)
         }
         DeckProgram::Objects(program) => {
-            draw_lines::<Objects, MemDevice>(alloc, &scene, program, devices, script)
+            draw_lines::<Objects, MemDevice>(alloc, &scene, program, devices)
         }
     }
 }

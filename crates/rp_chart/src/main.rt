@@ -10,8 +10,9 @@ mod args;
 mod chart;
 mod console;
 
-use console::{Streams, fail, obey, refuse_unread};
+use console::{obey, refuse_unread};
 use rp_base::Fault;
+use rp_output::{Streams, fail};
 use std::io::BufWriter;
 use std::process::ExitCode;
 use std::{env, io};

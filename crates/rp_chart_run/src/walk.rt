@@ -42,27 +42,28 @@ pub fn draw_lines<M: Machine, D: CutDevice>(
     scene: &Scene<'_>,
     program: M::Program,
     devices: Vec<D>,
-    lines: &[Line],
 ) -> Result<String, Fault>
     requires devices { length devices.items ≡ scene.now.options.now.config.nodes }
     requires empty { All (λ d. (D.disk d).contents ≡ []) devices.items }
     requires lines { All (λ line. FitsIn scene.now.options.now.config.nodes 8 8 line.command)
-        lines.now }
+        scene.now.options.now.lines.now }
     requires lanes { length scene.now.lanes.now ≤ 16 }
     // claim: The arrows of the drawing of a script, and it has no other, are the messages of its run,
     //   each from where it was sent down to where it was settled
     ensures drawing { IfOk result (λ text. let s = run_setting M.next M.answers M.begin M.image
         (opening_setup scene.now.options.now.config program) scene.now.options.now in
         IsDrawingOf s.setting scene.now.stage (length scene.now.lanes.now)
-        (run_said s scene.now.options.now.most lines.now).play.world (string_bytes text)) }
+        (run_said s scene.now.options.now.most scene.now.options.now.lines.now).play.world
+        (string_bytes text)) }
 {
     let mut walk = Walk {
+        alloc,
         cluster: Cluster::<M, D>::new(alloc, scene.options.config, program, devices)?,
         settled: Settled::new(alloc),
         chart: Chart::new::<M>(alloc, scene.stage),
     };
-    for line in lines {
-        walk.take(alloc, scene, line)?;
+    for line in scene.options.lines {
+        walk.take(scene, line)?;
     }
     walk.chart.draw::<M>(alloc, scene.lanes)
 }
@@ -70,6 +71,7 @@ pub fn draw_lines<M: Machine, D: CutDevice>(
 /// A run of a script, and the chart of what happened in it.
 #[derive(Drop)]
 struct Walk<M: Machine, D: CutDevice> {
+    alloc: Global,
     cluster: Cluster<M, D>,
     settled: Settled,
     chart: Chart,
@@ -77,7 +79,7 @@ struct Walk<M: Machine, D: CutDevice> {
 
 impl<M: Machine, D: CutDevice> Walk<M, D> {
     /// Does what a line asks for.
-    fn take(&mut self, alloc: Global, scene: &Scene<'_>, line: &Line) -> Result<(), Fault>
+    fn take(&mut self, scene: &Scene<'_>, line: &Line) -> Result<(), Fault>
         requires parts { HasParts scene.now.options.now.config.nodes self.old.cluster }
         requires line { FitsIn scene.now.options.now.config.nodes 8 8 line.now.command }
         requires charted { IsCharted M.next M.answers M.begin self.old.cluster self.old.chart }
@@ -95,21 +97,15 @@ impl<M: Machine, D: CutDevice> Walk<M, D> {
     {
         let number = line.number;
         match line.command {
-            Command::Take(event) => self.step(alloc, scene, number, &event),
-            Command::Lose { first, last } => self.lose(alloc, scene, number, first, last),
-            Command::Drain => self.drain(alloc, scene, number),
-            Command::Show => self.show(alloc, scene),
+            Command::Take(event) => self.step(scene, number, &event),
+            Command::Lose { first, last } => self.lose(scene, number, first, last),
+            Command::Drain => self.drain(scene, number),
+            Command::Show => self.show(scene),
         }
     }
 
     /// Takes a step, settles its messages and charts its effect; or charts that it was refused.
-    fn step(
-        &mut self,
-        alloc: Global,
-        scene: &Scene<'_>,
-        line: u32,
-        event: &Event,
-    ) -> Result<(), Fault>
+    fn step(&mut self, scene: &Scene<'_>, line: u32, event: &Event) -> Result<(), Fault>
         requires parts { HasParts scene.now.options.now.config.nodes self.old.cluster }
         requires event { IsEventWithin scene.now.options.now.config.nodes 8 8 event.now }
         requires charted { IsCharted M.next M.answers M.begin self.old.cluster self.old.chart }
@@ -126,43 +122,37 @@ impl<M: Machine, D: CutDevice> Walk<M, D> {
             self.new.cluster self.new.chart) }
     {
         worlds_grow::<M>();
-        let prospect = prospect_of(alloc, &self.cluster, event)?;
-        match self.cluster.step(alloc, event) {
+        let prospect = prospect_of(self.alloc, &self.cluster, event)?;
+        match self.cluster.step(self.alloc, event) {
             Ok(effect) => {
                 self.settled.settle_by(event)?;
-                let happened = happened_after(alloc, &self.cluster, &prospect, event, &effect)?;
-                let label = self.label(alloc, scene, line, &happened)?;
-                let packets = packets_from(alloc, &self.cluster, effect.first)?;
+                let happened = happened_after(
+                    self.alloc,
+                    &self.cluster,
+                    &prospect,
+                    event,
+                    &effect,
+                )?;
+                let label = self.label(scene, line, &happened)?;
+                let packets = packets_from(self.alloc, &self.cluster, effect.first)?;
                 self.chart
-                    .happen::<M>(alloc, &packets, prospect.ending, label)
+                    .happen::<M>(self.alloc, &packets, prospect.ending, label)
             }
-            Err(fault) if is_refusal(&fault) => self.refuse(alloc, scene, line, fault),
+            Err(fault) if is_refusal(&fault) => self.refuse(scene, line, fault),
             Err(fault) => Err(fault),
         }
     }
 
     /// What is drawn of an event that happened beside the ways of packets.
-    fn label(
-        &self,
-        alloc: Global,
-        scene: &Scene<'_>,
-        line: u32,
-        happened: &Happened,
-    ) -> Result<Label, Fault> {
+    fn label(&self, scene: &Scene<'_>, line: u32, happened: &Happened) -> Result<Label, Fault> {
         let text = line_at(scene.deck, line);
-        let cause = cause_words(alloc, scene.options.tasks, text, happened)?;
-        let effect = effect_words(alloc, happened)?;
+        let cause = cause_words(self.alloc, scene.options.tasks, text, happened)?;
+        let effect = effect_words(self.alloc, happened)?;
         Ok(happened.label(&self.chart.stage, cause, effect))
     }
 
     /// Charts that a line was refused.
-    fn refuse(
-        &mut self,
-        alloc: Global,
-        scene: &Scene<'_>,
-        line: u32,
-        fault: Fault,
-    ) -> Result<(), Fault>
+    fn refuse(&mut self, scene: &Scene<'_>, line: u32, fault: Fault) -> Result<(), Fault>
         requires charted { IsCharted M.next M.answers M.begin self.old.cluster self.old.chart }
         ensures cluster { self.new.cluster ≡ self.old.cluster }
         ensures settled { self.new.settled ≡ self.old.settled }
@@ -172,18 +162,18 @@ impl<M: Machine, D: CutDevice> Walk<M, D> {
     {
         let code = fault.code();
         let name = fault.name();
-        let text = format!(in alloc; "refused {code} {name}")?;
+        let text = format!(in self.alloc; "refused {code} {name}")?;
         let label = Label {
-            cause: Words::fitted(alloc, line_at(scene.deck, line))?,
-            effect: Words::fitted(alloc, text.as_bytes())?,
+            cause: Words::fitted(self.alloc, line_at(scene.deck, line))?,
+            effect: Words::fitted(self.alloc, text.as_bytes())?,
             mark: None,
             is_drawn: scene.stage.view.shows_all(),
         };
-        self.stay(alloc, None, label)
+        self.stay(None, label)
     }
 
     /// Charts a moment in which nothing happens, but that a message may be lost.
-    fn stay(&mut self, alloc: Global, lost: Option<u64>, label: Label) -> Result<(), Fault>
+    fn stay(&mut self, lost: Option<u64>, label: Label) -> Result<(), Fault>
         requires lost { IsEndingWithin (length self.old.cluster.world.sent) (lost_of lost) }
         requires charted { IsCharted M.next M.answers M.begin self.old.cluster self.old.chart }
         ensures cluster { self.new.cluster ≡ self.old.cluster }
@@ -192,18 +182,11 @@ impl<M: Machine, D: CutDevice> Walk<M, D> {
         ensures charted { OnOk result (IsCharted M.next M.answers M.begin
             self.new.cluster self.new.chart) }
     {
-        self.chart.stay::<M>(alloc, lost, label)
+        self.chart.stay::<M>(self.alloc, lost, label)
     }
 
     /// The messages from the first to the last count as settled, where all of them were sent.
-    fn lose(
-        &mut self,
-        alloc: Global,
-        scene: &Scene<'_>,
-        line: u32,
-        first: u64,
-        last: u64,
-    ) -> Result<(), Fault>
+    fn lose(&mut self, scene: &Scene<'_>, line: u32, first: u64, last: u64) -> Result<(), Fault>
         requires first { 1 ≤ first }
         requires last { last < 2 ^ 63 }
         requires charted { IsCharted M.next M.answers M.begin self.old.cluster self.old.chart }
@@ -217,16 +200,16 @@ impl<M: Machine, D: CutDevice> Walk<M, D> {
     {
         let sent = self.cluster.messages();
         if first > sent || last > sent {
-            return self.refuse(alloc, scene, line, Fault::NoSuchMessage);
+            return self.refuse(scene, line, Fault::NoSuchMessage);
         }
         for number in first..last + 1 {
-            self.lose_one(alloc, scene, number)?;
+            self.lose_one(scene, number)?;
         }
         Ok(self.settled.settle_all(first, last)?)
     }
 
     /// Charts that a message is lost.
-    fn lose_one(&mut self, alloc: Global, scene: &Scene<'_>, number: u64) -> Result<(), Fault>
+    fn lose_one(&mut self, scene: &Scene<'_>, number: u64) -> Result<(), Fault>
         requires from_one { 1 ≤ number }
         requires sent { number ≤ length self.old.cluster.world.sent }
         requires charted { IsCharted M.next M.answers M.begin self.old.cluster self.old.chart }
@@ -236,20 +219,20 @@ impl<M: Machine, D: CutDevice> Walk<M, D> {
         ensures charted { OnOk result (IsCharted M.next M.answers M.begin
             self.new.cluster self.new.chart) }
     {
-        let Some(packet) = sent_packet(alloc, &self.cluster, number)? else {
+        let Some(packet) = sent_packet(self.alloc, &self.cluster, number)? else {
             return Ok(());
         };
         let label = Label {
-            cause: message_words(alloc, scene.options.tasks, number, &packet)?,
-            effect: Words::fitted(alloc, b"lost".as_slice())?,
+            cause: message_words(self.alloc, scene.options.tasks, number, &packet)?,
+            effect: Words::fitted(self.alloc, b"lost".as_slice())?,
             mark: None,
             is_drawn: scene.stage.view.shows(&packet),
         };
-        self.stay(alloc, Some(number), label)
+        self.stay(Some(number), label)
     }
 
     /// Delivers the least message that is not settled, until none is left or n were delivered.
-    fn drain(&mut self, alloc: Global, scene: &Scene<'_>, line: u32) -> Result<(), Fault>
+    fn drain(&mut self, scene: &Scene<'_>, line: u32) -> Result<(), Fault>
         requires parts { HasParts scene.now.options.now.config.nodes self.old.cluster }
         requires charted { IsCharted M.next M.answers M.begin self.old.cluster self.old.chart }
         ensures parts { OnOk result (HasParts scene.now.options.now.config.nodes
@@ -270,22 +253,22 @@ impl<M: Machine, D: CutDevice> Walk<M, D> {
                 return Ok(());
             }
             let event = Event::Node(Step::Deliver(message));
-            self.step(alloc, scene, line, &event)?;
+            self.step(scene, line, &event)?;
         }
         if self.settled.least() > self.cluster.messages() {
             return Ok(());
         }
         let label = Label {
-            cause: Words::fitted(alloc, line_at(scene.deck, line))?,
-            effect: Words::fitted(alloc, b"drain limit".as_slice())?,
+            cause: Words::fitted(self.alloc, line_at(scene.deck, line))?,
+            effect: Words::fitted(self.alloc, b"drain limit".as_slice())?,
             mark: None,
             is_drawn: true,
         };
-        self.stay(alloc, None, label)
+        self.stay(None, label)
     }
 
     /// Charts every node's state.
-    fn show(&mut self, alloc: Global, scene: &Scene<'_>) -> Result<(), Fault>
+    fn show(&mut self, scene: &Scene<'_>) -> Result<(), Fault>
         requires charted { IsCharted M.next M.answers M.begin self.old.cluster self.old.chart }
         ensures cluster { self.new.cluster ≡ self.old.cluster }
         ensures settled { self.new.settled ≡ self.old.settled }
@@ -295,13 +278,13 @@ impl<M: Machine, D: CutDevice> Walk<M, D> {
     {
         for place in 0..scene.options.config.nodes {
             let node = NodeId::new(place + 1).unwrap();
-            self.show_node(alloc, scene, node)?;
+            self.show_node(scene, node)?;
         }
         Ok(())
     }
 
     /// Charts a node's state.
-    fn show_node(&mut self, alloc: Global, scene: &Scene<'_>, node: NodeId) -> Result<(), Fault>
+    fn show_node(&mut self, scene: &Scene<'_>, node: NodeId) -> Result<(), Fault>
         requires charted { IsCharted M.next M.answers M.begin self.old.cluster self.old.chart }
         ensures cluster { self.new.cluster ≡ self.old.cluster }
         ensures settled { self.new.settled ≡ self.old.settled }
@@ -316,13 +299,13 @@ impl<M: Machine, D: CutDevice> Walk<M, D> {
         };
         let (cause, effect) = match self.cluster.applied(node) {
             Ok(applied) => {
-                let image = self.cluster.image(alloc, node)?;
+                let image = self.cluster.image(self.alloc, node)?;
                 (
-                    applied_words(alloc, node, applied)?,
-                    Words::fitted(alloc, &image)?,
+                    applied_words(self.alloc, node, applied)?,
+                    Words::fitted(self.alloc, &image)?,
                 )
             }
-            Err(_) => (stopped_words(alloc, node)?, Words::none(alloc)),
+            Err(_) => (stopped_words(self.alloc, node)?, Words::none(self.alloc)),
         };
         let label = Label {
             cause,
@@ -330,6 +313,6 @@ impl<M: Machine, D: CutDevice> Walk<M, D> {
             mark: Some(mark),
             is_drawn: true,
         };
-        self.stay(alloc, None, label)
+        self.stay(None, label)
     }
 }

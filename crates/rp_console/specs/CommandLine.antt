@@ -10,6 +10,8 @@ use Rattle.clap.specs.declared.builder.action.ArgAction.TheVariants.{SetTrue}
 use Rattle.clap.specs.declared.error.kind.ErrorKind.{ErrorKind}
 use Rattle.clap.specs.declared.error.kind.ErrorKind.TheVariants.{DisplayHelp, DisplayVersion, OutOfMemory}
 use Rattle.clap.specs.declared.builder.value_parser.ValueParser.TheVariants.{Signed}
+use Rattle.rp_output.specs.declared.ending.NoRun.{NoRun}
+use Rattle.rp_output.specs.declared.ending.NoRun.TheVariants as no_runs
 use Rattle.rp_console.specs.declared.args.Args.{Args}
 use Rattle.rp_console.specs.declared.args.Args.TheVariants.{Script, Live}
 
@@ -84,9 +86,9 @@ abbrev pub ReadsAs : Option Text → ℕ → Type 0
 ReadsAs None number = ⊥
 ReadsAs (Some text) number = IsNumberText text number
 
--- the status after words that are not read: 0 after help or the version, 4 where memory ran out, else 2
-abbrev pub words_status_of : ErrorKind → ℕ
-words_status_of OutOfMemory = 4
-words_status_of DisplayHelp = 0
-words_status_of DisplayVersion = 0
-words_status_of _ = 2
+-- why words that are not read ask for no run
+abbrev pub no_run_of : ErrorKind → NoRun
+no_run_of OutOfMemory = no_runs.OutOfMemory
+no_run_of DisplayHelp = no_runs.Help
+no_run_of DisplayVersion = no_runs.Help
+no_run_of _ = no_runs.Mistake

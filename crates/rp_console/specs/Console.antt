@@ -1,26 +1,25 @@
 -- What the program does with the words of the command line, and how it ends.
-use Rattle.std.specs.Prelude.{◌≡◌, ◌≢◌, ◌⊎◌, ℕ, true, false, Option, Some, None, Result, Ok, Err, List, [], codes}
+use Rattle.std.specs.Prelude.{◌≡◌, ◌⊎◌, ℕ, true, false, Option, Some, None, Result, Ok, Err, List, [], codes}
 use Rattle.std.specs.Prelude.{option_map, IfOk, OnOk, IfErr, OnErr}
 use Rattle.std.specs.Io.KnownBytes.{Appends}
 use Rattle.clap.specs.Kinds.{IsAmong}
 use Rattle.clap.specs.Words.{Text, fault_of, subcommand_of}
 use Rattle.clap.specs.declared.error.kind.ErrorKind.{ErrorKind}
-use Rattle.clap.specs.declared.error.kind.ErrorKind.TheVariants.{DisplayHelp, DisplayVersion, InvalidValue, OutOfMemory}
+use Rattle.clap.specs.declared.error.kind.ErrorKind.TheVariants.{InvalidValue, OutOfMemory}
 use Rattle.rp_base.specs.declared.fault.Fault.{Fault}
-use Rattle.rp_base.specs.declared.fault.Fault.TheVariants as faults
 use Rattle.rp_deck.specs.declared.deck.Mode.{Mode}
 use Rattle.rp_deck.specs.declared.deck.Mode.TheVariants as modes
 use Rattle.rp_script.specs.Agreeing.{ScriptBegins, ScriptPrints}
-use Rattle.rp_console.specs.CommandLine.{console, name_of, seed_of, trace_of, turns_of, ReadsAs, words_status_of}
+use Rattle.rp_console.specs.CommandLine.{console, name_of, seed_of, trace_of, turns_of, ReadsAs, no_run_of}
 use Rattle.rp_script.specs.Faults.{IsBadDeck, IsProgramFault}
 use Rattle.rp_script.specs.Figures.{figures_line_of}
 use Rattle.rp_script.specs.Given.{IsMeant}
 use Rattle.rp_script.specs.LiveRun.{LiveBegins, LivePrints}
-use Rattle.rp_console.specs.Status.{status_after, status_of}
+use Rattle.rp_output.specs.Endings.{RefusesFor, status_after}
 use Rattle.rp_output.specs.FaultMessage.{fault_message_of, with_line_feed}
 use Rattle.rp_console.specs.declared.args.Args.{Args}
 use Rattle.rp_console.specs.declared.args.Args.TheVariants.{Script, Live}
-use Rattle.rp_console.specs.declared.console.Ending.{Ending}
+use Rattle.rp_output.specs.declared.ending.Ending.{Ending}
 use Rattle.rp_script.specs.declared.figures.FiguresLine.{FiguresLine}
 
 -- these words ask for this
@@ -69,20 +68,9 @@ pub record RunsAs (args : Args) (given output output_after errors errors_after :
   pub status : ending.status ≡ status_after ran
   pub reported : OnOk ending.reported (Appends errors errors_after (report_of ran))
 
--- help, or the version, was asked for
-abbrev pub IsAskedFor : ErrorKind → Type 0
-IsAskedFor kind = (kind ≡ DisplayHelp) ⊎ (kind ≡ DisplayVersion)
-
--- Wrong words were reported, and help or the version alone was printed. The status is the one of this kind of mistake;
--- where help or the version could not be printed it is that of `Io`, which is reported.
-pub record RefusesAs (kind : ErrorKind) (output output_after errors errors_after : Option (List ℕ)) (ending : Ending)
-    : Type 0 where
-  pub status : (ending.status ≡ words_status_of kind) ⊎ (IsAskedFor kind × (ending.status ≡ status_of faults.Io)
-      × OnOk ending.reported (Appends errors errors_after (report_of (Err faults.Io))))
-  pub output_kept : kind ≢ DisplayHelp → kind ≢ DisplayVersion → output_after ≡ output
-  pub errors_kept : IsAskedFor kind → ending.status ≡ words_status_of kind → errors_after ≡ errors
-  pub memory : kind ≡ OutOfMemory → OnOk ending.reported
-      (Appends errors errors_after (report_of (Err faults.OutOfMemory)))
+-- Wrong words were reported, and help or the version alone was printed.
+abbrev pub RefusesAs : ErrorKind → Option (List ℕ) → Option (List ℕ) → Option (List ℕ) → Option (List ℕ) → Ending → Type 0
+RefusesAs kind = RefusesFor (no_run_of kind)
 
 -- one of the words is not UTF-8, or memory ran out for saying so
 abbrev pub IsUnread : ErrorKind → Type 0

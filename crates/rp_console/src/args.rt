@@ -4,10 +4,11 @@ ghost use Rattle.std.specs.Prelude.{◌≡◌, ℕ, Some, true, false, codes, If
 ghost use Rattle.clap.specs.Words.{app_of, kind_of, subcommand_of, fault_of, found_of, one_text, FailsBy};
 ghost use Rattle.clap.specs.declared.builder.command.Command.TheViews.{out-Command};
 ghost use Rattle.rp_console.specs.Console.{IsUnread};
-ghost use Rattle.rp_console.specs.CommandLine.{console, script, live, name_of, trace_of, seed_of, turns_of, words_status_of, ReadsAs};
+ghost use Rattle.rp_console.specs.CommandLine.{console, script, live, name_of, trace_of, seed_of, turns_of, no_run_of, ReadsAs};
 
 use clap::error::ErrorKind;
 use clap::{Arg, ArgAction, ArgMatches, Command, Error, value_parser};
+use rp_output::NoRun;
 use std::alloc::{AllocError, Global};
 use std::convert::AsStr;
 
@@ -138,13 +139,13 @@ fn not_utf8(alloc: Global) -> Result<Error, AllocError>
     command(alloc)?.error(ErrorKind::InvalidValue, "a word is not UTF-8")
 }
 
-/// The status that the program ends with where its words were not read.
-pub fn words_status(error: &Error) -> u8
-    ensures { result ≡ words_status_of (kind_of error.now) }
+/// Why words that were not read ask for no run.
+pub fn no_run(error: &Error) -> NoRun
+    ensures { result ≡ no_run_of (kind_of error.now) }
 {
     match error.kind() {
-        ErrorKind::OutOfMemory => 4,
-        ErrorKind::DisplayHelp | ErrorKind::DisplayVersion => 0,
-        _ => 2,
+        ErrorKind::OutOfMemory => NoRun::OutOfMemory,
+        ErrorKind::DisplayHelp | ErrorKind::DisplayVersion => NoRun::Help,
+        _ => NoRun::Mistake,
     }
 }

@@ -4,41 +4,22 @@ ghost use Rattle.std.specs.Prelude.{◌≡◌, IfErr, IfOk, OnErr, OnOk, map};
 ghost use Rattle.std.specs.Io.KnownBytes.{Appends};
 ghost use Rattle.clap.specs.Values.{kind_of};
 ghost use Rattle.rp_console.specs.Console.{FollowsWords, HasBegun, IsUnread, Prints, mode_of, RefusesAs, report_of};
+ghost use Rattle.rp_output.specs.Endings.{status_after};
 ghost use Rattle.rp_script.specs.Faults.{IsBadDeck, IsProgramFault};
-ghost use Rattle.rp_console.specs.Status.{status_after, status_of};
 ghost use Rattle.rp_script.specs.Given.{IsMeant};
-ghost use Rattle.rp_output.specs.FaultMessage.{fault_message_of, with_line_feed};
 
-use crate::args::{Args, read_args, unread_words, words_status};
-use crate::status::status;
+use crate::args::{Args, no_run, read_args, unread_words};
 use clap::Error;
 use clap::error::ErrorKind;
 use rp_base::Fault;
-use rp_script::{FiguresLine, LiveRequest, run_live, run_script, tell, write_out};
+use rp_output::{Ending, Streams, fail, refuse};
+use rp_script::{FiguresLine, LiveRequest, run_live, run_script};
 use std::alloc::Global;
 use std::convert::AsStr;
-use std::io;
 use std::io::{Read, Write};
 use std::sync::Wait;
 use std::thread::Threads;
 use std::time::Clock;
-
-/// Where the program reads its deck, prints, and reports its faults.
-#[derive(Drop)]
-pub struct Streams<R: Drop, W: Drop, E: Drop> {
-    pub reader: R,
-    pub writer: W,
-    pub errors: E,
-}
-
-/// How the program ends.
-#[derive(Drop)]
-pub struct Ending {
-    /// The status that it ends with.
-    pub status: u8,
-    /// Whether what it had to report was written.
-    pub reported: io::Result<()>,
-}
 
 /// Runs what the words ask for and reports its fault, or reports why the words are wrong.
 pub fn obey<T: Threads + Wait + Clock, S: AsStr, R: Read + Drop, W: Write + Drop, E: Write + Drop>(
@@ -64,7 +45,7 @@ pub fn obey<T: Threads + Wait + Clock, S: AsStr, R: Read + Drop, W: Write + Drop
             let ran = run_as(rt, alloc, args, &mut streams.reader, &mut streams.writer);
             end(&mut streams.errors, ran)
         }
-        Err(error) => refuse(&error, streams),
+        Err(error) => refuse_words(&error, streams),
     }
 }
 
@@ -115,11 +96,11 @@ pub fn refuse_unread<R: Read + Drop, W: Write + Drop, E: Write + Drop>(
         (W.contents streams.old.writer) (W.contents streams.new.writer)
         (E.contents streams.old.errors) (E.contents streams.new.errors) result }
 {
-    refuse(&unread_words(alloc), streams)
+    refuse_words(&unread_words(alloc), streams)
 }
 
 /// Reports why the words are wrong, or prints the help that they ask for.
-fn refuse<R: Read + Drop, W: Write + Drop, E: Write + Drop>(
+fn refuse_words<R: Read + Drop, W: Write + Drop, E: Write + Drop>(
     error: &Error,
     streams: &mut Streams<R, W, E>,
 ) -> Ending
@@ -127,22 +108,7 @@ fn refuse<R: Read + Drop, W: Write + Drop, E: Write + Drop>(
         (W.contents streams.old.writer) (W.contents streams.new.writer)
         (E.contents streams.old.errors) (E.contents streams.new.errors) result }
 {
-    if error.kind() == ErrorKind::OutOfMemory {
-        return fail(&mut streams.errors, Fault::OutOfMemory);
-    }
-    if error.use_stderr() {
-        return Ending {
-            status: words_status(error),
-            reported: write!(streams.errors, "{error}"),
-        };
-    }
-    if write!(streams.writer, "{error}").is_err() || write_out(&mut streams.writer).is_err() {
-        return fail(&mut streams.errors, Fault::Io);
-    }
-    Ending {
-        status: words_status(error),
-        reported: Ok(()),
-    }
+    refuse(no_run(error), error, streams)
 }
 
 /// Reports a run's figures or its fault, if it has any.
@@ -161,18 +127,5 @@ fn end<E: Write>(errors: &mut E, ran: Result<Option<FiguresLine>, Fault>) -> End
             reported: writeln!(errors, "{figures}"),
         },
         Err(fault) => fail(errors, fault),
-    }
-}
-
-/// Reports a fault.
-pub fn fail<E: Write>(errors: &mut E, fault: Fault) -> Ending
-    ensures status { result.status ≡ status_of fault }
-    ensures reported { OnOk result.reported (Appends (E.contents errors.old)
-        (E.contents errors.new) (with_line_feed (fault_message_of fault))) }
-{
-    let reported = tell(&fault, errors);
-    Ending {
-        status: status(&fault),
-        reported,
     }
 }

@@ -3,15 +3,14 @@
 //! In reading order:
 //! - `console`: does what the words of the command line ask for, and reports its faults
 //! - `args`: what the words of the command line ask for
-//! - `status`: the status that the program ends with
 #![tactic(auto)]
 
 mod args;
 mod console;
-mod status;
 
-use console::{Streams, fail, obey, refuse_unread};
+use console::{obey, refuse_unread};
 use rp_base::Fault;
+use rp_output::{Streams, fail};
 use std::io::BufWriter;
 use std::process::ExitCode;
 use std::{env, io};

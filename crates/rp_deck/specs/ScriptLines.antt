@@ -146,12 +146,11 @@ tick_at nodes words = do
   Ok (Tick node.0 now.0, now.1)
 
 -- a step that may be cut, `lead NODE [POSITION]`, `range NODE FIRST COUNT` or `deliver M`, by its first word
-unfoldable pub step_from : ℕ → List ℕ → List ℕ → Result (Step × List ℕ) DeckReason
-step_from nodes first words =
-    if bytes_eq first (codes "lead") then lead_at nodes words
-    else if bytes_eq first (codes "range") then range_at nodes words
-    else if bytes_eq first (codes "deliver") then deliver_at words
-    else Err UnknownWord
+abbrev pub step_from : ℕ → Verb → List ℕ → Result (Step × List ℕ) DeckReason
+step_from nodes verbs.Lead words = lead_at nodes words
+step_from nodes verbs.Range words = range_at nodes words
+step_from nodes verbs.Deliver words = deliver_at words
+step_from nodes _ words = Err UnknownWord
 
 -- ---- events
 
@@ -193,7 +192,8 @@ unfoldable pub cut_at : ℕ → List ℕ → Result (Event × List ℕ) DeckReas
 cut_at nodes words = do
   kept ← number_at 0 (2 ^ 63 - 1) words
   word ← word_at kept.1
-  step ← step_from nodes word.0 word.1
+  verb ← some_or UnknownWord (verb_named word.0)
+  step ← step_from nodes verb word.1
   Ok (Cut step.0 kept.0, step.1)
 
 -- ---- commands

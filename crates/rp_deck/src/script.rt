@@ -21,7 +21,7 @@ use crate::verbs::Verb;
 use rp_base::{DeckReason, Fault, Position};
 use rp_deck_declarations::Declared;
 use rp_model::{Event, Step};
-use rp_words::{Lines, TextLine, Words, is_word};
+use rp_words::{Lines, TextLine, Words};
 use std::alloc::Global;
 
 /// The most that a script's number of a message or of bytes may be.
@@ -132,29 +132,25 @@ fn read_cut(words: &mut Words<'_>, nodes: u8) -> Result<Event, DeckReason>
         → IsEventDeclared program interrupts event) }
 {
     let kept = words.take_number(0, MOST)?;
-    let first = words.take()?;
-    let step = read_step(first, words, nodes)?;
+    let verb = Verb::named(words.take()?).ok_or(DeckReason::UnknownWord)?;
+    let step = read_step(verb, words, nodes)?;
     Ok(Event::Cut { step, kept })
 }
 
 /// Reads a step that may be cut, `lead NODE [POSITION]`, `range NODE FIRST COUNT` or `deliver M`,
 /// after its first word.
-#[tactic(auto, unfolding(crate::specs::ScriptLines::step_from))]
-fn read_step(first: &[u8], words: &mut Words<'_>, nodes: u8) -> Result<Step, DeckReason>
+fn read_step(verb: Verb, words: &mut Words<'_>, nodes: u8) -> Result<Step, DeckReason>
     requires { nodes ≤ 7 }
     ensures read { Gives (λ step. (step_of step, unread words.new)) result
-        (step_from nodes first.now (unread words.old)) }
+        (step_from nodes verb (unread words.old)) }
     ensures within { IfOk result (IsStepWithin nodes) }
     ensures declared { IfOk result (λ step. (interrupts : ℕ) → IsStepDeclared interrupts step) }
 {
-    if is_word(first, b"lead") {
-        read_lead(words, nodes)
-    } else if is_word(first, b"range") {
-        read_range(words, nodes)
-    } else if is_word(first, b"deliver") {
-        read_deliver(words)
-    } else {
-        Err(DeckReason::UnknownWord)
+    match verb {
+        Verb::Lead => read_lead(words, nodes),
+        Verb::Range => read_range(words, nodes),
+        Verb::Deliver => read_deliver(words),
+        _ => Err(DeckReason::UnknownWord),
     }
 }
 

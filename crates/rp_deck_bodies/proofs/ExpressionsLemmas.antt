@@ -12,6 +12,12 @@ module _ {X : Type 0} (from : NodeReader X → List ℕ → NodeReader X) where
   tree_refused zero left words reason h = ap (λ (node : Result (List ℕ × ℕ × List ℕ) DeckReason). node >>= (λ _. Err BadExpression)) h
   tree_refused (suc depth) left words reason h = ap (λ (node : Result (List ℕ × ℕ × List ℕ) DeckReason). node >>= (λ n. from (tree_at from depth) n.0 n.1 n.2)) h
 
+  -- a node that is too deep
+  pub tree_too_deep : (depth left : ℕ) (words : List ℕ) (node : List ℕ × ℕ × List ℕ) → depth ≡ 0 → node_at left words ≡ Ok node → tree_at from depth left words ≡ Err BadExpression
+  unfolding tree_at
+  tree_too_deep zero left words node none h = ap (λ (found : Result (List ℕ × ℕ × List ℕ) DeckReason). found >>= (λ _. Err BadExpression)) h
+  tree_too_deep (suc depth) left words node none h = absurd (omega (arith, none))
+
   -- a node, and then the parts, which are less deep
   next_deeper : (depth left : ℕ) (words : List ℕ) (node : List ℕ × ℕ × List ℕ) → node_at left words ≡ Ok node → tree_at from (suc depth) left words ≡ from (tree_at from depth) node.0 node.1 node.2
   unfolding tree_at

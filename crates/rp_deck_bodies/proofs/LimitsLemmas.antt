@@ -1,5 +1,5 @@
 -- The limits of a body, line by line.
-use Rattle.std.proofs.Common.{◌≡◌, ℕ, zero, suc, ◌+◌, ◌-◌, ◌<◌, ◌≤◌, List, [], ◌∷◌, ◌++◌, ◌&&◌, Bool, true, false, map, max, length, Option, Some, None, arith, ap, refl, sym, subst, ◌∙◌, length-append}
+use Rattle.std.proofs.Common.{◌≡◌, ℕ, zero, suc, ◌+◌, ◌-◌, ◌<◌, ◌≤◌, List, [], ◌∷◌, ◌++◌, ◌&&◌, Bool, true, false, max, length, Option, Some, None, arith, ap, refl, sym, subst, ◌∙◌, length-append}
 use Rattle.std.specs.Prelude.{All, IsTrue, Vec, nat_lt}
 use Rattle.std.specs.declared.alloc.Global.{Global}
 use Rattle.rp_body.specs.Check.{expr_fits, cond_fits, count_step, depth_step, fits_step, stmt_count, statement_count, stmt_depth, depth_of, stmt_fits, body_fits}

@@ -192,7 +192,7 @@ impl<'w, 'n> Nodes<'w, 'n> {
 
     /// Reads an expression that is at most so deep.
     #[cycle(expr)]
-    #[tactic(auto, unfolding(crate::specs::Expressions::tree_at))]
+    #[tactic(auto, using(crate::proofs::ExpressionsLemmas::tree_refused, crate::proofs::ExpressionsLemmas::tree_too_deep, crate::proofs::ExpressionsLemmas::tree_deeper))]
     fn expr(&mut self, depth: u8) -> Result<Expr, LineError>
         ensures read { Makes (λ expr. (expr_text expr, self.new.left, unread self.new.words)) result
             (expr_at (key_names self.old.names.now) (values self.old.names.now) depth self.old.left
@@ -243,7 +243,7 @@ impl<'w, 'n> Nodes<'w, 'n> {
 
     /// Reads a condition that is at most so deep.
     #[cycle(cond)]
-    #[tactic(auto, unfolding(crate::specs::Expressions::tree_at))]
+    #[tactic(auto, using(crate::proofs::ExpressionsLemmas::tree_refused, crate::proofs::ExpressionsLemmas::tree_too_deep, crate::proofs::ExpressionsLemmas::tree_deeper))]
     fn cond(&mut self, depth: u8) -> Result<Cond, LineError>
         ensures read { Makes (λ cond. (cond_text cond, self.new.left, unread self.new.words)) result
             (cond_at (key_names self.old.names.now) (values self.old.names.now) depth self.old.left

@@ -2,6 +2,7 @@
 use Rattle.std.proofs.Common.{◌≡◌, ℕ, zero, suc, ◌+◌, ◌≤◌, List, [], ◌∷◌, ◌++◌, true, length, map, Some, arith, ap, refl, sym, subst, ◌∙◌}
 use Rattle.std.specs.Prelude.{All, is_some, slice_get, slice_set, option_map, Vec}
 use Rattle.std.specs.declared.alloc.Global.{Global}
+use Rattle.indexmap.specs.IndexMap.{values}
 use Rattle.rp_body.specs.declared.statement.Stmt.{Stmt}
 use Rattle.rp_deck_bodies.specs.BodyViews.{body_text}
 use Rattle.std.proofs.lemmas.List.{map-set}
@@ -9,9 +10,10 @@ use Rattle.std.proofs.lemmas.Option.{slice_get-map}
 use Rattle.rp_entry.specs.Operations.{of_index}
 use Rattle.rp_object.specs.declared.program.Handler.{Handler}
 use Rattle.rp_deck_objects.specs.declared.objects.ObjectDraft.{ObjectDraft}
-use Rattle.rp_deck_declarations.specs.Declarations.{procedure_counts, IsHandled}
+use Rattle.rp_deck_declarations.specs.declared.draft.Draft.{Draft}
+use Rattle.rp_deck_declarations.specs.Declarations.{IsNameTable, procedure_counts, IsHandled, IsDraft}
 use Rattle.rp_deck_objects.specs.ObjectViews.{object_text}
-use Rattle.rp_deck_bodies.proofs.ListLemmas.{all_weaker}
+use Rattle.rp_deck_bodies.proofs.ListLemmas.{all_last, all_weaker}
 use Rattle.rp_words.proofs.TablesLemmas.{map_last}
 
 abbrev procedure_count : ObjectDraft → ℕ
@@ -80,3 +82,24 @@ handled_by drafts place number draft at least has =
       least = least;
       most = omega (arith, within_len draft.operations.procedures.items number has, map_len (λ (body : Vec Stmt Global). body_text body.items) draft.operations.procedures.items);
     }
+
+pub handled_more : (counts : List ℕ) (before after : List Handler) (handler : Handler) → after ≡ before ++ handler ∷ [] → All (IsHandled counts) before → IsHandled counts handler → All (IsHandled counts) after
+handled_more counts before after handler is all new = subst (λ (l : List Handler). All (IsHandled counts) l) (sym is) (all_last (IsHandled counts) before handler all new)
+
+-- ---- a draft with other handlers
+
+pub with_handlers : (old new : Draft) → record old { interrupts = new.interrupts; timers = new.timers } ≡ new → IsDraft old → IsNameTable new.interrupts → IsNameTable new.timers
+    → All (IsHandled (procedure_counts old.drafts.items)) (values new.interrupts) → All (IsHandled (procedure_counts old.drafts.items)) (values new.timers) → IsDraft new
+with_handlers old new is d interrupts timers interrupts_handled timers_handled =
+    subst (λ (draft : Draft). IsDraft draft) is (record {
+      nodes = d.nodes;
+      tasks = d.tasks;
+      objects = d.objects;
+      counted = d.counted;
+      drafts = d.drafts;
+      kept = d.kept;
+      interrupts = interrupts;
+      timers = timers;
+      interrupts_handled = interrupts_handled;
+      timers_handled = timers_handled;
+    })

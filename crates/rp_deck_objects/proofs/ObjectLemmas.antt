@@ -1,5 +1,5 @@
 -- What an object has, and one thing more of a kind.
-use Rattle.std.proofs.Common.{◌≡◌, ℕ, ◌+◌, ◌<◌, ◌≤◌, List, [], ◌∷◌, ◌++◌, true, false, length, Option, Some, refl, sym, ap, subst, ◌∙◌, arith, length-append}
+use Rattle.std.proofs.Common.{◌≡◌, ℕ, ◌+◌, ◌<◌, ◌≤◌, List, [], ◌∷◌, ◌++◌, false, length, Option, sym, ap, subst, arith, length-append}
 use Rattle.std.specs.Prelude.{All, IfSome, IsTrue, FitsSigned, Vec, is_some}
 use Rattle.std.specs.Prelude.{Bool as Truth}
 use Rattle.std.specs.Int.{w64}
@@ -7,7 +7,6 @@ use Rattle.std.specs.FinMap.{get, insert, empty, len, get-empty, len-empty}
 use Rattle.std.specs.Ordering.{nat_cmp}
 use Rattle.std.specs.declared.alloc.Global.{Global}
 use Rattle.rp_body.specs.Check.{KeepsLimits}
-use Rattle.rp_body.specs.Ranges.{IsInRange, IsNumbered}
 use Rattle.rp_body.specs.Store.{Store, limits_of, is_within}
 use Rattle.rp_body.specs.declared.components.Limits.{Limits}
 use Rattle.rp_body.specs.declared.components.Ranged.{Ranged}
@@ -16,14 +15,14 @@ use Rattle.rp_entry.specs.Operations.{FunctionFits, EntryFits, OperationsFit}
 use Rattle.rp_entry.specs.declared.operations.Entry.{Entry as DeclaredEntry}
 use Rattle.rp_entry.specs.declared.operations.Function.{Function as DeclaredFunction}
 use Rattle.rp_entry.specs.declared.operations.Operations.{Operations}
-use Rattle.rp_object.specs.Program.{EndsFit, KeepsProfile}
+use Rattle.rp_object.specs.Program.{KeepsProfile}
 use Rattle.rp_object.specs.declared.program.Profile.{Profile}
 use Rattle.rp_object.specs.declared.program.Profile.TheVariants.{Ravenscar, Jorvik}
 use Rattle.rp_deck_bodies.specs.declared.names.Component.{Component}
 use Rattle.rp_deck_bodies.specs.declared.names.Component.TheVariants.{Int, Bool}
 use Rattle.rp_deck_objects.specs.declared.objects.Head.TheVariants.{Entry}
 use Rattle.rp_deck_bodies.specs.Counted.{IsCounted, AreCounted, WhereCounted}
-use Rattle.rp_deck_objects.specs.ObjectLimits.{HeadFits, HeadKeeps, HasRoom, KeepsComponents}
+use Rattle.rp_deck_objects.specs.ObjectLimits.{HeadKeeps, HasRoom, KeepsComponents}
 use Rattle.rp_deck_bodies.proofs.CountedLemmas.{all_front}
 use Rattle.rp_deck_bodies.proofs.ListLemmas.{all_last, all_weaker}
 use Rattle.rp_deck_objects.proofs.StoreLemmas.{one_more_counted, more_numbered, more_hold}

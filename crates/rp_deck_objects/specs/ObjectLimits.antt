@@ -1,7 +1,6 @@
 -- The limits that an object keeps whose lines are read.
 use Rattle.std.specs.Prelude.{ℕ, ◌≡◌, ◌<◌, ◌≤◌, All, true, false, List, Option, Some, None, String, string_bytes}
 use Rattle.std.specs.Prelude.{length}
-use Rattle.std.specs.declared.alloc.Global.{Global}
 use Rattle.std.specs.FinMap.{len}
 use Rattle.indexmap.specs.IndexMap.{IndexMap, values}
 use Rattle.rp_body.specs.Ranges.{IsInRange, IsNumbered}
@@ -46,15 +45,15 @@ HeadKeeps Ravenscar (Entry barrier longest) = longest ≡ 1
 HeadKeeps Jorvik head = Unit {0}
 
 -- an operation whose body may begin: there is room for it, its name is new, and it fits
-pub record MayBegin (profile : Profile) (o : ObjectDraft) (name : String Global) (head : Head) : Type 0 where
+pub record MayBegin (profile : Profile) (o : ObjectDraft) (name : List ℕ) (head : Head) : Type 0 where
   pub room : HasRoom profile o.operations head
-  pub new : is_declared (string_bytes name) (key_names o.operation_names) ≡ false
+  pub new : is_declared name (key_names o.operation_names) ≡ false
   pub fits : WhereCounted (values o.component_names) (λ limits. HeadFits limits head)
   pub keeps : HeadKeeps profile head
 
 -- and so it was where its body began, which keeps its limits
 pub record IsOpenIn (profile : Profile) (o : ObjectDraft) (operation : OperationDraft) : Type 0 where
-  pub begun : MayBegin profile o operation.name operation.head
+  pub begun : MayBegin profile o (string_bytes operation.name) operation.head
   pub body : IsBody (values o.component_names) 0 operation.body
 
 abbrev pub HasOpen : Profile → ObjectDraft → Option OperationDraft → Type 0

@@ -172,13 +172,18 @@ function_line o words = do
 abbrev pub begun_operation : List ℕ → Head → OpenOperationText
 begun_operation name head = record { name = name; head = head; body = begun_body }
 
+-- no word more, and the body of an operation begins
+unfoldable pub begun_line : ObjectText → List ℕ → Head → List ℕ → Result ObjectText DeckReason
+begun_line o name head words = do
+  e ← end_at words
+  Ok (record o { open_operation = Some (begun_operation name head) })
+
 -- `procedure NAME`, whose body begins
 unfoldable pub procedure_line : ObjectText → List ℕ → Result ObjectText DeckReason
 procedure_line o words = do
   few ← room 8 (length o.procedures)
   name ← new_name_at o.operation_names words
-  e ← end_at name.1
-  Ok (record o { open_operation = Some (begun_operation name.0 heads.Procedure) })
+  begun_line o name.0 heads.Procedure name.1
 
 -- how many entries an object has at most
 abbrev pub most_entries : Profile → ℕ
@@ -207,8 +212,7 @@ entry_line profile o words = do
   bool ← word_at word.1
   barrier ← bool_of o.component_names o.components bool.0
   longest ← longest_at profile bool.1
-  e ← end_at longest.1
-  Ok (record o { open_operation = Some (begun_operation name.0 (heads.Entry barrier longest.0)) })
+  begun_line o name.0 (heads.Entry barrier longest.0) longest.1
 
 -- an operation whose body has ended, by what it is
 abbrev pub completed_as : Head → List ℕ → BodyText → ObjectText → ObjectText

@@ -1,29 +1,26 @@
 //! What the names of an object's operations denote.
 
-ghost use Rattle.std.specs.Prelude.{◌≡◌, ◌↔◌, ◌<◌, ◌+◌, IsSome, IfSome};
-ghost use Rattle.rp_base.specs.Action.{IsIndex, IsEntryIndex, IsRightOperation};
+ghost use Rattle.std.specs.Prelude.{◌≡◌, ◌↔◌, ◌<◌, ◌≤◌, ◌+◌, IsSome, IfSome};
+ghost use Rattle.rp_base.specs.Action.{IsRightOperation};
 
 use indexmap::IndexMap;
 use rp_base::Operation;
 
-/// The most that is declared of each kind.
-const MOST: usize = 8;
-
-/// A number from 1 to 8, in declared order.
+/// A number from 1 to `MOST`, in declared order.
 #[derive(Clone, Copy)]
-pub struct Index {
+pub struct Numbered<const MOST: u8> {
     pub number: u8,
-    ghost in_range: { IsIndex number },
+    ghost in_range: { (1 ≤ number) × (number ≤ MOST) },
 }
 
-impl Index {
-    /// The one after n, or `None` where there are 8 already.
-    pub fn after(count: usize) -> Option<Index>
-        ensures some { IsSome result ↔ (count < 8) }
+impl<const MOST: u8> Numbered<MOST> {
+    /// The one after n, or `None` where there are `MOST` already.
+    pub fn after(count: usize) -> Option<Self>
+        ensures some { IsSome result ↔ (count < MOST) }
         ensures value { IfSome result (λ index. index.number ≡ count + 1) }
     {
-        if count < MOST {
-            Some(Index {
+        if count < usize::from(MOST) {
+            Some(Numbered {
                 number: count as u8 + 1,
             })
         } else {
@@ -32,31 +29,11 @@ impl Index {
     }
 }
 
-/// The most entries of an object.
-const MOST_ENTRIES: usize = 4;
+/// The number of an object, a function, a procedure or a timing event: there are at most 8.
+pub type Index = Numbered<8>;
 
-/// The number of an entry, from 1 to 4, in declared order.
-#[derive(Clone, Copy)]
-pub struct EntryIndex {
-    pub number: u8,
-    ghost in_range: { IsEntryIndex number },
-}
-
-impl EntryIndex {
-    /// The one after n, or `None` where there are 4 already.
-    pub fn after(count: usize) -> Option<EntryIndex>
-        ensures some { IsSome result ↔ (count < 4) }
-        ensures value { IfSome result (λ index. index.number ≡ count + 1) }
-    {
-        if count < MOST_ENTRIES {
-            Some(EntryIndex {
-                number: count as u8 + 1,
-            })
-        } else {
-            None
-        }
-    }
-}
+/// The number of an entry: an object has at most 4.
+pub type EntryIndex = Numbered<4>;
 
 /// An operation of an object, by its number among those of its kind.
 #[derive(Clone, Copy)]

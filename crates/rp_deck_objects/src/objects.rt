@@ -122,7 +122,7 @@ pub struct ObjectDraft {
 impl ObjectDraft {
     ghost use Rattle.std.specs.Prelude.{option_map, string_bytes, is_some};
     ghost use Rattle.rp_deck_objects.specs.ObjectViews.{function_text, operation_text, object_text, operation_of, protected_text, protected_of, object_operations, own_operations};
-    ghost use Rattle.rp_deck_objects.specs.Objects.{empty_object, component_name_at, with_int, int_line, with_bool, bool_line, function_of, with_function, function_line, procedure_line, entry_line, begun_operation, completed_as, operation_line, part_line, object_step};
+    ghost use Rattle.rp_deck_objects.specs.Objects.{empty_object, component_name_at, with_int, int_line, with_bool, bool_line, function_of, with_function, function_line, procedure_line, entry_line, begun_line, completed_as, operation_line, part_line, object_step};
     ghost use Rattle.rp_deck_objects.specs.ObjectLimits.{MayBegin, IsOpenIn, IsObject, MayDeclare};
     ghost use Rattle.rp_deck_bodies.specs.BodyViews.{body_draft_text};
     ghost use Rattle.rp_words.specs.Tables.{find, is_declared, key_names};
@@ -473,10 +473,7 @@ impl ObjectDraft {
             return Err(LineError::Bad(DeckReason::TooMany));
         }
         let name = take_new_name(&mut words, &self.operation_names)?;
-        words.end()?;
-        let name = String::from_str(alloc, name)?;
-        self.begin(alloc, name, Head::Procedure);
-        Ok(())
+        self.begin(alloc, words, name, Head::Procedure)
     }
 
     /// Reads the rest of `entry NAME when BOOL`, or of `entry NAME when BOOL queue LONGEST`.
@@ -503,22 +500,30 @@ impl ObjectDraft {
         }
         let barrier = bool_named(words.take()?, &self.component_names)?;
         let longest = take_longest(profile, &mut words)?;
-        words.end()?;
-        let name = String::from_str(alloc, name)?;
-        self.begin(alloc, name, Head::Entry { barrier, longest });
-        Ok(())
+        self.begin(alloc, words, name, Head::Entry { barrier, longest })
     }
 
-    /// Begins an operation's body.
-    fn begin(&mut self, alloc: Global, name: String, head: Head)
-        ensures text { object_text self.new ≡ record (object_text self.old) {
-          open_operation = Some (begun_operation (string_bytes name) head);
-        } }
+    /// Ends the line that declares an operation with a body, which begins.
+    #[tactic(auto, unfolding(crate::specs::Objects::begun_line))]
+    fn begin(
+        &mut self,
+        alloc: Global,
+        words: Words<'_>,
+        name: &str,
+        head: Head,
+    ) -> Result<(), LineError>
+        ensures read { Makes (λ _. object_text self.new) result
+            (begun_line (object_text self.old) name.now head (unread words.entry)) }
         ensures object { (profile : Profile) → MayDeclare profile self.old
-            → MayBegin profile self.old name head → IsObject profile self.new }
+            → MayBegin profile self.old name.now head → OnOk result (IsObject profile self.new) }
+        ensures grows { OnOk result (length (object_text self.old).procedures
+            ≤ length (object_text self.new).procedures) }
     {
+        words.end()?;
+        let name = String::from_str(alloc, name)?;
         let body = BodyDraft::new(alloc);
         self.open_operation = Some(OperationDraft { name, head, body });
+        Ok(())
     }
 
     /// Adds an operation whose body has ended.

@@ -179,6 +179,24 @@ module _ (d : DraftText) (before : List ObjectText) (o : ObjectText) (operation 
 
   -- ---- a whole body
 
+  -- the lines of the statements before, and the line of one that has no parts
+  statement_declares : (ifs : List OpenIfText) (left : ℕ) (earlier statements : BodyText) (first : List ℕ) (word : StatementWord) (rest : List (List ℕ)) → length ifs < 8 → body_count earlier + 1 ≤ left
+      → body_word_named first ≡ Some (Statement word)
+      → statement_line o.component_names o.components (record { ifs = ifs; statements = earlier; left = left - body_count earlier - 1 }) word (spaced rest) ≡ Ok (record { ifs = ifs; statements = statements; left = left - body_count earlier - 1 })
+      → Declares (in_body d before o operation (record { ifs = ifs; statements = Empty; left = left })) (body_lines o.component_names o.components earlier)
+      (in_body d before o operation (record { ifs = ifs; statements = earlier; left = left - body_count earlier }))
+      → Declares (in_body d before o operation (record { ifs = ifs; statements = Empty; left = left })) (body_lines o.component_names o.components earlier ++ (first ∷ rest) ∷ [])
+      (in_body d before o operation (record { ifs = ifs; statements = statements; left = left - (body_count earlier + 1) }))
+  statement_declares ifs left earlier statements first word rest few some named read so_far =
+      let now : OpenBodyText = record { ifs = ifs; statements = earlier; left = left - body_count earlier } in
+      let after : OpenBodyText = record { ifs = ifs; statements = statements; left = left - (body_count earlier + 1) } in
+      let count : left - body_count earlier - 1 ≡ left - (body_count earlier + 1) = omega arith in
+      both_declare _ (in_body d before o operation now) _ (body_lines o.component_names o.components earlier) ((first ∷ rest) ∷ []) so_far
+      (line_within_body now after first rest (λ number.
+      of_word o.component_names o.components now number first rest (Statement word) (after, false) named refl
+      (statement_back o.component_names o.components now after word (spaced rest) few (omega (arith, some))
+      (read ∙ ap (λ (n : ℕ). Ok (record { ifs = ifs; statements = statements; left = n })) count))))
+
   pub body_declares : (deep : ℕ) (ifs : List OpenIfText) (left : ℕ) (b : BodyText) → AreComponents o.component_names o.components → length ifs ≡ deep → IsBodyOf o.component_names o.components deep b → body_count b ≤ left
       → Declares (in_body d before o operation (record { ifs = ifs; statements = Empty; left = left })) (body_lines o.component_names o.components b)
       (in_body d before o operation (record { ifs = ifs; statements = b; left = left - body_count b }))
@@ -186,38 +204,17 @@ module _ (d : DraftText) (before : List ObjectText) (o : ObjectText) (operation 
       let same : left ≡ left - 0 = omega arith in
       λ last number rest. ap (λ (n : ℕ). declarations_from last (in_body d before o operation (record { ifs = ifs; statements = Empty; left = n })) rest) same
   body_declares deep ifs left (Set earlier place value) c within is few =
-      let now : OpenBodyText = record { ifs = ifs; statements = earlier; left = left - body_count earlier } in
-      let count : left - body_count earlier - 1 ≡ left - (body_count earlier + 1) = omega arith in
-      let after : OpenBodyText = record { ifs = ifs; statements = Set earlier place value; left = left - (body_count earlier + 1) } in
-      let after_set : List (List ℕ) = component_name (is_int place) o.component_names o.components ∷ expr_words o.component_names o.components value in
-      both_declare _ (in_body d before o operation now) _ (body_lines o.component_names o.components earlier) ((codes "set" ∷ after_set) ∷ []) (body_declares deep ifs left earlier c within is.0 (omega (arith, few)))
-      (line_within_body now after (codes "set") after_set (λ number.
-      of_word o.component_names o.components now number (codes "set") after_set (Statement words.Set) (after, false) refl refl
-      (statement_back o.component_names o.components now after words.Set (spaced after_set) (omega (arith, within, is.1)) (omega (arith, few))
-      (set_back o.component_names o.components (record now { left = now.left - 1 }) place value c is.2 is.3 is.4
-      ∙ ap (λ (n : ℕ). Ok (record { ifs = ifs; statements = Set earlier place value; left = n })) count))))
+      statement_declares ifs left earlier (Set earlier place value) (codes "set") words.Set (component_name (is_int place) o.component_names o.components ∷ expr_words o.component_names o.components value) (omega (arith, within, is.1)) (omega (arith, few)) refl
+      (set_back o.component_names o.components (record { ifs = ifs; statements = earlier; left = left - body_count earlier - 1 }) place value c is.2 is.3 is.4)
+      (body_declares deep ifs left earlier c within is.0 (omega (arith, few)))
   body_declares deep ifs left (Put earlier place value) c within is few =
-      let now : OpenBodyText = record { ifs = ifs; statements = earlier; left = left - body_count earlier } in
-      let count : left - body_count earlier - 1 ≡ left - (body_count earlier + 1) = omega arith in
-      let after : OpenBodyText = record { ifs = ifs; statements = Put earlier place value; left = left - (body_count earlier + 1) } in
-      let after_put : List (List ℕ) = component_name (is_bool place) o.component_names o.components ∷ cond_words o.component_names o.components value in
-      both_declare _ (in_body d before o operation now) _ (body_lines o.component_names o.components earlier) ((codes "put" ∷ after_put) ∷ []) (body_declares deep ifs left earlier c within is.0 (omega (arith, few)))
-      (line_within_body now after (codes "put") after_put (λ number.
-      of_word o.component_names o.components now number (codes "put") after_put (Statement words.Put) (after, false) refl refl
-      (statement_back o.component_names o.components now after words.Put (spaced after_put) (omega (arith, within, is.1)) (omega (arith, few))
-      (put_back o.component_names o.components (record now { left = now.left - 1 }) place value c is.2 is.3 is.4
-      ∙ ap (λ (n : ℕ). Ok (record { ifs = ifs; statements = Put earlier place value; left = n })) count))))
+      statement_declares ifs left earlier (Put earlier place value) (codes "put") words.Put (component_name (is_bool place) o.component_names o.components ∷ cond_words o.component_names o.components value) (omega (arith, within, is.1)) (omega (arith, few)) refl
+      (put_back o.component_names o.components (record { ifs = ifs; statements = earlier; left = left - body_count earlier - 1 }) place value c is.2 is.3 is.4)
+      (body_declares deep ifs left earlier c within is.0 (omega (arith, few)))
   body_declares deep ifs left (Out earlier value) c within is few =
-      let now : OpenBodyText = record { ifs = ifs; statements = earlier; left = left - body_count earlier } in
-      let count : left - body_count earlier - 1 ≡ left - (body_count earlier + 1) = omega arith in
-      let after : OpenBodyText = record { ifs = ifs; statements = Out earlier value; left = left - (body_count earlier + 1) } in
-      let after_out : List (List ℕ) = expr_words o.component_names o.components value in
-      both_declare _ (in_body d before o operation now) _ (body_lines o.component_names o.components earlier) ((codes "out" ∷ after_out) ∷ []) (body_declares deep ifs left earlier c within is.0 (omega (arith, few)))
-      (line_within_body now after (codes "out") after_out (λ number.
-      of_word o.component_names o.components now number (codes "out") after_out (Statement words.Out) (after, false) refl refl
-      (statement_back o.component_names o.components now after words.Out (spaced after_out) (omega (arith, within, is.1)) (omega (arith, few))
-      (out_back o.component_names o.components (record now { left = now.left - 1 }) value c is.2 is.3
-      ∙ ap (λ (n : ℕ). Ok (record { ifs = ifs; statements = Out earlier value; left = n })) count))))
+      statement_declares ifs left earlier (Out earlier value) (codes "out") words.Out (expr_words o.component_names o.components value) (omega (arith, within, is.1)) (omega (arith, few)) refl
+      (out_back o.component_names o.components (record { ifs = ifs; statements = earlier; left = left - body_count earlier - 1 }) value c is.2 is.3)
+      (body_declares deep ifs left earlier c within is.0 (omega (arith, few)))
   body_declares deep ifs left (If earlier condition first second) c within is few =
       let names = o.component_names in
       let components = o.components in

@@ -20,7 +20,7 @@ use Rattle.rp_deck_text.specs.BodyTexts.{body_count, body_lines}
 use Rattle.rp_deck_declarations.specs.Declaring.{line_of_kind, declaring_line}
 use Rattle.rp_deck_text.specs.DraftTexts.{at_object, Declares}
 use Rattle.rp_deck_declarations.specs.Drafts.{DraftText, profile_of, is_in_body, kind_named, kind_allowed, kind_of}
-use Rattle.rp_deck_objects.specs.Objects.{ObjectText, FunctionText, Value, Truth, component_name_at, ranged_at, int_line, bool_line, function_line, procedure_line, most_entries, queue_at, longest_at, entry_line, begun_operation, completed_as, part_named, part_line, object_step}
+use Rattle.rp_deck_objects.specs.Objects.{ObjectText, FunctionText, Value, Truth, component_name_at, ranged_at, int_line, bool_line, function_line, procedure_line, most_entries, queue_at, longest_at, entry_line, begun_line, begun_operation, completed_as, part_named, part_line, object_step}
 use Rattle.rp_deck_text.specs.ExpressionTexts.{is_bool, component_name, AreComponents, HasOne, truth_word, expr_words, cond_words}
 use Rattle.rp_deck_bodies.specs.Expressions.{expression_words}
 use Rattle.rp_deck_text.specs.PartTexts.{shut, PartText, IntPart, BoolPart, FunctionPart, ProcedurePart, EntryPart, with_part, function_words, queue_words, ended, part_lines, IsNew, IsLongest, IsWholeBody, IsPartOf, with_parts, parts_lines, ArePartsOf}
@@ -93,7 +93,7 @@ function_back o name (Truth truth) profile is =
 
 procedure_back : (o : ObjectText) (name : List ℕ) → length o.procedures < 8 → IsNew o.operation_names name
     → procedure_line o (spaced (name ∷ [])) ≡ Ok (record o { open_operation = Some (begun_operation name heads.Procedure) })
-unfolding procedure_line
+unfolding procedure_line begun_line
 procedure_back o name few new = rw (lt-ltb (length o.procedures) 8 few, new_back o.operation_names name [] new.0 new.1, end_back) refl
 
 queue_back : (longest : ℕ) → IsUpTo 8 longest → queue_at (spaced (codes "queue" ∷ decimal longest ∷ [])) ≡ Ok (longest, spaced [])
@@ -108,7 +108,7 @@ entry_back : (o : ObjectText) (profile : Profile) (name : List ℕ) (barrier lon
     → HasOne (is_bool barrier) o.components → IsLongest profile longest
     → entry_line profile o (spaced (name ∷ codes "when" ∷ component_name (is_bool barrier) o.component_names o.components ∷ queue_words profile longest))
     ≡ Ok (record o { open_operation = Some (begun_operation name (heads.Entry barrier longest)) })
-unfolding entry_line
+unfolding entry_line begun_line
 entry_back o profile name barrier longest few new c has is =
     let t = both (list_all is_name o.component_names) (is_distinct o.component_names) c.names_are in
     let found = finds (is_bool barrier) o.component_names o.components t.0 t.1 c.free c.even has in

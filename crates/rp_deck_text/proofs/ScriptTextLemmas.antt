@@ -300,23 +300,11 @@ at_node : (d : DeclaredNames) (node : ℕ) (make : ℕ → Event) → AreDeclare
 at_node d node make right within = ap (λ (read : Result (ℕ × List ℕ) DeckReason). made_of (λ (n : ℕ). Take (make n)) read) (node_back d node [] right within)
 
 -- a step that is cut: its first word, and the words after it
-cut_back : (d : DeclaredNames) (kept : ℕ) (first : List ℕ) (words : List (List ℕ)) (step : Step) → kept < 2 ^ 63 → is_solid first ≡ true
-    → step_from d.nodes first (spaced words) ≡ Ok (step, spaced []) → cut_at d.nodes (spaced (decimal kept ∷ first ∷ words)) ≡ Ok (Cut step kept, spaced [])
+cut_back : (d : DeclaredNames) (kept : ℕ) (first : List ℕ) (verb : Verb) (words : List (List ℕ)) (step : Step) → kept < 2 ^ 63 → is_solid first ≡ true → verb_named first ≡ Some verb
+    → step_from d.nodes verb (spaced words) ≡ Ok (step, spaced []) → cut_at d.nodes (spaced (decimal kept ∷ first ∷ words)) ≡ Ok (Cut step kept, spaced [])
 unfolding cut_at
-cut_back d kept first words step small solid is =
-    rw (number_back 0 (2 ^ 63 - 1) kept (first ∷ words) (omega arith) (omega (arith, small)) small, word_back first words solid, is) refl
-
-cut_lead : (nodes : ℕ) (words : List (List ℕ)) → step_from nodes (codes "lead") (spaced words) ≡ lead_at nodes (spaced words)
-unfolding step_from
-cut_lead nodes words = refl
-
-cut_range : (nodes : ℕ) (words : List (List ℕ)) → step_from nodes (codes "range") (spaced words) ≡ range_at nodes (spaced words)
-unfolding step_from
-cut_range nodes words = refl
-
-cut_deliver : (nodes : ℕ) (words : List (List ℕ)) → step_from nodes (codes "deliver") (spaced words) ≡ deliver_at (spaced words)
-unfolding step_from
-cut_deliver nodes words = refl
+cut_back d kept first verb words step small solid named is =
+    rw (number_back 0 (2 ^ 63 - 1) kept (first ∷ words) (omega arith) (omega (arith, small)) small, word_back first words solid, named, is) refl
 
 lose_back : (first last : ℕ) → IsMessage first → IsMessage last → lose_at (spaced (decimal first ∷ decimal last ∷ [])) ≡ Ok (Lose first last, spaced [])
 unfolding lose_at
@@ -350,16 +338,16 @@ step_back d number (Report node first) right is = absurd is
 
 cut_line : (d : DeclaredNames) (number kept : ℕ) (step : Step) → AreDeclared d → IsStepOf d step → MayBeCut step → kept < 2 ^ 63 → command_line Script d (line_of number (codes "cut" ∷ decimal kept ∷ step_words d step)) ≡ Ok (Take (Cut step kept))
 cut_line d number kept (Deliver message) right is may small =
-    line_back d number (codes "cut") (decimal kept ∷ codes "deliver" ∷ decimal message ∷ []) verbs.Cut _ refl (ap taken (cut_back d kept (codes "deliver") (decimal message ∷ []) (Deliver message) small refl (cut_deliver d.nodes (decimal message ∷ []) ∙ deliver_back message is)))
+    line_back d number (codes "cut") (decimal kept ∷ codes "deliver" ∷ decimal message ∷ []) verbs.Cut _ refl (ap taken (cut_back d kept (codes "deliver") verbs.Deliver (decimal message ∷ []) (Deliver message) small refl refl (deliver_back message is)))
 cut_line d number kept (Lead node None) right is may small =
-    line_back d number (codes "cut") (decimal kept ∷ codes "lead" ∷ decimal node ∷ []) verbs.Cut _ refl (ap taken (cut_back d kept (codes "lead") (decimal node ∷ []) (Lead node None) small refl (cut_lead d.nodes (decimal node ∷ []) ∙ lead_any d node right is.0)))
+    line_back d number (codes "cut") (decimal kept ∷ codes "lead" ∷ decimal node ∷ []) verbs.Cut _ refl (ap taken (cut_back d kept (codes "lead") verbs.Lead (decimal node ∷ []) (Lead node None) small refl refl (lead_any d node right is.0)))
 cut_line d number kept (Lead node (Some position)) right is may small =
     line_back d number (codes "cut") (decimal kept ∷ codes "lead" ∷ decimal node ∷ decimal position ∷ []) verbs.Cut _ refl
-    (ap taken (cut_back d kept (codes "lead") (decimal node ∷ decimal position ∷ []) (Lead node (Some position)) small refl (cut_lead d.nodes (decimal node ∷ decimal position ∷ []) ∙ lead_back d node position right is.0 is.1)))
+    (ap taken (cut_back d kept (codes "lead") verbs.Lead (decimal node ∷ decimal position ∷ []) (Lead node (Some position)) small refl refl (lead_back d node position right is.0 is.1)))
 cut_line d number kept (LeadRange node first count) right is may small =
     line_back d number (codes "cut") (decimal kept ∷ codes "range" ∷ decimal node ∷ decimal first ∷ decimal count ∷ []) verbs.Cut _ refl
-    (ap taken (cut_back d kept (codes "range") (decimal node ∷ decimal first ∷ decimal count ∷ []) (LeadRange node first count) small refl
-    (cut_range d.nodes (decimal node ∷ decimal first ∷ decimal count ∷ []) ∙ range_back d node first count right is.0 is.1 is.2)))
+    (ap taken (cut_back d kept (codes "range") verbs.Range (decimal node ∷ decimal first ∷ decimal count ∷ []) (LeadRange node first count) small refl refl
+    (range_back d node first count right is.0 is.1 is.2)))
 cut_line d number kept (Interrupt node source occurrence) right is may small = absurd may
 cut_line d number kept (Tick node now) right is may small = absurd may
 cut_line d number kept (Report node first) right is may small = absurd may

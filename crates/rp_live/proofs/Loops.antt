@@ -10,12 +10,12 @@ use Rattle.rp_boxes.specs.Seats.{SeatState}
 use Rattle.rp_threads.specs.Lines.{given_on}
 use Rattle.rp_threads.specs.Loops.{is_refusal, sender_at}
 use Rattle.rp_threads.specs.Rounds.{AreTurns, IsLeadAnew, IsMade, IsMadeOrSkipped, IsUnmade, NodeAt, is_to_lead}
-use Rattle.rp_threads.specs.Turns.{IsNodeTurn, MayFetch, Works}
+use Rattle.rp_threads.specs.Turns.{IsLead, IsNodeTurn, IsReceipt, MayFetch, Works}
 use Rattle.rp_threads.specs.declared.turns.PacketCounts.{PacketCounts}
 use Rattle.rp_threads.specs.declared.turns.TurnResult.{TurnResult}
 use Rattle.rp_threads.proofs.Steps.{fails_stays, stop_stays}
 use Rattle.rp_live.specs.Seats.{Runs}
-use Rattle.rp_live.proofs.Running.{turn_runs}
+use Rattle.rp_live.proofs.Running.{event_runs}
 
 same_runs : {P : Type 0} (old new : SeatState P) → new ≡ old → Runs old.part → Runs new.part
 same_runs {P} old new same runs = subst (λ (c : SeatState P). Runs c.part) (sym same) runs
@@ -26,8 +26,8 @@ fetch_runs {P} (Some text) from to old new f runs = (runs.0, ap (λ (c : SeatSta
 
 module _ {S P : Type 0} (next : S → Action → S) (answers : S → Action → List Answer) (begin : P → S) where
   works_runs : (given : Option (List ℕ)) (lead : Bool) (old new : SeatState P) (packets : PacketCounts) → Works next answers begin given lead old new packets → Runs old.part → Runs new.part
-  works_runs (Some text) lead old new packets w runs = turn_runs next answers begin old new w.input w.sent w.turn
-  works_runs None true old new packets w runs = turn_runs next answers begin old new w.input w.sent w.turn
+  works_runs (Some text) lead old new packets w runs = event_runs next answers begin old new (IsReceipt text) packets w
+  works_runs None true old new packets w runs = event_runs next answers begin old new IsLead packets w
   works_runs None false old new packets w runs = same_runs old new w.0 runs
 
   module _ (from : Party) (lead : Bool) (old new : SeatState P) (line after : Line) where
@@ -37,7 +37,7 @@ module _ {S P : Type 0} (next : S → Action → S) (answers : S → Action → 
 
     made_runs : (turned : TurnResult) → IsMade next answers begin from lead old new line after turned → Runs old.part → Runs new.part
     made_runs turned (inl own) runs = own_runs new turned own runs
-    made_runs turned (inr anew) runs = let led = anew.1 in turn_runs next answers begin led.between new led.leads.input led.leads.sent led.leads.turn
+    made_runs turned (inr anew) runs = let led = anew.1 in event_runs next answers begin led.between new (IsLeadAnew led.between.part) turned.packets led.leads
 
     refused_runs : (fault : Fault) → is_refusal fault ≡ true → IsUnmade next answers begin from lead old new line after fault → Runs old.part → Runs new.part
     refused_runs fault refusal (inl lost) runs = fetch_runs (Some lost.packet) from (Node old.number) old new lost.fetch runs

@@ -8,7 +8,7 @@ use Rattle.rp_replica.specs.declared.input.Input.{Input}
 use Rattle.rp_boxes.specs.Seats.{SeatState}
 use Rattle.rp_threads.specs.Loops.{IsSameSeat}
 use Rattle.rp_threads.proofs.Places.{zip_on}
-use Rattle.rp_threads.proofs.Steps.{same_part, same_seat, same_on}
+use Rattle.rp_threads.proofs.Steps.{event_same, same_seat, same_on}
 use Rattle.rp_live.specs.Noted.{AreNoted, IsNoted, noted_by}
 
 module _ {P : Type 0} where
@@ -25,7 +25,7 @@ module _ {P : Type 0} where
     noted_same : (note : Option (ℕ × Input)) (olds news : List (SeatState P)) → IsNoted next answers begin note olds news → AllZip IsSameSeat olds news
     noted_same None olds news is = subst (AllZip IsSameSeat olds) (sym is) (same_all olds)
     noted_same (Some note) olds news is =
-        subst (AllZip IsSameSeat olds) (sym is.news_are) (same_with olds (note.0 - 1) is.old is.new is.at (same_part is.old is.new _ is.turn.after))
+        subst (AllZip IsSameSeat olds) (sym is.news_are) (same_with olds (note.0 - 1) is.old is.new is.at (event_same next answers begin (λ given. given ≡ note.1) is.old is.new is.packets is.event))
 
     pub all_noted : (events : List Event) (n : ℕ) (olds news : List (SeatState P)) → AreNoted next answers begin events n olds news → AllZip IsSameSeat olds news
     all_noted events zero olds news are = subst (AllZip IsSameSeat olds) (sym are) (same_all olds)

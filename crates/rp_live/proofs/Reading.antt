@@ -4,6 +4,7 @@ use Rattle.std.proofs.lemmas.List.{length-append}
 use Rattle.std.specs.List.{AllZip}
 use Rattle.std.specs.Prelude.{IfSome}
 use Rattle.rp_base.specs.declared.action.Action.{Action}
+use Rattle.rp_base.specs.declared.reply.Answer.{Answer}
 use Rattle.rp_boxes.specs.Audits.{known_of}
 use Rattle.rp_boxes.specs.Seats.{SeatState}
 use Rattle.rp_threads.specs.declared.loops.NodeEnd.{NodeEnd}
@@ -11,9 +12,9 @@ use Rattle.rp_threads.proofs.Places.{AreZippedSoFar}
 use Rattle.rp_live.specs.Seats.{AreNumbered, IsRead, KnowsNothingAbove, KnowsSameBut}
 
 -- The log of a node up to this number was read, of which nothing was known at first.
-pub record IsReadBelow {P : Type 0} (number : ℕ) (known : List (List Action)) (first now : SeatState P) : Type 0 where
+pub record IsReadBelow {S P : Type 0} (next : S → Action → S) (answers : S → Action → List Answer) (begin : P → S) (number : ℕ) (known : List (List Action)) (first now : SeatState P) : Type 0 where
   pub below : now.number ≤ number
-  pub read : IsRead 0 first now (length (known_of known now.number))
+  pub read : IsRead next answers begin 0 first now (length (known_of known now.number))
 
 zip_weaker : {A B : Type 0} (R T : A → B → Type 0) → ((x : A) (y : B) → R x y → T x y) → (xs : List A) (ys : List B) → AllZip R xs ys → AllZip T xs ys
 zip_weaker R T so [] [] zip = tt
@@ -63,24 +64,24 @@ pub still_unread : (number more at : ℕ) (old new : List (List Action)) → mor
 still_unread number more at old new is_more is_at same none = λ node above.
     same node (λ is. omega (arith, above, is, is_more, is_at)) ∙ none node (omega (arith, above, is_more))
 
-module _ {P : Type 0} where
+module _ {S P : Type 0} (next : S → Action → S) (answers : S → Action → List Answer) (begin : P → S) where
   -- those that were read before it stay as they are
   pub read_still : (number more at : ℕ) (old new : List (List Action)) → more ≡ number + 1 → at ≡ number + 1 → KnowsSameBut at old new → (first now : SeatState P)
-      → IsReadBelow number old first now → IsReadBelow more new first now
+      → IsReadBelow next answers begin number old first now → IsReadBelow next answers begin more new first now
   read_still number more at old new is_more is_at same first now r =
       let below = r.below in
       let stays : known_of new now.number ≡ known_of old now.number = same now.number (λ is. omega (arith, below, is, is_at)) in
       record {
         below = omega (arith, below, is_more);
-        read = subst (λ (list : List Action). IsRead 0 first now (length list)) (sym stays) r.read;
+        read = subst (λ (list : List Action). IsRead next answers begin 0 first now (length list)) (sym stays) r.read;
       }
 
   -- and it is read too
   pub one_read : (number more : ℕ) (old new : List (List Action)) (first now : SeatState P) → more ≡ number + 1 → first.number ≡ number + 1 → now.number ≡ first.number → KnowsNothingAbove number old
-      → IsRead (length (known_of old first.number)) first now (length (known_of new first.number)) → IsReadBelow more new first now
+      → IsRead next answers begin (length (known_of old first.number)) first now (length (known_of new first.number)) → IsReadBelow next answers begin more new first now
   one_read number more old new first now is_more is_first same none r =
       let nothing : length (known_of old first.number) ≡ 0 = ap length (none first.number (omega (arith, is_first))) in
       record {
         below = omega (arith, same, is_first, is_more);
-        read = subst (λ (n : ℕ). IsRead 0 first now (length (known_of new n))) (sym same) (subst (λ (start : ℕ). IsRead start first now (length (known_of new first.number))) nothing r);
+        read = subst (λ (n : ℕ). IsRead next answers begin 0 first now (length (known_of new n))) (sym same) (subst (λ (start : ℕ). IsRead next answers begin start first now (length (known_of new first.number))) nothing r);
       }

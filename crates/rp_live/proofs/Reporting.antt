@@ -1,7 +1,9 @@
 -- A report goes from a node to the audit.
-use Rattle.std.proofs.Common.{◌≡◌, ◌≢◌, ◌⊎◌, ◌≤◌, ◌<◌, ◌+◌, ◌-◌, min, nat_lt, Bool, true, false, if◌then◌else◌, ℕ, zero, suc, List, [], ◌∷◌, ◌++◌, take, inl, inr, refl, sym, ap, subst, ◌∙◌, length, arith}
+use Rattle.std.proofs.Common.{◌≡◌, ◌≢◌, ◌⊎◌, ◌≤◌, ◌<◌, ◌+◌, ◌-◌, min, nat_lt, Bool, true, false, if◌then◌else◌, ℕ, zero, suc, Result, Ok, Err, List, [], ◌∷◌, ◌++◌, take, inl, inr, refl, sym, ap, subst, ◌∙◌, length, arith}
 use Rattle.std.proofs.lemmas.Grind.{common_steps}
+use Rattle.std.specs.Prelude.{IfErr, OnOk}
 use Rattle.rp_base.specs.declared.action.Action.{Action}
+use Rattle.rp_base.specs.declared.reply.Answer.{Answer}
 use Rattle.rp_base.specs.Records.{applied_of}
 use Rattle.rp_base.specs.Sets.{Has}
 use Rattle.rp_base.proofs.Members.{has_right}
@@ -14,8 +16,11 @@ use Rattle.rp_replica.specs.declared.sent.Sent.{Sent}
 use Rattle.rp_boxes.specs.Audits.{Audited, IsAdded, known_of, report, with_reported}
 use Rattle.rp_boxes.specs.declared.audit.Added.{Added}
 use Rattle.rp_boxes.specs.Parts.{Part}
-use Rattle.rp_boxes.specs.Seats.{SeatState, HasApplied, IsReport, IsSentText}
+use Rattle.rp_boxes.specs.Moments.{WasInUse, WasPut}
+use Rattle.rp_boxes.specs.Seats.{SeatState, HasApplied, IsPut, IsReport, IsSentText}
 use Rattle.rp_boxes.proofs.Auditing.{each_with}
+use Rattle.rp_threads.specs.Turns.{IsOffered}
+use Rattle.rp_threads.proofs.Puts.{HasOnlyPut, given_back, offer_puts, went_in}
 use Rattle.rp_threads.proofs.Steps.{same_part, same_seat, same_on}
 use Rattle.rp_live.specs.Seats.{AreReports, HasOnlyReported, IsRead, KnowsMore, KnowsSameBut, Reports, Runs}
 
@@ -24,14 +29,28 @@ use Rattle.rp_live.specs.Seats.{AreReports, HasOnlyReported, IsRead, KnowsMore, 
 pub applied_runs : (part : Part) (count : ℕ) → HasApplied part count → Runs part
 applied_runs part count h = (h.0, h.1, h.2)
 
-module _ {P : Type 0} (first : ℕ) (old new : SeatState P) (sent : Sent) (r : IsReport first old new sent) where
-  pub report_sent : IsSentText new.part sent.bytes.items
-  report_sent =
-      let packet = report_of old.number first (applied_of r.node.records) in
-      (packet, subst (λ (c : SeatState P). Has packet c.part.sent) (sym r.after) (has_right packet old.part.sent (packet ∷ []) (inl refl)), r.text)
+pub report_sent : {P : Type 0} (first : ℕ) (old new : SeatState P) (sent : Sent) → IsReport first old new sent → IsSentText new.part sent.bytes.items
+report_sent {P} first old new sent r =
+    let packet = report_of old.number first (applied_of r.node.records) in
+    (packet, subst (λ (c : SeatState P). Has packet c.part.sent) (sym r.after) (has_right packet old.part.sent (packet ∷ []) (inl refl)), r.text)
 
-  pub only_reported : HasOnlyReported old new
-  only_reported = record { same = same_part old new _ r.after; role = ap (λ (c : SeatState P). c.part.role) r.after ∙ sym r.was }
+module _ {S P : Type 0} (next : S → Action → S) (answers : S → Action → List Answer) (begin : P → S) where
+  -- the report is put, or given back
+  pub put_or_back : {A E : Type 0} (result : Result A E) (text : List ℕ) (old new : SeatState P) → OnOk result (IsPut text old new) → OnOk result (WasPut next answers begin (Node new.number) text new)
+      → IfErr result (λ back. new ≡ old) → IfErr result (λ back. WasInUse next answers begin (Node new.number) text new)
+      → (is_lost : Bool) × IsOffered next answers begin (Node old.number) text old new is_lost
+  put_or_back (Ok x) text old new put full same used = (false, went_in next answers begin Node text old new put full)
+  put_or_back (Err e) text old new put full same used = (true, given_back next answers begin Node text old new same used)
+
+  module _ (first : ℕ) (old new : SeatState P) (r : Reports next answers begin first old new) where
+    report_puts : HasOnlyPut r.stepped new
+    report_puts = offer_puts next answers begin (Node r.stepped.number) r.sent.bytes.items r.stepped new r.is_lost r.offered
+
+    pub only_reported : HasOnlyReported old new
+    only_reported = record {
+      same = same_on old r.stepped new (same_part old r.stepped _ r.report.after) (same_part r.stepped new _ report_puts.after);
+      role = ap (λ (c : SeatState P). c.part.role) report_puts.after ∙ ap (λ (c : SeatState P). c.part.role) r.report.after ∙ sym r.report.was;
+    }
 
 -- ---- a node that reported
 
@@ -65,25 +84,25 @@ more_with known node list more = each_with (λ k now. length (known_of known k) 
 
 -- ---- reports, one after the other
 
-module _ {P : Type 0} where
+module _ {S P : Type 0} (next : S → Action → S) (answers : S → Action → List Answer) (begin : P → S) where
   -- one report more, asked for in the right way, after which more is known
-  pub one_more_report : (start first_position known more : ℕ) (first between now : SeatState P) → ((n : ℕ) × AreReports start first n known between) → first_position ≡ known + 1
-      → Reports first_position between now → known < more → (n : ℕ) × AreReports start first n more now
+  pub one_more_report : (start first_position known more : ℕ) (first between now : SeatState P) → ((n : ℕ) × AreReports next answers begin start first n known between) → first_position ≡ known + 1
+      → Reports next answers begin first_position between now → known < more → (n : ℕ) × AreReports next answers begin start first n more now
   one_more_report start at known more first between now so_far is reports less =
-      (suc so_far.0, (known, between, so_far.1, subst (λ (k : ℕ). Reports k between now) is reports, less))
+      (suc so_far.0, (known, between, so_far.1, subst (λ (k : ℕ). Reports next answers begin k between now) is reports, less))
 
   -- all is known
-  pub all_read : (start known applied : ℕ) (first now : SeatState P) → ((n : ℕ) × AreReports start first n known now) → HasApplied now.part applied → min applied 65535 ≤ known
-      → IsRead start first now known
+  pub all_read : (start known applied : ℕ) (first now : SeatState P) → ((n : ℕ) × AreReports next answers begin start first n known now) → HasApplied now.part applied → min applied 65535 ≤ known
+      → IsRead next answers begin start first now known
   all_read start known applied first now so_far has all = record { applied = applied; has = has; reports = so_far.0; read = inl (so_far.1, all) }
 
   -- a report made nothing more known
-  pub no_more_read : (start first_position known now_known applied : ℕ) (first between now : SeatState P) → ((n : ℕ) × AreReports start first n known between) → first_position ≡ known + 1
-      → Reports first_position between now → HasApplied now.part applied → known ≤ now_known → now_known ≤ known → IsRead start first now now_known
+  pub no_more_read : (start first_position known now_known applied : ℕ) (first between now : SeatState P) → ((n : ℕ) × AreReports next answers begin start first n known between) → first_position ≡ known + 1
+      → Reports next answers begin first_position between now → HasApplied now.part applied → known ≤ now_known → now_known ≤ known → IsRead next answers begin start first now now_known
   no_more_read start at known now_known applied first between now so_far is reports has some few =
       let same : known ≡ now_known = omega (arith, some, few) in
-      subst (IsRead start first now) same
-      (record { applied = applied; has = has; reports = so_far.0; read = inr (between, so_far.1, subst (λ (k : ℕ). Reports k between now) is reports) })
+      subst (IsRead next answers begin start first now) same
+      (record { applied = applied; has = has; reports = so_far.0; read = inr (between, so_far.1, subst (λ (k : ℕ). Reports next answers begin k between now) is reports) })
 
 -- ---- of other nodes the same is known
 

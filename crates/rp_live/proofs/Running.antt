@@ -16,6 +16,7 @@ use Rattle.rp_replica.specs.declared.input.Input.TheVariants as inputs
 use Rattle.rp_replica.specs.declared.sent.Sent.{Sent}
 use Rattle.rp_threads.specs.Turns.{IsEventBy, IsStopBy}
 use Rattle.rp_threads.specs.declared.turns.PacketCounts.{PacketCounts}
+use Rattle.rp_threads.proofs.Steps.{event_puts}
 use Rattle.rp_live.specs.Seats.{Runs, IsNote}
 
 -- ---- one node
@@ -64,13 +65,14 @@ not_stopped part runs stopped =
     none_runs stopped.0.running (subst (λ (n : NodePart). IsSome n.running) same runs.2) stopped.2
 
 module _ {S P : Type 0} (next : S → Action → S) (answers : S → Action → List Answer) (begin : P → S) (old new : SeatState P) where
-  pub turn_runs : (input : Input) (sent : Sent) → IsTurn next answers begin old input new sent → Runs new.part
+  turn_runs : (input : Input) (sent : Sent) → IsTurn next answers begin old input new sent → Runs new.part
   turn_runs input sent t = (
     t.done.part,
     ap (λ (c : SeatState P). c.part.role) t.after,
     while_runs (setting_at next answers begin old) old.number t.node t.given t.node.running t.done t.results,
   )
 
+module _ {S P : Type 0} (next : S → Action → S) (answers : S → Action → List Answer) (begin : P → S) (old new : SeatState P) where
   -- where it runs and takes the input, and no call of its device failed, memory ran out
   stops_memory : (input : Input) (fault : Fault) → ((given : NodeInput) → given_by input ≡ Ok given → IsTaken given) → Runs old.part → new.failures ≡ 0
       → IsCutTurn next answers begin old input new fault ⊎ IsNoTurn next answers begin old input new fault → fault ≡ OutOfMemory
@@ -106,11 +108,11 @@ module _ {S P : Type 0} (next : S → Action → S) (answers : S → Action → 
         | inr other ↦ elim other [ inl none ↦ stops_memory stop.input fault taken runs never (inr none) | inr unsent ↦ unsent.memory ]
       ]
 
-  pub note_turn : (input : Input) (packets : PacketCounts) → IsEventBy next answers begin (λ given. given ≡ input) old new packets → (sent : Sent) × IsTurn next answers begin old input new sent
-  note_turn input packets event = (event.sent, subst (λ (i : Input). IsTurn next answers begin old i new event.sent) event.is event.turn)
-
-  pub note_runs : (input : Input) (packets : PacketCounts) → IsEventBy next answers begin (λ given. given ≡ input) old new packets → Runs new.part
-  note_runs input packets event = turn_runs event.input event.sent event.turn
+  -- a node that made an event runs
+  pub event_runs : (Is : Input → Type 0) (packets : PacketCounts) → IsEventBy next answers begin Is old new packets → Runs new.part
+  event_runs Is packets e =
+      let runs = turn_runs next answers begin old e.stepped e.input e.sent e.turn in
+      (runs.0, ap (λ (c : SeatState P). c.part.role) (event_puts next answers begin Is old new packets e).after ∙ runs.1, runs.2)
 
 -- a note is within its ranges, and no packet
 pub note_right : (input : Input) → IsNote input → IsRightInput input

@@ -65,7 +65,8 @@ module _ {S P : Type 0} (next : S → Action → S) (answers : S → Action → 
     pub applied : AllZip (λ seat count. HasApplied seat.part count) last outcome.applied.items
     pub known : Audited P
     pub same : IsSameSeat audit known.seat
-    pub read : AllZip (λ end seat. IsRead 0 end.seat seat (length (known_of known.known seat.number))) nodes last
+    pub read : AllZip (λ end seat.
+        IsRead next answers begin 0 end.seat seat (length (known_of known.known seat.number))) nodes last
     pub together : AreTogether next answers begin known last (map (λ end. end.seat) tasks)
     pub replies : outcome.replies.items ≡ flat_map replies_at tasks
     pub agree : (outcome.agree ≡ true) ↔ KnowsAll known.known outcome.applied.items

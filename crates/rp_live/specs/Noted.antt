@@ -8,8 +8,9 @@ use Rattle.rp_model.specs.declared.event.Step.{Step}
 use Rattle.rp_model.specs.declared.event.Step.TheVariants.{Deliver, Lead, LeadRange, Interrupt, Tick, Report}
 use Rattle.rp_replica.specs.declared.input.Input.{Input}
 use Rattle.rp_replica.specs.declared.input.Input.TheVariants as inputs
-use Rattle.rp_replica.specs.declared.sent.Sent.{Sent}
-use Rattle.rp_boxes.specs.Seats.{SeatState, IsTurn}
+use Rattle.rp_boxes.specs.Seats.{SeatState}
+use Rattle.rp_threads.specs.Turns.{IsEventBy}
+use Rattle.rp_threads.specs.declared.turns.PacketCounts.{PacketCounts}
 
 -- which node notes the step, and the input that it is to it
 abbrev pub noted_in : Step → Option (ℕ × Input)
@@ -30,14 +31,15 @@ noted_by (Stop node) = None
 noted_by (Restart node) = None
 
 module _ {S P : Type 0} (next : S → Action → S) (answers : S → Action → List Answer) (begin : P → S) where
-  -- One event of the node of this number, by this input; the others stay as they are.
+  -- One event of the node of this number, by this input, whose packets were offered to their boxes; the other nodes
+  -- stay as they are.
   pub record IsTakenAt (node : ℕ) (input : Input) (olds news : List (SeatState P)) : Type 0 where
     pub old : SeatState P
     pub new : SeatState P
     pub at : slice_get olds (node - 1) ≡ Some old
     pub news_are : news ≡ set olds (node - 1) new
-    pub sent : Sent
-    pub turn : IsTurn next answers begin old input new sent
+    pub packets : PacketCounts
+    pub event : IsEventBy next answers begin (λ given. given ≡ input) old new packets
 
   -- what is noted at its node, if something is
   abbrev pub IsNoted : Option (ℕ × Input) → List (SeatState P) → List (SeatState P) → Type 0

@@ -1,8 +1,10 @@
 -- The seats of a run.
-use Rattle.std.specs.Prelude.{◌≡◌, ◌≢◌, ◌⊎◌, ◌≤◌, ◌<◌, ◌+◌, ℕ, zero, suc, min, None, IfSome, IsSome, List, [], length}
+use Rattle.std.specs.Prelude.{◌≡◌, ◌≢◌, ◌⊎◌, ◌≤◌, ◌<◌, ◌+◌, ℕ, zero, suc, min, Bool, None, IfSome, IsSome, List, [], length}
 use Rattle.std.specs.Prelude.{slice_get}
 use Rattle.rp_base.specs.Action.{IsIndex, IsCount}
 use Rattle.rp_base.specs.declared.action.Action.{Action}
+use Rattle.rp_base.specs.declared.reply.Answer.{Answer}
+use Rattle.rp_codec.specs.declared.packet.Party.TheVariants.{Node}
 use Rattle.rp_boxes.specs.Audits.{known_of}
 use Rattle.rp_boxes.specs.Parts.{Part, OfNode}
 use Rattle.rp_boxes.specs.Seats.{SeatState, HasApplied, IsReport}
@@ -12,6 +14,7 @@ use Rattle.rp_replica.specs.declared.input.Input.TheVariants.{Receive, Lead, Lea
 use Rattle.rp_replica.specs.declared.sent.Sent.{Sent}
 use Rattle.rp_threads.specs.Loops.{IsSameSeat}
 use Rattle.rp_threads.specs.Rounds.{IsNodeFault}
+use Rattle.rp_threads.specs.Turns.{IsOffered}
 use Rattle.rp_threads.specs.declared.loops.NodeEnd.{NodeEnd}
 
 -- the node runs
@@ -45,26 +48,32 @@ pub record HasOnlyReported {P : Type 0} (old new : SeatState P) : Type 0 where
 
 -- ---- how the log of a node is read
 
--- the node makes one report, of what it has applied from a position on
-abbrev pub Reports : {P : Type 0} → ℕ → SeatState P → SeatState P → Type 0
-Reports first old new = (sent : Sent) × IsReport first old new sent
+module _ {S P : Type 0} (next : S → Action → S) (answers : S → Action → List Answer) (begin : P → S) where
+  -- The node makes one report, of what it has applied from a position on; this goes into its box, or is lost since that
+  -- is in use.
+  pub record Reports (first : ℕ) (old new : SeatState P) : Type 0 where
+    pub stepped : SeatState P
+    pub sent : Sent
+    pub report : IsReport first old stepped sent
+    pub is_lost : Bool
+    pub offered : IsOffered next answers begin (Node stepped.number) sent.bytes.items stepped new is_lost
 
--- a node of which `start` actions were known made n reports, and now more are known: each report was from the
--- position after those that were known before it, and after it more were known
-abbrev pub AreReports : {P : Type 0} → ℕ → SeatState P → ℕ → ℕ → SeatState P → Type 0
-AreReports start first zero known now = (known ≡ start) × (now ≡ first)
-AreReports {P = P} start first (suc n) known now =
-    (before : ℕ) × (between : SeatState P) × AreReports start first n before between × Reports (before + 1) between now
-    × (before < known)
+  -- a node of which `start` actions were known made n reports, and now more are known: each report was from the
+  -- position after those that were known before it, and after it more were known
+  abbrev pub AreReports : ℕ → SeatState P → ℕ → ℕ → SeatState P → Type 0
+  AreReports start first zero known now = (known ≡ start) × (now ≡ first)
+  AreReports start first (suc n) known now =
+      (before : ℕ) × (between : SeatState P) × AreReports start first n before between
+      × Reports (before + 1) between now × (before < known)
 
--- The log of a node of which `start` actions were known was read by such reports, until all that it has applied was
--- known (or 65,535 actions of that), or until one report more, asked for in the same way, made nothing more known.
-pub record IsRead {P : Type 0} (start : ℕ) (first now : SeatState P) (known : ℕ) : Type 0 where
-  pub applied : ℕ
-  pub has : HasApplied now.part applied
-  pub reports : ℕ
-  pub read : (AreReports start first reports known now × (min applied 65535 ≤ known))
-      ⊎ ((between : SeatState P) × AreReports start first reports known between × Reports (known + 1) between now)
+  -- The log of a node of which `start` actions were known was read by such reports, until all that it has applied was
+  -- known (or 65,535 actions of that), or until one report more, asked for in the same way, made nothing more known.
+  pub record IsRead (start : ℕ) (first now : SeatState P) (known : ℕ) : Type 0 where
+    pub applied : ℕ
+    pub has : HasApplied now.part applied
+    pub reports : ℕ
+    pub read : (AreReports start first reports known now × (min applied 65535 ≤ known))
+        ⊎ ((between : SeatState P) × AreReports start first reports known between × Reports (known + 1) between now)
 
 -- of each node as many actions are known as before, or more
 abbrev pub KnowsMore : List (List Action) → List (List Action) → Type 0

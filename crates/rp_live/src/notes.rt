@@ -1,11 +1,11 @@
 //! What nodes note before they run.
 
 ghost use Rattle.std.specs.Prelude.{◌≡◌, ◌≤◌, All, Some, length, OnOk, IsOkUnless};
-ghost use Rattle.rp_boxes.specs.Seats.{IsTurn};
 ghost use Rattle.rp_live.specs.Events.{IsLive};
 ghost use Rattle.rp_live.specs.Noted.{IsNoted, AreNoted, noted_by};
 ghost use Rattle.rp_live.specs.Seats.{IsNote, Runs};
-ghost use Rattle.rp_replica.specs.declared.sent.Sent.{Sent};
+ghost use Rattle.rp_threads.specs.Turns.{IsEventBy};
+ghost use Rattle.rp_threads.specs.declared.turns.PacketCounts.{PacketCounts};
 
 use rp_base::{Fault, NodeId};
 use rp_boxes::NodeSeat;
@@ -24,8 +24,8 @@ fn note_one<M: Machine, D: InfallibleDevice>(
 ) -> Result<(), Fault>
     requires note { IsNote input.now }
     requires runs { Runs seat.old.part }
-    ensures ok { OnOk result ((sent : Sent) × IsTurn M.next M.answers M.begin
-        seat.old input.now seat.new sent) }
+    ensures ok { OnOk result ((packets : PacketCounts) × IsEventBy M.next M.answers M.begin
+        (λ given. given ≡ input.now) seat.old seat.new packets) }
     ensures runs { OnOk result (Runs seat.new.part) }
     ensures only { IsOkUnless result Fault.OutOfMemory }
 {

@@ -1,10 +1,12 @@
 //! The audit reads the logs of the nodes.
 
-ghost use Rattle.std.specs.Prelude.{◌≡◌, ℕ, ◌↔◌, ◌+◌, ◌<◌, ◌≤◌, ◌^◌, All, None, length, IsTrue, IfSome, IfOk, OnOk, IsOkUnless};
+ghost use Rattle.std.specs.Prelude.{◌≡◌, ℕ, ◌↔◌, ◌+◌, ◌<◌, ◌≤◌, ◌^◌, All, Bool, None, length, IsTrue, IfSome, IfOk, OnOk, IsOkUnless};
 ghost use Rattle.std.specs.List.{AllZip};
 ghost use Rattle.rp_boxes.specs.Audits.{known_of};
 ghost use Rattle.rp_boxes.specs.Seats.{HasApplied, IsReport, IsSentText};
+ghost use Rattle.rp_codec.specs.declared.packet.Party.TheVariants.{Node};
 ghost use Rattle.rp_threads.specs.Loops.{IsSameSeat};
+ghost use Rattle.rp_threads.specs.Turns.{IsOffered};
 ghost use Rattle.rp_live.specs.LiveOutcome.{KnowsAll};
 ghost use Rattle.rp_live.specs.Seats.{AreNumbered, HasOnlyReported, IsEndOfRun, IsRead, KnowsMore, KnowsNothingAbove, KnowsSameBut, Reports, Runs, StillRuns};
 
@@ -33,10 +35,11 @@ fn report_from<M: Machine, D: InfallibleDevice>(
     report
 }
 
-/// Puts a report that the node sent into its box. Where the box is not empty it is lost.
+/// Puts a report that the node sent into its box. Where the box is in use it is lost.
 fn put_report<M: Machine, D: InfallibleDevice>(seat: &mut NodeSeat<M, D>, report: Vec<u8>)
     requires { IsSentText seat.old.part report.items }
-    ensures { seat.new ≡ seat.old }
+    ensures { (is_lost : Bool) × IsOffered M.next M.answers M.begin (Node seat.old.number)
+        report.items seat.old seat.new is_lost }
 {
     let _given_back = seat.put(report);
 }
@@ -48,7 +51,8 @@ fn send_report<M: Machine, D: InfallibleDevice>(
     first: Position,
 ) -> Result<(), Fault>
     requires runs { Runs seat.old.part }
-    ensures reported { OnOk result (Reports first seat.old seat.new) }
+    ensures reported { OnOk result (Reports M.next M.answers M.begin
+        first seat.old seat.new) }
     ensures only { IsOkUnless result Fault.OutOfMemory }
 {
     let report = report_from(seat, alloc, first)?;
@@ -66,7 +70,8 @@ fn report_once<M: Machine, D: InfallibleDevice>(
 ) -> Result<(), Fault>
     requires runs { Runs seat.old.part }
     ensures same { OnOk result (IsSameSeat audit.old.seat audit.new.seat) }
-    ensures reported { OnOk result (Reports first seat.old seat.new) }
+    ensures reported { OnOk result (Reports M.next M.answers M.begin
+        first seat.old seat.new) }
     ensures more { OnOk result (KnowsMore audit.old.known audit.new.known) }
     ensures others { OnOk result (KnowsSameBut seat.old.number
         audit.old.known audit.new.known) }
@@ -101,8 +106,9 @@ fn read_log<M: Machine, D: InfallibleDevice>(
     ensures others { OnOk result (KnowsSameBut seat.old.number
         audit.old.known audit.new.known) }
     ensures applied { IfOk result (λ count. HasApplied seat.new.part count) }
-    ensures read { OnOk result (IsRead (length (known_of audit.old.known seat.old.number))
-        seat.old seat.new (length (known_of audit.new.known seat.old.number))) }
+    ensures read { OnOk result (IsRead M.next M.answers M.begin
+        (length (known_of audit.old.known seat.old.number)) seat.old seat.new
+        (length (known_of audit.new.known seat.old.number))) }
     ensures only { IsOkUnless result Fault.OutOfMemory }
 {
     let node = seat.number();
@@ -135,7 +141,7 @@ fn read_end<M: Machine, D: InfallibleDevice>(
     ensures others { OnOk result (KnowsSameBut end.seat.number
         audit.old.known audit.new.known) }
     ensures applied { IfOk result (λ read. HasApplied read.0.part read.1) }
-    ensures read { IfOk result (λ read. IsRead
+    ensures read { IfOk result (λ read. IsRead M.next M.answers M.begin
         (length (known_of audit.old.known end.seat.number)) end.seat read.0
         (length (known_of audit.new.known end.seat.number))) }
     ensures only { IsOkUnless result Fault.OutOfMemory }
@@ -161,8 +167,9 @@ pub(crate) fn read_logs<M: Machine, D: InfallibleDevice>(
         nodes.items read.0.items) }
     ensures applied { IfOk result (λ read. AllZip (λ seat count. HasApplied seat.part count)
         read.0.items read.1.items) }
-    ensures read { IfOk result (λ read. AllZip (λ end seat. IsRead 0 end.seat seat
-        (length (known_of audit.new.known seat.number))) nodes.items read.0.items) }
+    ensures read { IfOk result (λ read. AllZip (λ end seat. IsRead M.next M.answers M.begin
+        0 end.seat seat (length (known_of audit.new.known seat.number)))
+        nodes.items read.0.items) }
     ensures only { IsOkUnless result Fault.OutOfMemory }
 {
     let mut seats = Vec::new(alloc);

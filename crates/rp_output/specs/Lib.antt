@@ -4,3 +4,4 @@ pub mod Trace
 pub mod FaultMessage
 pub mod Faults
 pub mod Stream
+pub mod Endings

@@ -5,13 +5,16 @@
 //! - `trace`: the line of a trace for a packet
 //! - `fault_message`: what is printed of a fault
 //! - `stream`: writes what a run prints
+//! - `ending`: how a program ends, and what it reports
 #![tactic(auto)]
 
+mod ending;
 mod fault_message;
 mod printed;
 mod stream;
 mod trace;
 
+pub use ending::{Ending, NoRun, Streams, fail, refuse};
 pub use fault_message::{FaultMessage, is_refusal, reason_text, tell};
 pub use printed::{
     AgreedLine, AppliedLine, DrainLimitLine, FullLine, OpenedLine, RefusedLine, ReplyLine,

@@ -1,8 +1,9 @@
 -- The state of a run so far, and what is left of it.
 use Rattle.std.proofs.Common.{inl, inr, ◌≡◌, ℕ, suc, ◌+◌, ◌-◌, ◌<◌, ◌≤◌, Bool, true, false, cond, ◌&&◌, ◌||◌, Option, Some, None, Result, Ok, Err, List, [], ◌∷◌, ◌++◌, drop, length, arith, refl, sym, ap, subst, ◌∙◌, append_assoc, append-nil, IsErr}
-use Rattle.std.specs.Prelude.{◌⊎◌, nat_eq, nat_le}
+use Rattle.std.specs.Prelude.{◌⊎◌, nat_eq, nat_le, slice_index_or}
 use Rattle.std.specs.Io.KnownBytes.{Appends}
 use Rattle.std.proofs.KnownBytes.{Appends-nil, Appends-trans}
+use Rattle.std.proofs.lemmas.List.{drop_more, drop_all}
 use Rattle.std.proofs.lemmas.List.Folds.{list_any-append}
 use Rattle.std.proofs.lemmas.Bool.{le-leb}
 use Rattle.std.proofs.lemmas.Bool.Decides.{nat_tests}
@@ -19,7 +20,7 @@ use Rattle.rp_model.specs.Events.{event_of}
 use Rattle.rp_model.specs.Growing.{Grows}
 use Rattle.rp_model.specs.World.{World, Transition, event_effect}
 use Rattle.rp_model.specs.Answers.{IsDone, IsRefused}
-use Rattle.rp_run.specs.Output.{RunSetting, Play, Said, text_of, nothing_said, note_said, and_then, is_among, from_to, least_unsettled, settled_by, lost, traced_text, effect_text, effect_of, effect_said, event_said, drain_from, drained, command_said, script_said, nodes_text}
+use Rattle.rp_run.specs.Output.{RunSetting, Play, Said, opening_play, text_of, nothing_said, note_said, and_then, is_among, from_to, least_unsettled, settled_by, lost, traced_text, effect_text, effect_of, effect_said, event_said, drain_from, drained, command_said, script_said, nodes_text}
 use Rattle.rp_run.specs.Items.{Item, Note, Noted, Refused, DrainLimit, items_text, note_line}
 use Rattle.rp_output.specs.Printed.{refused_line_of}
 use Rattle.rp_run.specs.Runs.{Follows, Says}
@@ -246,6 +247,36 @@ pub script_more : {S : Type 0} (s : RunSetting S) (most : ℕ) (play : Play) (li
     → script_said s most play (line ∷ rest) ≡ and_then (command_said s most line.number play line.command) (λ after. script_said s most after rest)
 unfolding script_said
 script_more s most play line rest = refl
+
+-- ---- a line of a script
+
+-- no line is left
+pub no_line : {S : Type 0} (s : RunSetting S) (most : ℕ) (play : Play) (lines : List Line) (i : ℕ) → length lines ≤ i → script_said s most play (drop i lines) ≡ nothing_said play
+no_line s most play lines i past = ap (λ (rest : List Line). script_said s most play rest) (drop_all i lines past) ∙ script_ends s most play
+
+-- this line is the next one
+next_line : {S : Type 0} (s : RunSetting S) (most : ℕ) (play : Play) (lines : List Line) (i : ℕ) (line : Line) → i < length lines → line ≡ slice_index_or lines i line
+    → script_said s most play (drop i lines) ≡ and_then (command_said s most line.number play line.command) (λ now. script_said s most now (drop (i + 1) lines))
+next_line s most play lines i line below is =
+    let here : drop i lines ≡ line ∷ drop (i + 1) lines = drop_more lines i line below ∙ ap (λ (x : Line). x ∷ drop (i + 1) lines) (sym is) in
+    ap (λ (rest : List Line). script_said s most play rest) here ∙ script_more s most play line (drop (i + 1) lines)
+
+module _ {S : Type 0} (s : RunSetting S) (most : ℕ) (lines : List Line) (i : ℕ) (line : Line) (below : i < length lines) (is : line ≡ slice_index_or lines i line)
+    {world : World} {settled : Settled} {old middle new : Option (List ℕ)} (so_far : Underway world settled old middle (script_said s most (opening_play s) lines) (λ now. script_said s most now (drop i lines))) where
+  -- it is done
+  pub line_goes_on : {later : World} {after : Settled} → Follows later after (command_said s most line.number so_far.said.play line.command).play → Appends middle new (text_of (command_said s most line.number so_far.said.play line.command))
+      → Underway later after old new (script_said s most (opening_play s) lines) (λ now. script_said s most now (drop (i + 1) lines))
+  line_goes_on {later} {after} follows written =
+      goes_on world later settled after old middle new (script_said s most (opening_play s) lines) (λ now. script_said s most now (drop i lines)) so_far
+      (command_said s most line.number so_far.said.play line.command) (λ now. script_said s most now (drop (i + 1) lines)) (next_line s most so_far.said.play lines i line below is) follows written
+
+  -- it failed
+  pub line_fails : Begins middle new (text_of (command_said s most line.number so_far.said.play line.command)) → Begins old new (text_of (script_said s most (opening_play s) lines))
+  line_fails begun =
+      fails world world settled settled old middle new (script_said s most (opening_play s) lines) (λ now. script_said s most now (drop i lines)) so_far
+      (command_said s most line.number so_far.said.play line.command) (λ now. script_said s most now (drop (i + 1) lines)) (next_line s most so_far.said.play lines i line below is) begun
+
+-- ---- a drain
 
 module _ {S : Type 0} (s : RunSetting S) (line : ℕ) (play : Play) where
   drain_ends : (most : ℕ) → drain_from s line play None most ≡ nothing_said play

@@ -13,19 +13,19 @@ use rp_world::histories_are_ordered;
 
 /// Whatever the lines of a script are: after any number of them one order gives all that they print, and
 /// after any two of them nodes agree. It does nothing: what it promises is for contracts.
-pub fn scripts_agree<M: Machine>(options: &RunOptions<'_>, lines: &[Line])
+pub fn scripts_agree<M: Machine>(options: &RunOptions<'_>)
     // claim: For every machine, whatever the lines of a script are, one order gives the states and
     //   the replies that its run prints, and after any two lines nodes agree
     ensures agrees { (program : M.Program) → RunAgrees
         (run_setting M.next M.answers M.begin M.image (opening_setup options.now.config program)
-        options.now) options.now.most lines.now }
+        options.now) options.now.most options.now.lines.now }
     ensures printed { (program : M.Program) → RunIsPrinted
         (run_setting M.next M.answers M.begin M.image (opening_setup options.now.config program)
-        options.now) options.now.most lines.now }
+        options.now) options.now.most options.now.lines.now }
 {
     histories_are_ordered::<M>();
     records_stay_in_the_log::<M>();
-    lines_keep_ranges(lines);
+    lines_keep_ranges(options.lines);
 }
 
 fn lines_keep_ranges(lines: &[Line])

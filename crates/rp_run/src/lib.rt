@@ -2,7 +2,7 @@
 //!
 //! In reading order:
 //! - `run`: runs the lines of a script, at any machine and over any devices that never fail
-//! - `options`: how a script is run
+//! - `options`: a script, and how it is run
 //! - `agreeing`: at any two lines of a script nodes agree, and replies are those of one order
 //! - `effects`: prints the result of an event
 //! - `settled`: which messages of a run are settled

@@ -33,12 +33,12 @@ pub fn run_lines<M: Machine, D: CutDevice + InfallibleDevice, W: Write>(
     options: &RunOptions<'_>,
     program: M::Program,
     devices: Vec<D>,
-    lines: &[Line],
     writer: &mut W,
 ) -> Result<(), Fault>
     requires devices { length devices.items ≡ options.now.config.nodes }
     requires empty { All (λ d. (D.disk d).contents ≡ []) devices.items }
-    requires lines { All (λ line. FitsIn options.now.config.nodes 8 8 line.command) lines.now }
+    requires lines { All (λ line. FitsIn options.now.config.nodes 8 8 line.command)
+        options.now.lines.now }
     // claim: What a run prints is the stated output of its deck, with its packets if this is asked
     //   for; if a fault ends the run, it is a prefix of that, for every machine and over any
     //   devices that never fail. Such a run ends by `OutOfMemory`, or by `Io` if the writer fails,
@@ -46,7 +46,7 @@ pub fn run_lines<M: Machine, D: CutDevice + InfallibleDevice, W: Write>(
     ensures output { Writes (W.contents writer.old) (W.contents writer.new)
         (text_of (run_said (run_setting M.next M.answers M.begin M.image
         (opening_setup options.now.config program) options.now)
-        options.now.most lines.now)) result }
+        options.now.most options.now.lines.now)) result }
     ensures fault { IfErr result IsRunFault }
 {
     let mut run = Run {
@@ -55,7 +55,7 @@ pub fn run_lines<M: Machine, D: CutDevice + InfallibleDevice, W: Write>(
         settled: Settled::new(alloc),
         effect: no_effect(0),
     };
-    for line in lines {
+    for line in options.lines {
         let taken = run.take(options, line, writer);
         run.cluster.never_failed();
         taken?;

@@ -87,21 +87,22 @@ pub fn run_deck<W: Write>(
         ..
     } = deck;
     let devices = devices(alloc, config.nodes)?;
+    let lines = script.as_slice();
     let options = RunOptions {
         config,
         tasks: &tasks,
+        lines,
         traced,
         most: DRAIN_LIMIT,
     };
-    let lines = script.as_slice();
     match program {
         DeckProgram::Tally(program) => {
-            scripts_agree::<Tally>(&options, lines);
-            run_lines::<Tally, MemDevice, W>(alloc, &options, program, devices, lines, writer)
+            scripts_agree::<Tally>(&options);
+            run_lines::<Tally, MemDevice, W>(alloc, &options, program, devices, writer)
         }
         DeckProgram::Objects(program) => {
-            scripts_agree::<Objects>(&options, lines);
-            run_lines::<Objects, MemDevice, W>(alloc, &options, program, devices, lines, writer)
+            scripts_agree::<Objects>(&options);
+            run_lines::<Objects, MemDevice, W>(alloc, &options, program, devices, writer)
         }
     }
 }

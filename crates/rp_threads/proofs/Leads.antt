@@ -17,7 +17,7 @@ use Rattle.rp_threads.specs.declared.turns.Turn.{Turn}
 use Rattle.rp_threads.specs.declared.turns.Turn.TheVariants.{Received, Led, Idle}
 use Rattle.rp_threads.specs.declared.turns.TurnResult.{TurnResult}
 use Rattle.rp_threads.proofs.Rounds.{IsIdle}
-use Rattle.rp_threads.proofs.Steps.{same_part, same_seat, same_on, stop_same, stop_stays, turn_same, turn_events, turn_idle, fault_same, fault_events}
+use Rattle.rp_threads.proofs.Steps.{same_seat, same_on, event_counts, event_same, stop_same, stop_stays, turn_same, turn_events, turn_idle, fault_same, fault_events}
 
 module _ {S P : Type 0} (next : S → Action → S) (answers : S → Action → List Answer) (begin : P → S) (from : Party) (lead : Bool) (old new : SeatState P) (line after : Line) where
   -- ---- it stays the same seat
@@ -26,7 +26,8 @@ module _ {S P : Type 0} (next : S → Action → S) (answers : S → Action → 
   made_same turned (inl own) = turn_same next answers begin from lead old new line after turned own
   made_same turned (inr anew) =
       let led = anew.1 in
-      same_on old led.between new (turn_same next answers begin from lead old led.between line after led.turned led.first) (same_part led.between new _ led.leads.turn.after)
+      same_on old led.between new (turn_same next answers begin from lead old led.between line after led.turned led.first)
+      (event_same next answers begin (IsLeadAnew led.between.part) led.between new turned.packets led.leads)
 
   pub unmade_same : (fault : Fault) → IsUnmade next answers begin from lead old new line after fault → IsSameSeat old new
   unmade_same fault (inl lost) = fault_same next answers begin from lead old new line after fault (inl lost)
@@ -54,7 +55,7 @@ module _ {S P : Type 0} (next : S → Action → S) (answers : S → Action → 
   made_events turned (inr anew) =
       let led = anew.1 in
       let first = idle_events led.between led.turned led.first led.idle in
-      let more : new.part.events ≡ led.between.part.events + 1 = ap (λ (c : SeatState P). c.part.events) led.leads.turn.after in
+      let more = event_counts next answers begin (IsLeadAnew led.between.part) led.between new turned.packets led.leads in
       let one : events_of turned.turn ≡ 1 = ap (λ (u : Turn). events_of u) anew.0 in
       omega (arith, first, more, one)
 

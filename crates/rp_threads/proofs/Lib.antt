@@ -7,6 +7,7 @@ pub mod Stops
 pub mod Chains
 pub mod TaskSteps
 pub mod TaskChains
+pub mod Puts
 pub mod Offers
 pub mod Places
 mod Crossings

@@ -4,6 +4,7 @@ use Rattle.std.specs.Prelude.{IfOk, IfErr}
 use Rattle.rp_base.specs.Sets.{Has}
 use Rattle.rp_base.specs.declared.action.Action.{Action}
 use Rattle.rp_base.specs.declared.fault.Fault.{Fault}
+use Rattle.rp_base.specs.declared.fault.Fault.TheVariants.{OutOfMemory}
 use Rattle.rp_base.specs.declared.reply.Answer.{Answer}
 use Rattle.rp_base.proofs.Members.{has_right}
 use Rattle.rp_codec.specs.declared.packet.Party.{Party}
@@ -13,13 +14,14 @@ use Rattle.rp_replica.specs.declared.sent.Sent.{Sent}
 use Rattle.rp_tasks.specs.Line.{Line}
 use Rattle.rp_boxes.specs.Parts.{Part}
 use Rattle.rp_boxes.specs.Seats.{SeatState, IsTurn}
-use Rattle.rp_threads.specs.Turns.{MayFetch, IsBrought, IsLost, turn_of, IsReceipt, IsLead, AreSent, IsAllOffered, IsEventBy, IsStopBy, Works, Fails, IsNodeTurn, IsStoppedTurn, no_packets}
+use Rattle.rp_threads.specs.Turns.{MayFetch, IsBrought, IsLost, turn_of, IsReceipt, IsLead, AreGivenOut, AreSent, IsAllOffered, IsOfferedInPart, IsEventBy, IsUnsent, IsStopBy, Works, Fails, IsNodeTurn, IsStoppedTurn, no_packets}
 use Rattle.rp_threads.specs.Loops.{IsSameSeat, events_of, is_refusal}
 use Rattle.rp_threads.specs.Lines.{given_on, line_after}
 use Rattle.rp_threads.specs.declared.turns.Turn.{Turn}
 use Rattle.rp_threads.specs.declared.turns.Turn.TheVariants.{Received, Led, Idle}
 use Rattle.rp_threads.specs.declared.turns.PacketCounts.{PacketCounts}
 use Rattle.rp_threads.specs.declared.turns.TurnResult.{TurnResult}
+use Rattle.rp_threads.proofs.Puts.{HasOnlyPut, offers_put}
 
 -- ---- the same seat
 
@@ -58,45 +60,80 @@ may_events {P} (Some text) from to old new f = ap (λ (c : SeatState P). c.part.
 module _ {S P : Type 0} (next : S → Action → S) (answers : S → Action → List Answer) (begin : P → S) where
   -- ---- what a step's packets are
 
-  pub sent_by : (old new : SeatState P) (input : Input) (sent : Sent) → IsTurn next answers begin old input new sent → AreSent new.part sent
-  sent_by old new input sent t = record {
-    packets = t.done.sends;
+  given_out : (old new : SeatState P) (input : Input) (sent : Sent) (t : IsTurn next answers begin old input new sent) → AreGivenOut new.part sent t.done.sends
+  given_out old new input sent t = record {
     texts = t.describes.bytes;
     count = t.describes.packets;
     sent_all = λ m has. subst (λ (c : SeatState P). Has m c.part.sent) (sym t.after) (has_right m old.part.sent t.done.sends has);
   }
 
+  pub sent_by : (old new : SeatState P) (input : Input) (sent : Sent) → IsTurn next answers begin old input new sent → AreSent new.part sent
+  sent_by old new input sent t = (t.done.sends, given_out old new input sent t)
+
   -- ---- an event
 
   -- by this input, once its packets were offered
-  pub event_by : (old new : SeatState P) (input : Input) (sent : Sent) (lost : ℕ) (turn : IsTurn next answers begin old input new sent)
-      → IsAllOffered next answers begin (Node new.number) new sent lost → IsEventBy next answers begin (λ given. given ≡ input) old new (record { sent = sent.packets; lost = lost })
-  event_by old new input sent lost turn offered = record {
+  pub event_by : (old stepped new : SeatState P) (input : Input) (sent : Sent) (lost : ℕ) → IsTurn next answers begin old input stepped sent
+      → IsAllOffered next answers begin (Node stepped.number) sent stepped new lost
+      → IsEventBy next answers begin (λ given. given ≡ input) old new (record { sent = sent.packets; lost = lost })
+  event_by old stepped new input sent lost turn offered = record {
     input = input;
     is = refl;
+    stepped = stepped;
     sent = sent;
     turn = turn;
     stated = refl;
-    offered = offered turn.done.sends turn.describes.bytes turn.describes.packets
-        (λ m has. subst (λ (c : SeatState P). Has m c.part.sent) (sym turn.after) (has_right m old.part.sent turn.done.sends has));
+    offered = offered turn.done.sends (given_out old stepped input sent turn);
   }
 
-  pub event_got : (old new : SeatState P) (input : Input) (sent : Sent) → IsTurn next answers begin old input new sent → new.part.got ≡ old.part.got
-  event_got old new input sent t = ap (λ (c : SeatState P). c.part.got) t.after
+  -- memory ran out before all of them were offered
+  pub unsent_by : (old stepped new : SeatState P) (input : Input) (sent : Sent) → IsTurn next answers begin old input stepped sent
+      → IsOfferedInPart next answers begin (Node stepped.number) sent stepped new → IsStopBy next answers begin (λ given. given ≡ input) old new OutOfMemory
+  unsent_by old stepped new input sent turn cut = record {
+    input = input;
+    is = refl;
+    why = inr (inr (record { memory = refl; stepped = stepped; sent = sent; turn = turn; offered = cut turn.done.sends (given_out old stepped input sent turn) }));
+  }
+
+  -- the packets of an event change at the seat what was put alone
+  pub event_puts : (Is : Input → Type 0) (old new : SeatState P) (packets : PacketCounts) (e : IsEventBy next answers begin Is old new packets) → HasOnlyPut e.stepped new
+  event_puts Is old new packets e = offers_put next answers begin (Node e.stepped.number) e.turn.done.sends e.stepped new packets.lost e.offered
+
+  pub unsent_puts : (old new : SeatState P) (input : Input) (fault : Fault) (u : IsUnsent next answers begin old input new fault) → HasOnlyPut u.stepped new
+  unsent_puts old new input fault u = offers_put next answers begin (Node u.stepped.number) u.offered.offered u.stepped new u.offered.lost u.offered.are
+
+  stepped_got : (old stepped new : SeatState P) (input : Input) (sent : Sent) → IsTurn next answers begin old input stepped sent → HasOnlyPut stepped new → new.part.got ≡ old.part.got
+  stepped_got old stepped new input sent t puts = ap (λ (c : SeatState P). c.part.got) puts.after ∙ ap (λ (c : SeatState P). c.part.got) t.after
+
+  stepped_same : (old stepped new : SeatState P) (input : Input) (sent : Sent) → IsTurn next answers begin old input stepped sent → HasOnlyPut stepped new → IsSameSeat old new
+  stepped_same old stepped new input sent t puts = same_on old stepped new (same_part old stepped _ t.after) (same_part stepped new _ puts.after)
+
+  pub event_got : (Is : Input → Type 0) (old new : SeatState P) (packets : PacketCounts) → IsEventBy next answers begin Is old new packets → new.part.got ≡ old.part.got
+  event_got Is old new packets e = stepped_got old e.stepped new e.input e.sent e.turn (event_puts Is old new packets e)
+
+  pub event_same : (Is : Input → Type 0) (old new : SeatState P) (packets : PacketCounts) → IsEventBy next answers begin Is old new packets → IsSameSeat old new
+  event_same Is old new packets e = stepped_same old e.stepped new e.input e.sent e.turn (event_puts Is old new packets e)
+
+  -- it is one event
+  pub event_counts : (Is : Input → Type 0) (old new : SeatState P) (packets : PacketCounts) → IsEventBy next answers begin Is old new packets → new.part.events ≡ old.part.events + 1
+  event_counts Is old new packets e = ap (λ (c : SeatState P). c.part.events) (event_puts Is old new packets e).after ∙ ap (λ (c : SeatState P). c.part.events) e.turn.after
 
   pub stop_got : (Is : Input → Type 0) (old new : SeatState P) (fault : Fault) → IsStopBy next answers begin Is old new fault → new.part.got ≡ old.part.got
   stop_got Is old new fault s = elim s.why [
     | inl cut ↦ ap (λ (c : SeatState P). c.part.got) cut.after
     | inr other ↦ elim other [
       | inl none ↦ ap (λ (c : SeatState P). c.part.got) none.unchanged
-      | inr unsent ↦ event_got old new s.input unsent.sent unsent.turn
+      | inr unsent ↦ stepped_got old unsent.stepped new s.input unsent.sent unsent.turn (unsent_puts old new s.input fault unsent)
     ]
   ]
 
   pub stop_same : (Is : Input → Type 0) (old new : SeatState P) (fault : Fault) → IsStopBy next answers begin Is old new fault → IsSameSeat old new
   stop_same Is old new fault s = elim s.why [
     | inl cut ↦ same_but old new new.failures _ cut.after
-    | inr other ↦ elim other [ inl none ↦ same_seat old new none.unchanged | inr unsent ↦ same_part old new _ unsent.turn.after ]
+    | inr other ↦ elim other [
+      | inl none ↦ same_seat old new none.unchanged
+      | inr unsent ↦ stepped_same old unsent.stepped new s.input unsent.sent unsent.turn (unsent_puts old new s.input fault unsent)
+    ]
   ]
 
   -- a refusal to lead leaves the seat as it is
@@ -109,14 +146,14 @@ module _ {S P : Type 0} (next : S → Action → S) (answers : S → Action → 
   -- ---- the work of a turn
 
   pub works_same : (given : Option (List ℕ)) (lead : Bool) (old new : SeatState P) (packets : PacketCounts) → Works next answers begin given lead old new packets → IsSameSeat old new
-  works_same (Some text) lead old new packets w = same_part old new _ w.turn.after
-  works_same None true old new packets w = same_part old new _ w.turn.after
+  works_same (Some text) lead old new packets w = event_same (IsReceipt text) old new packets w
+  works_same None true old new packets w = event_same IsLead old new packets w
   works_same None false old new packets w = same_seat old new w.0
 
   pub works_events : (given : Option (List ℕ)) (lead : Bool) (old new : SeatState P) (packets : PacketCounts) → Works next answers begin given lead old new packets
       → new.part.events ≡ old.part.events + events_of (turn_of given lead)
-  works_events (Some text) lead old new packets w = ap (λ (c : SeatState P). c.part.events) w.turn.after
-  works_events None true old new packets w = ap (λ (c : SeatState P). c.part.events) w.turn.after
+  works_events (Some text) lead old new packets w = event_counts (IsReceipt text) old new packets w
+  works_events None true old new packets w = event_counts IsLead old new packets w
   works_events None false old new packets w = let e : new.part.events ≡ old.part.events = ap (λ (c : SeatState P). c.part.events) w.0 in omega (arith, e)
 
   pub fails_same : (given : Option (List ℕ)) (lead : Bool) (old new : SeatState P) (fault : Fault) → Fails next answers begin given lead old new fault → IsSameSeat old new
@@ -134,7 +171,7 @@ module _ {S P : Type 0} (next : S → Action → S) (answers : S → Action → 
       → IsEventBy next answers begin (λ i. i ≡ input) old new packets → Works next answers begin given lead old new packets
   received given text lead input old new packets is receipt e =
       subst (λ (o : Option (List ℕ)). Works next answers begin o lead old new packets) (sym is)
-      (record { input = e.input; is = subst (IsReceipt text) (sym e.is) receipt; sent = e.sent; turn = e.turn; stated = e.stated; offered = e.offered })
+      (record { input = e.input; is = subst (IsReceipt text) (sym e.is) receipt; stepped = e.stepped; sent = e.sent; turn = e.turn; stated = e.stated; offered = e.offered })
 
   pub receipt_stopped : (given : Option (List ℕ)) (text : List ℕ) (lead : Bool) (input : Input) (old new : SeatState P) (fault : Fault) → given ≡ Some text → IsReceipt text input
       → IsStopBy next answers begin (λ i. i ≡ input) old new fault → Fails next answers begin given lead old new fault

@@ -27,10 +27,12 @@ use Rattle.rp_boxes.specs.Seats.{SeatState, IsReason, IsStopped, IsTurn, IsNoTur
 use Rattle.rp_threads.specs.Lines.{given_on}
 use Rattle.rp_threads.specs.Loops.{is_refusal}
 use Rattle.rp_threads.specs.Rounds.{IsLeadAnew, IsMade, IsUnmade, IsMadeOrSkipped}
-use Rattle.rp_threads.specs.Turns.{MayFetch, IsBrought, IsReceipt, IsLead, IsStopBy, Works, Fails, IsNodeTurn}
+use Rattle.rp_threads.specs.Turns.{MayFetch, IsBrought, IsReceipt, IsLead, IsEventBy, IsStopBy, Works, Fails, IsNodeTurn}
 use Rattle.rp_threads.specs.declared.turns.PacketCounts.{PacketCounts}
 use Rattle.rp_threads.specs.declared.turns.TurnResult.{TurnResult}
+use Rattle.rp_threads.proofs.Puts.{HasOnlyPut}
 use Rattle.rp_threads.proofs.Rounds.{refusal_stays}
+use Rattle.rp_threads.proofs.Steps.{event_puts, unsent_puts}
 
 same_node : (role : Role) (a b : NodePart) → role ≡ OfNode a → role ≡ OfNode b → a ≡ b
 same_node role a b is_a is_b = let e : OfNode a ≡ OfNode b = sym is_a ∙ is_b in cc
@@ -203,11 +205,14 @@ module _ {S P : Type 0} (next : S → Action → S) (answers : S → Action → 
       let same : t.done.part ≡ stopped.0 = same_node new.part.role t.done.part stopped.0 role stopped.1 in
       while_runs (setting_at next answers begin old) old.number t.node t.given t.node.running t.done t.results (ap (λ (n : NodePart). n.running) same ∙ stopped.2)
 
-  event_sound : (old new : SeatState P) (input : Input) (sent : Sent) → IsTurn next answers begin old input new sent → IsSound old new
-  event_sound old new input sent t = record {
-    failures = ap (λ (c : SeatState P). c.failures) t.after;
-    stopped = λ stopped. absurd (turn_runs old new input sent t stopped);
+  stepped_sound : (old stepped new : SeatState P) (input : Input) (sent : Sent) → IsTurn next answers begin old input stepped sent → HasOnlyPut stepped new → IsSound old new
+  stepped_sound old stepped new input sent t puts = record {
+    failures = ap (λ (c : SeatState P). c.failures) puts.after ∙ ap (λ (c : SeatState P). c.failures) t.after;
+    stopped = λ stopped. absurd (turn_runs old stepped input sent t (same_stopped stepped.part new.part (ap (λ (c : SeatState P). c.part.role) puts.after) stopped));
   }
+
+  event_sound : (Is : Input → Type 0) (old new : SeatState P) (packets : PacketCounts) → IsEventBy next answers begin Is old new packets → IsSound old new
+  event_sound Is old new packets e = stepped_sound old e.stepped new e.input e.sent e.turn (event_puts next answers begin Is old new packets e)
 
   no_turn : (old new : SeatState P) (input : Input) (fault : Fault) → LeadsNoRange input → IsNoTurn next answers begin old input new fault → IsCause old fault
   no_turn old new input fault small none =
@@ -221,13 +226,13 @@ module _ {S P : Type 0} (next : S → Action → S) (answers : S → Action → 
     | inl cut ↦ inl (cut.device, cut.failed)
     | inr other ↦ elim other [
       | inl none ↦ inr (sound_same old new none.unchanged, no_turn old new s.input fault (small s.input s.is) none)
-      | inr unsent ↦ inr (event_sound old new s.input unsent.sent unsent.turn, inr (inl unsent.memory))
+      | inr unsent ↦ inr (stepped_sound old unsent.stepped new s.input unsent.sent unsent.turn (unsent_puts next answers begin old new s.input fault unsent), inr (inl unsent.memory))
     ]
   ]
 
   works_sound : (given : Option (List ℕ)) (lead : Bool) (old new : SeatState P) (packets : PacketCounts) → Works next answers begin given lead old new packets → IsSound old new
-  works_sound (Some text) lead old new packets w = event_sound old new w.input w.sent w.turn
-  works_sound None true old new packets w = event_sound old new w.input w.sent w.turn
+  works_sound (Some text) lead old new packets w = event_sound (IsReceipt text) old new packets w
+  works_sound None true old new packets w = event_sound IsLead old new packets w
   works_sound None false old new packets w = sound_same old new w.0
 
   fails_left : (given : Option (List ℕ)) (lead : Bool) (old new : SeatState P) (fault : Fault) → Fails next answers begin given lead old new fault → IsLeft old new fault
@@ -247,7 +252,7 @@ module _ {S P : Type 0} (next : S → Action → S) (answers : S → Action → 
     made_sound turned (inl own) = turn_sound new turned own
     made_sound turned (inr anew) =
         let led = anew.1 in
-        sound_on old led.between new (turn_sound led.between led.turned led.first) (event_sound led.between new led.leads.input led.leads.sent led.leads.turn)
+        sound_on old led.between new (turn_sound led.between led.turned led.first) (event_sound (IsLeadAnew led.between.part) led.between new turned.packets led.leads)
 
     pub unmade_left : (fault : Fault) → IsUnmade next answers begin from lead old new line after fault → IsLeft old new fault
     unmade_left fault (inl lost) = inr (may_sound (Some lost.packet) from (Node old.number) old new lost.fetch, inr (inl lost.memory))

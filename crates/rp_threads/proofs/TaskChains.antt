@@ -1,5 +1,5 @@
 -- The turns of a task's loop, one after the other: what calls they made, and why one is not made.
-use Rattle.std.proofs.Common.{◌≡◌, ℕ, zero, suc, ◌%◌, ◌/◌, ◌<◌, ◌≤◌, ◌||◌, not, nat_eq, nat_lt, Bool, true, false, Option, Some, None, Ok, Err, List, [], ◌∷◌, length, is_some, slice_get, inl, inr, refl, sym, ap, subst, ◌∙◌, arith, if◌then◌else◌}
+use Rattle.std.proofs.Common.{◌≡◌, ℕ, zero, suc, ◌+◌, ◌%◌, ◌/◌, ◌<◌, ◌≤◌, ◌||◌, not, nat_eq, nat_lt, Bool, true, false, Option, Some, None, Ok, Err, List, [], ◌∷◌, length, is_some, slice_get, inl, inr, refl, sym, ap, subst, ◌∙◌, arith, if◌then◌else◌}
 use Rattle.std.proofs.lemmas.Grind.{common_steps}
 use Rattle.std.proofs.lemmas.Nat.{mod_below}
 use Rattle.rp_base.specs.Action.{is_right}
@@ -12,7 +12,7 @@ use Rattle.rp_base.specs.declared.reply.Answer.{Answer}
 use Rattle.rp_codec.specs.declared.packet.Party.{Party}
 use Rattle.rp_codec.specs.declared.packet.Party.TheVariants.{Node, Task}
 use Rattle.rp_model.specs.Parts.{TaskPart, fresh_task}
-use Rattle.rp_model.specs.Tasks.{TaskInput, Again, asks_again, calls_if, may_call}
+use Rattle.rp_model.specs.Tasks.{TaskInput, Submit, Again, asks_again, calls_if, may_call}
 use Rattle.rp_tasks.specs.Line.{Line}
 use Rattle.rp_boxes.specs.Parts.{OfTask, fresh_part}
 use Rattle.rp_boxes.specs.Seats.{SeatState}
@@ -26,7 +26,7 @@ use Rattle.rp_threads.specs.declared.tasks.Calls.{Calls}
 use Rattle.rp_threads.specs.declared.tasks.TaskCall.{TaskCall}
 use Rattle.rp_threads.specs.declared.tasks.TaskEnd.{TaskEnd}
 use Rattle.rp_threads.proofs.Steps.{same_part, same_seat, same_on}
-use Rattle.rp_threads.proofs.TaskSteps.{again_made, call_made, fetched_made, heard_made, none_made, same_task}
+use Rattle.rp_threads.proofs.TaskSteps.{again_made, asked_puts, asked_same, call_made, fetched_made, heard_made, none_made, put_made, same_task}
 
 no_first : (xs : List TaskCall) → 0 < length xs → slice_get xs 0 ≡ None → ⊥
 no_first [] some none = omega (arith, some)
@@ -86,11 +86,18 @@ module _ {S P : Type 0} (next : S → Action → S) (answers : S → Action → 
     submit_on : (call : Option TaskCall) (old new : SeatState P) (so_far : Calls) (lost : ℕ) → slice_get calls so_far.made ≡ call → Asks next answers begin (submitted call) old new lost
         → IsMadeOn old new (record so_far { waits = false }) (with_call call so_far)
     submit_on None old new so_far lost at a = (same_seat old new a.0, λ h. subst (λ (c : SeatState P). HasMade calls c so_far.made false) (sym a.0) h)
-    submit_on (Some call) old new so_far lost at a = (same_part old new _ a.turn.after, λ h. call_made calls old new call so_far.made a.sent a.turn at h)
+    submit_on (Some call) old new so_far lost at a =
+        let input = Submit call.node call.object call.operation call.arg in (
+          asked_same next answers begin input old new lost a,
+          λ h. put_made calls a.stepped new (so_far.made + 1) true (asked_puts next answers begin input old new lost a) (call_made calls old a.stepped call so_far.made a.sent a.turn at h),
+        )
 
     again_on : (due : Bool) (node : ℕ) (old new : SeatState P) (so_far : Calls) (lost : ℕ) → Asks next answers begin (if due then Some (Again node) else None) old new lost
         → IsMadeOn old new (record so_far { waits = true }) (record so_far { waits = true })
-    again_on true node old new so_far lost a = (same_part old new _ a.turn.after, λ h. again_made calls old new node so_far.made true a.sent a.turn h)
+    again_on true node old new so_far lost a = (
+      asked_same next answers begin (Again node) old new lost a,
+      λ h. put_made calls a.stepped new so_far.made true (asked_puts next answers begin (Again node) old new lost a) (again_made calls old a.stepped node so_far.made true a.sent a.turn h),
+    )
     again_on false node old new so_far lost a = (same_seat old new a.0, λ h. subst (λ (c : SeatState P). HasMade calls c so_far.made true) (sym a.0) h)
 
     asked_on : (waits : Bool) (turn : ℕ) (old new : SeatState P) (so_far : Calls) (lost : ℕ) → Asks next answers begin (asked_by waits nodes calls so_far.made turn) old new lost

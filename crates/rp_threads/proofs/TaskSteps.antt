@@ -27,8 +27,11 @@ use Rattle.rp_boxes.specs.TaskSeats.{IsTaskTurn, IsReplyTurn, reply_effect}
 use Rattle.rp_boxes.proofs.TaskTurns.{reply_effect_is, reply_quiet}
 use Rattle.rp_threads.specs.Tasks.{Waits, AsksForOne, call_after, first_asked, HasMade}
 use Rattle.rp_threads.specs.TaskRounds.{IsAskedBy}
-use Rattle.rp_threads.specs.Turns.{AreSent, IsAllOffered}
+use Rattle.rp_threads.specs.Loops.{IsSameSeat}
+use Rattle.rp_threads.specs.Turns.{AreGivenOut, AreSent, IsAllOffered}
 use Rattle.rp_threads.specs.declared.tasks.TaskCall.{TaskCall}
+use Rattle.rp_threads.proofs.Puts.{HasOnlyPut, offers_put}
+use Rattle.rp_threads.proofs.Steps.{same_on, same_part}
 
 pub same_task : (role : Role) (a b : TaskPart) → role ≡ OfTask a → role ≡ OfTask b → a ≡ b
 same_task role a b is_a is_b = let e : OfTask a ≡ OfTask b = sym is_a ∙ is_b in cc
@@ -110,6 +113,18 @@ module _ {P : Type 0} (calls : List TaskCall) (old new : SeatState P) where
     only = subst (λ (c : SeatState P). (p : Message) → Has p c.part.sent → AsksForOne c.number calls made p) (sym is) h.only;
     count = h.count;
     waiting = subst (λ (c : SeatState P). Waits c.number calls made waits h.task.outstanding) (sym is) h.waiting;
+  }
+
+  -- the task put packets
+  pub put_made : (made : ℕ) (waits : Bool) → HasOnlyPut old new → HasMade calls old made waits → HasMade calls new made waits
+  put_made made waits puts h = record {
+    task = h.task;
+    is = ap (λ (c : SeatState P). c.part.role) puts.after ∙ h.is;
+    some = h.some;
+    each = subst (λ (c : SeatState P). (k : ℕ) (call : TaskCall) → k < made → slice_get calls k ≡ Some call → Has (first_asked c.number k call) c.part.sent) (sym puts.after) h.each;
+    only = subst (λ (c : SeatState P). (p : Message) → Has p c.part.sent → AsksForOne c.number calls made p) (sym puts.after) h.only;
+    count = h.count;
+    waiting = subst (λ (c : SeatState P). Waits c.number calls made waits h.task.outstanding) (sym puts.after) h.waiting;
   }
 
   -- an event, after which n were made
@@ -215,13 +230,15 @@ module _ {P : Type 0} (calls : List TaskCall) (old new : SeatState P) where
 
 -- ---- the packets of a step
 
-pub sent_once : {P : Type 0} (old new : SeatState P) (input : TaskInput) (sent : Sent) → IsTaskTurn old input new sent → AreSent new.part sent
-sent_once {P} old new input sent t = record {
-  packets = t.done.sends;
+asked_out : {P : Type 0} (old new : SeatState P) (input : TaskInput) (sent : Sent) (t : IsTaskTurn old input new sent) → AreGivenOut new.part sent t.done.sends
+asked_out {P} old new input sent t = record {
   texts = t.describes.bytes;
   count = t.describes.count;
   sent_all = λ m has. subst (λ (c : SeatState P). Has m c.part.sent) (sym t.after) (has_right m old.part.sent t.done.sends has);
 }
+
+pub sent_once : {P : Type 0} (old new : SeatState P) (input : TaskInput) (sent : Sent) → IsTaskTurn old input new sent → AreSent new.part sent
+sent_once old new input sent t = (t.done.sends, asked_out old new input sent t)
 
 few_submitted : (number node : ℕ) (task : TaskPart) (call : Result Action Fault) (done : Done TaskPart) → calls_if number node task call ≡ Ok done → length done.sends ≤ 1
 few_submitted number node task (Ok call) done is = let e : calling number node task call ≡ done = cc in subst (λ (d : Done TaskPart). length d.sends ≤ 1) e (omega arith)
@@ -245,15 +262,21 @@ module _ {P : Type 0} (old new : SeatState P) (sent : Sent) where
       let few : length t.done.sends ≤ 1 = subst (λ (d : Done TaskPart). length d.sends ≤ 1) (sym done) (few_again old.number node t.task t.task.outstanding) in
       omega (arith, few, t.describes.count)
 
-  -- what is asked, once its packet was offered
-  pub asked_by_turn : {S : Type 0} (next : S → Action → S) (answers : S → Action → List Answer) (begin : P → S) (input : TaskInput) (lost : ℕ) (turn : IsTaskTurn old input new sent)
-      → IsAllOffered next answers begin (Task new.number) new sent lost → IsAskedBy next answers begin input old new lost
-  asked_by_turn next answers begin input lost turn offered = record {
-    sent = sent;
-    turn = turn;
-    offered = offered turn.done.sends turn.describes.bytes turn.describes.count
-        (λ m has. subst (λ (c : SeatState P). Has m c.part.sent) (sym turn.after) (has_right m old.part.sent turn.done.sends has));
-  }
+-- ---- what is asked, once its packet was offered
+
+module _ {S P : Type 0} (next : S → Action → S) (answers : S → Action → List Answer) (begin : P → S) (input : TaskInput) where
+  pub asked_by_turn : (old stepped new : SeatState P) (sent : Sent) (lost : ℕ) → IsTaskTurn old input stepped sent → IsAllOffered next answers begin (Task stepped.number) sent stepped new lost
+      → IsAskedBy next answers begin input old new lost
+  asked_by_turn old stepped new sent lost turn offered = record { stepped = stepped; sent = sent; turn = turn; offered = offered turn.done.sends (asked_out old stepped input sent turn) }
+
+  pub asked_puts : (old new : SeatState P) (lost : ℕ) (a : IsAskedBy next answers begin input old new lost) → HasOnlyPut a.stepped new
+  asked_puts old new lost a = offers_put next answers begin (Task a.stepped.number) a.turn.done.sends a.stepped new lost a.offered
+
+  pub asked_same : (old new : SeatState P) (lost : ℕ) → IsAskedBy next answers begin input old new lost → IsSameSeat old new
+  asked_same old new lost a = same_on old a.stepped new (same_part old a.stepped _ a.turn.after) (same_part a.stepped new _ (asked_puts old new lost a).after)
+
+  pub asked_got : (old new : SeatState P) (lost : ℕ) → IsAskedBy next answers begin input old new lost → new.part.got ≡ old.part.got
+  asked_got old new lost a = ap (λ (c : SeatState P). c.part.got) (asked_puts old new lost a).after ∙ ap (λ (c : SeatState P). c.part.got) a.turn.after
 
 -- ---- at first
 

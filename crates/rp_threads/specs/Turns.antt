@@ -1,5 +1,5 @@
 -- The result of a turn of a node.
-use Rattle.std.specs.Prelude.{◌≡◌, ◌⊎◌, ℕ, ◌+◌, Bool, true, false, Option, Some, None, List, [], ◌∷◌, length}
+use Rattle.std.specs.Prelude.{◌≡◌, ◌⊎◌, ℕ, ◌+◌, Bool, true, false, Option, Some, None, List, [], ◌∷◌, ◌++◌, length}
 use Rattle.std.specs.Prelude.{if◌then◌else◌}
 use Rattle.rp_base.specs.declared.action.Action.{Action}
 use Rattle.rp_base.specs.declared.fault.Fault.{Fault}
@@ -17,7 +17,7 @@ use Rattle.rp_replica.specs.declared.sent.Sent.{Sent}
 use Rattle.rp_tasks.specs.Line.{Line}
 use Rattle.rp_boxes.specs.Moments.{WasPut, WasInUse}
 use Rattle.rp_boxes.specs.Parts.{Part}
-use Rattle.rp_boxes.specs.Seats.{SeatState, IsFetched, IsTurn, IsCutTurn, IsNoTurn}
+use Rattle.rp_boxes.specs.Seats.{SeatState, IsFetched, IsPut, IsTurn, IsCutTurn, IsNoTurn}
 use Rattle.rp_threads.specs.Lines.{line_with, given_on, line_after}
 use Rattle.rp_threads.specs.declared.turns.Turn.{Turn}
 use Rattle.rp_threads.specs.declared.turns.Turn.TheVariants.{Received, Led, Idle}
@@ -76,52 +76,77 @@ pub record AreSentTexts (part : Part) (bytes : List ℕ) : Type 0 where
   pub texts : bytes ≡ texts_of packets
   pub sent : (m : Message) → Has m packets → Has m part.sent
 
--- So are those that a step gives out, and it says how many packets they are.
-pub record AreSent (part : Part) (sent : Sent) : Type 0 where
-  pub packets : List Message
+-- These are the packets that a step gives out, all of which the actor sent.
+pub record AreGivenOut (part : Part) (sent : Sent) (packets : List Message) : Type 0 where
   pub texts : sent.bytes.items ≡ texts_of packets
   pub count : sent.packets ≡ length packets
   pub sent_all : (m : Message) → Has m packets → Has m part.sent
 
-module _ {S P : Type 0} (next : S → Action → S) (answers : S → Action → List Answer) (begin : P → S) where
-  -- the packet of this text went from the seat of a party into its box; or that box was not empty, and it is lost
-  abbrev pub IsOffered : Party → SeatState P → List ℕ → Bool → Type 0
-  IsOffered from seat text false = WasPut next answers begin from text seat
-  IsOffered from seat text true = WasInUse next answers begin from text seat
+-- all packets that a step gives out the actor sent
+abbrev pub AreSent : Part → Sent → Type 0
+AreSent part sent = (packets : List Message) × AreGivenOut part sent packets
 
-  -- each of these packets was offered to its box, and n of them are lost
-  abbrev pub AreOffered : Party → SeatState P → List Message → ℕ → Type 0
-  AreOffered from seat [] lost = lost ≡ 0
-  AreOffered from seat (m ∷ others) lost =
-      (is_lost : Bool) × (more : ℕ) × IsOffered from seat (text_of m) is_lost × AreOffered from seat others more
-      × (lost ≡ (if is_lost then 1 else 0) + more)
+module _ {S P : Type 0} (next : S → Action → S) (answers : S → Action → List Answer) (begin : P → S) where
+  -- the packet of this text went from the seat of a party into its box; or that box was in use, and the packet is
+  -- lost, which changes nothing at the seat
+  abbrev pub IsOffered : Party → List ℕ → SeatState P → SeatState P → Bool → Type 0
+  IsOffered from text old new false = IsPut text old new × WasPut next answers begin from text new
+  IsOffered from text old new true = (new ≡ old) × WasInUse next answers begin from text new
+
+  -- each of these packets was offered to its box, one after the other, and n of them are lost
+  abbrev pub AreOffered : Party → List Message → SeatState P → SeatState P → ℕ → Type 0
+  AreOffered from [] old new lost = (new ≡ old) × (lost ≡ 0)
+  AreOffered from (m ∷ others) old new lost =
+      (is_lost : Bool) × (more : ℕ) × (between : SeatState P) × IsOffered from (text_of m) old between is_lost
+      × AreOffered from others between new more × (lost ≡ (if is_lost then 1 else 0) + more)
+
+  -- The first of these packets were offered to their boxes, one after the other, but not all of them.
+  pub record AreOfferedInPart (from : Party) (packets : List Message) (old new : SeatState P) : Type 0 where
+    pub offered : List Message
+    pub unsent : Message
+    pub others : List Message
+    pub whole : packets ≡ offered ++ unsent ∷ others
+    pub lost : ℕ
+    pub are : AreOffered from offered old new lost
 
   -- The bytes are the texts of packets that the party sent; each of these was offered to its box, and n are lost.
-  pub record AreTextsOffered (from : Party) (seat : SeatState P) (bytes : List ℕ) (lost : ℕ) : Type 0 where
-    pub are : AreSentTexts seat.part bytes
-    pub offered : AreOffered from seat are.packets lost
+  pub record AreTextsOffered (from : Party) (bytes : List ℕ) (old new : SeatState P) (lost : ℕ) : Type 0 where
+    pub are : AreSentTexts old.part bytes
+    pub offered : AreOffered from are.packets old new lost
+
+  -- The bytes are the texts of packets that the party sent; not all of these were offered to their boxes.
+  pub record AreTextsOfferedInPart (from : Party) (bytes : List ℕ) (old new : SeatState P) : Type 0 where
+    pub are : AreSentTexts old.part bytes
+    pub offered : AreOfferedInPart from are.packets old new
 
   -- each packet that a step gives out was offered to its box, and n of them are lost
-  abbrev pub IsAllOffered : Party → SeatState P → Sent → ℕ → Type 0
-  IsAllOffered from seat sent lost =
-      (packets : List Message) → sent.bytes.items ≡ texts_of packets → sent.packets ≡ length packets
-      → ((m : Message) → Has m packets → Has m seat.part.sent) → AreOffered from seat packets lost
+  abbrev pub IsAllOffered : Party → Sent → SeatState P → SeatState P → ℕ → Type 0
+  IsAllOffered from sent old new lost =
+      (packets : List Message) → AreGivenOut old.part sent packets → AreOffered from packets old new lost
 
-  -- One event, by such an input; so many packets were sent, each of which was offered to its box, and so many of them
-  -- are lost.
+  -- not all of them were offered
+  abbrev pub IsOfferedInPart : Party → Sent → SeatState P → SeatState P → Type 0
+  IsOfferedInPart from sent old new =
+      (packets : List Message) → AreGivenOut old.part sent packets → AreOfferedInPart from packets old new
+
+  -- One event, by such an input; then each of its packets was offered to its box. So many were sent, and so many of
+  -- them are lost.
   pub record IsEventBy (Is : Input → Type 0) (old new : SeatState P) (packets : PacketCounts) : Type 0 where
     pub input : Input
     pub is : Is input
+    pub stepped : SeatState P
     pub sent : Sent
-    pub turn : IsTurn next answers begin old input new sent
+    pub turn : IsTurn next answers begin old input stepped sent
     pub stated : packets.sent ≡ sent.packets
-    pub offered : AreOffered (Node new.number) new turn.done.sends packets.lost
+    pub offered : AreOffered (Node stepped.number) turn.done.sends stepped new packets.lost
 
-  -- One event, but memory ran out before each of its packets was offered to its box.
+  -- One event, after which memory ran out before each of its packets was offered to its box.
   pub record IsUnsent (old : SeatState P) (input : Input) (new : SeatState P) (fault : Fault) : Type 0 where
     pub memory : fault ≡ OutOfMemory
+    pub stepped : SeatState P
     pub sent : Sent
-    pub turn : IsTurn next answers begin old input new sent
+    pub turn : IsTurn next answers begin old input stepped sent
+    pub offered : AreOfferedInPart (Node stepped.number) turn.done.sends stepped new
 
   -- The step by such an input was cut, or was none, or not all of its packets were offered.
   pub record IsStopBy (Is : Input → Type 0) (old new : SeatState P) (fault : Fault) : Type 0 where

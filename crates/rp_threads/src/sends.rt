@@ -1,9 +1,9 @@
 //! The packets of a step go into their boxes.
 
-ghost use Rattle.std.specs.Prelude.{◌≡◌, IfOk};
+ghost use Rattle.std.specs.Prelude.{◌≡◌, IfOk, OnErr};
 ghost use Rattle.rp_codec.specs.declared.packet.Party.TheVariants.{Node};
 ghost use Rattle.rp_boxes.specs.Seats.{IsSentText};
-ghost use Rattle.rp_threads.specs.Turns.{AreSent, AreSentTexts, AreTextsOffered, IsAllOffered, IsOffered};
+ghost use Rattle.rp_threads.specs.Turns.{AreSent, AreSentTexts, AreTextsOffered, AreTextsOfferedInPart, IsAllOffered, IsOffered, IsOfferedInPart};
 
 use rp_boxes::NodeSeat;
 use rp_codec::{one_text, text_len};
@@ -16,9 +16,8 @@ use std::alloc::{AllocError, Global};
 /// the seat keeps its buffer. Whether it is lost.
 fn put_text<M: Machine, D: Device>(seat: &mut NodeSeat<M, D>, packet: Vec<u8>) -> bool
     requires { IsSentText seat.old.part packet.items }
-    ensures unchanged { seat.new ≡ seat.old }
-    ensures offered { IsOffered M.next M.answers M.begin (Node seat.new.number)
-        seat.new packet.items result }
+    ensures { IsOffered M.next M.answers M.begin (Node seat.old.number) packet.items
+        seat.old seat.new result }
 {
     match seat.put(packet) {
         Ok(()) => false,
@@ -36,9 +35,9 @@ fn put_copy<M: Machine, D: Device>(
     text: &[u8],
 ) -> Result<bool, AllocError>
     requires { IsSentText seat.old.part text.now }
-    ensures unchanged { seat.new ≡ seat.old }
-    ensures offered { IfOk result (IsOffered M.next M.answers M.begin (Node seat.new.number)
-        seat.new text.now) }
+    ensures offered { IfOk result (IsOffered M.next M.answers M.begin (Node seat.old.number)
+        text.now seat.old seat.new) }
+    ensures unchanged { OnErr result (seat.new ≡ seat.old) }
 {
     let mut packet = seat.buffer(alloc);
     packet.extend_from_slice(text)?;
@@ -54,9 +53,10 @@ pub(crate) fn put_all<M: Machine, D: Device>(
     sent: Sent,
 ) -> Result<usize, AllocError>
     requires { AreSent seat.old.part sent }
-    ensures unchanged { seat.new ≡ seat.old }
-    ensures offered { IfOk result (IsAllOffered M.next M.answers M.begin (Node seat.new.number)
-        seat.new sent) }
+    ensures offered { IfOk result (IsAllOffered M.next M.answers M.begin (Node seat.old.number)
+        sent seat.old seat.new) }
+    ensures cut { OnErr result (IsOfferedInPart M.next M.answers M.begin (Node seat.old.number)
+        sent seat.old seat.new) }
 {
     if sent.packets == 0 {
         seat.lend(sent.bytes);
@@ -79,9 +79,10 @@ fn put_each<M: Machine, D: Device>(
     texts: &[u8],
 ) -> Result<usize, AllocError>
     requires { AreSentTexts seat.old.part texts.now }
-    ensures unchanged { seat.new ≡ seat.old }
     ensures offered { IfOk result (AreTextsOffered M.next M.answers M.begin
-        (Node seat.new.number) seat.new texts.now) }
+        (Node seat.old.number) texts.now seat.old seat.new) }
+    ensures cut { OnErr result (AreTextsOfferedInPart M.next M.answers M.begin
+        (Node seat.old.number) texts.now seat.old seat.new) }
 {
     seat.sends_packets();
     let mut rest = texts;

@@ -134,9 +134,8 @@ fn hear<M: Machine>(
 /// the seat keeps its buffer. Whether it is lost.
 fn put_text<M: Machine>(seat: &mut TaskSeat<M>, packet: Vec<u8>) -> bool
     requires { IsSentText seat.old.part packet.items }
-    ensures unchanged { seat.new ≡ seat.old }
-    ensures offered { IsOffered M.next M.answers M.begin (parties.Task seat.new.number)
-        seat.new packet.items result }
+    ensures { IsOffered M.next M.answers M.begin (parties.Task seat.old.number) packet.items
+        seat.old seat.new result }
 {
     match seat.put(packet) {
         Ok(()) => false,
@@ -151,9 +150,8 @@ fn put_text<M: Machine>(seat: &mut TaskSeat<M>, packet: Vec<u8>) -> bool
 fn put_sent<M: Machine>(seat: &mut TaskSeat<M>, sent: Sent) -> usize
     requires sent { AreSent seat.old.part sent }
     requires few { sent.packets ≤ 1 }
-    ensures unchanged { seat.new ≡ seat.old }
-    ensures offered { IsAllOffered M.next M.answers M.begin (parties.Task seat.new.number)
-        seat.new sent result }
+    ensures { IsAllOffered M.next M.answers M.begin (parties.Task seat.old.number) sent
+        seat.old seat.new result }
 {
     if sent.packets == 1 {
         return usize::from(put_text(seat, sent.bytes));

@@ -68,7 +68,7 @@ fn bring<M: Machine, D: Device>(
 /// One step of a node, of a packet that its seat got or of another input, whose packets go into their
 /// boxes: one whose box is not empty is lost. How many were sent and lost. Refused as `NodeSeat::turn` is, which
 /// says what that leaves; and with `OutOfMemory` where memory runs out for the copy of a packet: then
-/// the step was made, and that packet and those after it are lost.
+/// the step was made, the packets before that one were offered, and it and those after it are lost.
 pub fn node_step<M: Machine, D: Device>(
     seat: &mut NodeSeat<M, D>,
     alloc: Global,
@@ -78,7 +78,7 @@ pub fn node_step<M: Machine, D: Device>(
     requires got { IsGot seat.old.part input.now }
     // claim: A step of a node's seat is one event, and then each packet that it sent went into its
     //   box, or found it in use and is counted as lost; or it is the turn's refusal; or there is no
-    //   memory for the copy of a packet, which ends the loop
+    //   memory for the copy of a packet, once those before it were offered, which ends the loop
     ensures got { seat.new.part.got ≡ seat.old.part.got }
     ensures ok { IfOk result (IsEventBy M.next M.answers M.begin
         (λ given. given ≡ input.now) seat.old seat.new) }

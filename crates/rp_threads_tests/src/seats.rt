@@ -43,9 +43,9 @@ fn put_both<M: Machine>(
     requires packet { IsSentText task.old.part packet.items }
     requires copy { IsSentText task.old.part copy.items }
 {
-    if task.put(packet).is_err() {
+    let Ok(()) = task.put(packet) else {
         return Err(Fault::Io);
-    }
+    };
     Ok(task.put(copy).err())
 }
 

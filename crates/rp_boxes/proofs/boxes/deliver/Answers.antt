@@ -2,11 +2,11 @@
 use Rattle.std.proofs.Common.{◌<◌, ◌≤◌, Some, sym, subst, ◌∙◌, arith}
 use Rattle.atomic_table.specs.Table.{Allows}
 use Rattle.rp_agreement.specs.Answered.{setting_for}
-use Rattle.rp_boxes.specs.Parts.{part_in, box_of}
-use Rattle.rp_boxes.specs.Plays.{Sight, Published}
+use Rattle.rp_boxes.specs.Parts.{actor_in, part_in, box_of}
+use Rattle.rp_boxes.specs.Plays.{Sight, IsPublished}
 use Rattle.rp_boxes.specs.Rule.{IsVacant, Ruled}
 use Rattle.rp_boxes.proofs.Filling.{publish_allows}
-use Rattle.rp_boxes.proofs.Sights.{taken_out, out_with, sees_written}
+use Rattle.rp_boxes.proofs.Sights.{taken_out, out_with, sees_published, sees_written}
 use Rattle.rp_boxes.proofs.boxes.deliver.Goals as goal
 
 pub exchange-left-requires : goal.exchange-left-requires
@@ -35,7 +35,23 @@ store-requires g c =
     let here = sees_written c.args.from b p was.0 (Some c.args.packet) _ _ was.2 c.exchange-left.ensures.3 in (
       c.exchange-left.ensures.0 ∙ c.requires.table,
       inside,
-      subst (λ (me : Sight). Allows (Ruled s) table.slots c.exchange-left.new.seat.id me b (λ n. 2) (λ found new. Published me new × says (part_in me.0)))
+      subst (λ (me : Sight). Allows (Ruled s) table.slots c.exchange-left.new.seat.id me b (λ n. 2) (λ found new. IsPublished says (actor_in me.0) me new))
           (sym here)
-          (publish_allows s table.slots c.exchange-left.new.seat.id c.args.from c.args.to p c.requires.from c.requires.to buffer c.requires.fills packet.0 c.args.packet packet.1 packet.2 (says p) c.requires.follows),
+          (publish_allows s table.slots c.exchange-left.new.seat.id c.args.from c.args.to p c.requires.from c.requires.to buffer c.requires.fills packet.0 c.args.packet packet.1 packet.2 says packet.3),
     )
+
+pub returns-clause-place : goal.returns-clause-place
+returns-clause-place g c =
+    let b = box_of c.args.from c.args.to in
+    let p = part_in c.args.place.now.me.0 in
+    let was = c.requires.place in
+    let here = sees_written c.args.from b p was.0 (Some c.args.packet) _ _ was.2 c.exchange-left.ensures.3 in
+    (sees_published g.J.Fact.says c.args.from b p (Some c.args.packet) _ _ here c.store.ensures.2).0
+
+pub returns-clause-said : goal.returns-clause-said
+returns-clause-said g c =
+    let b = box_of c.args.from c.args.to in
+    let p = part_in c.args.place.now.me.0 in
+    let was = c.requires.place in
+    let here = sees_written c.args.from b p was.0 (Some c.args.packet) _ _ was.2 c.exchange-left.ensures.3 in
+    (sees_published g.J.Fact.says c.args.from b p (Some c.args.packet) _ _ here c.store.ensures.2).1

@@ -1,5 +1,5 @@
 -- The two places are joined and split again.
-use Rattle.std.proofs.Common.{◌<◌, ℕ, [], ◌∷◌, ◌++◌, sym, ap, subst, ◌∙◌, arith}
+use Rattle.std.proofs.Common.{◌<◌, ℕ, [], ◌++◌, sym, ap, subst, ◌∙◌, arith}
 use Rattle.atomic_table.specs.Table.{Joins}
 use Rattle.rp_agreement.specs.Answered.{setting_for}
 use Rattle.rp_boxes.specs.Looks.{IsWorldOf}

@@ -1,5 +1,5 @@
 -- The place knows what both knew.
-use Rattle.std.proofs.Common.{◌<◌, [], ◌∷◌, ◌++◌, sym, ap, subst, arith}
+use Rattle.std.proofs.Common.{◌<◌, [], ◌++◌, sym, ap, subst, arith}
 use Rattle.atomic_table.specs.Table.{Joins}
 use Rattle.rp_agreement.specs.Answered.{setting_for}
 use Rattle.rp_boxes.specs.Parts.{actor_in, part_in}

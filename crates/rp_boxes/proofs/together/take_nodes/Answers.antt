@@ -2,7 +2,6 @@
 use Rattle.std.proofs.Common.{◌≡◌, ◌++◌, All, map, refl, sym, ap, subst, ◌∙◌, arith}
 use Rattle.rp_world.proofs.Fresh.{first_of, rest_of}
 use Rattle.rp_boxes.specs.Plays.{Sight}
-use Rattle.rp_boxes.specs.Seats.{SeatState}
 use Rattle.rp_boxes.specs.Together.{of_node}
 use Rattle.rp_boxes.proofs.OneWorld.{one_taken, all_taken}
 use Rattle.rp_boxes.proofs.together.take_nodes.Goals as goal

@@ -1,28 +1,18 @@
 -- The deck is the one that was read, and its chart is written.
-use Rattle.std.proofs.Common.{◌≡◌, Result, Ok, Err, Option, List, ℕ, rules, string_bytes, subst}
+use Rattle.std.proofs.Common.{◌≡◌, List, ℕ, rules, string_bytes, subst}
 use Rattle.std.specs.Io.KnownBytes.{Appends}
-use Rattle.std.specs.Prelude.{OnOk}
-use Rattle.rp_base.specs.declared.fault.Fault.{Fault}
 use Rattle.rp_output.proofs.Writing.{appends_kept}
+use Rattle.rp_run.proofs.Stepping.{always_ok}
 use Rattle.rp_chart.specs.Charts.{DrawsScript}
 use Rattle.rp_chart.proofs.chart.draw_script.Goals as goal
 
 pub returns-clause-drawing : goal.returns-clause-drawing
-returns-clause-drawing g c = at c.write_out.result
-  where
-    old : Option (List ℕ)
-    old = g.W.Write.contents c.args.writer.now
-
-    written : Option (List ℕ)
-    written = g.W.Write.contents c.write_whole.new.writer
-
-    new : Option (List ℕ)
-    new = g.W.Write.contents c.write_out.new.writer
-
-    at : (answer : Result Unit Fault) → OnOk answer (DrawsScript c.args.view (g.R.Read.remaining c.args.reader.now) old new)
-    at (Ok done) =
-        let text = string_bytes c.in-Ok.drawing in
-        let same : c.as_bytes.result.now ≡ text = c.as_bytes.ensures.value in
-        let put = subst (λ (bytes : List ℕ). Appends old written bytes) same c.in_ok-write_whole.ensures.written in
-        (c.in_ok-deck.deck, search rules, text, appends_kept old written new text put c.write_out.ensures.kept, c.in-Ok.ensures)
-    at (Err fault) = tt
+returns-clause-drawing g c =
+    let old = g.W.Write.contents c.args.writer.now in
+    let written = g.W.Write.contents c.write_whole.new.writer in
+    let new = g.W.Write.contents c.write_out.new.writer in
+    let text = string_bytes c.in-Ok.drawing in
+    let same : c.as_bytes.result.now ≡ text = c.as_bytes.ensures.value in
+    let put = subst (λ (bytes : List ℕ). Appends old written bytes) same c.in_ok-write_whole.ensures.written in
+    always_ok {P = DrawsScript c.args.view (g.R.Read.remaining c.args.reader.now) old new} c.write_out.result
+    (c.in_ok-deck.deck, search rules, text, appends_kept old written new text put c.write_out.ensures.kept, c.in-Ok.ensures)

@@ -1,15 +1,13 @@
 -- One line more, or the end.
-use Rattle.std.proofs.Common.{◌≡◌, ◌∙◌, ◌+◌, ◌<◌, ◌≤◌, None, List, [], ◌∷◌, length, drop, string_bytes, arith, refl, sym, ap, subst}
-use Rattle.std.proofs.lemmas.List.{drop_more, drop_all}
+use Rattle.std.proofs.Common.{◌≡◌, ◌∙◌, None, length, drop, string_bytes, arith, sym, ap, subst}
 use Rattle.std.proofs.lemmas.Result.{IfOk-weaker}
 use Rattle.rp_model.specs.Effect.{Setting}
 use Rattle.rp_model.specs.World.{World, opening_world}
-use Rattle.rp_run.specs.Output.{Play, opening_play, command_said, script_said}
+use Rattle.rp_run.specs.Output.{Play, opening_play, script_said}
 use Rattle.rp_run.specs.Runs.{opening_setup, run_setting}
-use Rattle.rp_deck.specs.declared.deck.Line.{Line}
 use Rattle.rp_history.specs.Histories.{IsSketchOf, IsDrawingOf}
 use Rattle.rp_history.specs.declared.stage.Stage.{Stage}
-use Rattle.rp_run.proofs.RunParts.{sets_out, goes_on, ends, script_ends, script_more}
+use Rattle.rp_run.proofs.RunParts.{sets_out, ends, no_line, line_goes_on}
 use Rattle.rp_run.proofs.Stepping.{same_setting, same_trans, opening_parts}
 use Rattle.rp_world.specs.Steps.{setting_of}
 use Rattle.rp_chart_run.proofs.Charting.{one_setting}
@@ -30,7 +28,7 @@ loop-line-init g c =
       parts = opening_parts options.config.nodes cluster (ap (λ k. k.config.nodes) opened) world;
       setup = record { config = ap (λ k. k.config) opened; program = ap (λ k. k.program) opened };
       stage = c.new-3.ensures.stage;
-      so_far = sets_out cluster.world c.new-2.result None (opening_play s) (λ (now : Play). script_said s options.most now c.args.lines.now)
+      so_far = sets_out cluster.world c.new-2.result None (opening_play s) (λ (now : Play). script_said s options.most now options.lines.now)
           (record { world_is = world; settled_are = c.new-2.ensures });
       charted = subst (λ (w : World). IsSketchOf t chart.stage chart.sketch w) nodes (c.new-3.ensures.opening t);
     }
@@ -41,27 +39,15 @@ loop-line-preserved g c =
     let options = c.args.scene.now.options.now in
     let opening = opening_setup options.config c.args.program in
     let s = run_setting m.next m.answers m.begin m.image opening options in
-    let most = options.most in
-    let lines = c.args.lines.now in
-    let i = c.loop-line.line-index in
-    let line = c.line-item.result in
-    let below : i < length lines = omega arith in
-    let here : drop i lines ≡ line ∷ drop (i + 1) lines = drop_more lines i line below ∙ ap (λ (x : Line). x ∷ drop (i + 1) lines) (sym c.line-item.is) in
     let walk = c.loop-line.walk in
     let so_far = c.loop-line.invariant.so_far in
-    let now = so_far.said.play in
     let same = same_setting m.next m.answers m.begin m.image options opening walk.cluster c.loop-line.invariant.setup in
-    let reached = c.in_ok-take.ensures.reached now so_far.follows in
-    let follows = rw same at reached in
+    let reached = c.in_ok-take.ensures.reached so_far.said.play so_far.follows in
     record {
       parts = c.in_ok-take.ensures.parts;
       setup = same_trans opening walk.cluster c.take.new.self.cluster c.loop-line.invariant.setup c.take.ensures.setup;
       stage = c.take.ensures.stage ∙ c.loop-line.invariant.stage;
-      so_far = goes_on walk.cluster.world c.take.new.self.cluster.world walk.settled c.take.new.self.settled None None None
-          (script_said s most (opening_play s) lines) (λ (p : Play). script_said s most p (drop i lines)) so_far
-          (command_said s most line.number now line.command) (λ (p : Play). script_said s most p (drop (i + 1) lines))
-          (ap (λ (rest : List Line). script_said s most now rest) here ∙ script_more s most now line (drop (i + 1) lines))
-          follows tt;
+      so_far = line_goes_on s options.most options.lines.now c.loop-line.line-index c.line-item.result (omega arith) c.line-item.is so_far (rw same at reached) tt;
       charted = c.in_ok-take.ensures.charted;
     }
 
@@ -72,15 +58,11 @@ returns g c =
     let opening = opening_setup options.config c.args.program in
     let s = run_setting m.next m.answers m.begin m.image opening options in
     let most = options.most in
-    let lines = c.args.lines.now in
-    let i = c.loop-line.line-index in
-    let past : length lines ≤ i = omega arith in
-    let none : drop i lines ≡ [] = drop_all i lines past in
+    let lines = options.lines.now in
     let walk = c.loop-line.walk in
     let so_far = c.loop-line.invariant.so_far in
-    let now = so_far.said.play in
-    let done = ends walk.cluster.world walk.settled None None (script_said s most (opening_play s) lines) (λ (p : Play). script_said s most p (drop i lines)) so_far tt
-    (ap (λ (rest : List Line). script_said s most now rest) none ∙ script_ends s most now) in
+    let done = ends walk.cluster.world walk.settled None None (script_said s most (opening_play s) lines) (λ (p : Play). script_said s most p (drop c.loop-line.line-index lines)) so_far tt
+    (no_line s most so_far.said.play lines c.loop-line.line-index (omega arith)) in
     let setting = one_setting m.next m.answers m.begin opening walk.cluster c.loop-line.invariant.setup in
     let charted = subst (λ (t : Setting _). IsSketchOf t walk.chart.stage walk.chart.sketch walk.cluster.world) setting c.loop-line.invariant.charted in
     record {

@@ -17,7 +17,7 @@ invariant-loop-line g l =
       parts : HasParts options.config.nodes l.walk.cluster;
       setup : IsSameSetup opening l.walk.cluster;
       stage : l.walk.chart.stage ≡ l.scene.stage;
-      so_far : Underway l.walk.cluster.world l.walk.settled None None (script_said s options.most (opening_play s) l.lines)
-          (λ now. script_said s options.most now (drop l.line-index l.lines));
+      so_far : Underway l.walk.cluster.world l.walk.settled None None (script_said s options.most (opening_play s) options.lines.now)
+          (λ now. script_said s options.most now (drop l.line-index options.lines.now));
       charted : IsCharted m.next m.answers m.begin l.walk.cluster l.walk.chart;
     }

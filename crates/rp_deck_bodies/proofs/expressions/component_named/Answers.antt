@@ -1,4 +1,4 @@
-use Rattle.std.proofs.Common.{◌≡◌, ℕ, List, Option, Some, None, IfOk, sym, subst, ◌∙◌}
+use Rattle.std.proofs.Common.{◌≡◌, ℕ, List, Option, Some, None, IfOk, sym, subst}
 use Rattle.std.specs.Option.{ok_or}
 use Rattle.indexmap.specs.IndexMap.{values}
 use Rattle.rp_base.specs.declared.fault.DeckReason.{DeckReason}

@@ -30,6 +30,6 @@ returns-clause-ok g c =
       new = c.note_one.new.seat;
       at = found_at olds place c.index_mut.result.now within c.index_mut.ensures.value;
       news_are = refl;
-      sent = taken.0;
-      turn = taken.1;
+      packets = taken.0;
+      event = taken.1;
     })) c.note_one.ensures.ok

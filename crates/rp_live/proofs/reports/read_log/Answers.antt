@@ -15,14 +15,15 @@ returns-then-now_known-known-clause-read g c =
     let now = c.report_once.new.seat in
     let start = length (known_of c.args.audit.now.known first.number) in
     let reports = stated.reported in
-    let only = only_reported c.in-Some.first between now reports.0 reports.1 in
+    let m = g.M.Machine in
+    let only = only_reported m.next m.answers m.begin c.in-Some.first between now reports in
     let some = stated.more first.number in
     let now_known = length (known_of c.report_once.new.audit.known first.number) in
     let same : length c.known-now_known.result.now ≡ now_known =
     ap length (c.known-now_known.ensures.value ∙ ap (λ (n : ℕ). known_of c.report_once.new.audit.known n) c.number-node.ensures) in
     let few : now_known ≤ c.loop-known.known = omega (arith, same, c.if-now_known-known.true) in
     let more : c.loop-known.known ≤ now_known = omega (arith, was.known, some) in
-    no_more_read start c.in-Some.first c.loop-known.known now_known c.in_ok-applied.applied first between now was.reports c.in-Some.ensures.some reports
+    no_more_read m.next m.answers m.begin start c.in-Some.first c.loop-known.known now_known c.in_ok-applied.applied first between now was.reports c.in-Some.ensures.some reports
     (role_applied between.part now.part c.in_ok-applied.applied only.role was.applied) more few
 
 pub loop-known-preserved : goal.loop-known-preserved
@@ -37,7 +38,8 @@ loop-known-preserved g c =
     let new = c.report_once.new.audit in
     let start = length (known_of old first.number) in
     let reports = stated.reported in
-    let only = only_reported c.in-Some.first between now reports.0 reports.1 in
+    let m = g.M.Machine in
+    let only = only_reported m.next m.answers m.begin c.in-Some.first between now reports in
     record {
       same = same_on c.args.audit.now.seat audit.seat new.seat was.same stated.same;
       reported = reported_on first between now was.reported only;
@@ -46,6 +48,6 @@ loop-known-preserved g c =
       known = ap length (c.known-now_known.ensures.value ∙ ap (λ (n : ℕ). known_of new.known n) c.number-node.ensures);
       others = same_known_on first.number old audit.known new.known was.others
           (subst (λ (n : ℕ). KnowsSameBut n audit.known new.known) was.reported.same.number stated.others);
-      reports = one_more_report start c.in-Some.first c.loop-known.known (length c.known-now_known.result.now) first between now was.reports c.in-Some.ensures.some reports
+      reports = one_more_report m.next m.answers m.begin start c.in-Some.first c.loop-known.known (length c.known-now_known.result.now) first between now was.reports c.in-Some.ensures.some reports
           c.if-now_known-known.false;
     }

@@ -14,7 +14,7 @@ invariant-loop-known g l = record {
   applied : HasApplied l.seat.part l.applied;
   known : l.known ≡ length (known_of l.audit.known l.fn.seat.number);
   others : KnowsSameBut l.fn.seat.number l.fn.audit.known l.audit.known;
-  reports : (n : ℕ) × AreReports (length (known_of l.fn.audit.known l.fn.seat.number)) l.fn.seat n l.known l.seat;
+  reports : (n : ℕ) × AreReports g.M.Machine.next g.M.Machine.answers g.M.Machine.begin (length (known_of l.fn.audit.known l.fn.seat.number)) l.fn.seat n l.known l.seat;
 }
 
 abbrev pub decreases-loop-known : goal.decreases-loop-known

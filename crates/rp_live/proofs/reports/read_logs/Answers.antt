@@ -12,6 +12,7 @@ use Rattle.rp_live.proofs.reports.read_logs.Goals as goal
 
 pub loop-end-init : goal.loop-end-init
 loop-end-init g c =
+    let m = g.M.Machine in
     let same = c.into_iter-end-iterator.ensures.into_iter_gives.0 in
     let none : length c.new-seats.result.items ≡ 0 = ap length c.new-seats.ensures.items in
     record {
@@ -22,7 +23,7 @@ loop-end-init g c =
       applied = none_zip (λ seat count. HasApplied seat.part count) c.new-seats.result.items c.new-applied.result.items c.new-seats.ensures.items c.new-applied.ensures.items;
       numbers = subst (λ (n : ℕ). AreNumbered n c.into_iter-end-iterator.result.rest.items) (sym none) (subst (λ ends. AreNumbered 0 ends) (sym same) c.requires.numbers);
       unread = subst (λ (n : ℕ). KnowsNothingAbove n c.args.audit.now.known) (sym none) c.requires.unread;
-      read = none_zipped (λ end seat. IsReadBelow (length c.new-seats.result.items) c.args.audit.now.known end.seat seat) c.args.nodes.items c.into_iter-end-iterator.result.rest.items
+      read = none_zipped (λ end seat. IsReadBelow m.next m.answers m.begin (length c.new-seats.result.items) c.args.audit.now.known end.seat seat) c.args.nodes.items c.into_iter-end-iterator.result.rest.items
           c.new-seats.result.items same c.new-seats.ensures.items;
     }
 
@@ -34,6 +35,7 @@ read_end-requires-clause-still g c = subst (All StillRuns) c.in-Some.ensures.ste
 
 pub loop-end-preserved : goal.loop-end-preserved
 loop-end-preserved g c =
+    let m = g.M.Machine in
     let was = c.loop-end.invariant in
     let rest = c.loop-end.end-iterator.rest.items in
     let left = c.next.new.self.rest.items in
@@ -55,10 +57,10 @@ loop-end-preserved g c =
           c.in_ok-seat.seat c.in_ok-seat.count c.in_ok-push.ensures.items c.in_ok-push-2.ensures.items was.applied stated.applied;
       numbers = left_numbered number more rest left c.in-Some.end steps longer was.numbers;
       unread = still_unread number more c.in-Some.end.seat.number old new longer at stated.others was.unread;
-      read = one_more_zipped (λ end seat. IsReadBelow more new end.seat seat) c.args.nodes.items rest left c.loop-end.seats.items c.push.new.self.items c.in-Some.end c.in_ok-seat.seat
-          (so_far_weaker (λ end seat. IsReadBelow number old end.seat seat) (λ end seat. IsReadBelow more new end.seat seat)
-          (λ end seat. read_still number more c.in-Some.end.seat.number old new longer at stated.others end.seat seat) c.args.nodes.items rest c.loop-end.seats.items was.read)
-          steps c.in_ok-push.ensures.items (one_read number more old new c.in-Some.end.seat c.in_ok-seat.seat longer at stated.reported.same.number was.unread stated.read);
+      read = one_more_zipped (λ end seat. IsReadBelow m.next m.answers m.begin more new end.seat seat) c.args.nodes.items rest left c.loop-end.seats.items c.push.new.self.items c.in-Some.end c.in_ok-seat.seat
+          (so_far_weaker (λ end seat. IsReadBelow m.next m.answers m.begin number old end.seat seat) (λ end seat. IsReadBelow m.next m.answers m.begin more new end.seat seat)
+          (λ end seat. read_still m.next m.answers m.begin number more c.in-Some.end.seat.number old new longer at stated.others end.seat seat) c.args.nodes.items rest c.loop-end.seats.items was.read)
+          steps c.in_ok-push.ensures.items (one_read m.next m.answers m.begin number more old new c.in-Some.end.seat c.in_ok-seat.seat longer at stated.reported.same.number was.unread stated.read);
     }
 
 pub returns-clause-reported : goal.returns-clause-reported
@@ -69,9 +71,10 @@ returns-clause-reported g c =
 
 pub returns-clause-read : goal.returns-clause-read
 returns-clause-read g c =
+    let m = g.M.Machine in
     let rest = c.loop-end.end-iterator.rest in
     let known = c.loop-end.audit.known in
-    zip_read (λ end seat. IsReadBelow (length c.loop-end.seats.items) known end.seat seat) (λ end seat. IsRead 0 end.seat seat (length (known_of known seat.number)))
+    zip_read (λ end seat. IsReadBelow m.next m.answers m.begin (length c.loop-end.seats.items) known end.seat seat) (λ end seat. IsRead m.next m.answers m.begin 0 end.seat seat (length (known_of known seat.number)))
     (λ end seat r. r.read) c.args.nodes.items c.loop-end.seats.items
-    (all_zipped (λ end seat. IsReadBelow (length c.loop-end.seats.items) known end.seat seat) c.args.nodes.items rest.items c.loop-end.seats.items c.loop-end.invariant.read
+    (all_zipped (λ end seat. IsReadBelow m.next m.answers m.begin (length c.loop-end.seats.items) known end.seat seat) c.args.nodes.items rest.items c.loop-end.seats.items c.loop-end.invariant.read
     (none_left rest.items rest.len rest.ok.0 c.in-None.ensures.steps.0))

@@ -17,5 +17,5 @@ invariant-loop-end g l = record {
   applied : AllZip (λ seat count. HasApplied seat.part count) l.seats.items l.applied.items;
   numbers : AreNumbered (length l.seats.items) l.end-iterator.rest.items;
   unread : KnowsNothingAbove (length l.seats.items) l.audit.known;
-  read : AreZippedSoFar (λ end seat. IsReadBelow (length l.seats.items) l.audit.known end.seat seat) l.fn.nodes.items l.end-iterator.rest.items l.seats.items;
+  read : AreZippedSoFar (λ end seat. IsReadBelow g.M.Machine.next g.M.Machine.answers g.M.Machine.begin (length l.seats.items) l.audit.known end.seat seat) l.fn.nodes.items l.end-iterator.rest.items l.seats.items;
 }

@@ -7,7 +7,7 @@ use Rattle.rp_threads.proofs.Steps.{same_part}
 use Rattle.rp_boxes.specs.Audits.{IsGotReport}
 use Rattle.rp_base.specs.declared.action.Action.{Action}
 use Rattle.rp_live.specs.Seats.{KnowsMore, KnowsSameBut}
-use Rattle.rp_live.proofs.Reporting.{added_more, added_others, added_seat}
+use Rattle.rp_live.proofs.Reporting.{added_more, added_others, added_seat, only_reported}
 use Rattle.rp_live.proofs.reports.report_once.Goals as goal
 
 pub add-requires : goal.add-requires
@@ -29,7 +29,9 @@ pub returns-in_ok-add-clause-others : goal.returns-in_ok-add-clause-others
 returns-in_ok-add-clause-others g c =
     let fetched = c.in-Some.ensures.some in
     let text = c.as_slice.ensures.value ∙ fetched.text in
-    let number = c.number.ensures ∙ ap (λ (s : SeatState g.row.M-Program.Denot). s.number) c.in_ok-send_report.ensures.reported.1.after in
+    let m = g.M.Machine in
+    let reported = only_reported m.next m.answers m.begin c.args.first c.args.seat.now c.send_report.new.seat c.in_ok-send_report.ensures.reported in
+    let number = c.number.ensures ∙ reported.same.number in
     let sender = fetched.sender ∙ ap (λ (n : ℕ). Node n) number in
     subst (λ (known : List (List Action)). KnowsSameBut c.args.seat.now.number known c.add.new.self.known) c.fetch.ensures.known
     (added_others c.one_text.ensures c.args.seat.now.number c.fetch.new.self c.as_slice.result.now c.add.new.self c.in_ok-add.field-0 fetched.packet fetched.right text sender

@@ -1,6 +1,4 @@
 -- The report is the packet of the step.
-use Rattle.std.proofs.Common.{sym, subst}
-use Rattle.rp_live.specs.Seats.{Reports}
 use Rattle.rp_live.proofs.Reporting.{report_sent}
 use Rattle.rp_live.proofs.reports.send_report.Goals as goal
 
@@ -9,4 +7,4 @@ put_report-requires g c = report_sent c.args.first c.args.seat.now c.report_from
 
 pub returns-clause-reported : goal.returns-clause-reported
 returns-clause-reported g c =
-    subst (Reports c.args.first c.args.seat.now) (sym c.put_report.ensures) (c.in_ok-report.report, c.in_ok-report.ensures.ok)
+    record { stepped = c.report_from.new.seat; sent = c.in_ok-report.report; report = c.in_ok-report.ensures.ok; is_lost = c.put_report.ensures.0; offered = c.put_report.ensures.1 }

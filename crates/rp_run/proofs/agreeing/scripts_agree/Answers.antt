@@ -14,7 +14,7 @@ returns-clause-agrees g c = λ program.
     let options = c.args.options.now in
     let config = options.config in
     let s = run_setting m.next m.answers m.begin m.image (opening_setup config program) options in
-    let lines = c.args.lines.now in
+    let lines = options.lines.now in
     let right = c.lines_keep_ranges.ensures in
     let laws = c.histories_are_ordered.ensures in
     record {
@@ -31,7 +31,7 @@ returns-clause-printed g c = λ program.
     let options = c.args.options.now in
     let config = options.config in
     let s = run_setting m.next m.answers m.begin m.image (opening_setup config program) options in
-    let lines = c.args.lines.now in
+    let lines = options.lines.now in
     let all = length lines in
     let history = run_is_history s options.right options.most lines c.lines_keep_ranges.ensures all in
     let world = world_after s options.most lines all in

@@ -1,11 +1,9 @@
 -- One line more, or the end.
-use Rattle.std.proofs.Common.{◌≡◌, ◌+◌, ◌<◌, ◌≤◌, List, [], ◌∷◌, length, drop, arith, sym, ap, ◌∙◌}
-use Rattle.std.proofs.lemmas.List.{drop_more, drop_all}
+use Rattle.std.proofs.Common.{drop, arith, ap}
 use Rattle.rp_output.specs.Faults.{IsRunFault}
-use Rattle.rp_run.specs.Output.{Play, opening_play, command_said, script_said}
+use Rattle.rp_run.specs.Output.{Play, opening_play, script_said}
 use Rattle.rp_run.specs.Runs.{opening_setup, run_setting}
-use Rattle.rp_deck.specs.declared.deck.Line.{Line}
-use Rattle.rp_run.proofs.RunParts.{sets_out, goes_on, fails, ends, script_ends, script_more}
+use Rattle.rp_run.proofs.RunParts.{sets_out, ends, no_line, line_goes_on, line_fails}
 use Rattle.rp_run.proofs.Stepping.{faulted, same_setting, same_trans, opening_parts, never_rises}
 use Rattle.rp_output.proofs.Writing.{writes_nothing, writes_failed}
 use Rattle.rp_run.proofs.run.run_lines.Goals as goal
@@ -23,7 +21,7 @@ loop-line-init g c =
     record {
       parts = opening_parts options.config.nodes cluster (ap (λ k. k.config.nodes) opened) (ap (λ k. k.world) opened);
       setup = record { config = ap (λ k. k.config) opened; program = ap (λ k. k.program) opened };
-      so_far = sets_out cluster.world c.new-2.result (g.W.Write.contents c.args.writer.now) (opening_play s) (λ (now : Play). script_said s options.most now c.args.lines.now)
+      so_far = sets_out cluster.world c.new-2.result (g.W.Write.contents c.args.writer.now) (opening_play s) (λ (now : Play). script_said s options.most now options.lines.now)
           (record { world_is = ap (λ k. k.world) opened; settled_are = c.new-2.ensures });
     }
 
@@ -31,26 +29,12 @@ pub returns-in_err-taken-clause-output : goal.returns-in_err-taken-clause-output
 returns-in_err-taken-clause-output g c =
     let m = g.M.Machine in
     let options = c.args.options.now in
-    let opening = opening_setup options.config c.args.program in
-    let s = run_setting m.next m.answers m.begin m.image opening options in
-    let most = options.most in
-    let lines = c.args.lines.now in
-    let i = c.loop-line.line-index in
-    let line = c.line-item.result in
-    let below : i < length lines = omega arith in
-    let here : drop i lines ≡ line ∷ drop (i + 1) lines = drop_more lines i line below ∙ ap (λ (x : Line). x ∷ drop (i + 1) lines) (sym c.line-item.is) in
-    let run = c.loop-line.run in
+    let s = run_setting m.next m.answers m.begin m.image (opening_setup options.config c.args.program) options in
     let so_far = c.loop-line.invariant.so_far in
-    let now = so_far.said.play in
-    let same = same_setting m.next m.answers m.begin m.image options opening run.cluster c.loop-line.invariant.setup in
-    let said = c.in_err-taken.ensures.said now so_far.follows in
+    let same = same_setting m.next m.answers m.begin m.image options _ c.loop-line.run.cluster c.loop-line.invariant.setup in
+    let said = c.in_err-taken.ensures.said so_far.said.play so_far.follows in
     writes_failed _ _ _ c.from_residual-in_err-taken.result c.from_residual-in_err-taken.ensures.0
-    (fails run.cluster.world c.take-taken.new.self.cluster.world run.settled c.take-taken.new.self.settled
-    (g.W.Write.contents c.args.writer.now) (g.W.Write.contents c.loop-line.writer) (g.W.Write.contents c.take-taken.new.writer)
-    (script_said s most (opening_play s) lines) (λ (p : Play). script_said s most p (drop i lines)) so_far
-    (command_said s most line.number now line.command) (λ (p : Play). script_said s most p (drop (i + 1) lines))
-    (ap (λ (rest : List Line). script_said s most now rest) here ∙ script_more s most now line (drop (i + 1) lines))
-    (rw same at said))
+    (line_fails s options.most options.lines.now c.loop-line.line-index c.line-item.result (omega arith) c.line-item.is so_far (rw same at said))
 
 pub returns-in_err-taken-clause-fault : goal.returns-in_err-taken-clause-fault
 returns-in_err-taken-clause-fault g c =
@@ -63,27 +47,14 @@ loop-line-preserved g c =
     let options = c.args.options.now in
     let opening = opening_setup options.config c.args.program in
     let s = run_setting m.next m.answers m.begin m.image opening options in
-    let most = options.most in
-    let lines = c.args.lines.now in
-    let i = c.loop-line.line-index in
-    let line = c.line-item.result in
-    let below : i < length lines = omega arith in
-    let here : drop i lines ≡ line ∷ drop (i + 1) lines = drop_more lines i line below ∙ ap (λ (x : Line). x ∷ drop (i + 1) lines) (sym c.line-item.is) in
-    let run = c.loop-line.run in
     let so_far = c.loop-line.invariant.so_far in
-    let now = so_far.said.play in
-    let same = same_setting m.next m.answers m.begin m.image options opening run.cluster c.loop-line.invariant.setup in
-    let said = c.in_ok-taken.ensures.said now so_far.follows in
+    let same = same_setting m.next m.answers m.begin m.image options opening c.loop-line.run.cluster c.loop-line.invariant.setup in
+    let said = c.in_ok-taken.ensures.said so_far.said.play so_far.follows in
     let resulted = rw same at said in
     record {
       parts = c.in_ok-taken.ensures.parts;
-      setup = same_trans opening run.cluster c.take-taken.new.self.cluster c.loop-line.invariant.setup c.take-taken.ensures.setup;
-      so_far = goes_on run.cluster.world c.take-taken.new.self.cluster.world run.settled c.take-taken.new.self.settled
-          (g.W.Write.contents c.args.writer.now) (g.W.Write.contents c.loop-line.writer) (g.W.Write.contents c.take-taken.new.writer)
-          (script_said s most (opening_play s) lines) (λ (p : Play). script_said s most p (drop i lines)) so_far
-          (command_said s most line.number now line.command) (λ (p : Play). script_said s most p (drop (i + 1) lines))
-          (ap (λ (rest : List Line). script_said s most now rest) here ∙ script_more s most now line (drop (i + 1) lines))
-          resulted.0 resulted.1;
+      setup = same_trans opening c.loop-line.run.cluster c.take-taken.new.self.cluster c.loop-line.invariant.setup c.take-taken.ensures.setup;
+      so_far = line_goes_on s options.most options.lines.now c.loop-line.line-index c.line-item.result (omega arith) c.line-item.is so_far resulted.0 resulted.1;
     }
 
 pub returns-clause-output : goal.returns-clause-output
@@ -91,14 +62,9 @@ returns-clause-output g c =
     let m = g.M.Machine in
     let options = c.args.options.now in
     let s = run_setting m.next m.answers m.begin m.image (opening_setup options.config c.args.program) options in
-    let most = options.most in
-    let lines = c.args.lines.now in
-    let i = c.loop-line.line-index in
-    let past : length lines ≤ i = omega arith in
-    let none : drop i lines ≡ [] = drop_all i lines past in
+    let lines = options.lines.now in
     let run = c.loop-line.run in
     let so_far = c.loop-line.invariant.so_far in
-    let now = so_far.said.play in
     (ends run.cluster.world run.settled (g.W.Write.contents c.args.writer.now) (g.W.Write.contents c.loop-line.writer)
-    (script_said s most (opening_play s) lines) (λ (p : Play). script_said s most p (drop i lines)) so_far tt
-    (ap (λ (rest : List Line). script_said s most now rest) none ∙ script_ends s most now)).1
+    (script_said s options.most (opening_play s) lines) (λ (p : Play). script_said s options.most p (drop c.loop-line.line-index lines)) so_far tt
+    (no_line s options.most so_far.said.play lines c.loop-line.line-index (omega arith))).1

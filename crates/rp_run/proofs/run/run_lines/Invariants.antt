@@ -14,6 +14,6 @@ invariant-loop-line g l =
     record {
       parts : HasParts l.options.config.nodes l.run.cluster;
       setup : IsSameSetup opening l.run.cluster;
-      so_far : Underway l.run.cluster.world l.run.settled (g.W.Write.contents l.fn.writer) (g.W.Write.contents l.writer) (script_said s l.options.most (opening_play s) l.lines)
-          (λ now. script_said s l.options.most now (drop l.line-index l.lines));
+      so_far : Underway l.run.cluster.world l.run.settled (g.W.Write.contents l.fn.writer) (g.W.Write.contents l.writer) (script_said s l.options.most (opening_play s) l.options.lines.now)
+          (λ now. script_said s l.options.most now (drop l.line-index l.options.lines.now));
     }

@@ -1,6 +1,6 @@
--- The seat stays as it is; what is left are texts of packets that it sent, and those up to there were offered. Each
--- packet that is lost has a byte at least.
-use Rattle.std.proofs.Common.{◌≡◌, ◌+◌, ◌≤◌, length}
+-- What is left are texts of packets that the node sent, and those up to there were offered. Each packet that is lost
+-- has a byte at least.
+use Rattle.std.proofs.Common.{◌+◌, ◌≤◌, length}
 use Rattle.rp_codec.specs.declared.packet.Party.TheVariants.{Node}
 use Rattle.rp_threads.specs.Turns.{AreSentTexts}
 use Rattle.rp_threads.proofs.Offers.{IsPartOffered}
@@ -10,9 +10,8 @@ abbrev pub invariant-packets : goal.invariant-packets
 invariant-packets g l =
     let m = g.M.Machine in
     record {
-      same : l.seat ≡ l.fn.seat;
       texts : AreSentTexts l.fn.seat.part l.rest;
-      offered : IsPartOffered m.next m.answers m.begin (Node l.fn.seat.number) l.fn.seat l.texts l.rest l.lost;
+      offered : IsPartOffered m.next m.answers m.begin (Node l.fn.seat.number) l.fn.seat l.seat l.texts l.rest l.lost;
       few : l.lost + length l.rest ≤ length l.texts;
     }
 

@@ -1,10 +1,9 @@
 -- The packet of the step is put.
-use Rattle.std.proofs.Common.{rules, sym, subst, ℤ, w64, FitsSigned}
+use Rattle.std.proofs.Common.{rules, subst, ℤ, w64, FitsSigned}
 use Rattle.std.proofs.lemmas.Int.{to_z-of_z}
 use Rattle.rp_boxes.specs.TaskSeats.{IsTaskTurn}
-use Rattle.rp_boxes.specs.Seats.{SeatState}
 use Rattle.rp_model.specs.Tasks.{Submit}
-use Rattle.rp_threads.proofs.TaskSteps.{sent_once, few_of_call, asked_by_turn}
+use Rattle.rp_threads.proofs.TaskSteps.{sent_once, few_of_call, asked_by_turn, asked_got}
 use Rattle.rp_threads.proofs.tasks.make.Goals as goal
 
 pub put_sent-requires-clause-sent : goal.put_sent-requires-clause-sent
@@ -20,11 +19,16 @@ put_sent-requires-clause-few g c =
 pub returns-clause-ok : goal.returns-clause-ok
 returns-clause-ok g c =
     let m = g.M.Machine in
-    let a = c.args in
-    let call = a.call in
+    let old = c.args.seat.now in
+    let stepped = c.call.new.self in
+    let call = c.args.call in
     let sent = c.in_ok-sent.sent in
     let fits : FitsSigned w64 call.arg = search rules in
-    let stated = subst (λ (z : ℤ). IsTaskTurn a.seat.now (Submit call.node call.object call.operation z) c.call.new.self sent) (to_z-of_z w64 call.arg fits) c.in_ok-sent.ensures.ok in
-    let seat = c.put_sent.new.seat in
-    let turn = subst (λ (now : SeatState g.row.M-Program.Denot). IsTaskTurn a.seat.now (Submit call.node call.object call.operation call.arg) now sent) (sym c.put_sent.ensures.unchanged) stated in
-    asked_by_turn a.seat.now seat sent m.next m.answers m.begin (Submit call.node call.object call.operation call.arg) c.put_sent.result turn c.put_sent.ensures.offered
+    let turn = subst (λ (z : ℤ). IsTaskTurn old (Submit call.node call.object call.operation z) stepped sent) (to_z-of_z w64 call.arg fits) c.in_ok-sent.ensures.ok in
+    asked_by_turn m.next m.answers m.begin (Submit call.node call.object call.operation call.arg) old stepped c.put_sent.new.seat sent c.put_sent.result turn c.put_sent.ensures
+
+pub returns-clause-got : goal.returns-clause-got
+returns-clause-got g c =
+    let m = g.M.Machine in
+    let call = c.args.call in
+    asked_got m.next m.answers m.begin (Submit call.node call.object call.operation call.arg) c.args.seat.now c.put_sent.new.seat c.put_sent.result (returns-clause-ok g c)

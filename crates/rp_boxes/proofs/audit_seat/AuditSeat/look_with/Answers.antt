@@ -1,5 +1,5 @@
 -- The place knows the audit alone at first.
-use Rattle.std.proofs.Common.{◌≡◌, ◌∙◌, ◌++◌, ℕ, [], ◌∷◌, All, map, ap, sym, subst}
+use Rattle.std.proofs.Common.{◌∙◌, ◌++◌, ℕ, ◌∷◌, map, ap, sym, subst}
 use Rattle.std.specs.Arc.{arc_value}
 use Rattle.rp_agreement.specs.Answered.{setting_for}
 use Rattle.rp_boxes.specs.Looks.{IsWorldOf}

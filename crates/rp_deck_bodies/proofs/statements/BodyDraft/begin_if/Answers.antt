@@ -3,7 +3,6 @@ use Rattle.std.specs.Prelude.{Vec}
 use Rattle.std.specs.declared.alloc.Global.{Global}
 use Rattle.rp_body.specs.declared.statement.Stmt.{Stmt}
 use Rattle.rp_deck_bodies.specs.declared.statements.OpenIf.{OpenIf}
-use Rattle.rp_deck_bodies.specs.Bodies.{OpenIfText, Empty}
 use Rattle.rp_deck_bodies.specs.ExpressionViews.{cond_text}
 use Rattle.rp_deck_bodies.specs.BodyViews.{body_text, within}
 use Rattle.rp_deck_bodies.proofs.BodyLemmas.{innermost_is}

@@ -1,4 +1,4 @@
-use Rattle.std.proofs.Common.{◌≡◌, ◌-◌, Bool, true, false, not, length, Some, rules, refl, ◌∙◌, sym}
+use Rattle.std.proofs.Common.{◌≡◌, ◌-◌, Bool, true, false, not, length, Some, rules, ◌∙◌, sym}
 use Rattle.std.specs.Prelude.{slice_get}
 use Rattle.rp_deck_bodies.proofs.BodyLemmas.{turns}
 use Rattle.rp_deck_bodies.proofs.statements.BodyDraft.may_turn.Goals as goal

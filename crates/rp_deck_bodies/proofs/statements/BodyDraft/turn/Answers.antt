@@ -3,7 +3,7 @@ use Rattle.std.specs.Prelude.{Vec}
 use Rattle.std.specs.declared.alloc.Global.{Global}
 use Rattle.rp_body.specs.declared.statement.Stmt.{Stmt}
 use Rattle.rp_deck_bodies.specs.declared.statements.OpenIf.{OpenIf}
-use Rattle.rp_deck_bodies.specs.Bodies.{OpenBodyText, OpenIfText, Empty}
+use Rattle.rp_deck_bodies.specs.Bodies.{Empty}
 use Rattle.rp_deck_bodies.specs.BodyViews.{body_text, body_draft_text, if_text, within}
 use Rattle.rp_deck_bodies.proofs.BodyLemmas.{innermost_is, turned_is}
 use Rattle.std.proofs.Common.{refl, subst}

@@ -1,28 +1,17 @@
-use Rattle.std.proofs.Common.{rules, arith, refl, sym, subst}
-use Rattle.std.specs.Prelude.{All, unwrap_or}
-use Rattle.rp_object.specs.declared.program.Profile.TheVariants.{Ravenscar}
+use Rattle.std.proofs.Common.{arith, refl}
+use Rattle.std.specs.Prelude.{unwrap_or}
 use Rattle.std.proofs.lemmas.Grind.{common_steps}
 use Rattle.indexmap.specs.IndexMap.{values}
-use Rattle.rp_deck_declarations.specs.Declarations.{procedure_counts, IsHandled}
-use Rattle.rp_deck_bodies.proofs.ListLemmas.{all_last}
+use Rattle.rp_object.specs.declared.program.Profile.TheVariants.{Ravenscar}
+use Rattle.rp_deck_declarations.specs.Declarations.{IsNameTable, procedure_counts}
+use Rattle.rp_deck_declarations.proofs.HandlerLemmas.{handled_more, with_handlers}
 use Rattle.rp_deck_declarations.proofs.draft.Draft.read_interrupt.Goals as goal
 
 pub returns-clause-draft : goal.returns-clause-draft
 returns-clause-draft c =
     let self = c.args.self.now in
-    let handled = IsHandled (procedure_counts self.drafts.items) in
-    let more = all_last handled (values self.interrupts) c.in_ok-name.handler c.requires.interrupts_handled (c.in_ok-name.ensures.handled (unwrap_or self.profile Ravenscar) c.requires.kept) in (
-      record {
-        nodes = search rules;
-        tasks = search rules;
-        objects = search rules;
-        counted = c.requires.counted;
-        drafts = c.requires.drafts;
-        kept = c.requires.kept;
-        interrupts = grind (arith, common_steps);
-        timers = search rules;
-        interrupts_handled = subst (λ l. All handled l) (sym c.in_ok-declare.ensures.values) more;
-        timers_handled = c.requires.timers_handled;
-      },
-      refl,
-    )
+    let d = c.requires in
+    let table : IsNameTable c.declare.new.table = grind (arith, common_steps) in
+    let new = c.in_ok-name.ensures.handled (unwrap_or self.profile Ravenscar) d.kept in
+    let handled = handled_more (procedure_counts self.drafts.items) (values self.interrupts) (values c.declare.new.table) c.in_ok-name.handler c.in_ok-declare.ensures.values d.interrupts_handled new in
+    (with_handlers self (record self { interrupts = c.declare.new.table }) refl d table d.timers handled d.timers_handled, refl)

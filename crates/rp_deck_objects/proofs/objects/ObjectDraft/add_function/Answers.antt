@@ -1,5 +1,5 @@
 -- A function more, and its name.
-use Rattle.std.proofs.Common.{◌≡◌, ◌+◌, length, true, rules, arith, refl, sym, subst}
+use Rattle.std.proofs.Common.{◌≡◌, ◌+◌, length, true, rules, refl, sym, subst}
 use Rattle.std.specs.Prelude.{is_some}
 use Rattle.rp_entry.specs.Operations.{of_index}
 use Rattle.rp_entry.specs.declared.operations.Operations.{Operations}

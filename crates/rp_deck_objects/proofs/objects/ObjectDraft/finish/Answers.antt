@@ -1,6 +1,5 @@
 -- An object that keeps its limits.
 use Rattle.std.proofs.Common.{◌≡◌, length, arith, sym, subst}
-use Rattle.std.specs.Arc.{arc_value}
 use Rattle.rp_body.specs.Store.{limits_of}
 use Rattle.rp_entry.specs.Operations.{OperationsFit}
 use Rattle.rp_object.specs.Program.{KeepsProfile}

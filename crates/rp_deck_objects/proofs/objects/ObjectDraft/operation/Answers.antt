@@ -1,4 +1,4 @@
-use Rattle.std.proofs.Common.{◌≡◌, ◌∙◌, true, List, ℕ, Option, Some, None, IfSome, ap, sym, subst}
+use Rattle.std.proofs.Common.{◌≡◌, ◌∙◌, true, List, ℕ, Option, Some, None, IfSome, ap, sym}
 use Rattle.std.specs.Prelude.{option_map, All}
 use Rattle.indexmap.specs.IndexMap.{values}
 use Rattle.rp_entry.specs.declared.operations.Operations.{Operations}

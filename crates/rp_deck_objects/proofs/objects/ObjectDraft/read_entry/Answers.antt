@@ -1,9 +1,8 @@
-use Rattle.std.proofs.Common.{◌≡◌, ℕ, arith, false, refl, sym, subst}
+use Rattle.std.proofs.Common.{◌≡◌, ℕ, arith, refl}
 use Rattle.rp_object.specs.declared.program.Profile.{Profile}
 use Rattle.rp_object.specs.declared.program.Profile.TheVariants.{Ravenscar, Jorvik}
 use Rattle.rp_deck_objects.specs.declared.objects.Head.TheVariants.{Entry}
 use Rattle.rp_deck_objects.specs.ObjectLimits.{HeadKeeps}
-use Rattle.rp_words.specs.Tables.{is_declared, key_names}
 use Rattle.rp_deck_objects.proofs.objects.ObjectDraft.read_entry.Goals as goal
 
 keeps_if_single : (profile : Profile) (barrier longest : ℕ) → (profile ≡ Ravenscar → longest ≡ 1) → HeadKeeps profile (Entry barrier longest)
@@ -14,7 +13,7 @@ pub returns-clause-object : goal.returns-clause-object
 returns-clause-object c =
     c.begin.ensures.object c.args.profile c.requires (record {
       room = omega arith;
-      new = subst (λ bytes. is_declared bytes (key_names c.args.self.now.operation_names) ≡ false) (sym c.in_ok-name-2.ensures.ok) c.in_ok-name.ensures.new;
+      new = c.in_ok-name.ensures.new;
       fits = λ limits counted. (c.in_ok-barrier.ensures.counted limits counted, c.in_ok-longest.ensures.in_range.0, c.in_ok-longest.ensures.in_range.1);
       keeps = keeps_if_single c.args.profile c.in_ok-barrier.barrier c.in_ok-longest.longest c.in_ok-longest.ensures.single;
     })

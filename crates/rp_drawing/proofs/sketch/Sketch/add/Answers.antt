@@ -1,6 +1,6 @@
 use Rattle.std.proofs.Common.{◌≡◌, ◌∙◌, ◌++◌, [], ◌∷◌, ◌+◌, ℕ, true, List, length, ap, sym, subst, arith, rules}
 use Rattle.std.specs.List.{list_any}
-use Rattle.rp_drawing.specs.Ways.{ended_ways, sent_ways, is_end_drawn, AreWays, AreDown, IsEndingWithin}
+use Rattle.rp_drawing.specs.Ways.{is_end_drawn, AreWays, AreDown, IsEndingWithin}
 use Rattle.rp_drawing.specs.declared.sketch.Row.{Row}
 use Rattle.rp_drawing.specs.declared.sketch.Sending.{Sending}
 use Rattle.rp_drawing.specs.declared.sketch.Way.{Way}
@@ -10,10 +10,7 @@ use Rattle.rp_drawing.proofs.sketch.Sketch.add.Goals as goal
 pub returns-clause-ways : goal.returns-clause-ways
 returns-clause-ways c =
     let place : c.len-place.result ≡ length c.args.self.now.rows.items = search rules in
-    let ways_are : c.send.new.self.ways.items
-    ≡ ended_ways c.args.self.now.ways.items c.args.moment.ending (length c.args.self.now.rows.items) c.args.self.now.lines
-    ++ sent_ways c.args.moment.sends.items (length c.args.self.now.rows.items) c.args.self.now.lines =
-    ways_by c.args.self.now.ways.items c.end-ended.new.self.ways.items c.send.new.self.ways.items c.args.moment.ending c.deref.result.now c.args.moment.sends.items
+    let ways_are = ways_by c.args.self.now.ways.items c.end-ended.new.self.ways.items c.send.new.self.ways.items c.args.moment.ending c.deref.result.now c.args.moment.sends.items
     c.len-place.result (length c.args.self.now.rows.items) c.args.self.now.lines c.end-ended.ensures.ways c.in_ok-sent.ensures.ways c.deref.ensures.value place in
     let rows = c.args.self.now.rows.items in
     let ways = c.args.self.now.ways.items in
@@ -30,10 +27,7 @@ returns-clause-ways c =
 pub returns-clause-down : goal.returns-clause-down
 returns-clause-down c =
     let place : c.len-place.result ≡ length c.args.self.now.rows.items = search rules in
-    let ways_are : c.send.new.self.ways.items
-    ≡ ended_ways c.args.self.now.ways.items c.args.moment.ending (length c.args.self.now.rows.items) c.args.self.now.lines
-    ++ sent_ways c.args.moment.sends.items (length c.args.self.now.rows.items) c.args.self.now.lines =
-    ways_by c.args.self.now.ways.items c.end-ended.new.self.ways.items c.send.new.self.ways.items c.args.moment.ending c.deref.result.now c.args.moment.sends.items
+    let ways_are = ways_by c.args.self.now.ways.items c.end-ended.new.self.ways.items c.send.new.self.ways.items c.args.moment.ending c.deref.result.now c.args.moment.sends.items
     c.len-place.result (length c.args.self.now.rows.items) c.args.self.now.lines c.end-ended.ensures.ways c.in_ok-sent.ensures.ways c.deref.ensures.value place in
     let rows = c.args.self.now.rows.items in
     let ways = c.args.self.now.ways.items in
@@ -51,10 +45,7 @@ returns-clause-down c =
 pub returns-clause-count : goal.returns-clause-count
 returns-clause-count c =
     let place : c.len-place.result ≡ length c.args.self.now.rows.items = search rules in
-    let ways_are : c.send.new.self.ways.items
-    ≡ ended_ways c.args.self.now.ways.items c.args.moment.ending (length c.args.self.now.rows.items) c.args.self.now.lines
-    ++ sent_ways c.args.moment.sends.items (length c.args.self.now.rows.items) c.args.self.now.lines =
-    ways_by c.args.self.now.ways.items c.end-ended.new.self.ways.items c.send.new.self.ways.items c.args.moment.ending c.deref.result.now c.args.moment.sends.items
+    let ways_are = ways_by c.args.self.now.ways.items c.end-ended.new.self.ways.items c.send.new.self.ways.items c.args.moment.ending c.deref.result.now c.args.moment.sends.items
     c.len-place.result (length c.args.self.now.rows.items) c.args.self.now.lines c.end-ended.ensures.ways c.in_ok-sent.ensures.ways c.deref.ensures.value place in
     ap (λ (l : List Way). length l) ways_are
     ∙ length_now c.args.self.now.ways.items c.args.moment.ending c.args.moment.sends.items (length c.args.self.now.rows.items) c.args.self.now.lines

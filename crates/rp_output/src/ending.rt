@@ -1,0 +1,104 @@
+//! How a program ends, and what it reports.
+
+ghost use Rattle.std.specs.Prelude.{◌≡◌, OnOk};
+ghost use Rattle.std.specs.Io.KnownBytes.{Appends};
+ghost use Rattle.rp_output.specs.Endings.{RefusesFor, no_run_status, status_of};
+ghost use Rattle.rp_output.specs.FaultMessage.{fault_message_of, with_line_feed};
+
+use crate::fault_message::tell;
+use crate::stream::write_out;
+use rp_base::Fault;
+use std::fmt::Display;
+use std::io;
+use std::io::Write;
+
+/// Where a program reads its deck, prints, and reports its faults.
+#[derive(Drop)]
+pub struct Streams<R: Drop, W: Drop, E: Drop> {
+    pub reader: R,
+    pub writer: W,
+    pub errors: E,
+}
+
+/// How a program ends.
+#[derive(Drop)]
+pub struct Ending {
+    /// The status that it ends with.
+    pub status: u8,
+    /// Whether what it had to report was written.
+    pub reported: io::Result<()>,
+}
+
+/// Why the words of the command line ask for no run.
+#[derive(Clone, Copy, Debug, PartialEq, Eq)]
+pub enum NoRun {
+    /// Memory ran out while they were read.
+    OutOfMemory,
+    /// They ask for a text: help, or the version.
+    Help,
+    /// They are wrong.
+    Mistake,
+}
+
+impl NoRun {
+    /// The status that the program ends with.
+    fn status(self) -> u8
+        ensures { result ≡ no_run_status self }
+    {
+        match self {
+            NoRun::OutOfMemory => 4,
+            NoRun::Help => 0,
+            NoRun::Mistake => 2,
+        }
+    }
+}
+
+/// Reports why the words are wrong, or prints the text that they ask for.
+pub fn refuse<D: Display, R: Drop, W: Write + Drop, E: Write + Drop>(
+    why: NoRun,
+    text: &D,
+    streams: &mut Streams<R, W, E>,
+) -> Ending
+    ensures { RefusesFor why (W.contents streams.old.writer) (W.contents streams.new.writer)
+        (E.contents streams.old.errors) (E.contents streams.new.errors) result }
+{
+    let reported = match why {
+        NoRun::OutOfMemory => return fail(&mut streams.errors, Fault::OutOfMemory),
+        NoRun::Mistake => write!(streams.errors, "{text}"),
+        NoRun::Help => {
+            if write!(streams.writer, "{text}").is_err()
+                || write_out(&mut streams.writer).is_err()
+            {
+                return fail(&mut streams.errors, Fault::Io);
+            }
+            Ok(())
+        }
+    };
+    Ending {
+        status: why.status(),
+        reported,
+    }
+}
+
+/// Reports a fault.
+pub fn fail<E: Write>(errors: &mut E, fault: Fault) -> Ending
+    ensures status { result.status ≡ status_of fault }
+    ensures reported { OnOk result.reported (Appends (E.contents errors.old)
+        (E.contents errors.new) (with_line_feed (fault_message_of fault))) }
+{
+    let reported = tell(&fault, errors);
+    Ending {
+        status: status(&fault),
+        reported,
+    }
+}
+
+/// The status that a program ends with: 3 where the deck is bad, and 4 at every other fault.
+fn status(fault: &Fault) -> u8
+    ensures { result ≡ status_of fault.now }
+{
+    match fault {
+        Fault::BadDeck { .. } => 3,
+        _ => 4,
+    }
+}

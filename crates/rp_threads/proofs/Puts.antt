@@ -1,0 +1,42 @@
+-- What is offered changes at the seat what its actor put, and nothing else.
+use Rattle.std.proofs.Common.{◌≡◌, ℕ, Bool, true, false, List, [], ◌∷◌, ◌++◌, ap, subst, ◌∙◌}
+use Rattle.rp_base.specs.declared.action.Action.{Action}
+use Rattle.rp_base.specs.declared.reply.Answer.{Answer}
+use Rattle.rp_codec.specs.Message.{Message}
+use Rattle.rp_codec.specs.Text.{text_of}
+use Rattle.rp_codec.specs.declared.packet.Party.{Party}
+use Rattle.rp_boxes.specs.Moments.{WasInUse, WasPut}
+use Rattle.rp_boxes.specs.Seats.{SeatState, IsPut}
+use Rattle.rp_threads.specs.Turns.{AreOffered, IsOffered}
+
+-- The seat is the same in all but the packets that its actor put.
+pub record HasOnlyPut {P : Type 0} (old new : SeatState P) : Type 0 where
+  pub put : List Message
+  pub after : new ≡ record old { part = record old.part { put = put } }
+
+module _ {P : Type 0} where
+  pub none_put : (old new : SeatState P) → new ≡ old → HasOnlyPut old new
+  none_put old new is = record { put = old.part.put; after = is }
+
+  pub put_on : (a b c : SeatState P) → HasOnlyPut a b → HasOnlyPut b c → HasOnlyPut a c
+  put_on a b c ab bc = record { put = bc.put; after = bc.after ∙ ap (λ (s : SeatState P). record s { part = record s.part { put = bc.put } }) ab.after }
+
+module _ {S P : Type 0} (next : S → Action → S) (answers : S → Action → List Answer) (begin : P → S) (party : ℕ → Party) (text : List ℕ) (old new : SeatState P) where
+  -- the packet went into its box
+  pub went_in : IsPut text old new → WasPut next answers begin (party new.number) text new → IsOffered next answers begin (party old.number) text old new false
+  went_in put full =
+      (put, subst (λ (n : ℕ). WasPut next answers begin (party n) text new) (ap (λ (s : SeatState P). s.number) put.after) full)
+
+  -- or it was given back
+  pub given_back : new ≡ old → WasInUse next answers begin (party new.number) text new → IsOffered next answers begin (party old.number) text old new true
+  given_back same used = (same, subst (λ (n : ℕ). WasInUse next answers begin (party n) text new) (ap (λ (s : SeatState P). s.number) same) used)
+
+module _ {S P : Type 0} (next : S → Action → S) (answers : S → Action → List Answer) (begin : P → S) (from : Party) where
+  pub offer_puts : (text : List ℕ) (old new : SeatState P) (is_lost : Bool) → IsOffered next answers begin from text old new is_lost → HasOnlyPut old new
+  offer_puts text old new false offered = record { put = old.part.put ++ offered.0.packet ∷ []; after = offered.0.after }
+  offer_puts text old new true offered = none_put old new offered.0
+
+  pub offers_put : (packets : List Message) (old new : SeatState P) (lost : ℕ) → AreOffered next answers begin from packets old new lost → HasOnlyPut old new
+  offers_put [] old new lost are = none_put old new are.0
+  offers_put (m ∷ others) old new lost are =
+      put_on old are.2 new (offer_puts (text_of m) old are.2 are.0 are.3) (offers_put others are.2 new are.1 are.4)

@@ -21,10 +21,11 @@ use crate::spares::{keep, keep_left, spare_buffer};
 use rp_base::{Fault, NodeId, Position};
 use rp_codec::Party;
 use rp_machine::Machine;
-use rp_replica::{Input, Replica, Sent, texts_are_packets};
+use rp_replica::{Input, Outbox, Replica, Sent, texts_are_packets};
 use rp_store::{Device, InfallibleDevice};
 use std::alloc::Global;
 use std::marker::{Brand, Model};
+use std::mem::replace;
 use std::sync::Arc;
 
 /// The seat of a node: the node itself, and its place at the table that all seats share. It crosses
@@ -37,6 +38,8 @@ pub struct NodeSeat<M: Machine, D: Device> {
     pub(crate) board: Arc<Board<M>, Global>,
     /// Buffers for packets to come.
     pub(crate) spares: Vec<Vec<u8>>,
+    /// A buffer for where the packets of a step end.
+    pub(crate) ends: Vec<usize>,
 }
 
 impl<M: Machine, D: Device> Model for NodeSeat<M, D> {
@@ -88,8 +91,17 @@ impl<M: Machine, D: Device> NodeSeat<M, D> {
             return Err(Fault::Failed);
         }
         let buffer = spare_buffer(&mut self.spares, alloc);
-        match self.replica.turn_into(alloc, buffer, input) {
-            Ok(sent) => {
+        let mut out = Outbox::over(buffer, replace(&mut self.ends, Vec::new(alloc)));
+        match self.replica.turn_into(alloc, &mut out, input) {
+            Ok(dropped) => {
+                let (bytes, ends) = out.into_parts();
+                let packets = ends.len();
+                self.ends = ends;
+                let sent = Sent {
+                    bytes,
+                    packets,
+                    dropped,
+                };
                 note_turn::<M, D, Brand>(
                     &self.board.shared,
                     &mut self.place,

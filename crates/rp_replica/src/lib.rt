@@ -55,4 +55,4 @@ pub use input::Input;
 pub use laws::{opening_is_a_restart, texts_are_packets, turns_are_effects};
 pub use opening::Opening;
 pub use replica::Replica;
-pub use sent::Sent;
+pub use sent::{Outbox, Sent};

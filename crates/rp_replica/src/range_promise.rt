@@ -44,7 +44,7 @@ impl<M: Machine, D: Device> Replica<M, D> {
         ensures unsent { OnErr result (out.new.run ≡ out.old.run) }
     {
         let text = self.promise_text(alloc, promise)?;
-        out.make_room(text.len())?;
+        out.make_room(1, text.len())?;
         self.keep(&Rec::PromisedRange(promise.range, promise.ballot))?;
         out.put_text(&text);
         Ok(())

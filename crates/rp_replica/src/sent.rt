@@ -12,7 +12,7 @@ ghost use Rattle.rp_replica.specs.Packets.{run_of, with_packet, with_packets, lo
 use rp_base::{Answer, NodeId};
 use rp_codec::{Body, Packet, Party, encode_onto, text_of_packet};
 use rp_model::Dropped;
-use std::alloc::AllocError;
+use std::alloc::{AllocError, Global};
 use std::marker::Model;
 
 /// How many bytes the text of a packet has at most, if it takes no memory.
@@ -31,88 +31,132 @@ pub struct Sent {
     pub dropped: Dropped,
 }
 
-/// Packets that are to be sent, with room for more. What is put into the room takes no memory.
+/// Packets that were sent, as their texts in one run of bytes, with the place where each ends. What
+/// is put into the room that was made takes no memory.
 #[derive(Debug, Drop)]
-pub(crate) struct Outbox {
+pub struct Outbox {
     bytes: Vec<u8>,
-    packets: usize,
+    ends: Vec<usize>,
 }
 
 impl Model for Outbox {
-    ghost use Rattle.std.specs.Prelude.{◌-◌, ◌≤◌, length, vec_len, vec_capacity};
-    ghost use Rattle.rp_replica.specs.Packets.{BufferState};
+    ghost use Rattle.std.specs.Prelude.{◌-◌, length, vec_len, vec_capacity};
+    ghost use Rattle.rp_replica.specs.Packets.{Sending, IsRun, packets_in};
 
-    ghost Value = { BufferState };
+    ghost Value = { Sending };
 
     ghost view = { λ o. record {
-      run = record { bytes = o.bytes.items; packets = o.packets };
+      sent = packets_in (length o.ends.items) o.bytes.items;
       room = vec_capacity o.bytes - vec_len o.bytes;
+      places = vec_capacity o.ends - vec_len o.ends;
     } };
 
-    ghost invariant = { λ o. o.packets ≤ length o.bytes.items };
+    ghost invariant = { λ o. IsRun o.bytes.items o.ends.items };
 }
 
 impl Outbox {
-    /// No packet yet: they are put into the buffer, in place of what it holds.
-    pub(crate) fn new(buffer: Vec<u8>) -> Self
-        ensures { result.run ≡ run_of [] }
+    /// No packet yet. It takes no memory.
+    pub fn new(alloc: Global) -> Self
+        ensures { result.sent ≡ [] }
     {
-        let mut bytes = buffer;
-        bytes.clear();
-        Outbox { bytes, packets: 0 }
+        Outbox {
+            bytes: Vec::new(alloc),
+            ends: Vec::new(alloc),
+        }
+    }
+
+    /// No packet yet, in these buffers, in place of what they hold.
+    pub fn over(bytes: Vec<u8>, ends: Vec<usize>) -> Self
+        ensures { result.sent ≡ [] }
+    {
+        let mut out = Outbox { bytes, ends };
+        out.bytes.clear();
+        out.ends.clear();
+        out
+    }
+
+    /// The texts, joined in order, and where each ends.
+    pub fn into_parts(self) -> (Vec<u8>, Vec<usize>)
+        ensures bytes { result.0.items ≡ texts_of self.sent }
+        ensures ends { result.1.items ≡ ends_of 0 self.sent }
+    {
+        (self.bytes, self.ends)
+    }
+
+    /// How many packets there are.
+    #[inline(always)]
+    pub fn count(&self) -> usize
+        ensures value { result ≡ length self.now.sent }
+        ensures few { result < 2 ^ 63 }
+    {
+        self.ends.len()
+    }
+
+    /// The text of the packet of a place, from 0.
+    #[inline(always)]
+    pub fn text(&self, place: usize) -> Option<&[u8]>
+        ensures { option_copied result ≡ option_map text_of (slice_get self.now.sent place) }
+    {
+        let end = *self.ends.get(place)?;
+        let start = if place == 0 { 0 } else { self.ends[place - 1] };
+        Some(&self.bytes[start..end])
     }
 
     /// Makes room for as many packets more, at most 64 of them, if none takes memory.
-    pub(crate) fn reserve(&mut self, packets: usize) -> Result<(), AllocError>
+    #[inline(always)]
+    pub fn reserve(&mut self, packets: usize) -> Result<(), AllocError>
         requires few { packets ≤ 64 }
-        ensures run { self.new.run ≡ self.old.run }
-        ensures room { OnOk result (longest_text * packets ≤ self.new.room) }
+        ensures sent { self.new.sent ≡ self.old.sent }
+        ensures room { OnOk result (HasRoomFor packets self.new) }
     {
-        self.bytes.reserve(LONGEST_TEXT * packets)
+        self.make_room(packets, LONGEST_TEXT * packets)
     }
 
-    /// Makes room for this many bytes more.
-    pub(crate) fn make_room(&mut self, bytes: usize) -> Result<(), AllocError>
-        ensures run { self.new.run ≡ self.old.run }
+    /// Makes room for this many packets more, of this many bytes together.
+    #[inline(always)]
+    pub(crate) fn make_room(&mut self, packets: usize, bytes: usize) -> Result<(), AllocError>
+        ensures sent { self.new.sent ≡ self.old.sent }
         ensures room { OnOk result (bytes ≤ self.new.room) }
+        ensures places { OnOk result (packets ≤ self.new.places) }
     {
-        self.bytes.reserve(bytes)
+        self.bytes.reserve(bytes)?;
+        self.ends.reserve(packets)
     }
 
     /// One packet more, as its text, into the room.
+    #[inline(always)]
     pub(crate) fn put_text(&mut self, text: &[u8])
-        requires some { 0 < length text.now }
+        requires packet { (m : Message) × IsPacket m × (text.now ≡ text_of m) }
         requires room { length text.now ≤ self.old.room }
-        ensures { self.new.run ≡ record {
-          bytes = self.old.run.bytes ++ text.now;
-          packets = self.old.run.packets + 1;
-        } }
+        requires places { 1 ≤ self.old.places }
+        ensures { (m : Message) → IsPacket m → text.now ≡ text_of m
+            → self.new.sent ≡ self.old.sent ++ m ∷ [] }
     {
         self.bytes.extend_from_slice(text).unwrap();
-        self.packets += 1;
+        self.ends.push_reserved(self.bytes.len());
     }
 
     /// One packet more. Where memory is refused, the packets stay as they are.
-    pub(crate) fn push(&mut self, packet: &Packet) -> Result<(), AllocError>
-        ensures ok { OnOk result (self.new.run ≡ with_packet self.old.run packet.now) }
-        ensures err { OnErr result (self.new.run ≡ self.old.run) }
+    pub fn push(&mut self, packet: &Packet) -> Result<(), AllocError>
+        ensures ok { OnOk result (self.new.sent ≡ self.old.sent ++ packet.now ∷ []) }
+        ensures err { OnErr result (self.new.sent ≡ self.old.sent) }
     {
+        self.ends.reserve(1)?;
         encode_onto(packet, &mut self.bytes)?;
-        self.packets += 1;
+        self.ends.push_reserved(self.bytes.len());
         Ok(())
     }
 
     /// One packet more, which takes no memory, into the room.
     #[inline(always)]
-    pub(crate) fn put(&mut self, packet: &Packet)
+    pub fn put(&mut self, packet: &Packet)
         requires short { ¬ IsLongBody packet.now.body }
-        requires room { longest_text ≤ self.old.room }
-        ensures run { self.new.run ≡ with_packet self.old.run packet.now }
-        ensures room { self.old.room ≤ self.new.room + longest_text }
+        requires room { HasRoomFor 1 self.old }
+        ensures sent { self.new.sent ≡ self.old.sent ++ packet.now ∷ [] }
+        ensures room { IsFilled 1 self.old self.new }
     {
         let text = text_of_packet(packet);
-        self.bytes.extend_from_slice(text.as_slice()).unwrap();
-        self.packets += 1;
+        self.put_text(text.as_slice());
     }
 
     /// One packet more, from node to node, which takes no memory, into the room.
@@ -140,9 +184,8 @@ impl Outbox {
         ensures room { self.old.room ≤ self.new.room + longest_text }
     {
         let receiver = self.bytes.len() + RECEIVER;
-        self.bytes.extend_from_slice(text).unwrap();
+        self.put_text(text);
         self.bytes[receiver] = to.get();
-        self.packets += 1;
     }
 
     /// A packet to each node, itself too, into the room. Its text is made once.
@@ -193,20 +236,6 @@ impl Outbox {
         } = *answer;
         let body = Body::Reply { number, reply };
         self.put(&Packet::new(Party::Node(me), Party::Task(task), body));
-    }
-
-    /// The packets of a step that drops this.
-    pub(crate) fn sent(self, dropped: Dropped) -> Sent
-        ensures bytes { result.bytes.items ≡ self.run.bytes }
-        ensures packets { result.packets ≡ self.run.packets }
-        ensures dropped { result.dropped ≡ dropped }
-    {
-        let Outbox { bytes, packets } = self;
-        Sent {
-            bytes,
-            packets,
-            dropped,
-        }
     }
 }
 

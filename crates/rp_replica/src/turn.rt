@@ -143,18 +143,25 @@ impl<M: Machine, D: Device> Replica<M, D> {
         ensures { Answers (input_effect M.next M.answers self.old input.now)
             self.old self.new result }
     {
-        self.turn_into(alloc, Vec::new(alloc), input)
+        let mut out = Outbox::new(alloc);
+        let dropped = self.turn_into(alloc, &mut out, input)?;
+        let (bytes, ends) = out.into_parts();
+        Ok(Sent {
+            bytes,
+            packets: ends.len(),
+            dropped,
+        })
     }
 
-    /// The same, with a buffer into which the packets are put, in place of what it holds: so steps
-    /// that use one buffer again take no memory for their packets.
+    /// The same, which puts the packets after the others of an outbox; refused, it leaves these as
+    /// they are.
     #[inline(always)]
     pub fn turn_into(
         &mut self,
         alloc: Global,
-        buffer: Vec<u8>,
+        out: &mut Outbox,
         input: &Input,
-    ) -> Result<Sent, Fault>
+    ) -> Result<Dropped, Fault>
         requires right { IsRightInput input.now }
         // claim (result): Each input of a replica has exactly the node's effect that the
         //   definitions give, or is refused for the one reason that they give and changes nothing;
@@ -166,16 +173,31 @@ impl<M: Machine, D: Device> Replica<M, D> {
         // claim (result): Interrupts and ticks become pending as the definition says
         // claim (result): A report has the applied actions from a position on, as many as a packet
         //   takes
-        ensures { Answers (input_effect M.next M.answers self.old input.now)
-            self.old self.new result }
+        ensures { Turned (input_effect M.next M.answers self.old input.now)
+            self.old self.new out.old.sent out.new.sent result }
     {
-        let mut out = Outbox::new(buffer);
         let mut plan = Plan::Pass(Dropped::No);
         self.decide(alloc, input, &mut plan)?;
-        match self.commit(alloc, &mut out, &plan) {
-            Ok(dropped) => Ok(out.sent(dropped)),
-            Err(fault) => Err(fault),
-        }
+        self.commit(alloc, out, &plan)
+    }
+
+    /// The packet of a place of an outbox, from 0, comes: it is read where it lies, and the packets of
+    /// the step are put after the others.
+    #[inline(always)]
+    pub fn deliver(
+        &mut self,
+        alloc: Global,
+        out: &mut Outbox,
+        place: usize,
+    ) -> Result<Dropped, Fault>
+        requires place { place < length out.old.sent }
+        ensures { IfSome (slice_get out.old.sent place) (λ m.
+            Turned (input_effect M.next M.answers self.old (Input.Receive (text_of m)))
+            self.old self.new out.old.sent out.new.sent result) }
+    {
+        let mut plan = Plan::Pass(Dropped::No);
+        self.decide(alloc, &Input::Receive(out.text(place).unwrap()), &mut plan)?;
+        self.commit(alloc, out, &plan)
     }
 
     /// A packet comes, as its text. Refused with `BadPacket` where the bytes are no packet's text, and

@@ -14,14 +14,13 @@ ghost use Rattle.rp_model.specs.Pending.{most_pending};
 ghost use Rattle.rp_model.specs.Says.{says, says_to_task, notes, sends, writes};
 ghost use Rattle.rp_replica.specs.Committing.{Commits};
 ghost use Rattle.rp_replica.specs.State.{after_turn};
-ghost use Rattle.rp_replica.specs.Packets.{with_packet};
 ghost use Rattle.rp_replica.specs.Plans.{turn_of, written_by, MayCommit, OnlySends};
 ghost use Rattle.rp_replica.specs.Invariant.{IsAnswer};
 ghost use Rattle.rp_replica.specs.Turning.{Stops};
 
+use crate::outbox::Outbox;
 use crate::plan::Plan;
 use crate::replica::{Replica, write};
-use crate::sent::Outbox;
 use rp_base::{Action, Answer, Ballot, Fault, NodeId, Position, Rec, Reply, TaskId};
 use rp_codec::Body;
 use rp_machine::Machine;
@@ -44,9 +43,9 @@ impl<M: Machine, D: Device> Replica<M, D> {
         requires may { MayCommit self.old plan.now }
         ensures ok { IfOk result (λ dropped.
             Commits (turn_of M.next M.answers self.old plan.now) self.old self.new
-            out.old.run out.new.run dropped) }
+            out.old.sent out.new.sent dropped) }
         ensures err { IfErr result (λ fault. Stops (written_by plan.now) self.old self.new fault) }
-        ensures unsent { OnErr result (out.new.run ≡ out.old.run) }
+        ensures unsent { OnErr result (out.new.sent ≡ out.old.sent) }
     {
         match plan {
             Plan::Pass(dropped) => return Ok(*dropped),
@@ -92,9 +91,9 @@ impl<M: Machine, D: Device> Replica<M, D> {
         requires may { MayCommit self.now plan.now }
         requires sends { OnlySends plan.now }
         ensures ok { OnOk result (Commits (turn_of M.next M.answers self.now plan.now)
-            self.now self.now out.old.run out.new.run Dropped.No) }
+            self.now self.now out.old.sent out.new.sent Dropped.No) }
         ensures only { IsOkUnless result faults.OutOfMemory }
-        ensures unsent { OnErr result (out.new.run ≡ out.old.run) }
+        ensures unsent { OnErr result (out.new.sent ≡ out.old.sent) }
     {
         match *plan {
             Plan::Repeat(to, position, ballot, action) => self.send_to(
@@ -129,9 +128,9 @@ impl<M: Machine, D: Device> Replica<M, D> {
         requires may { MaySay (Node self.now.me) (Node to) stated }
         requires short { ¬ IsLongBody stated }
         ensures ok { OnOk result (Commits (sends self.now.running (says self.now.me stated to ∷ []))
-            self.now self.now out.old.run out.new.run Dropped.No) }
+            self.now self.now out.old.sent out.new.sent Dropped.No) }
         ensures only { IsOkUnless result faults.OutOfMemory }
-        ensures unsent { OnErr result (out.new.run ≡ out.old.run) }
+        ensures unsent { OnErr result (out.new.sent ≡ out.old.sent) }
     {
         out.reserve(1)?;
         out.say(self.me, to, stated);
@@ -143,9 +142,9 @@ impl<M: Machine, D: Device> Replica<M, D> {
         requires { IsCount number }
         ensures ok { OnOk result (Commits
             (sends self.now.running (says_to_task self.now.me (Answered number reply) task ∷ []))
-            self.now self.now out.old.run out.new.run Dropped.No) }
+            self.now self.now out.old.sent out.new.sent Dropped.No) }
         ensures only { IsOkUnless result faults.OutOfMemory }
-        ensures unsent { OnErr result (out.new.run ≡ out.old.run) }
+        ensures unsent { OnErr result (out.new.sent ≡ out.old.sent) }
     {
         out.reserve(1)?;
         out.reply(
@@ -176,9 +175,9 @@ impl<M: Machine, D: Device> Replica<M, D> {
         requires short { ¬ IsLongBody stated }
         ensures ok { OnOk result (Commits
             (writes rec.now self.old.running (says self.old.me stated to ∷ []))
-            self.old self.new out.old.run out.new.run Dropped.No) }
+            self.old self.new out.old.sent out.new.sent Dropped.No) }
         ensures err { IfErr result (λ fault. Stops (Some rec.now) self.old self.new fault) }
-        ensures unsent { OnErr result (out.new.run ≡ out.old.run) }
+        ensures unsent { OnErr result (out.new.sent ≡ out.old.sent) }
     {
         out.reserve(1)?;
         self.keep(rec)?;

@@ -9,12 +9,12 @@ ghost use Rattle.rp_model.specs.Learner.{learns, missing_position, asks_for};
 ghost use Rattle.rp_model.specs.Says.{says_to_others, notes};
 ghost use Rattle.rp_replica.specs.Committing.{Commits};
 ghost use Rattle.rp_replica.specs.State.{after_turn};
-ghost use Rattle.rp_replica.specs.Packets.{longest_text, with_packets};
+ghost use Rattle.rp_replica.specs.Packets.{longest_text};
 ghost use Rattle.rp_replica.specs.Plans.{MayHear, MayLearn, once_heard};
 ghost use Rattle.rp_replica.specs.Turning.{Stops};
 
+use crate::outbox::Outbox;
 use crate::replica::Replica;
-use crate::sent::Outbox;
 use rp_base::{Action, Fault, NodeId, Position, Vote};
 use rp_codec::Body;
 use rp_machine::Machine;
@@ -36,10 +36,10 @@ impl<M: Machine, D: Device> Replica<M, D> {
             self.old.me self.old.records self.old.running position action.now
             (says_to_others self.old.config.nodes self.old.me
             (bodies.Decided position action.now)) [])
-            self.old self.new out.old.run out.new.run Dropped.No) }
+            self.old self.new out.old.sent out.new.sent Dropped.No) }
         ensures err { IfErr result (λ fault.
             Stops (Some (Learned position action.now)) self.old self.new fault) }
-        ensures unsent { OnErr result (out.new.run ≡ out.old.run) }
+        ensures unsent { OnErr result (out.new.sent ≡ out.old.sent) }
     {
         self.reserve_replies(out)?;
         self.learn(position, action, true, out)?;
@@ -60,10 +60,10 @@ impl<M: Machine, D: Device> Replica<M, D> {
             self.old.me self.old.records self.old.running position action.now []
             (asks_for self.old.me from (missing_position
             (self.old.records ++ Learned position action.now ∷ []))))
-            self.old self.new out.old.run out.new.run Dropped.No) }
+            self.old self.new out.old.sent out.new.sent Dropped.No) }
         ensures err { IfErr result (λ fault.
             Stops (Some (Learned position action.now)) self.old self.new fault) }
-        ensures unsent { OnErr result (out.new.run ≡ out.old.run) }
+        ensures unsent { OnErr result (out.new.sent ≡ out.old.sent) }
     {
         self.reserve_replies(out)?;
         self.learn(position, action, false, out)?;
@@ -94,7 +94,7 @@ impl<M: Machine, D: Device> Replica<M, D> {
 
     /// Makes room for a packet to each node, a reply to each pending call, and one packet more.
     fn reserve_replies(&self, out: &mut Outbox) -> Result<(), Fault>
-        ensures run { out.new.run ≡ out.old.run }
+        ensures sent { out.new.sent ≡ out.old.sent }
         ensures room { OnOk result (longest_text
             * (self.now.config.nodes + length self.now.running.pending + 1) ≤ out.new.room) }
         ensures only { IsOkUnless result faults.OutOfMemory }
@@ -105,8 +105,8 @@ impl<M: Machine, D: Device> Replica<M, D> {
     /// Where a position is missing below a learned one, the node is asked for it.
     fn ask_for_missing(&self, from: NodeId, out: &mut Outbox)
         requires { longest_text ≤ out.old.room }
-        ensures { out.new.run ≡ with_packets out.old.run
-            (asks_for self.now.me from (missing_position self.now.records)) }
+        ensures { out.new.sent ≡ out.old.sent
+            ++ asks_for self.now.me from (missing_position self.now.records) }
     {
         if let Some(position) = self.missing_position() {
             out.say(self.me, from, Body::Ask { position });

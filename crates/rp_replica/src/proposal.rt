@@ -14,9 +14,9 @@ ghost use Rattle.rp_replica.specs.Plans.{MayBegin, MayBeginRange, MayCount, MayC
 ghost use Rattle.rp_replica.specs.Proposed.{started_running, offered_running};
 ghost use Rattle.rp_replica.specs.Turning.{Stops};
 
+use crate::outbox::Outbox;
 use crate::plan::{CountedPromise, CountedRange};
 use crate::replica::{Replica, write};
-use crate::sent::Outbox;
 use rp_base::{Action, Ballot, Fault, Position, PositionRange, Rec};
 use rp_codec::Body;
 use rp_machine::Machine;
@@ -38,10 +38,10 @@ impl<M: Machine, D: Device> Replica<M, D> {
         ensures ok { OnOk result (Commits (writes (Started ballot)
             (started_running self.old.running position ballot own.now)
             (says_to_all self.old.config.nodes self.old.me (bodies.Prepare position ballot)))
-            self.old self.new out.old.run out.new.run Dropped.No) }
+            self.old self.new out.old.sent out.new.sent Dropped.No) }
         ensures err { IfErr result (λ fault.
             Stops (Some (Started ballot)) self.old self.new fault) }
-        ensures unsent { OnErr result (out.new.run ≡ out.old.run) }
+        ensures unsent { OnErr result (out.new.sent ≡ out.old.sent) }
     {
         out.reserve(usize::from(self.config.nodes))?;
         self.start(position, ballot, own)?;
@@ -65,10 +65,10 @@ impl<M: Machine, D: Device> Replica<M, D> {
         requires may { MayBeginRange self.old range ballot }
         ensures ok { OnOk result (Commits (begins_range self.old.config.nodes self.old.me
             self.old.records self.old.running range ballot)
-            self.old self.new out.old.run out.new.run Dropped.No) }
+            self.old self.new out.old.sent out.new.sent Dropped.No) }
         ensures err { IfErr result (λ fault.
             Stops (Some (Started ballot)) self.old self.new fault) }
-        ensures unsent { OnErr result (out.new.run ≡ out.old.run) }
+        ensures unsent { OnErr result (out.new.sent ≡ out.old.sent) }
     {
         out.reserve(usize::from(self.config.nodes))?;
         self.start_range(range, ballot)?;
@@ -94,9 +94,9 @@ impl<M: Machine, D: Device> Replica<M, D> {
             self.old.running action.now (proposal_at self.old.running.proposals position))
             (says_to_all self.old.config.nodes self.old.me
             (bodies.Accept position ballot action.now)))
-            self.old self.new out.old.run out.new.run Dropped.No) }
+            self.old self.new out.old.sent out.new.sent Dropped.No) }
         ensures err { IfErr result (λ fault. Stops None self.old self.new fault) }
-        ensures unsent { OnErr result (out.new.run ≡ out.old.run) }
+        ensures unsent { OnErr result (out.new.sent ≡ out.old.sent) }
     {
         out.reserve(usize::from(self.config.nodes))?;
         self.start_offer(position, action);
@@ -122,9 +122,9 @@ impl<M: Machine, D: Device> Replica<M, D> {
         ensures ok { OnOk result (Commits (sends (once_promised self.old promise.now)
             (says_to_all self.old.config.nodes self.old.me
             (bodies.Accept promise.now.position promise.now.ballot action.now)))
-            self.old self.new out.old.run out.new.run Dropped.No) }
+            self.old self.new out.old.sent out.new.sent Dropped.No) }
         ensures err { IfErr result (λ fault. Stops None self.old self.new fault) }
-        ensures unsent { OnErr result (out.new.run ≡ out.old.run) }
+        ensures unsent { OnErr result (out.new.sent ≡ out.old.sent) }
     {
         out.reserve(usize::from(self.config.nodes))?;
         self.note_promise(promise);

@@ -8,8 +8,8 @@ ghost use Rattle.rp_model.specs.Effect.{report_of};
 ghost use Rattle.rp_model.specs.Says.{sends};
 ghost use Rattle.rp_replica.specs.Committing.{Commits};
 
+use crate::outbox::Outbox;
 use crate::replica::Replica;
-use crate::sent::Outbox;
 use rp_base::{Action, Fault, Position};
 use rp_codec::{Actions, Body, Packet, Party, report_len};
 use rp_machine::Machine;
@@ -29,9 +29,9 @@ impl<M: Machine, D: Device> Replica<M, D> {
     ) -> Result<(), Fault>
         ensures ok { OnOk result (Commits (sends self.now.running
             (report_of self.now.me first (applied_of self.now.records) ∷ []))
-            self.now self.now out.old.run out.new.run Dropped.No) }
+            self.now self.now out.old.sent out.new.sent Dropped.No) }
         ensures only { IsOkUnless result faults.OutOfMemory }
-        ensures unsent { OnErr result (out.new.run ≡ out.old.run) }
+        ensures unsent { OnErr result (out.new.sent ≡ out.old.sent) }
     {
         let applied = self.log.taken();
         let body = Body::Report {

@@ -1,25 +1,24 @@
 -- The result of a step of a node, or of a task, in the world.
-use Rattle.std.proofs.Common.{◌≡◌, ℕ, suc, ◌+◌, ◌-◌, ◌^◌, min, Some, None, Result, Ok, Err, List, ◌++◌, length, slice_get, slice_set, refl, sym, ap, ◌∙◌}
+use Rattle.std.proofs.Common.{◌≡◌, ℕ, suc, ◌+◌, ◌-◌, ◌^◌, min, Some, None, Result, Ok, Err, List, ◌++◌, length, slice_get, slice_set, refl, sym, ap, ◌∙◌, arith}
 use Rattle.std.specs.Prelude.{OnOk, is_err, false}
-use Rattle.std.specs.List.{AllByRecursion}
 use Rattle.rp_base.specs.declared.action.Action.{Action}
 use Rattle.rp_base.specs.declared.reply.Answer.{Answer}
 use Rattle.rp_base.specs.declared.config.Config.{Config}
 use Rattle.rp_base.specs.declared.fault.Fault.{Fault}
-use Rattle.rp_codec.specs.Message.{Message, IsPacket}
+use Rattle.rp_codec.specs.Message.{Message}
 use Rattle.rp_store.specs.Disk.{Disk}
 use Rattle.rp_model.specs.declared.effect.Effect.{Effect}
 use Rattle.rp_model.specs.Effect.{Setting, Done, NodeInput, node_effect, cut_if}
 use Rattle.rp_model.specs.Parts.{NodePart}
 use Rattle.rp_model.specs.World.{World, Transition, node_done, node_done_if}
-use Rattle.rp_replica.specs.declared.sent.Sent.{Sent}
+use Rattle.rp_model.specs.declared.effect.Dropped.{Dropped}
 use Rattle.rp_world.specs.declared.node.Node.{Node}
 use Rattle.rp_world.specs.Callers.{Caller}
 use Rattle.rp_world.specs.Going.{Goes, Answers}
-use Rattle.rp_world.specs.Messages.{Sending, AreTexts, packets_in}
-use Rattle.rp_world.specs.Nodes.{Member, member_of, Represents, GoesBy, NotTaken, DescribesSent, setting_at, node_step}
+use Rattle.rp_replica.specs.Packets.{Sending}
+use Rattle.rp_world.specs.Nodes.{Member, member_of, Represents, GoesBy, NotTaken, DescribesSending, setting_at, node_step}
 use Rattle.rp_world.specs.Shape.{part_by, world_of, IsWorld}
-use Rattle.rp_world.proofs.Joined.{read_texts}
+use Rattle.std.proofs.lemmas.List.{length-append}
 use Rattle.rp_world.proofs.Moving.{represents_here, still_nodes, goes, answered, represents_after}
 use Rattle.rp_world.proofs.Ending.{Left}
 
@@ -28,9 +27,9 @@ pub on_ok : {A E : Type 0} (P : Type 0) (r : Result A E) → OnOk r P → false 
 on_ok {A = A} {E = E} P (Ok x) is same = is
 on_ok {A = A} {E = E} P (Err e) is same = absurd cc
 
--- an effect that reports what a node's step sent
-abbrev pub stated_sent : ℕ → Sent → Effect
-stated_sent first sent = record { first = first; sent = min sent.packets (2 ^ 32 - 1); dropped = sent.dropped; taken = None; opened = None }
+-- an effect that reports what a node's step sent, where so many messages were sent after it
+abbrev pub stated_sent : ℕ → ℕ → Dropped → Effect
+stated_sent first count dropped = record { first = first; sent = min (count + 1 - first) (2 ^ 32 - 1); dropped = dropped; taken = None; opened = None }
 
 module _ {S D P : Type 0} (disk : D → Disk) (config : Config) (begin : S) (nodes : List (Node S D P)) (tasks : List Caller) (messages : Sending) (is : IsWorld disk config begin nodes tasks)
     (i me : ℕ) (placed : suc i ≡ me) (n : Node S D P) (here : slice_get nodes i ≡ Some n) (new : Node S D P)
@@ -57,28 +56,22 @@ module _ {S D P : Type 0} (disk : D → Disk) (config : Config) (begin : S) (nod
   pub still : Left disk member new → IsWorld disk config begin (slice_set nodes i new) tasks
   still left = still_nodes disk config begin nodes tasks i me placed n here new left.0 left.1 is
 
-  module _ (sent : Sent) (by : GoesBy disk member n new (node_step next answers member input) DescribesSent sent)
-      (each : (done : Done NodePart) → node_effect s me part input ≡ Ok done → AllByRecursion IsPacket done.sends) where
-    -- its packets are what the bytes are texts of
-    pub texts : AreTexts sent.bytes.items sent.packets
-    texts = let d = by part represents in record { packets = d.0.sends; each = each d.0 d.1; texts = d.3.bytes; counted = d.3.packets }
-
+  module _ (dropped : Dropped) (later : Sending) (by : GoesBy disk member n new (node_step next answers member input) (DescribesSending messages.sent later.sent) dropped) where
     pub turned_left : Left disk member new
     turned_left = let d = by part represents in (d.0.part, d.2)
 
-    pub turned : (settled later : Sending) → settled.sent ≡ messages.sent → later ≡ (let x : Sending = record { sent = settled.sent ++ packets_in sent.packets sent.bytes.items; apart = sent.packets } in x)
-        → (whole : Result Transition Fault) → whole ≡ node_done_if w me (node_effect s me part input)
-        → (stated : Effect) → stated ≡ stated_sent (length w.sent + 1) sent → Goes w whole (world_of disk most (slice_set nodes i new) tasks later) stated
-    turned settled later same put whole whole_is stated is_stated =
+    pub turned : (whole : Result Transition Fault) → whole ≡ node_done_if w me (node_effect s me part input)
+        → (stated : Effect) → stated ≡ stated_sent (length w.sent + 1) (length later.sent) dropped → Goes w whole (world_of disk most (slice_set nodes i new) tasks later) stated
+    turned whole whole_is stated is_stated =
         let d = by part represents in
-        let same_texts : AreTexts sent.bytes.items sent.packets = record { packets = d.0.sends; each = each d.0 d.1; texts = d.3.bytes; counted = d.3.packets } in
-        let read = read_texts sent.bytes.items sent.packets same_texts in
+        let count : length later.sent + 1 - (length w.sent + 1) ≡ length d.0.sends =
+        omega (arith, ap length d.3.sent, length-append messages.sent d.0.sends) in
         goes disk config begin nodes tasks i me placed n here messages new later whole d.0 stated (whole_is ∙ ap (node_done_if w me) d.1) d.2
-        (ap (λ (x : Sending). x.sent) put ∙ ap (λ (ms : List Message). ms ++ packets_in sent.packets sent.bytes.items) same ∙ ap (λ (ms : List Message). messages.sent ++ ms) read)
+        d.3.sent
         (record {
           first = ap (λ (e : Effect). e.first) is_stated;
-          count = ap (λ (e : Effect). e.sent) is_stated ∙ ap (λ (k : ℕ). min k (2 ^ 32 - 1)) d.3.packets;
-          dropped = ap (λ (e : Effect). e.dropped) is_stated ∙ d.3.dropped;
+          count = ap (λ (e : Effect). e.sent) is_stated ∙ ap (λ (k : ℕ). min k (2 ^ 32 - 1)) count;
+          dropped = ap (λ (e : Effect). e.dropped) is_stated ∙ d.3.is_dropped;
           taken = ap (λ (e : Effect). e.taken) is_stated ∙ sym d.3.nothing.0;
           opened = ap (λ (e : Effect). e.opened) is_stated ∙ sym d.3.nothing.1;
         })

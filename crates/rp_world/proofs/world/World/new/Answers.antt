@@ -1,7 +1,7 @@
 use Rattle.std.proofs.Common.{ℕ, List, map, ap, ◌∙◌}
 use Rattle.rp_model.specs.World.{World, opening_world}
 use Rattle.rp_world.specs.Nodes.{failures_in}
-use Rattle.rp_world.specs.Messages.{Sending}
+use Rattle.rp_replica.specs.Packets.{Sending}
 use Rattle.rp_world.specs.Steps.{Setup}
 use Rattle.rp_world.proofs.Fresh.{opening}
 use Rattle.rp_world.proofs.world.World.new.Goals as goal

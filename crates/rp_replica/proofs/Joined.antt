@@ -10,8 +10,7 @@ use Rattle.rp_codec.specs.Text.{text_of, head_text, body_text_at}
 use Rattle.rp_codec.specs.declared.version.Version.TheVariants.{V2}
 use Rattle.rp_codec.proofs.VersionLaws.{has_text}
 use Rattle.rp_codec.proofs.PacketLaws.{packet_again}
-use Rattle.rp_replica.specs.Packets.{texts_of}
-use Rattle.rp_world.specs.Messages.{with_rest, packets_in, AreTexts, ends_of, AreMessages}
+use Rattle.rp_replica.specs.Packets.{with_rest, packets_in, AreTexts, IsRun, IsTextOf, ends_of, texts_of}
 
 -- what was joined is read again
 read_back : (ms : List Message) (rest : List ℕ) → AllByRecursion IsPacket ms → packets_in (length ms) (texts_of ms ++ rest) ≡ ms
@@ -68,13 +67,6 @@ pub length_ends : (from : ℕ) (ms : List Message) → length (ends_of from ms) 
 length_ends from [] = refl
 length_ends from (m ∷ ms) = ap suc (length_ends (from + length (text_of m)) ms)
 
--- n of the texts in these bytes lie before a place, and their ends are known.
-pub record Walked (bytes : List ℕ) (from : ℕ) (ms : List Message) (before : List ℕ) (place at : ℕ) (ends : List ℕ) : Type 0 where
-  pub at_is : at ≡ from + length (texts_of (take place ms))
-  pub within : at ≤ length bytes
-  pub rest : drop at bytes ≡ texts_of (drop place ms)
-  pub ends_are : ends ≡ before ++ ends_of from (take place ms)
-
 -- the packet of a place
 pub record Next (ms : List Message) (place : ℕ) : Type 0 where
   pub m : Message
@@ -90,58 +82,48 @@ next_of (m ∷ ms) (suc k) each less =
     let n = next_of ms k each.1 (omega (arith, less)) in
     record { m = n.m; packet = n.packet; more = ap (λ (l : List Message). m ∷ l) n.more; rest = n.rest; got = n.got }
 
--- one text more
-pub walked_on : (bytes : List ℕ) (from : ℕ) (ms : List Message) (before : List ℕ) (place at : ℕ) (ends : List ℕ) (len : ℕ) (ends' : List ℕ)
-    → Walked bytes from ms before place at ends → (n : Next ms place) → len ≡ length (text_of n.m) → ends' ≡ ends ++ (at + len) ∷ []
-    → Walked bytes from ms before (suc place) (at + len) ends'
-walked_on bytes from ms before place at ends len ends' w n is added =
-    let text = text_of n.m in
-    let others = texts_of (drop (suc place) ms) in
-    let front : drop at bytes ≡ text ++ others = w.rest ∙ ap texts_of n.rest in
-    let so_far : texts_of (take (suc place) ms) ≡ texts_of (take place ms) ++ text =
-    ap texts_of n.more ∙ texts_append (take place ms) (n.m ∷ []) ∙ ap (λ (l : List ℕ). texts_of (take place ms) ++ l) (append-nil text) in
-    let long : length (texts_of (take (suc place) ms)) ≡ length (texts_of (take place ms)) + length text =
-    ap length so_far ∙ length-append (texts_of (take place ms)) text in
-    let sizes : length (drop at bytes) ≡ length text + length others = ap length front ∙ length-append text others in
-    let left : length (drop at bytes) ≡ length bytes - at = length-drop at bytes in
-    record {
-      at_is = omega (arith, w.at_is, long, is);
-      within = omega (arith, sizes, left, is, w.within);
-      rest = ap (λ (k : ℕ). drop (at + k) bytes) is ∙ sym (drop-drop (length text) at bytes) ∙ ap (λ (l : List ℕ). drop (length text) l) front ∙ drop-append_seam text others;
-      ends_are = added ∙ ap (λ (l : List ℕ). l ++ (at + len) ∷ []) w.ends_are ∙ append_assoc before (ends_of from (take place ms)) ((at + len) ∷ [])
-          ∙ ap (λ (l : List ℕ). before ++ l)
-          (ap (λ (k : ℕ). ends_of from (take place ms) ++ k ∷ []) (let e : at + len ≡ (from + length (texts_of (take place ms))) + length text = omega (arith, w.at_is, is) in e)
-          ∙ sym (ends_append from (take place ms) (n.m ∷ [])) ∙ ap (ends_of from) (sym n.more));
-    }
+-- one text more, and where it ends
+abbrev one_text : (text : List ℕ) (m : Message) → IsTextOf text m → AreTexts text 1
+one_text text m is = record { packets = m ∷ []; each = (is.0, tt); texts = is.1 ∙ sym (append-nil (text_of m)); counted = refl }
 
--- the ends of texts that are joined to others
-pub ends_both : (one other ends : List ℕ) (k : ℕ) → AreTexts one (length ends) → AreTexts other k → ends ≡ ends_of 0 (packets_in (length ends) one)
-    → (ends' : List ℕ) → ends' ≡ ends ++ ends_of (length one) (packets_in k other) → AreMessages (one ++ other) ends' [] 0
-unfolding both read_both
-ends_both one other ends k t u are ends' is =
-    let ms = packets_in (length ends) one in
-    let ns = packets_in k other in
-    let a = again one (length ends) t in
-    let b = again other k u in
-    let ends_is : ends' ≡ ends_of 0 (ms ++ ns) =
-    is ∙ ap (λ (l : List ℕ). l ++ ends_of (length one) ns) are ∙ ap (λ (n : ℕ). ends_of 0 ms ++ ends_of n ns) (let e : length one ≡ 0 + length (texts_of ms) = ap length a.1 ∙ omega arith in e)
-    ∙ sym (ends_append 0 ms ns) in
-    let size : length ends' ≡ length ends + k =
-    ap length ends_is ∙ length_ends 0 (ms ++ ns) ∙ length-append ms ns ∙ ap (λ (n : ℕ). n + length ns) (sym a.2) ∙ ap (λ (n : ℕ). length ends + n) (sym b.2) in
-    record {
-      front = subst (λ (n : ℕ). AreTexts (one ++ other) n) (sym size) (both one other (length ends) k t u);
-      ends_are = ends_is ∙ ap (ends_of 0) (sym (read_both one other (length ends) k t u) ∙ ap (λ (n : ℕ). packets_in n (one ++ other)) (sym size));
-      rear = record { packets = []; each = tt; texts = refl; counted = refl };
-    }
+one_end_more : (ends ends' : List ℕ) (end : ℕ) → ends' ≡ ends ++ end ∷ [] → length ends' ≡ length ends + 1
+one_end_more ends ends' end added = ap length added ∙ length-append ends (end ∷ [])
 
--- and the messages are those of both
-pub sent_both : (one other ends : List ℕ) (k : ℕ) → AreTexts one (length ends) → AreTexts other k → (ends' : List ℕ) → ends' ≡ ends ++ ends_of (length one) (packets_in k other)
-    → packets_in (length ends') (one ++ other) ≡ packets_in (length ends) one ++ packets_in k other
-sent_both one other ends k t u ends' is =
-    let ns = packets_in k other in
-    let size : length ends' ≡ length ends + k =
-    ap length is ∙ length-append ends (ends_of (length one) ns) ∙ ap (λ (n : ℕ). length ends + n) (length_ends (length one) ns ∙ sym (again other k u).2) in
-    ap (λ (n : ℕ). packets_in n (one ++ other)) size ∙ read_both one other (length ends) k t u
+module _ (bytes ends : List ℕ) (run : IsRun bytes ends) (text : List ℕ) (m : Message) (is : IsTextOf text m) (bytes' ends' : List ℕ) (joined : bytes' ≡ bytes ++ text)
+    (added : ends' ≡ ends ++ length bytes' ∷ []) where
+  pub sent_more : packets_in (length ends') bytes' ≡ packets_in (length ends) bytes ++ m ∷ []
+  sent_more =
+      ap (λ (n : ℕ). packets_in n bytes') (one_end_more ends ends' (length bytes') added) ∙ ap (packets_in (length ends + 1)) joined
+      ∙ read_both bytes text (length ends) 1 run.texts (one_text text m is) ∙ ap (λ (l : List Message). packets_in (length ends) bytes ++ l) (read_texts text 1 (one_text text m is))
+
+  pub run_more : IsRun bytes' ends'
+  run_more =
+      let ms = packets_in (length ends) bytes in
+      let whole = (again bytes (length ends) run.texts).1 in
+      let from : length bytes ≡ 0 + length (texts_of ms) = ap length whole ∙ omega arith in
+      let end : length bytes' ≡ (0 + length (texts_of ms)) + length (text_of m) =
+      omega (arith, ap length joined, length-append bytes text, ap length is.1, from) in
+      let ends_is : ends' ≡ ends_of 0 (ms ++ m ∷ []) =
+      added ∙ ap (λ (l : List ℕ). l ++ length bytes' ∷ []) run.ends_are ∙ ap (λ (n : ℕ). ends_of 0 ms ++ n ∷ []) end ∙ sym (ends_append 0 ms (m ∷ [])) in
+      record {
+        texts = subst (λ (l : List ℕ). AreTexts l (length ends')) (sym joined)
+            (subst (λ (n : ℕ). AreTexts (bytes ++ text) n) (sym (one_end_more ends ends' (length bytes') added)) (both bytes text (length ends) 1 run.texts (one_text text m is)));
+        ends_are = ends_is ∙ ap (ends_of 0) (sym sent_more);
+      }
+
+-- no text
+pub no_run : IsRun [] []
+no_run = record { texts = record { packets = []; each = tt; texts = refl; counted = refl }; ends_are = refl }
+
+-- the packet of a place is a right one
+pub right_at : (ms : List Message) (place : ℕ) (m : Message) → AllByRecursion IsPacket ms → slice_get ms place ≡ Some m → IsPacket m
+right_at [] place m each at = absurd cc
+right_at (x ∷ xs) zero m each at = let same : x ≡ m = cc in subst IsPacket same each.0
+right_at (x ∷ xs) (suc k) m each at = right_at xs k m each.1 at
+
+-- what was read is what there is
+pub run_again : (bytes ends : List ℕ) → IsRun bytes ends → (AllByRecursion IsPacket (packets_in (length ends) bytes)) × (bytes ≡ texts_of (packets_in (length ends) bytes)) × (length ends ≡ length (packets_in (length ends) bytes))
+run_again bytes ends run = again bytes (length ends) run.texts
 
 -- where a text ends
 pub ends_at : (from : ℕ) (ms : List Message) (place d : ℕ) (m : Message) (rest : List Message) → drop place ms ≡ m ∷ rest
@@ -167,16 +149,6 @@ from_start ms place n =
     let front = texts_of (take place ms) in
     let whole : texts_of ms ≡ front ++ texts_of (drop place ms) = ap texts_of (sym (take-append-drop place ms)) ∙ texts_append (take place ms) (drop place ms) in
     ap (drop (length front)) whole ∙ drop-append_seam front (texts_of (drop place ms)) ∙ ap texts_of n.rest
-
-pub get_front : (xs ys : List Message) (k : ℕ) → k < length xs → slice_get (xs ++ ys) k ≡ slice_get xs k
-get_front [] ys k less = absurd (omega (arith, less))
-get_front (x ∷ xs) ys zero less = refl
-get_front (x ∷ xs) ys (suc k) less = get_front xs ys k (omega (arith, less))
-
-pub get_rear : (xs ys : List Message) (k : ℕ) → length xs ≤ k → slice_get (xs ++ ys) k ≡ slice_get ys (k - length xs)
-get_rear [] ys k more = let e : k ≡ k - 0 = omega arith in ap (slice_get ys) e
-get_rear (x ∷ xs) ys zero more = absurd (omega (arith, more))
-get_rear (x ∷ xs) ys (suc k) more = let e : k - length xs ≡ suc k - suc (length xs) = omega arith in get_rear xs ys k (omega (arith, more)) ∙ ap (slice_get ys) e
 
 -- each packet has four bytes and more
 pub few_texts : (ms : List Message) → 4 * length ms ≤ length (texts_of ms)

@@ -1,4 +1,4 @@
-use Rattle.std.proofs.Common.{◌≡◌, [], ◌∷◌, ◌++◌, ap, ◌∙◌, append_assoc, append-nil, sym}
+use Rattle.std.proofs.Common.{◌≡◌, [], ◌∷◌, ◌++◌, ap, ◌∙◌, append_assoc, append-nil, sym, List}
 use Rattle.rp_base.specs.declared.record.Rec.TheVariants.{Learned}
 use Rattle.rp_model.specs.Learner.{asks_for, missing_position}
 use Rattle.rp_replica.specs.Applying.{learns_alone}

@@ -1,4 +1,4 @@
-use Rattle.std.proofs.Common.{[], ◌++◌, ap, sym, ◌∙◌, append-nil, ◌∷◌, append_assoc}
+use Rattle.std.proofs.Common.{[], ◌++◌, ap, sym, ◌∙◌, append-nil, ◌∷◌, append_assoc, List}
 use Rattle.rp_codec.specs.declared.packet.Body.TheVariants as bodies
 use Rattle.rp_model.specs.Says.{says_to_others}
 use Rattle.rp_replica.specs.Applying.{learns_alone}

@@ -1,7 +1,7 @@
 -- Texts that are joined, the packets that are read from them, and where each ends.
-use Rattle.std.proofs.Common.{◌≡◌, ℕ, zero, suc, ◌+◌, ◌*◌, ◌≤◌, ◌<◌, Some, get_or, List, [], ◌∷◌, ◌++◌, length, take, drop, ◌-◌, refl, sym, ap, subst, ◌∙◌, arith}
+use Rattle.std.proofs.Common.{◌≡◌, ℕ, zero, suc, ◌+◌, ◌*◌, ◌≤◌, ◌<◌, Option, Some, option_map, Bor, get_or, List, [], ◌∷◌, ◌++◌, length, take, drop, ◌-◌, refl, sym, ap, subst, ◌∙◌, arith}
 use Rattle.std.specs.List.{AllByRecursion}
-use Rattle.std.specs.Prelude.{slice_get}
+use Rattle.std.specs.Prelude.{slice_get, option_copied}
 use Rattle.std.proofs.lemmas.List.{append_assoc, append-nil, length-append, length-drop, drop-drop, take-append-drop}
 use Rattle.std.proofs.Math.Seq.{drop-append_seam, drop-nil, take-append_seam}
 use Rattle.rp_codec.specs.Message.{Message, IsPacket}
@@ -179,3 +179,10 @@ start_at ms (suc j) d each more less =
     let n = next_of ms j each (omega (arith, less)) in
     let e : suc j - 1 ≡ j = omega arith in
     ap (λ (k : ℕ). get_or (ends_of 0 ms) k d) e ∙ ends_at 0 ms j d n.m (drop (suc j) ms) n.rest ∙ (let f : (0 + length (texts_of (take j ms))) + length (text_of n.m) ≡ length (texts_of (take (suc j) ms)) = omega (arith, begins_at ms j n) in f)
+
+some_is : {A : Type 0} (x y : A) → (let o : Option A = Some x in let p : Option A = Some y in o ≡ p) → x ≡ y
+some_is {A = A} x y same = cc
+
+-- the text that was found is that of the packet there
+pub text_found_is : (o : Option (Bor (List ℕ))) (b : Bor (List ℕ)) (p : Option Message) (m : Message) → o ≡ Some b → option_copied o ≡ option_map text_of p → p ≡ Some m → b.now ≡ text_of m
+text_found_is o b p m same is here = some_is b.now (text_of m) (sym (ap option_copied same) ∙ is ∙ ap (option_map text_of) here)

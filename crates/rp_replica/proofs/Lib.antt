@@ -4,6 +4,7 @@ pub mod Answering
 pub mod Applied
 pub mod Queueing
 pub mod Joined
+pub mod Sending
 pub mod Promising
 pub mod Settling
 pub mod Starting

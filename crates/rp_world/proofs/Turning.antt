@@ -1,5 +1,5 @@
 -- What a replica's turn is for the node's part.
-use Rattle.std.proofs.Common.{◌≡◌, ℕ, Bool, true, false, if◌then◌else◌, Option, Some, None, Result, Ok, Err, List, [], ◌∷◌, ◌++◌, length, ◌⊎◌, inl, inr, refl, sym, ap, subst, ◌∙◌}
+use Rattle.std.proofs.Common.{◌≡◌, ◌<◌, ℕ, zero, suc, slice_get, arith, Bool, true, false, if◌then◌else◌, Option, Some, None, Result, Ok, Err, List, [], ◌∷◌, ◌++◌, length, ◌⊎◌, inl, inr, refl, sym, ap, subst, ◌∙◌}
 use Rattle.std.specs.Prelude.{nat_le, IfOk, IfErr, IsSome, OnErr}
 use Rattle.rp_base.specs.declared.action.Action.{Action}
 use Rattle.rp_base.specs.declared.config.Config.{Config}
@@ -16,7 +16,7 @@ use Rattle.rp_codec.proofs.RecordLaws.{has_latest}
 use Rattle.rp_store.proofs.Whole.{texts_end}
 use Rattle.rp_model.specs.Parts.{NodePart}
 use Rattle.rp_model.specs.Parts.{Turn, with_record}
-use Rattle.rp_model.specs.Effect.{Setting, Done, NodeInput, running_effect, turn_done, turn_done_if, node_effect, cut_part, stop_part}
+use Rattle.rp_model.specs.Effect.{Receive, Setting, Done, NodeInput, running_effect, turn_done, turn_done_if, node_effect, cut_part, stop_part}
 use Rattle.rp_model.specs.declared.effect.Dropped.{Dropped}
 use Rattle.rp_replica.specs.declared.sent.Sent.{Sent}
 use Rattle.rp_replica.specs.State.{ReplicaState, part_of, setting_of, with_text, after_turn}
@@ -214,17 +214,6 @@ pub unsent : {S : Type 0} (effect : Result Turn Fault) (old new : ReplicaState S
 unsent effect old new sent later (Ok dropped) turns = tt
 unsent effect old new sent later (Err fault) stops = stops.1
 
--- what is so of an answer for each input that is given
-on_each_ok : {A E B : Type 0} (answer : Result A E) (Given : NodeInput → Type 0) {Is : A → B → NodeInput → Type 0} → ((given : NodeInput) → Given given → IfOk answer (λ a. (b : B) → Is a b given))
-    → IfOk answer (λ a. (b : B) (given : NodeInput) → Given given → Is a b given)
-on_each_ok (Ok a) Given each = λ b given is. each given is b
-on_each_ok (Err e) Given each = tt
-
-on_each_err : {A E B : Type 0} (answer : Result A E) (Given : NodeInput → Type 0) {Is : E → B → NodeInput → Type 0} → ((given : NodeInput) → Given given → IfErr answer (λ e. (b : B) → Is e b given))
-    → IfErr answer (λ e. (b : B) (given : NodeInput) → Given given → Is e b given)
-on_each_err (Ok a) Given each = tt
-on_each_err (Err e) Given each = λ b given is. each given is b
-
 -- the same of an input that gives this to the node
 module _ {S : Type 0} (D P : Type 0) (next : S → Action → S) (answers : S → Action → List Answer) (disk : D → Disk) (old : ReplicaState S) (working : old.failed ≡ false) (input : Input) where
   abbrev was : Node S D P
@@ -233,15 +222,23 @@ module _ {S : Type 0} (D P : Type 0) (next : S → Action → S) (answers : S �
   same_input : (given : NodeInput) → given_by input ≡ Ok given → input_effect next answers old input ≡ effect_of next answers old given
   same_input given is = ap (effect_if_given next answers old) is
 
-  module _ (new : ReplicaState S) (sent later : List Message) (answer : Result Dropped Fault) (answered : AnswersOnto (input_effect next answers old input) old new sent later answer) where
-    so_given : (given : NodeInput) → given_by input ≡ Ok given → AnswersOnto (effect_of next answers old given) old new sent later answer
-    so_given given is = subst (λ (r : Result Turn Fault). AnswersOnto r old new sent later answer) (same_input given is) answered
+  so_given : (new : ReplicaState S) (sent later : List Message) (answer : Result Dropped Fault) → AnswersOnto (input_effect next answers old input) old new sent later answer → (given : NodeInput) → given_by input ≡ Ok given
+      → AnswersOnto (effect_of next answers old given) old new sent later answer
+  so_given new sent later answer answered given is = subst (λ (r : Result Turn Fault). AnswersOnto r old new sent later answer) (same_input given is) answered
 
-    pub turned_ok : IfOk answer (λ dropped. (member : Member S) (given : NodeInput) → given_by input ≡ Ok given → GoesBy disk member was (Running new) (node_step next answers member given) (DescribesSending sent later) dropped)
-    turned_ok = on_each_ok answer (λ given. given_by input ≡ Ok given) (λ given is. answered_ok D P next answers disk given old working new sent later answer (so_given given is))
+  pub turned_ok : (new : ReplicaState S) (sent later : List Message) (answer : Result Dropped Fault) → AnswersOnto (input_effect next answers old input) old new sent later answer
+      → IfOk answer (λ dropped. (member : Member S) (given : NodeInput) → given_by input ≡ Ok given → GoesBy disk member was (Running new) (node_step next answers member given) (DescribesSending sent later) dropped)
+  turned_ok new sent later (Ok dropped) answered = λ member given is.
+      let went : Result Dropped Fault = Ok dropped in
+      answered_ok D P next answers disk given old working new sent later went (so_given new sent later went answered given is) member
+  turned_ok new sent later (Err fault) answered = tt
 
-    pub turned_err : IfErr answer (λ fault. (member : Member S) (given : NodeInput) → given_by input ≡ Ok given → NotTaken disk member was (Running new) (node_step next answers member given) fault)
-    turned_err = on_each_err answer (λ given. given_by input ≡ Ok given) (λ given is. answered_err D P next answers disk given old working new sent later answer (so_given given is))
+  pub turned_err : (new : ReplicaState S) (sent later : List Message) (answer : Result Dropped Fault) → AnswersOnto (input_effect next answers old input) old new sent later answer
+      → IfErr answer (λ fault. (member : Member S) (given : NodeInput) → given_by input ≡ Ok given → NotTaken disk member was (Running new) (node_step next answers member given) fault)
+  turned_err new sent later (Ok dropped) answered = tt
+  turned_err new sent later (Err fault) answered = λ member given is.
+      let went : Result Dropped Fault = Err fault in
+      answered_err D P next answers disk given old working new sent later went (so_given new sent later went answered given is) member
 
   -- a step that was cut, or was not
   pub is_cut_so : (kept : ℕ) (device : D) → CutsIf (input_effect next answers old input) kept old (disk device)
@@ -260,3 +257,25 @@ module _ {S : Type 0} (D P : Type 0) (next : S → Action → S) (answers : S �
   refused_in_cut fault new stops member given gives part represents_now =
       refused_cut D P next answers disk given old working member part represents_now (effect_of next answers old given) refl fault new
       (subst (λ (r : Result Turn Fault). IsNotCutIf disk r old (let n : NotCut S D P = Refused fault new in n)) (same_input given gives) stops)
+
+-- a message that was sent is at each place below the last
+pub got_at : (ms : List Message) (place : ℕ) → place < length ms → (m : Message) × (slice_get ms place ≡ Some m)
+got_at [] place less = absurd (omega (arith, less))
+got_at (m ∷ ms) zero less = (m, refl)
+got_at (m ∷ ms) (suc k) less = got_at ms k (omega (arith, less))
+
+-- the same of the packet of a place among those that were sent
+module _ {S : Type 0} (D P : Type 0) (next : S → Action → S) (answers : S → Action → List Answer) (disk : D → Disk) (old : ReplicaState S) (working : old.failed ≡ false) (new : ReplicaState S) (sent later : List Message) (place : ℕ) where
+  -- what was answered to each packet that is there
+  abbrev pub EachHeard : Result Dropped Fault → Type 0
+  EachHeard answer = (m : Message) → slice_get sent place ≡ Some m → AnswersOnto (effect_of next answers old (Receive m)) old new sent later answer
+
+  pub heard_ok : (answer : Result Dropped Fault) → EachHeard answer
+      → IfOk answer (λ dropped. (member : Member S) (m : Message) → slice_get sent place ≡ Some m → GoesBy {D = D} {P = P} disk member (Running old) (Running new) (node_step next answers member (Receive m)) (DescribesSending sent later) dropped)
+  heard_ok (Ok dropped) each = λ member m at. let went : Result Dropped Fault = Ok dropped in answered_ok D P next answers disk (Receive m) old working new sent later went (each m at) member
+  heard_ok (Err fault) each = tt
+
+  pub heard_err : (answer : Result Dropped Fault) → EachHeard answer
+      → IfErr answer (λ fault. (member : Member S) (m : Message) → slice_get sent place ≡ Some m → NotTaken {D = D} {P = P} disk member (Running old) (Running new) (node_step next answers member (Receive m)) fault)
+  heard_err (Ok dropped) each = tt
+  heard_err (Err fault) each = λ member m at. let went : Result Dropped Fault = Err fault in answered_err D P next answers disk (Receive m) old working new sent later went (each m at) member

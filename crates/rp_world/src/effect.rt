@@ -1,6 +1,6 @@
 //! The result of an event, as a step returns it.
 
-ghost use Rattle.std.specs.Prelude.{◌≡◌, ◌-◌, ◌^◌, min, None};
+ghost use Rattle.std.specs.Prelude.{◌≡◌, ◌≤◌, ◌+◌, ◌-◌, ◌^◌, min, None};
 ghost use Rattle.rp_model.specs.declared.effect.Dropped.TheVariants.{No};
 
 use rp_base::{Answer, Fault};

@@ -1,7 +1,8 @@
 //! A node: a replica that runs, or a device that rests.
 
-ghost use Rattle.std.specs.Prelude.{◌≡◌, ◌≢◌, ◌⊎◌, ◌≤◌, ℕ, [], false, min, Ok, Some, None, IfOk, IfErr, IfSome, IfNone, IsErrOf, IsSome, IsTrue};
+ghost use Rattle.std.specs.Prelude.{◌≡◌, ◌⊎◌, ◌≤◌, ◌<◌, ℕ, [], false, min, length, slice_get, Ok, Some, None, IfOk, IfErr, IfSome, IfNone, OnErr, IsErrOf, IsSome, IsTrue};
 ghost use Rattle.rp_base.specs.Config.{IsRightConfig};
+ghost use Rattle.rp_codec.specs.Message.{Message};
 ghost use Rattle.rp_replica.specs.Inputs.{IsRightInput, given_by};
 ghost use Rattle.rp_base.specs.declared.fault.Fault.TheVariants as faults;
 ghost use Rattle.rp_model.specs.Effect.{NodeInput, stop_effect, restart_part};

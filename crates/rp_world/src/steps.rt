@@ -340,7 +340,6 @@ impl<M: Machine, D: CutDevice> World<M, D> {
         node: NodeId,
         effect: &mut Effect,
     ) -> Result<(), Fault>
-        requires ranged { IsRangedWorld self.old.config.nodes self.old.world }
         requires to { (m : Message) × (part_at self.old.world.sent number ≡ Some m)
             × (m.to ≡ Node node) }
         ensures answer { let setting = setting_of M.next M.answers M.begin self.old in
@@ -355,8 +354,6 @@ impl<M: Machine, D: CutDevice> World<M, D> {
             Counts (IsSome (delivery_writes setting self.old.world message)) (receiver_of message)
             self.old.failures self.new.failures result }
     {
-        events_keep_ranges::<M>();
-        texts_are_packets();
         let first = self.messages() + 1;
         let Some(node) = self.nodes.get_mut(usize::from(node.get()) - 1) else {
             *effect = no_effect(first);

@@ -1,14 +1,13 @@
 -- The result of a step of a node, or of a task, in the world.
-use Rattle.std.proofs.Common.{◌≡◌, ℕ, suc, ◌+◌, ◌-◌, ◌^◌, ◌≤◌, min, Some, None, Result, Ok, Err, List, ◌++◌, length, slice_get, slice_set, refl, sym, ap, subst, ◌∙◌, arith}
+use Rattle.std.proofs.Common.{◌≡◌, ℕ, suc, ◌+◌, ◌-◌, ◌^◌, ◌≤◌, min, Some, None, Result, Ok, Err, List, length, slice_get, slice_set, refl, sym, ap, subst, ◌∙◌, arith}
 use Rattle.std.specs.Prelude.{OnOk, IsErrAnd, is_err, false}
 use Rattle.rp_base.specs.declared.action.Action.{Action}
 use Rattle.rp_base.specs.declared.reply.Answer.{Answer}
 use Rattle.rp_base.specs.declared.config.Config.{Config}
 use Rattle.rp_base.specs.declared.fault.Fault.{Fault}
-use Rattle.rp_codec.specs.Message.{Message}
 use Rattle.rp_store.specs.Disk.{Disk}
 use Rattle.rp_model.specs.declared.effect.Effect.{Effect}
-use Rattle.rp_model.specs.Effect.{Setting, Done, NodeInput, node_effect, cut_if}
+use Rattle.rp_model.specs.Effect.{Setting, NodeInput, node_effect, cut_if}
 use Rattle.rp_model.specs.Parts.{NodePart}
 use Rattle.rp_model.specs.World.{World, Transition, part_at, node_takes, node_is_cut, node_done, node_done_if}
 use Rattle.rp_model.specs.declared.effect.Dropped.{Dropped}

@@ -1,4 +1,4 @@
-use Rattle.std.proofs.Common.{◌≡◌, ℕ, suc, ◌+◌, ◌-◌, ◌<◌, Result, Ok, Err, List, Some, None, [], length, map, slice_set, inl, refl, sym, ap, subst, ◌∙◌, arith}
+use Rattle.std.proofs.Common.{◌≡◌, ℕ, suc, ◌+◌, ◌-◌, ◌<◌, Result, List, Some, None, [], length, map, slice_set, inl, refl, sym, ap, subst, ◌∙◌, arith}
 use Rattle.std.specs.Prelude.{IsSome}
 use Rattle.rp_base.specs.declared.action.Action.{Action}
 use Rattle.rp_base.specs.declared.fault.Fault.{Fault}
@@ -138,9 +138,14 @@ of_step-requires-clause-below g c =
     let here = here_of nodes i n (omega (arith, c.in-Some.ensures.variant.0 refl, inside.nodes.ok.0)) c.in-Some.ensures.value in
     let new = c.turn.new.self in
     let given = c.requires.given in
-    omega (arith, c.messages-first.ensures.value, ap (λ v. length v.world.sent) c.self.view_is, c.messages.ensures.value,
+    omega (
+      arith,
+      c.messages-first.ensures.value,
+      ap (λ v. length v.world.sent) c.self.view_is,
+      c.messages.ensures.value,
       sent_more disk inside.config begin nodes inside.tasks.items inside.messages c.self.invariant i me placed n here new m.next m.answers given.0 c.in_ok-dropped.dropped c.turn.new.messages
-      (c.in_ok-dropped.ensures.ok (member_of me inside.config begin) given.0 given.1))
+          (c.in_ok-dropped.ensures.ok (member_of me inside.config begin) given.0 given.1),
+    )
 
 pub returns-clause-answer : goal.returns-clause-answer
 returns-clause-answer g c = λ given gives.
@@ -157,7 +162,7 @@ returns-clause-answer g c = λ given gives.
     let new = c.turn.new.self in
     let first_is = c.messages-first.ensures.value ∙ ap (λ v. length v.world.sent) (sym c.self.view_is) in
     let counts_are = ap (λ (k : ℕ). stated_sent (k + 1) c.messages.result c.in_ok-dropped.dropped) first_is
-      ∙ ap (λ (k : ℕ). stated_sent (length inside.messages.sent + 1) k c.in_ok-dropped.dropped) c.messages.ensures.value in
+    ∙ ap (λ (k : ℕ). stated_sent (length inside.messages.sent + 1) k c.in_ok-dropped.dropped) c.messages.ensures.value in
     let stated = c.of_step.ensures ∙ counts_are in
     subst (WentOn m.next m.answers m.begin me given (world_of disk inside.config.max_positions (slice_set nodes i new) inside.tasks.items c.turn.new.messages) c.of_step.result) c.self.view_is
     (given_ok disk inside.config begin nodes inside.tasks.items inside.messages c.self.invariant i me placed n here new m.next m.answers given c.in_ok-dropped.dropped c.turn.new.messages

@@ -1,4 +1,4 @@
-use Rattle.std.proofs.Common.{◌≡◌, ℕ, suc, ◌+◌, ◌-◌, ◌<◌, Result, Ok, Err, List, Some, None, length, map, slice_set, refl, sym, ap, subst, ◌∙◌, arith}
+use Rattle.std.proofs.Common.{◌≡◌, ℕ, suc, ◌+◌, ◌-◌, ◌<◌, Result, List, Some, None, length, map, slice_set, refl, sym, ap, subst, ◌∙◌, arith}
 use Rattle.std.specs.Prelude.{IsSome, IsTrue}
 use Rattle.rp_base.specs.declared.action.Action.{Action}
 use Rattle.rp_base.specs.declared.fault.Fault.{Fault}
@@ -230,8 +230,13 @@ of_step-requires-clause-below g c =
     let here = here_of nodes i n (omega (arith, c.in-Some.ensures.variant.0 refl, inside.nodes.ok.0)) c.in-Some.ensures.value in
     let new = c.hear.new.self in
     let at = at_place messages.sent c.args.number packet sent in
-    omega (arith, c.messages-first.ensures.value, ap (λ v. length v.world.sent) c.self.view_is, c.messages.ensures.value,
-      sent_more disk inside.config begin nodes tasks messages c.self.invariant i me placed n here new m.next m.answers (Receive packet) c.in_ok-dropped.dropped c.hear.new.messages (c.in_ok-dropped.ensures.ok member packet at))
+    omega (
+      arith,
+      c.messages-first.ensures.value,
+      ap (λ v. length v.world.sent) c.self.view_is,
+      c.messages.ensures.value,
+      sent_more disk inside.config begin nodes tasks messages c.self.invariant i me placed n here new m.next m.answers (Receive packet) c.in_ok-dropped.dropped c.hear.new.messages (c.in_ok-dropped.ensures.ok member packet at),
+    )
 
 pub returns-clause-answer : goal.returns-clause-answer
 returns-clause-answer g c =
@@ -262,7 +267,7 @@ returns-clause-answer g c =
     let at = at_place messages.sent c.args.number packet sent in
     let later = world_of disk inside.config.max_positions (slice_set nodes i new) tasks c.hear.new.messages in
     let counts_are = ap (λ (k : ℕ). stated_sent (k + 1) c.messages.result c.in_ok-dropped.dropped) first_is
-      ∙ ap (λ (k : ℕ). stated_sent (length messages.sent + 1) k c.in_ok-dropped.dropped) c.messages.ensures.value in
+    ∙ ap (λ (k : ℕ). stated_sent (length messages.sent + 1) k c.in_ok-dropped.dropped) c.messages.ensures.value in
     subst (WentOn m.next m.answers m.begin c.args.number later c.of_step.result) c.self.view_is
     (turned disk inside.config begin nodes tasks messages c.self.invariant i me placed n here new m.next m.answers (Receive packet)
     c.in_ok-dropped.dropped c.hear.new.messages (c.in_ok-dropped.ensures.ok member packet at) _ (heard_running s w me c.args.number packet sent to part part_is runs) c.of_step.result (c.of_step.ensures ∙ counts_are))

@@ -1,4 +1,3 @@
-use Rattle.std.proofs.Common.{option_map, ◌∙◌}
 use Rattle.rp_model.specs.World.{part_at}
 use Rattle.rp_world.proofs.Hearing.{has_at, message_found, to_whom}
 use Rattle.rp_world.proofs.world.World.receiver_of.Goals as goal

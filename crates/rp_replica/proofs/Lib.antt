@@ -3,6 +3,8 @@ pub mod Keeping
 pub mod Answering
 pub mod Applied
 pub mod Queueing
+pub mod Joined
+pub mod Sending
 pub mod Promising
 pub mod Settling
 pub mod Starting

@@ -1,6 +1,6 @@
 -- What a plan writes, and what is left where it is not committed.
 use Rattle.std.proofs.Common.{◌≡◌, Bool, true, false, cond, Option, None, List, refl, sym, subst}
-use Rattle.std.specs.Prelude.{Result, Ok, Err, IfErr, IfOk, filter, not}
+use Rattle.std.specs.Prelude.{Result, Ok, Err, IfErr, IfOk, OnErr, filter, not}
 use Rattle.rp_base.specs.declared.action.Action.{Action}
 use Rattle.rp_base.specs.declared.fault.Fault.{Fault}
 use Rattle.rp_base.specs.declared.record.Rec.{Rec}
@@ -13,7 +13,10 @@ use Rattle.rp_replica.specs.declared.plan.Plan.{Plan}
 use Rattle.rp_replica.specs.declared.plan.Plan.TheVariants.{Pass, Promise, PromiseRange, Vote, Repeat, Refuse, Inform, Answer as Reply, Await, Lead, LeadRange, OfferPrepared, Count, CountRange, Offer, Yield, Hear, Learn, Follow, Report}
 use Rattle.rp_replica.specs.State.{ReplicaState}
 use Rattle.rp_replica.specs.Plans.{turn_of, written_by}
-use Rattle.rp_replica.specs.Turning.{Stops, StopsIf}
+use Rattle.rp_codec.specs.Message.{Message}
+use Rattle.rp_model.specs.declared.effect.Dropped.{Dropped}
+use Rattle.rp_replica.specs.Committing.{Commits}
+use Rattle.rp_replica.specs.Turning.{Stops, StopsIf, TurnsOnto, AnswersOnto}
 
 module _ {S : Type 0} (next : S → Action → S) (answers : S → Action → List Answer) (replica : ReplicaState S) where
   plan_writes : (plan : Plan) → (turn_of next answers replica plan).written ≡ written_by plan
@@ -49,3 +52,10 @@ module _ {S : Type 0} (next : S → Action → S) (answers : S → Action → Li
       → Stops (written_by plan) replica new fault → StopsIf effect replica new fault
   stops_plan effect plan new fault same stops =
       subst (λ (e : Result Turn Fault). StopsIf e replica new fault) same (subst (λ (w : Option Rec). Stops w replica new fault) (sym (plan_writes plan)) stops)
+
+  -- a plan that was committed after others, or was not
+  pub planned : (effect : Result Turn Fault) (plan : Plan) (new : ReplicaState S) (before after : List Message) (answer : Result Dropped Fault) → Ok (turn_of next answers replica plan) ≡ effect → replica.failed ≡ false
+      → IfOk answer (λ dropped. Commits (turn_of next answers replica plan) replica new before after dropped) → IfErr answer (λ fault. Stops (written_by plan) replica new fault) → OnErr answer (after ≡ before)
+      → AnswersOnto effect replica new before after answer
+  planned effect plan new before after (Ok dropped) same working commits stops unsent = subst (λ (e : Result Turn Fault). TurnsOnto e replica new before after dropped) same (commits, working)
+  planned effect plan new before after (Err fault) same working commits stops unsent = (stops_plan effect plan new fault same stops, unsent)

@@ -11,7 +11,7 @@ use Rattle.rp_model.specs.Learner.{learns}
 use Rattle.rp_model.specs.Pending.{replies_to}
 use Rattle.rp_model.specs.Says.{says_to_others}
 use Rattle.rp_replica.specs.State.{ReplicaState}
-use Rattle.rp_replica.specs.Packets.{Sending, IsFilled}
+use Rattle.rp_replica.specs.Packets.{Sending, longest_text}
 
 -- the packets that go before the replies: the other nodes are informed where this one informs them
 abbrev pub decided_packets : ℕ → ℕ → ℕ → Action → Bool → List Message
@@ -37,4 +37,4 @@ module _ {S : Type 0} (next : S → Action → S) (answers : S → Action → Li
     pub applies : AppliesMore before after old new more
     pub sent : said.sent ≡ out.sent ++ replies_to me pending more
     pub few : length (replies_to me pending more) ≤ length pending
-    pub room : IsFilled (length (replies_to me pending more)) out said
+    pub room : out.room ≤ said.room + longest_text * length (replies_to me pending more)

@@ -1,5 +1,5 @@
--- Packets that were sent, as their texts in one run of bytes.
-use Rattle.std.specs.Prelude.{◌≡◌, ℕ, zero, suc, ◌+◌, ◌*◌, ◌≤◌, Ok, Err, List, [], ◌∷◌, ◌++◌, length}
+-- Packets that are sent, as memory holds them: their texts in one run of bytes, and the place where each ends.
+use Rattle.std.specs.Prelude.{◌≡◌, ℕ, zero, suc, ◌+◌, Ok, Err, List, [], ◌∷◌, ◌++◌, length}
 use Rattle.std.specs.List.{AllByRecursion}
 use Rattle.rp_codec.specs.Message.{Message, IsPacket}
 use Rattle.rp_codec.specs.Reading.{Read, packet_at}
@@ -25,29 +25,29 @@ abbrev pub packets_in : ℕ → List ℕ → List Message
 packets_in zero bytes = []
 packets_in (suc count) bytes = with_rest (packet_at bytes) (λ rest. packets_in count rest)
 
--- the bytes are the texts of packets, joined, and these are the places where each ends
-pub record IsRun (bytes ends : List ℕ) : Type 0 where
+-- the bytes are the text of this packet
+abbrev pub IsTextOf : List ℕ → Message → Type 0
+IsTextOf bytes m = IsPacket m × (bytes ≡ text_of m)
+
+-- the bytes are the texts of n packets, joined
+pub record AreTexts (bytes : List ℕ) (count : ℕ) : Type 0 where
   pub packets : List Message
   pub each : AllByRecursion IsPacket packets
   pub texts : bytes ≡ texts_of packets
-  pub ends_are : ends ≡ ends_of 0 packets
+  pub counted : count ≡ length packets
 
--- the packets that were sent, in order, and for how many bytes and packets more there is room
+-- the bytes are the texts of packets, and these are the places where they end
+pub record IsRun (bytes ends : List ℕ) : Type 0 where
+  pub texts : AreTexts bytes (length ends)
+  pub ends_are : ends ≡ ends_of 0 (packets_in (length ends) bytes)
+
+-- Packets that are sent, in order; for how many bytes of packets that take no memory there is room, and for how many
+-- of one more packet.
 pub record Sending : Type 0 where
   pub sent : List Message
   pub room : ℕ
-  pub places : ℕ
+  pub room_for_one : ℕ
 
 -- how many bytes the text of a packet has at most, if it takes no memory
 abbrev pub longest_text : ℕ
 longest_text = 40
-
--- there is room for n packets more that take no memory
-pub record HasRoomFor (count : ℕ) (out : Sending) : Type 0 where
-  pub bytes : longest_text * count ≤ out.room
-  pub of_ends : count ≤ out.places
-
--- of the room that there was, that of n packets at most is taken
-pub record IsFilled (count : ℕ) (before after : Sending) : Type 0 where
-  pub bytes : before.room ≤ after.room + longest_text * count
-  pub of_ends : before.places ≤ after.places + count

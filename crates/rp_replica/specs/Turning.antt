@@ -8,6 +8,9 @@ use Rattle.rp_base.specs.declared.record.Rec.{Rec}
 use Rattle.rp_codec.specs.Record.{record_text}
 use Rattle.rp_store.specs.Disk.{AppendFailed}
 use Rattle.rp_model.specs.Parts.{Turn}
+use Rattle.rp_codec.specs.Message.{Message}
+use Rattle.rp_model.specs.declared.effect.Dropped.{Dropped}
+use Rattle.rp_replica.specs.Committing.{Commits}
 use Rattle.rp_replica.specs.declared.sent.Sent.{Sent}
 use Rattle.rp_replica.specs.Packets.{texts_of}
 use Rattle.rp_model.specs.Effect.{NodeInput, running_effect}
@@ -58,14 +61,18 @@ abbrev pub Answers : {S : Type 0} → Result Turn Fault → ReplicaState S → R
 Answers effect old new (Ok sent) = TurnsIf effect old new sent
 Answers effect old new (Err fault) = StopsIf effect old new fault
 
--- The same, where the packets are put after others: its turn took effect, and its packets are after these; or it did
--- not take effect, for this reason, and no packet was added.
-abbrev pub Turned : {S : Type 0} → Result Turn Fault → ReplicaState S → ReplicaState S
-    → List Message → List Message → Result Dropped Fault → Type 0
-Turned (Ok turn) old new before after (Ok dropped) =
+-- it took effect, and its packets are after those that were sent before
+abbrev pub TurnsOnto : {S : Type 0} → Result Turn Fault → ReplicaState S → ReplicaState S → List Message → List Message
+    → Dropped → Type 0
+TurnsOnto (Ok turn) old new before after dropped =
     Commits turn old new before after × (dropped ≡ turn.dropped) × (old.failed ≡ false)
-Turned (Err refusal) old new before after (Ok dropped) = ⊥
-Turned effect old new before after (Err fault) = StopsIf effect old new fault × (after ≡ before)
+TurnsOnto (Err refusal) old new before after dropped = ⊥
+
+-- The same result, where the packets are put after others: if it did not take effect, none is.
+abbrev pub AnswersOnto : {S : Type 0} → Result Turn Fault → ReplicaState S → ReplicaState S → List Message
+    → List Message → Result Dropped Fault → Type 0
+AnswersOnto effect old new before after (Ok dropped) = TurnsOnto effect old new before after dropped
+AnswersOnto effect old new before after (Err fault) = StopsIf effect old new fault × (after ≡ before)
 
 -- the result of an input for a replica, or its refusal
 abbrev pub effect_of : {S : Type 0} → (S → Action → S) → (S → Action → List Answer) → ReplicaState S → NodeInput

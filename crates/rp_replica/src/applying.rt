@@ -1,6 +1,6 @@
 //! What is learned is applied in order, and answered (Lamport, "Paxos Made Simple", section 3).
 
-ghost use Rattle.std.specs.Prelude.{◌≡◌, ℕ, suc, ◌+◌, ◌*◌, ◌<◌, ◌≤◌, Some, None, IfSome, IfNone, length, map};
+ghost use Rattle.std.specs.Prelude.{◌≡◌, ℕ, suc, ◌+◌, ◌*◌, ◌<◌, ◌≤◌, ◌++◌, Some, None, IfSome, IfNone, length, map};
 ghost use Rattle.rp_base.specs.Action.{IsRight};
 ghost use Rattle.rp_base.specs.Sets.{IsSet};
 ghost use Rattle.rp_base.specs.declared.action.Action.{Action};
@@ -9,10 +9,10 @@ ghost use Rattle.rp_machine.specs.Calls.{call_of};
 ghost use Rattle.rp_machine.specs.Numbered.{outcome};
 ghost use Rattle.rp_model.specs.Pending.{replies_to};
 ghost use Rattle.rp_replica.specs.Applying.{AppliesMore, HasReplied};
-ghost use Rattle.rp_replica.specs.Packets.{longest_text, with_packets};
+ghost use Rattle.rp_replica.specs.Packets.{longest_text};
 
+use crate::outbox::Outbox;
 use crate::pending::Pending;
-use crate::sent::Outbox;
 use rp_base::{Action, Answer, Answers, NodeId};
 use rp_log::Log;
 use rp_machine::{Machine, Numbered};
@@ -67,7 +67,7 @@ pub(crate) fn apply_and_reply<M: Machine>(
 )
     requires right { (i : ℕ) (v : Action) → action_at log.old i ≡ Some v → IsRight v }
     requires taken { machine.old.actions ≡ log.old.taken }
-    requires room { HasRoomFor (length pending.now) out.old }
+    requires room { longest_text * length pending.now ≤ out.old.room }
     ensures replied { HasReplied M.next M.answers me pending.now
         log.old log.new machine.old machine.new out.old out.new }
     ensures none { action_at log.new (next_to_take log.new) ≡ None }
@@ -83,9 +83,11 @@ pub(crate) fn apply_and_reply<M: Machine>(
 /// Pushes a reply for each of the answers whose call is pending.
 #[inline(always)]
 fn reply_to(me: NodeId, pending: &Pending, answers: &[Answer], out: &mut Outbox)
-    requires { HasRoomFor (length (replies_to me pending.now answers.now)) out.old }
-    ensures sent { out.new.sent ≡ out.old.sent ++ replies_to me pending.now answers.now }
-    ensures room { IsFilled (length (replies_to me pending.now answers.now)) out.old out.new }
+    requires { longest_text * length (replies_to me pending.now answers.now) ≤ out.old.room }
+    ensures sent { out.new.sent
+        ≡ out.old.sent ++ replies_to me pending.now answers.now }
+    ensures room { out.old.room
+        ≤ out.new.room + longest_text * length (replies_to me pending.now answers.now) }
 {
     for answer in answers {
         if pending.awaits(answer) {

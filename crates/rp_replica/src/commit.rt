@@ -14,14 +14,13 @@ ghost use Rattle.rp_model.specs.Pending.{most_pending};
 ghost use Rattle.rp_model.specs.Says.{says, says_to_task, notes, sends, writes};
 ghost use Rattle.rp_replica.specs.Committing.{Commits};
 ghost use Rattle.rp_replica.specs.State.{after_turn};
-ghost use Rattle.rp_replica.specs.Packets.{with_packet};
 ghost use Rattle.rp_replica.specs.Plans.{turn_of, written_by, MayCommit, OnlySends};
 ghost use Rattle.rp_replica.specs.Invariant.{IsAnswer};
 ghost use Rattle.rp_replica.specs.Turning.{Stops};
 
+use crate::outbox::Outbox;
 use crate::plan::Plan;
 use crate::replica::{Replica, write};
-use crate::sent::Outbox;
 use rp_base::{Action, Answer, Ballot, NodeId, Position, Rec, Reply, TaskId, Vote, WriteFault};
 use rp_codec::{Body, Place};
 use rp_machine::Machine;

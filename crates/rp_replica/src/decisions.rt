@@ -9,12 +9,12 @@ ghost use Rattle.rp_model.specs.Learner.{learns, missing_position, asks_for};
 ghost use Rattle.rp_model.specs.Says.{says_to_others, notes};
 ghost use Rattle.rp_replica.specs.Committing.{Commits};
 ghost use Rattle.rp_replica.specs.State.{after_turn};
-ghost use Rattle.rp_replica.specs.Packets.{longest_text, with_packets};
+ghost use Rattle.rp_replica.specs.Packets.{longest_text};
 ghost use Rattle.rp_replica.specs.Plans.{MayHear, MayLearn, once_heard};
 ghost use Rattle.rp_replica.specs.Turning.{Stops};
 
+use crate::outbox::Outbox;
 use crate::replica::Replica;
-use crate::sent::Outbox;
 use rp_base::{Action, NodeId, Position, Vote, WriteFault};
 use rp_codec::Body;
 use rp_machine::Machine;
@@ -98,8 +98,8 @@ impl<M: Machine, D: Device> Replica<M, D> {
     /// Makes room for a packet to each node, a reply to each pending call, and one packet more.
     fn reserve_replies(&self, out: &mut Outbox) -> Result<(), WriteFault>
         ensures sent { out.new.sent ≡ out.old.sent }
-        ensures room { OnOk result (HasRoomFor
-            (self.now.config.nodes + length self.now.running.pending + 1) out.new) }
+        ensures room { OnOk result (longest_text
+            * (self.now.config.nodes + length self.now.running.pending + 1) ≤ out.new.room) }
         ensures only { IsOkUnless result faults.OutOfMemory }
     {
         Ok(out.reserve(usize::from(self.config.nodes) + self.pending.len() + 1)?)
@@ -107,7 +107,7 @@ impl<M: Machine, D: Device> Replica<M, D> {
 
     /// Where a position is missing below a learned one, the node is asked for it.
     fn ask_for_missing(&self, from: NodeId, out: &mut Outbox)
-        requires { HasRoomFor 1 out.old }
+        requires { longest_text ≤ out.old.room }
         ensures { out.new.sent ≡ out.old.sent
             ++ asks_for self.now.me from (missing_position self.now.records) }
     {

@@ -7,12 +7,12 @@ ghost use Rattle.rp_base.specs.declared.record.Rec.TheVariants.{Learned};
 ghost use Rattle.rp_model.specs.Learner.{missing_position};
 ghost use Rattle.rp_replica.specs.Applying.{learns_alone, decided_packets};
 ghost use Rattle.rp_replica.specs.State.{after_turn};
-ghost use Rattle.rp_replica.specs.Packets.{longest_text, with_packets};
+ghost use Rattle.rp_replica.specs.Packets.{longest_text};
 ghost use Rattle.rp_replica.specs.Turning.{Stops};
 
 use crate::applying::apply_and_reply;
+use crate::outbox::Outbox;
 use crate::replica::{Replica, write};
-use crate::sent::Outbox;
 use crate::window::follow;
 use rp_base::{Action, Position, Rec, WriteFault};
 use rp_codec::SentDecision;
@@ -34,15 +34,15 @@ impl<M: Machine, D: Device> Replica<M, D> {
         requires working { self.old.failed ≡ false }
         requires place { position ≤ self.old.config.max_positions }
         requires right { IsRight action.now }
-        requires room { HasRoomFor
-            (self.old.config.nodes + length self.old.running.pending) out.old }
+        requires room { longest_text
+            * (self.old.config.nodes + length self.old.running.pending) ≤ out.old.room }
         ensures learned { OnOk result (self.new ≡ after_turn self.old
             (learns_alone M.next M.answers self.old position action.now)) }
         ensures replied { OnOk result (out.new.sent ≡ out.old.sent
-            ++ decided_packets self.old.config.nodes self.old.me position action.now announces
-            ++ (learns_alone M.next M.answers self.old position action.now).sent) }
-        ensures room { OnOk result (IsFilled
-            (self.old.config.nodes + length self.old.running.pending) out.old out.new) }
+            ++ (decided_packets self.old.config.nodes self.old.me position action.now announces
+            ++ (learns_alone M.next M.answers self.old position action.now).sent)) }
+        ensures room { OnOk result (out.old.room ≤ out.new.room
+            + longest_text * (self.old.config.nodes + length self.old.running.pending)) }
         ensures unsent { OnErr result (out.new.sent ≡ out.old.sent) }
         ensures err { IfErr result (λ fault.
             Stops (Some (Learned position action.now)) self.old self.new fault) }

@@ -18,7 +18,7 @@
 //!   answered; the learner's window, which follows the log; the items that wait to be proposed
 //! - `cut`: a node that stops within a step
 //! - `heard`: the votes that were heard, which memory does not hold
-//! - `sent`: packets that were sent, as their texts in one run of bytes
+//! - `outbox`, `sent`: the packets that are sent, in one run of bytes; what a step sends
 //! - `infallible`: what a replica's device holds
 //! - `laws`: how the calls are related to the definitions of worlds
 #![tactic(auto)]
@@ -38,6 +38,7 @@ mod leader;
 mod learner;
 mod learning;
 mod opening;
+mod outbox;
 mod own_action;
 mod pending;
 mod plan;
@@ -56,5 +57,6 @@ pub use cut::NotCut;
 pub use input::Input;
 pub use laws::{opening_is_a_restart, texts_are_packets, turns_are_effects};
 pub use opening::Opening;
+pub use outbox::Outbox;
 pub use replica::Replica;
-pub use sent::{Outbox, Sent};
+pub use sent::Sent;

@@ -14,9 +14,9 @@ ghost use Rattle.rp_replica.specs.Plans.{MayBegin, MayBeginRange, MayCount, MayC
 ghost use Rattle.rp_replica.specs.Proposed.{started_running, offered_running};
 ghost use Rattle.rp_replica.specs.Turning.{Stops};
 
+use crate::outbox::Outbox;
 use crate::plan::{CountedPromise, CountedRange};
 use crate::replica::{Replica, write};
-use crate::sent::Outbox;
 use rp_base::{Action, Ballot, Position, PositionRange, Rec, WriteFault};
 use rp_codec::Body;
 use rp_machine::Machine;

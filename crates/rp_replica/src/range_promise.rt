@@ -3,16 +3,16 @@
 ghost use Rattle.std.specs.Prelude.{◌≡◌, [], ◌∷◌, Some, OnOk, OnErr, IfErr, IfOk, false};
 ghost use Rattle.rp_base.specs.PlacedVotes.{last_votes};
 ghost use Rattle.rp_base.specs.declared.record.Rec.TheVariants.{PromisedRange};
-ghost use Rattle.rp_codec.specs.Text.{text_of};
 ghost use Rattle.rp_codec.specs.declared.packet.Body.TheVariants as bodies;
 ghost use Rattle.rp_model.specs.Says.{says, writes};
 ghost use Rattle.rp_replica.specs.Committing.{Commits};
+ghost use Rattle.rp_replica.specs.Packets.{IsTextOf};
 ghost use Rattle.rp_replica.specs.Plans.{MayPromiseRange};
 ghost use Rattle.rp_replica.specs.Turning.{Stops};
 
+use crate::outbox::Outbox;
 use crate::plan::RangePromise;
 use crate::replica::Replica;
-use crate::sent::Outbox;
 use rp_base::{Rec, WriteFault};
 use rp_codec::{Body, Packet, Party, Votes, encode};
 use rp_machine::Machine;
@@ -44,7 +44,7 @@ impl<M: Machine, D: Device> Replica<M, D> {
         ensures unsent { OnErr result (out.new.sent ≡ out.old.sent) }
     {
         let text = self.promise_text(alloc, promise)?;
-        out.make_room(1, text.len())?;
+        out.reserve_one(text.len())?;
         self.keep(&Rec::PromisedRange(promise.range, promise.ballot))?;
         out.put_text(&text);
         Ok(())
@@ -53,7 +53,7 @@ impl<M: Machine, D: Device> Replica<M, D> {
     /// The text of a promise for a range, with the last votes of the range.
     fn promise_text(&self, alloc: Global, promise: &RangePromise) -> Result<Vec<u8>, AllocError>
         requires may { MayPromiseRange self.now promise.now }
-        ensures { IfOk result (λ text. text.items ≡ text_of (says self.now.me
+        ensures { IfOk result (λ text. IsTextOf text.items (says self.now.me
             (bodies.PromiseRange promise.now.range promise.now.ballot
             (last_votes self.now.records promise.now.range)) promise.now.to)) }
     {
@@ -64,9 +64,8 @@ impl<M: Machine, D: Device> Replica<M, D> {
             ballot,
             votes,
         };
-        encode(
-            alloc,
-            &Packet::new(Party::Node(self.me), Party::Node(to), stated),
-        )
+        let packet = Packet::new(Party::Node(self.me), Party::Node(to), stated);
+        let _body = packet.body();
+        encode(alloc, &packet)
     }
 }

@@ -18,7 +18,6 @@ ghost use Rattle.rp_model.specs.Parts.{is_in_log};
 ghost use Rattle.rp_model.specs.Says.{says, says_to_task, writes};
 ghost use Rattle.rp_replica.specs.Kept.{HoldsPart, HoldsItsRecords, HoldsOnly};
 ghost use Rattle.rp_replica.specs.State.{after_turn, part_of};
-ghost use Rattle.rp_replica.specs.Packets.{run_of};
 ghost use Rattle.rp_replica.specs.Invariant.{IsAnswer};
 ghost use Rattle.rp_replica.specs.Turning.{Stops};
 

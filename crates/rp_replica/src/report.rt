@@ -8,8 +8,8 @@ ghost use Rattle.rp_model.specs.Effect.{report_of};
 ghost use Rattle.rp_model.specs.Says.{sends};
 ghost use Rattle.rp_replica.specs.Committing.{Commits};
 
+use crate::outbox::Outbox;
 use crate::replica::Replica;
-use crate::sent::Outbox;
 use rp_base::{Action, Position, WriteFault};
 use rp_codec::{Actions, Body, Packet, Party, report_len};
 use rp_log::Log;

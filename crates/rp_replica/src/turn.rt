@@ -1,25 +1,29 @@
 //! A step of a replica: it decides, and then commits.
 
-ghost use Rattle.std.specs.Prelude.{◌≡◌, Some, Ok, IfSome, IfErr, OnOk, false};
+ghost use Rattle.std.specs.Prelude.{◌≡◌, ◌<◌, Some, Ok, IfSome, IfErr, OnOk, false, length, slice_get};
 ghost use Rattle.rp_base.specs.Action.{IsRight};
 ghost use Rattle.rp_base.specs.declared.action.Action.TheVariants as actions;
+ghost use Rattle.rp_codec.specs.Message.{Message};
 ghost use Rattle.rp_codec.specs.Reading.{all_of};
 ghost use Rattle.rp_codec.specs.Decoding.{IsDecoded};
 ghost use Rattle.rp_model.specs.Effect as inputs;
 ghost use Rattle.rp_replica.specs.Inputs.{IsRightInput, input_effect, packet_given, effect_if_given};
 ghost use Rattle.rp_replica.specs.Plans.{turn_of, MayCommit};
-ghost use Rattle.rp_replica.specs.Turning.{Answers, StopsIf, effect_of};
+ghost use Rattle.rp_replica.specs.Turning.{Answers, AnswersOnto, StopsIf, effect_of};
 
 use crate::input::Input;
+use crate::laws::texts_are_packets;
+use crate::outbox::Outbox;
 use crate::plan::Plan;
 use crate::replica::Replica;
-use crate::sent::{Outbox, Sent};
+use crate::sent::Sent;
 use rp_base::{Fault, Position, PositionRange};
 use rp_codec::{Kind, decode_fields};
 use rp_machine::Machine;
 use rp_model::Dropped;
 use rp_store::Device;
 use std::alloc::Global;
+use std::mem::replace;
 
 impl<M: Machine, D: Device> Replica<M, D> {
     /// What the step of an input does, or why there is no step: `BadPacket` where the bytes of a
@@ -107,18 +111,36 @@ impl<M: Machine, D: Device> Replica<M, D> {
         ensures { Answers (input_effect M.next M.answers self.old input.now)
             self.old self.new result }
     {
-        let mut out = Outbox::new(alloc);
-        let dropped = self.turn_into(alloc, &mut out, input)?;
-        let (bytes, ends) = out.into_parts();
+        self.turn_with(alloc, Vec::new(alloc), &mut Vec::new(alloc), input)
+    }
+
+    /// The same, in buffers for the texts of the packets and for the places where these end, in place
+    /// of what they hold: so steps that use them again take no memory for their packets.
+    #[inline(always)]
+    pub fn turn_with(
+        &mut self,
+        alloc: Global,
+        bytes: Vec<u8>,
+        ends: &mut Vec<usize>,
+        input: &Input,
+    ) -> Result<Sent, Fault>
+        requires right { IsRightInput input.now }
+        ensures { Answers (input_effect M.next M.answers self.old input.now)
+            self.old self.new result }
+    {
+        let mut out = Outbox::over(bytes, replace(ends, Vec::new(alloc)));
+        let answer = self.turn_into(alloc, &mut out, input);
+        let (bytes, places) = out.into_parts();
+        let packets = places.len();
+        *ends = places;
         Ok(Sent {
             bytes,
-            packets: ends.len(),
-            dropped,
+            packets,
+            dropped: answer?,
         })
     }
 
-    /// The same, which puts the packets after the others of an outbox; refused, it leaves these as
-    /// they are.
+    /// The same, whose packets are put after those that were sent before; refused, it puts none.
     #[inline(always)]
     pub fn turn_into(
         &mut self,
@@ -137,7 +159,7 @@ impl<M: Machine, D: Device> Replica<M, D> {
         // claim (result): Interrupts and ticks become pending as the definition says
         // claim (result): A report has the applied actions from a position on, as many as a packet
         //   takes
-        ensures { Turned (input_effect M.next M.answers self.old input.now)
+        ensures { AnswersOnto (input_effect M.next M.answers self.old input.now)
             self.old self.new out.old.sent out.new.sent result }
     {
         let mut plan = Plan::Pass(Dropped::No);
@@ -146,8 +168,8 @@ impl<M: Machine, D: Device> Replica<M, D> {
         Ok(plan.dropped())
     }
 
-    /// The packet of a place of an outbox, from 0, comes: it is read where it lies, and the packets of
-    /// the step are put after the others.
+    /// The packet of a place, from 0, among those that were sent comes: it is read where it lies, and
+    /// the packets of the step are put after the others.
     #[inline(always)]
     pub fn deliver(
         &mut self,
@@ -156,10 +178,11 @@ impl<M: Machine, D: Device> Replica<M, D> {
         place: usize,
     ) -> Result<Dropped, Fault>
         requires place { place < length out.old.sent }
-        ensures { IfSome (slice_get out.old.sent place) (λ m.
-            Turned (input_effect M.next M.answers self.old (Input.Receive (text_of m)))
-            self.old self.new out.old.sent out.new.sent result) }
+        ensures { (m : Message) → slice_get out.old.sent place ≡ Some m
+            → AnswersOnto (effect_of M.next M.answers self.old (inputs.NodeInput.Receive m))
+            self.old self.new out.old.sent out.new.sent result }
     {
+        texts_are_packets();
         let mut plan = Plan::Pass(Dropped::No);
         self.decide(alloc, &Input::Receive(out.text(place).unwrap()), &mut plan)?;
         self.commit(alloc, out, &plan)?;

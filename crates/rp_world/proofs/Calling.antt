@@ -23,7 +23,7 @@ use Rattle.rp_model.specs.declared.effect.Dropped.TheVariants.{No}
 use Rattle.rp_model.specs.declared.effect.Effect.{Effect}
 use Rattle.rp_world.specs.Callers.{Caller}
 use Rattle.rp_world.specs.Going.{Goes, Answers, no_cut}
-use Rattle.rp_world.specs.Messages.{Sending}
+use Rattle.rp_replica.specs.Packets.{Sending}
 use Rattle.rp_world.specs.Shape.{world_of}
 use Rattle.rp_world.specs.declared.node.Node.{Node}
 use Rattle.rp_world.proofs.Moving.{part_same, task_here, tasks_moved}

@@ -1,6 +1,5 @@
 pub mod Represented
 pub mod Turning
-pub mod Joined
 pub mod Resting
 pub mod Moving
 pub mod Answering

@@ -1,6 +1,6 @@
 //! The result of an event, as a step returns it.
 
-ghost use Rattle.std.specs.Prelude.{◌≡◌, ◌-◌, ◌^◌, min, None};
+ghost use Rattle.std.specs.Prelude.{◌≡◌, ◌≤◌, ◌<◌, ◌+◌, ◌-◌, ◌^◌, min, None};
 ghost use Rattle.rp_model.specs.declared.effect.Dropped.TheVariants.{No};
 
 use rp_base::{Answer, Fault};
@@ -67,7 +67,8 @@ pub(crate) fn opened(first: u64, opened: Option<(u64, u64)>) -> Effect
 /// now.
 #[inline(always)]
 pub(crate) fn of_step(first: u64, count: u64, dropped: Dropped) -> Effect
-    requires { first ≤ count + 1 }
+    requires below { first ≤ count + 1 }
+    requires small { count < 2 ^ 63 }
     ensures { result ≡ record {
       first = first;
       sent = min (count + 1 - first) (2 ^ 32 - 1);

@@ -1,14 +1,15 @@
 //! A node: a replica that runs, or a device that rests.
 
-ghost use Rattle.std.specs.Prelude.{◌≡◌, ◌≢◌, ◌⊎◌, ◌≤◌, ℕ, [], false, min, Ok, Some, None, IfOk, IfErr, IfSome, IfNone, IsErrOf, IsSome, IsTrue};
+ghost use Rattle.std.specs.Prelude.{◌≡◌, ◌⊎◌, ◌≤◌, ◌<◌, ℕ, [], false, min, length, slice_get, Ok, Some, None, IfOk, IfErr, IfSome, IfNone, OnErr, IsErrOf, IsSome, IsTrue};
 ghost use Rattle.rp_base.specs.Config.{IsRightConfig};
+ghost use Rattle.rp_codec.specs.Message.{Message};
 ghost use Rattle.rp_replica.specs.Inputs.{IsRightInput, given_by};
 ghost use Rattle.rp_base.specs.declared.fault.Fault.TheVariants as faults;
 ghost use Rattle.rp_model.specs.Effect.{NodeInput, stop_effect, restart_part};
 ghost use Rattle.rp_model.specs.Parts.{fresh_node};
 ghost use Rattle.rp_model.specs.Parts.{NodePart};
 ghost use Rattle.rp_world.specs.Failures.{SomeHasFailed};
-ghost use Rattle.rp_world.specs.Nodes.{Member, member_of, RunsAs, RestsAs, Represents, GoesBy, IsCutBy, IsCounted, IsResting, RefusedBy, IsLeftTorn, NotTaken, DescribesNothing, DescribesOpened, DescribesSent, failures_in, node_step, stored_length};
+ghost use Rattle.rp_world.specs.Nodes.{Member, member_of, RunsAs, RestsAs, Represents, GoesBy, IsCutBy, IsCounted, IsResting, RefusedBy, IsLeftTorn, NotTaken, DescribesNothing, DescribesOpened, DescribesSending, failures_in, node_step, stored_length};
 
 use rp_base::{Config, Fault, NodeId};
 use rp_machine::Machine;
@@ -161,7 +162,7 @@ impl<M: Machine, D: CutDevice> Node<M, D> {
         ensures ok { IfOk result (λ dropped. (member : Member M) (given : NodeInput)
             → given_by input.now ≡ Ok given → GoesBy D.disk member self.old self.new
             (node_step M.next M.answers member given)
-            (DescribesSent messages.old.sent messages.new.sent) dropped) }
+            (DescribesSending messages.old.sent messages.new.sent) dropped) }
         ensures err { IfErr result (λ fault. (member : Member M) (given : NodeInput)
             → given_by input.now ≡ Ok given → NotTaken D.disk member self.old self.new
             (node_step M.next M.answers member given) fault) }
@@ -191,11 +192,11 @@ impl<M: Machine, D: CutDevice> Node<M, D> {
         requires place { place < length messages.old.sent }
         ensures ok { IfOk result (λ dropped. (member : Member M) (m : Message)
             → slice_get messages.old.sent place ≡ Some m → GoesBy D.disk member self.old self.new
-            (node_step M.next M.answers member (Receive m))
-            (DescribesSent messages.old.sent messages.new.sent) dropped) }
+            (node_step M.next M.answers member (NodeInput.Receive m))
+            (DescribesSending messages.old.sent messages.new.sent) dropped) }
         ensures err { IfErr result (λ fault. (member : Member M) (m : Message)
             → slice_get messages.old.sent place ≡ Some m → NotTaken D.disk member self.old self.new
-            (node_step M.next M.answers member (Receive m)) fault) }
+            (node_step M.next M.answers member (NodeInput.Receive m)) fault) }
         ensures unsent { OnErr result (messages.new.sent ≡ messages.old.sent) }
         ensures failures { IsCounted (failures_in D.disk self.old) (failures_in D.disk self.new)
             result }

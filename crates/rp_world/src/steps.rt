@@ -1,6 +1,6 @@
 //! The result of an event: steps of nodes, and stops within them.
 
-ghost use Rattle.std.specs.Prelude.{◌≡◌, ℕ, Ok, Some, IfOk, IfErr, IsSome, length, option_map};
+ghost use Rattle.std.specs.Prelude.{◌≡◌, ℕ, Ok, Some, IfOk, IfErr, IsSome, length, option_copied, option_map};
 ghost use Rattle.std.specs.List.{AllByRecursion};
 ghost use Rattle.rp_base.specs.Config.{IsRightConfig};
 ghost use Rattle.rp_base.specs.Sets.{Has};
@@ -341,7 +341,6 @@ impl<M: Machine, D: CutDevice> World<M, D> {
         node: NodeId,
         effect: &mut Effect,
     ) -> Result<(), Fault>
-        requires ranged { IsRangedWorld self.old.config.nodes self.old.world }
         requires to { (m : Message) × (part_at self.old.world.sent number ≡ Some m)
             × (m.to ≡ Node node) }
         ensures answer { let setting = setting_of M.next M.answers M.begin self.old in
@@ -356,8 +355,6 @@ impl<M: Machine, D: CutDevice> World<M, D> {
             Counts (IsSome (delivery_writes setting self.old.world message)) (receiver_of message)
             self.old.failures self.new.failures result }
     {
-        events_keep_ranges::<M>();
-        texts_are_packets();
         let first = self.messages() + 1;
         let Some(node) = self.nodes.get_mut(usize::from(node.get()) - 1) else {
             *effect = no_effect(first);

@@ -1,4 +1,4 @@
-use Rattle.std.proofs.Common.{◌≡◌, ◌≤◌, Bool, Some, ap, subst, sym, ◌∙◌}
+use Rattle.std.proofs.Common.{◌≡◌, ◌≤◌, Bool, Some, ap, subst, sym, ◌∙◌, ◌++◌, ◌∷◌, [], append_assoc, append-nil, List}
 use Rattle.rp_base.specs.declared.record.Rec.TheVariants.{Learned}
 use Rattle.rp_base.specs.declared.record.Rec.{Rec}
 use Rattle.rp_codec.specs.Record.{record_text}
@@ -11,11 +11,11 @@ use Rattle.rp_replica.specs.Cutting.{MayWrite}
 use Rattle.rp_replica.specs.Turning.{Stops}
 use Rattle.std.proofs.lemmas.Bool.{le-leb}
 use Rattle.rp_replica.specs.State.{ReplicaState, after_turn}
-use Rattle.rp_replica.specs.Packets.{Run, BufferState, with_packets}
-use Rattle.rp_replica.proofs.Queueing.{no_packet, packets_then}
+use Rattle.rp_replica.specs.Packets.{Sending}
 use Rattle.rp_replica.proofs.Keeping.{replica_refused}
 use Rattle.rp_replica.proofs.Learned.{replica_room, log_learned, learned_is_right, follows_on, follows_alike, replica_learned, learned_taken, replies_learned}
 use Rattle.rp_replica.proofs.replica.Replica.learn.Goals.{then-announces, else-announces}
+use Rattle.rp_codec.specs.Message.{Message}
 use Rattle.rp_replica.proofs.replica.Replica.learn.Goals as goal
 
 pub invariant_of-self-in_err-write : goal.invariant_of-self-in_err-write
@@ -84,26 +84,26 @@ returns-clause-replied g c =
     let r = c.self.inside in
     let i = c.args.position in
     let v = c.args.action.now in
-    let start = c.args.out.now.run in
-    let stated : c.if-announces.out.run ≡ with_packets start (decided_packets c.args.self.now.config.nodes c.args.self.now.me i v c.args.announces) =
+    let start = c.args.out.now.sent in
+    let stated : c.if-announces.out.sent ≡ start ++ (decided_packets c.args.self.now.config.nodes c.args.self.now.me i v c.args.announces) =
     elim c.if-announces.branch [
       | then-announces w ↦
-          ap (λ (out : BufferState). out.run) w.out-is
-          ∙ w.say_to_others.ensures.run
-          ∙ ap (λ (h : ReplicaState g.row.M.Denot). with_packets start (says_to_others h.config.nodes h.me (Decided i v))) c.self.view_is
-          ∙ ap (λ (b : Bool). with_packets start (decided_packets c.args.self.now.config.nodes c.args.self.now.me i v b)) (sym w.if-announces.true)
+          ap (λ (out : Sending). out.sent) w.out-is
+          ∙ w.say_to_others.ensures.sent
+          ∙ ap (λ (h : ReplicaState g.row.M.Denot). start ++ (says_to_others h.config.nodes h.me (Decided i v))) c.self.view_is
+          ∙ ap (λ (b : Bool). start ++ (decided_packets c.args.self.now.config.nodes c.args.self.now.me i v b)) (sym w.if-announces.true)
       | else-announces w ↦
-          ap (λ (out : BufferState). out.run) w.out-is
-          ∙ no_packet start
-          ∙ ap (λ (b : Bool). with_packets start (decided_packets c.args.self.now.config.nodes c.args.self.now.me i v b)) (sym w.if-announces.false)
+          ap (λ (out : Sending). out.sent) w.out-is
+          ∙ sym (append-nil start)
+          ∙ ap (λ (b : Bool). start ++ (decided_packets c.args.self.now.config.nodes c.args.self.now.me i v b)) (sym w.if-announces.false)
     ] in
     replies_learned m.next m.answers g.D.Device.disk r.me r.config r.store c.write.new.store r.acceptor.records c.write.new.acceptor.records r.proposer c.settled.new.self
     r.learner c.settled-2.new.self r.heard c.settle.new.self r.log c.reserve.new.self c.learn.new.self c.apply_and_reply.new.log r.machine c.apply_and_reply.new.machine r.pending c.if-announces.out c.apply_and_reply.new.out i v
     c.self.invariant c.in_ok-write.ensures.put c.in_ok-write.ensures.noted c.settled.ensures c.settled-2.ensures.settled c.settle.ensures
     c.in_ok-reserve.ensures.ok c.learn.ensures c.apply_and_reply.ensures.replied c.apply_and_reply.ensures.ordered c.apply_and_reply.ensures.none
-    ∙ ap (λ (h : ReplicaState g.row.M.Denot). with_packets c.if-announces.out.run (learns_alone m.next m.answers h i v).sent) c.self.view_is
-    ∙ ap (λ (r : Run). with_packets r (learns_alone m.next m.answers c.args.self.now i v).sent) stated
-    ∙ packets_then c.args.out.now.run (decided_packets c.args.self.now.config.nodes c.args.self.now.me i v c.args.announces) (learns_alone m.next m.answers c.args.self.now i v).sent
+    ∙ ap (λ (h : ReplicaState g.row.M.Denot). c.if-announces.out.sent ++ (learns_alone m.next m.answers h i v).sent) c.self.view_is
+    ∙ ap (λ (r : List Message). r ++ (learns_alone m.next m.answers c.args.self.now i v).sent) stated
+    ∙ append_assoc c.args.out.now.sent (decided_packets c.args.self.now.config.nodes c.args.self.now.me i v c.args.announces) (learns_alone m.next m.answers c.args.self.now i v).sent
 
 pub returns-in_err-write-clause-err : goal.returns-in_err-write-clause-err
 returns-in_err-write-clause-err g c =

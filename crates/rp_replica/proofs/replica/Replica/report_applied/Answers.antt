@@ -1,4 +1,4 @@
-use Rattle.std.proofs.Common.{◌≡◌, ◌-◌, List, length, take, drop, refl, sym, ap, subst, ◌∙◌}
+use Rattle.std.proofs.Common.{◌≡◌, ◌-◌, List, length, take, drop, refl, sym, ap, subst, ◌∙◌, ◌++◌, ◌∷◌, [], append_assoc, append-nil}
 use Rattle.std.specs.Prelude.{All}
 use Rattle.std.specs.List.{AllByRecursion}
 use Rattle.std.proofs.lemmas.List.Elements.{All-from_recursion, All-take, All-drop}
@@ -7,17 +7,15 @@ use Rattle.rp_base.specs.declared.record.Rec.{Rec}
 use Rattle.rp_base.specs.Action.{IsRight}
 use Rattle.rp_base.specs.Right.{IsRightRecord}
 use Rattle.rp_base.specs.Records.{applied_of}
-use Rattle.rp_codec.specs.Message.{report_len}
+use Rattle.rp_codec.specs.Message.{report_len, Message}
 use Rattle.rp_codec.specs.declared.packet.Party.TheVariants.{Node, Audit}
 use Rattle.rp_codec.specs.declared.packet.Body.TheVariants.{Report}
 use Rattle.rp_log.proofs.RecordedRuns.{all_taken}
 use Rattle.rp_model.specs.Effect.{report_of}
 use Rattle.rp_model.specs.Parts.{is_in_log}
 use Rattle.rp_replica.specs.State.{ReplicaState}
-use Rattle.rp_replica.specs.Packets.{with_packet}
 use Rattle.rp_replica.proofs.Answering.{right_records}
 use Rattle.rp_replica.proofs.Reporting.{run_right}
-use Rattle.rp_replica.proofs.Queueing.{one_packet}
 use Rattle.rp_replica.proofs.replica.Replica.report_applied.Goals as goal
 
 pub new-requires : goal.new-requires
@@ -56,6 +54,6 @@ returns-clause-ok g c =
     c.new.ensures ∙ (λ i. record { from = Node (me_is i); to = Audit; body = Report first (length applied) (reported i) }) in
     record {
       goes = refl;
-      sent = c.in_ok-push.ensures.ok ∙ ap (with_packet c.args.out.now.run) (said ∙ ap (report_of h.me first) is) ∙ one_packet c.args.out.now.run (report_of h.me first (applied_of h.records));
+      sent = c.in_ok-push.ensures.ok ∙ ap (λ (m : Message). c.args.out.now.sent ++ m ∷ []) (said ∙ ap (report_of h.me first) is);
       is_dropped = refl;
     }

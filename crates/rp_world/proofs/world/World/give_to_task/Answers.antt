@@ -36,7 +36,7 @@ unwrap-text-requires g c =
     let to = c.requires.to.2 in
     let ranged = subst (λ v. IsRangedWorld v.config.nodes v.world) (sym c.self.view_is) c.requires.ranged in
     let packet = ranged.packets message (has_at inside.messages.sent c.args.number message sent) in
-    text_found c.text.result (part_at inside.messages.sent c.args.number) message c.text.ensures sent
+    text_found c.text.result (part_at c.args.self.now.world.sent c.args.number) message c.text.ensures c.requires.to.1
 
 pub read_reply-requires : goal.read_reply-requires
 read_reply-requires g c =
@@ -54,7 +54,7 @@ read_reply-requires g c =
     let to = c.requires.to.2 in
     let ranged = subst (λ v. IsRangedWorld v.config.nodes v.world) (sym c.self.view_is) c.requires.ranged in
     let packet = ranged.packets message (has_at inside.messages.sent c.args.number message sent) in
-    let text : c.unwrap-text.result.now ≡ text_of message = text_is c.text.result c.unwrap-text.result (part_at inside.messages.sent c.args.number) message c.unwrap-text.ensures c.text.ensures sent in
+    let text : c.unwrap-text.result.now ≡ text_of message = text_is c.text.result c.unwrap-text.result (part_at c.args.self.now.world.sent c.args.number) message c.unwrap-text.ensures c.text.ensures c.requires.to.1 in
     (message, packet, text)
 
 pub returns-in_default-reply-clause-answer : goal.returns-in_default-reply-clause-answer
@@ -73,7 +73,7 @@ returns-in_default-reply-clause-answer g c =
     let to = c.requires.to.2 in
     let ranged = subst (λ v. IsRangedWorld v.config.nodes v.world) (sym c.self.view_is) c.requires.ranged in
     let packet = ranged.packets message (has_at inside.messages.sent c.args.number message sent) in
-    let text : c.unwrap-text.result.now ≡ text_of message = text_is c.text.result c.unwrap-text.result (part_at inside.messages.sent c.args.number) message c.unwrap-text.ensures c.text.ensures sent in
+    let text : c.unwrap-text.result.now ≡ text_of message = text_is c.text.result c.unwrap-text.result (part_at c.args.self.now.world.sent c.args.number) message c.unwrap-text.ensures c.text.ensures c.requires.to.1 in
     let first : c.messages-first.result + 1 ≡ length inside.messages.sent + 1 = ap (λ k. k + 1) (c.messages-first.ensures.value ∙ ap (λ v. length v.world.sent) (sym c.self.view_is)) in
     let stated_is : reply_in message.body ≡ None = sym (c.in-Ok.ensures message packet text) ∙ c.in_default-reply.is in
     let stated = c.no_effect.ensures ∙ ap (λ (k : ℕ). let e : Effect = record { first = k; sent = 0; dropped = No; taken = None; opened = None } in e) first in
@@ -125,7 +125,7 @@ returns-clause-answer g c =
     let to = c.requires.to.2 in
     let ranged = subst (λ v. IsRangedWorld v.config.nodes v.world) (sym c.self.view_is) c.requires.ranged in
     let packet = ranged.packets message (has_at inside.messages.sent c.args.number message sent) in
-    let text : c.unwrap-text.result.now ≡ text_of message = text_is c.text.result c.unwrap-text.result (part_at inside.messages.sent c.args.number) message c.unwrap-text.ensures c.text.ensures sent in
+    let text : c.unwrap-text.result.now ≡ text_of message = text_is c.text.result c.unwrap-text.result (part_at c.args.self.now.world.sent c.args.number) message c.unwrap-text.ensures c.text.ensures c.requires.to.1 in
     let first : c.messages-first.result + 1 ≡ length inside.messages.sent + 1 = ap (λ k. k + 1) (c.messages-first.ensures.value ∙ ap (λ v. length v.world.sent) (sym c.self.view_is)) in
     let i = c.from.result - 1 in
     let placed : suc i ≡ me = omega (arith, c.get.ensures.value, c.get.ensures.in_range.0, c.from.ensures) in

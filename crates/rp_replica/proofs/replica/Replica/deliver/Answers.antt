@@ -1,0 +1,19 @@
+use Rattle.std.proofs.Common.{◌≡◌, Some, List, ℕ, ap, ◌∙◌}
+use Rattle.std.specs.Prelude.{slice_get}
+use Rattle.rp_codec.specs.Reading.{all_of}
+use Rattle.rp_codec.specs.Text.{text_of}
+use Rattle.rp_model.specs.Effect.{NodeInput}
+use Rattle.rp_replica.specs.Inputs.{packet_given, effect_if_given}
+use Rattle.rp_replica.specs.Turning.{effect_of}
+use Rattle.rp_replica.proofs.Joined.{text_found_is}
+use Rattle.rp_replica.proofs.Planning.{planned}
+use Rattle.rp_replica.proofs.replica.Replica.deliver.Goals as goal
+
+pub returns : goal.returns
+returns g c = λ message at.
+    let m = g.M.Machine in
+    let h = c.args.self.now in
+    let text : c.unwrap.result.now ≡ text_of message = text_found_is c.text.result c.unwrap.result (slice_get c.args.out.now.sent c.args.place) message c.unwrap.ensures c.text.ensures.text at in
+    let given = ap (λ (l : List ℕ). packet_given (all_of l)) text ∙ c.texts_are_packets.ensures message (c.text.ensures.right message at) in
+    planned m.next m.answers h (effect_of m.next m.answers h (NodeInput.Receive message)) c.decide.new.plan c.commit.new.self c.args.out.now.sent c.commit.new.out.sent c.commit.result
+    (c.in_ok-decide.ensures.ok ∙ ap (effect_if_given m.next m.answers h) given) c.in_ok-decide.ensures.working c.commit.ensures.ok c.commit.ensures.err c.commit.ensures.unsent

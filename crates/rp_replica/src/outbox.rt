@@ -1,0 +1,449 @@
+//! The packets that are sent, in one run of bytes.
+
+ghost use Rattle.std.specs.Prelude.{◌≡◌, ◌+◌, ◌*◌, ◌^◌, ◌≤◌, ◌<◌, ◌++◌, ◌∷◌, [], length, max, take, slice_get, slice_set, Some, option_copied, option_map, OnOk, OnErr};
+ghost use Rattle.rp_base.specs.Action.{IsCount};
+ghost use Rattle.rp_codec.specs.Decoding.{IsLongBody};
+ghost use Rattle.rp_codec.specs.Message.{Message, IsPacket, MaySay};
+ghost use Rattle.rp_codec.specs.Text.{text_of};
+ghost use Rattle.rp_codec.specs.declared.packet.Party.TheVariants.{Node};
+ghost use Rattle.rp_codec.specs.declared.packet.Body.TheVariants.{Reply as Answered};
+ghost use Rattle.rp_model.specs.Says.{says, says_to_all, says_to_others, says_to_task};
+ghost use Rattle.rp_replica.specs.Packets.{IsTextOf, IsRun, packets_in, ends_of, texts_of, longest_text};
+
+use rp_base::{Action, Answer, NodeId, Reply, Vote};
+use rp_codec::{
+    Body, Packet, Party, Place, SentDecision, SentReply, accept_text, accepted_text, decided_text,
+    encode_onto, is_call, prepare_text, promise_text, text_of_packet, value_reply_text,
+};
+use std::alloc::{AllocError, Global};
+use std::marker::Model;
+
+/// How many bytes the text of a packet has at most, if it takes no memory.
+const LONGEST_TEXT: usize = 40;
+
+/// The place of a text at which its receiver is, from 0.
+const RECEIVER: usize = 3;
+
+/// Packets that are sent: their texts in one run of bytes, with the place where each ends. What is put
+/// into the room that was made takes no memory.
+#[derive(Debug, Drop)]
+pub struct Outbox {
+    bytes: Vec<u8>,
+    ends: Vec<usize>,
+}
+
+impl Model for Outbox {
+    ghost use Rattle.std.specs.Prelude.{◌-◌, ◌*◌, min, nat_eq, if◌then◌else◌, length, vec_len, vec_capacity};
+    ghost use Rattle.rp_replica.specs.Packets.{Sending, IsRun, packets_in, longest_text};
+
+    ghost Value = { Sending };
+
+    ghost view = { λ o. record {
+      sent = packets_in (length o.ends.items) o.bytes.items;
+      room = min (vec_capacity o.bytes - vec_len o.bytes)
+          (longest_text * (vec_capacity o.ends - vec_len o.ends));
+      room_for_one = if nat_eq (vec_capacity o.ends - vec_len o.ends) 0 then 0
+          else vec_capacity o.bytes - vec_len o.bytes;
+    } };
+
+    ghost invariant = { λ o. IsRun o.bytes.items o.ends.items };
+}
+
+impl Outbox {
+    /// No packet yet. It takes no memory.
+    pub fn new(alloc: Global) -> Self
+        ensures { result.sent ≡ [] }
+    {
+        Outbox {
+            bytes: Vec::new(alloc),
+            ends: Vec::new(alloc),
+        }
+    }
+
+    /// No packet yet, in these buffers, in place of what they hold.
+    pub fn over(bytes: Vec<u8>, ends: Vec<usize>) -> Self
+        ensures { result.sent ≡ [] }
+    {
+        let mut bytes = bytes;
+        let mut ends = ends;
+        bytes.clear();
+        ends.clear();
+        Outbox { bytes, ends }
+    }
+
+    /// The texts, joined in order, and where each ends.
+    pub fn into_parts(self) -> (Vec<u8>, Vec<usize>)
+        ensures bytes { result.0.items ≡ texts_of self.sent }
+        ensures ends { result.1.items ≡ ends_of 0 self.sent }
+    {
+        let Outbox { bytes, ends } = self;
+        (bytes, ends)
+    }
+
+    /// How many packets there are.
+    #[inline(always)]
+    pub fn count(&self) -> usize
+        ensures value { result ≡ length self.now.sent }
+        ensures few { result < 2 ^ 63 }
+    {
+        let _bytes = &self.bytes;
+        self.ends.len()
+    }
+
+    /// The text of the packet of a place, from 0.
+    #[inline(always)]
+    pub fn text(&self, place: usize) -> Option<&[u8]>
+        // claim: The text of each packet of an outbox is found by its place
+        ensures text { option_copied result ≡ option_map text_of (slice_get self.now.sent place) }
+        ensures right { (m : Message) → slice_get self.now.sent place ≡ Some m → IsPacket m }
+    {
+        if place >= self.ends.len() {
+            return None;
+        }
+        Some(text_between(self.bytes.as_slice(), self.ends.as_slice(), place))
+    }
+
+    /// Makes room for as many packets more, at most 64 of them, if none takes memory.
+    #[inline(always)]
+    pub fn reserve(&mut self, packets: usize) -> Result<(), AllocError>
+        requires few { packets ≤ 64 }
+        ensures sent { self.new.sent ≡ self.old.sent }
+        ensures room { OnOk result (longest_text * packets ≤ self.new.room) }
+    {
+        self.bytes.reserve(LONGEST_TEXT * packets)?;
+        self.ends.reserve(packets)
+    }
+
+    /// Makes room for one packet more, of this many bytes.
+    pub(crate) fn reserve_one(&mut self, bytes: usize) -> Result<(), AllocError>
+        ensures sent { self.new.sent ≡ self.old.sent }
+        ensures room { OnOk result (bytes ≤ self.new.room_for_one) }
+    {
+        self.bytes.reserve(bytes)?;
+        self.ends.reserve(1)
+    }
+
+    /// One packet more, as its text, into the room.
+    #[inline(always)]
+    pub(crate) fn put_text(&mut self, text: &[u8])
+        requires packet { (m : Message) × IsTextOf text.now m }
+        requires room { length text.now ≤ self.old.room_for_one }
+        ensures sent { (m : Message) → IsTextOf text.now m
+            → self.new.sent ≡ self.old.sent ++ m ∷ [] }
+        ensures room { self.old.room ≤ self.new.room + max longest_text (length text.now) }
+    {
+        self.bytes.extend_from_slice(text).unwrap();
+        self.ends.push_reserved(self.bytes.len());
+    }
+
+    /// One packet more. Where memory is refused, the packets stay as they are.
+    pub fn push(&mut self, packet: &Packet) -> Result<(), AllocError>
+        ensures ok { OnOk result (self.new.sent ≡ self.old.sent ++ packet.now ∷ []) }
+        ensures err { OnErr result (self.new.sent ≡ self.old.sent) }
+    {
+        let _body = packet.body();
+        self.ends.reserve(1)?;
+        encode_onto(packet, &mut self.bytes)?;
+        self.ends.push_reserved(self.bytes.len());
+        Ok(())
+    }
+
+    /// One packet more, which takes no memory, into the room.
+    #[inline(always)]
+    pub fn put(&mut self, packet: &Packet)
+        requires short { ¬ IsLongBody packet.now.body }
+        requires room { longest_text ≤ self.old.room }
+        ensures sent { self.new.sent ≡ self.old.sent ++ packet.now ∷ [] }
+        ensures room { self.old.room ≤ self.new.room + longest_text }
+    {
+        let _body = packet.body();
+        let text = text_of_packet(packet);
+        self.bytes.extend_from_slice(text.as_slice()).unwrap();
+        self.ends.push_reserved(self.bytes.len());
+    }
+
+    /// One packet more, from node to node, which takes no memory, into the room.
+    #[inline(always)]
+    pub(crate) fn say(&mut self, me: NodeId, to: NodeId, body: Body)
+        requires may { MaySay (Node me) (Node to) body }
+        requires short { ¬ IsLongBody body }
+        requires room { longest_text ≤ self.old.room }
+        ensures sent { self.new.sent ≡ self.old.sent ++ says me body to ∷ [] }
+        ensures room { self.old.room ≤ self.new.room + longest_text }
+    {
+        self.put(&Packet::new(Party::Node(me), Party::Node(to), body));
+    }
+
+    /// A text between nodes, with this node as its receiver, into the room.
+    #[inline(always)]
+    fn put_to(&mut self, text: &[u8], to: NodeId)
+        requires packet { (m : Message) × IsTextOf (slice_set text.now 3 to) m }
+        requires receiver { 3 < length text.now }
+        requires short { length text.now ≤ longest_text }
+        requires room { longest_text ≤ self.old.room }
+        ensures sent { (m : Message) → IsTextOf (slice_set text.now 3 to) m
+            → self.new.sent ≡ self.old.sent ++ m ∷ [] }
+        ensures room { self.old.room ≤ self.new.room + longest_text }
+    {
+        let receiver = self.bytes.len() + RECEIVER;
+        self.bytes.extend_from_slice(text).unwrap();
+        self.bytes[receiver] = to.get();
+        self.ends.push_reserved(self.bytes.len());
+    }
+
+    /// A packet to each node, itself too, into the room. Its text is made once.
+    pub(crate) fn say_to_all(&mut self, me: NodeId, nodes: u8, body: Body)
+        requires nodes { nodes ≤ 7 }
+        requires may { MaySay (Node me) (Node me) body }
+        requires short { ¬ IsLongBody body }
+        requires room { longest_text * nodes ≤ self.old.room }
+        ensures sent { self.new.sent ≡ self.old.sent ++ says_to_all nodes me body }
+        ensures room { self.old.room ≤ self.new.room + longest_text * nodes }
+    {
+        let packet = Packet::new(Party::Node(me), Party::Node(me), body);
+        let _body = packet.body();
+        let text = text_of_packet(&packet);
+        for place in 0..nodes {
+            self.put_to(text.as_slice(), node_after(place));
+        }
+    }
+
+    /// A packet to each other node, into the room. Its text is made once.
+    pub(crate) fn say_to_others(&mut self, me: NodeId, nodes: u8, body: Body)
+        requires nodes { nodes ≤ 7 }
+        requires may { MaySay (Node me) (Node me) body }
+        requires short { ¬ IsLongBody body }
+        requires room { longest_text * nodes ≤ self.old.room }
+        ensures sent { self.new.sent ≡ self.old.sent ++ says_to_others nodes me body }
+        ensures room { self.old.room ≤ self.new.room + longest_text * nodes }
+    {
+        let packet = Packet::new(Party::Node(me), Party::Node(me), body);
+        let _body = packet.body();
+        let text = text_of_packet(&packet);
+        for place in 0..nodes {
+            let to = node_after(place);
+            if to != me {
+                self.put_to(text.as_slice(), to);
+            }
+        }
+    }
+
+    /// A text of one length, into the room.
+    #[inline(always)]
+    fn put_array<const N: usize>(&mut self, text: &[u8; N])
+        requires packet { (m : Message) × IsTextOf text.now m }
+        requires short { N ≤ longest_text }
+        requires room { longest_text ≤ self.old.room }
+        ensures sent { (m : Message) → IsTextOf text.now m
+            → self.new.sent ≡ self.old.sent ++ m ∷ [] }
+        ensures room { self.old.room ≤ self.new.room + longest_text }
+    {
+        self.bytes.extend_from_slice(text).unwrap();
+        self.ends.push_reserved(self.bytes.len());
+    }
+
+    /// A text of one length between nodes, to each node, into the room.
+    #[inline(always)]
+    fn put_to_all<const N: usize>(&mut self, text: &mut [u8; N], nodes: u8)
+        requires nodes { nodes ≤ 7 }
+        requires short { (4 ≤ N) × (N ≤ longest_text) }
+        requires room { longest_text * nodes ≤ self.old.room }
+        ensures room { self.old.room ≤ self.new.room + longest_text * nodes }
+    {
+        for place in 0..nodes {
+            text[RECEIVER] = node_after(place).get();
+            self.put_array(text);
+        }
+    }
+
+    /// A promise, with the last vote, into the room.
+    #[inline(always)]
+    pub(crate) fn promise(&mut self, place: Place, last: Option<Vote>)
+        requires room { longest_text ≤ self.old.room }
+        ensures sent { self.new.sent ≡ self.old.sent ++ promise_with place last ∷ [] }
+        ensures room { self.old.room ≤ self.new.room + longest_text }
+    {
+        let Place {
+            from,
+            to,
+            position,
+            ballot,
+        } = place;
+        match last {
+            None => self.put_array(&promise_text(place)),
+            Some(_) => self.say(
+                from,
+                to,
+                Body::Promise {
+                    position,
+                    ballot,
+                    last,
+                },
+            ),
+        }
+    }
+
+    /// A vote, into the room.
+    #[inline(always)]
+    pub(crate) fn accepted(&mut self, place: Place, action: &Action)
+        requires right { IsRight action.now }
+        requires room { longest_text ≤ self.old.room }
+        ensures sent { self.new.sent ≡ self.old.sent ++ accepted_at place action.now ∷ [] }
+        ensures room { self.old.room ≤ self.new.room + longest_text }
+    {
+        if is_call(action) {
+            self.put_array(&accepted_text(place, action));
+            return;
+        }
+        let Place {
+            from,
+            to,
+            position,
+            ballot,
+        } = place;
+        let action = *action;
+        self.say(
+            from,
+            to,
+            Body::Accepted {
+                position,
+                ballot,
+                action,
+            },
+        );
+    }
+
+    /// A prepare to each node, the asker itself too, into the room.
+    #[inline(always)]
+    pub(crate) fn prepare_all(&mut self, place: Place, nodes: u8)
+        requires nodes { nodes ≤ 7 }
+        requires room { longest_text * nodes ≤ self.old.room }
+        ensures sent { self.new.sent ≡ self.old.sent
+            ++ says_to_all nodes place.from (Prepare place.position place.ballot) }
+        ensures room { self.old.room ≤ self.new.room + longest_text * nodes }
+    {
+        self.put_to_all(&mut prepare_text(place), nodes);
+    }
+
+    /// An accept to each node, the asker itself too, into the room.
+    #[inline(always)]
+    pub(crate) fn accept_all(&mut self, place: Place, action: &Action, nodes: u8)
+        requires nodes { nodes ≤ 7 }
+        requires right { IsRight action.now }
+        requires room { longest_text * nodes ≤ self.old.room }
+        ensures sent { self.new.sent ≡ self.old.sent
+            ++ says_to_all nodes place.from (Accept place.position place.ballot action.now) }
+        ensures room { self.old.room ≤ self.new.room + longest_text * nodes }
+    {
+        if is_call(action) {
+            self.put_to_all(&mut accept_text(place, action), nodes);
+            return;
+        }
+        let Place {
+            from,
+            position,
+            ballot,
+            ..
+        } = place;
+        let action = *action;
+        self.say_to_all(
+            from,
+            nodes,
+            Body::Accept {
+                position,
+                ballot,
+                action,
+            },
+        );
+    }
+
+    /// A decision to each other node, into the room.
+    #[inline(always)]
+    pub(crate) fn inform_others(&mut self, decision: &SentDecision, nodes: u8)
+        requires nodes { nodes ≤ 7 }
+        requires right { IsRight decision.now.action }
+        requires room { longest_text * nodes ≤ self.old.room }
+        ensures sent { self.new.sent ≡ self.old.sent ++ says_to_others nodes decision.now.from
+            (Decided decision.now.position decision.now.action) }
+        ensures room { self.old.room ≤ self.new.room + longest_text * nodes }
+    {
+        let SentDecision {
+            from,
+            position,
+            action,
+            ..
+        } = *decision;
+        if !is_call(&action) {
+            self.say_to_others(from, nodes, Body::Decided { position, action });
+            return;
+        }
+        let mut text = decided_text(decision);
+        for place in 0..nodes {
+            let to = node_after(place);
+            if to != from {
+                text[RECEIVER] = to.get();
+                self.put_array(&text);
+            }
+        }
+    }
+
+    /// A reply more, to the call of an answer, into the room.
+    pub(crate) fn reply(&mut self, me: NodeId, answer: &Answer)
+        requires count { IsCount answer.now.number }
+        requires room { longest_text ≤ self.old.room }
+        ensures sent { self.new.sent ≡ self.old.sent ++ says_to_task me
+            (Answered answer.now.number answer.now.reply) answer.now.task ∷ [] }
+        ensures room { self.old.room ≤ self.new.room + longest_text }
+    {
+        let Answer {
+            task,
+            number,
+            reply,
+        } = *answer;
+        if let Reply::Value(value) = reply {
+            let sent = SentReply {
+                from: me,
+                task,
+                number,
+                reply,
+            };
+            self.put_array(&value_reply_text(&sent, value));
+            return;
+        }
+        let body = Body::Reply { number, reply };
+        self.put(&Packet::new(Party::Node(me), Party::Task(task), body));
+    }
+}
+
+/// The node of the number that is one above `place`.
+fn node_after(place: u8) -> NodeId
+    requires { place < 7 }
+    ensures { result ≡ place + 1 }
+{
+    NodeId::new(place + 1).unwrap()
+}
+
+/// The text of a place, from 0, among texts whose ends are known.
+#[inline(always)]
+fn text_between<'a>(bytes: &'a [u8], ends: &[usize], place: usize) -> &'a [u8]
+    requires run { IsRun bytes.now ends.now }
+    requires place { place < length ends.now }
+    ensures { Some result.now
+        ≡ option_map text_of (slice_get (packets_in (length ends.now) bytes.now) place) }
+{
+    let from = start_between(bytes, ends, place);
+    let (_, rest) = bytes.split_at(from);
+    let (text, _) = rest.split_at(ends[place] - from);
+    text
+}
+
+/// Where the text of a place, from 0, begins among texts whose ends are known.
+#[inline(always)]
+fn start_between(bytes: &[u8], ends: &[usize], place: usize) -> usize
+    requires run { IsRun bytes.now ends.now }
+    requires place { place < length ends.now }
+    ensures { result ≡ length (texts_of (take place (packets_in (length ends.now) bytes.now))) }
+{
+    let _bytes = bytes;
+    if place == 0 { 0 } else { ends[place - 1] }
+}

@@ -13,6 +13,7 @@ use Rattle.rp_codec.specs.declared.packet.Body.TheVariants as bodies
 use Rattle.rp_codec.specs.declared.kind.Kind.{Kind}
 use Rattle.rp_codec.specs.declared.kind.Kind.TheVariants.{Call, Prepare, Promise, Accept, Accepted, Decided, Ask, Nack, Reply as Answer, Report, PrepareRange, PromiseRange}
 use Rattle.rp_base.specs.Right.{IsReply}
+use Rattle.rp_codec.specs.Kind.{Role, ANode, ATask, TheAudit, sender_role, receiver_role}
 use Rattle.rp_codec.specs.declared.version.Version.{Version}
 use Rattle.rp_codec.specs.Message.{IsBody, IsNodeParty, IsTaskParty, IsAudit, IsVoteBelow, MaySay, report_len}
 use Rattle.rp_codec.specs.Text.{number_text, position_text, ballot_text, action_text_at, reply_text, last_text_at, kind_number, body_text_at, HasActionText, HasBodyText, range_text, votes_text_at}
@@ -111,40 +112,19 @@ number_of Report = 10
 number_of PrepareRange = 12
 number_of PromiseRange = 13
 
-abbrev pub IsFrom : Kind → Party → Type 0
-IsFrom Call from = IsTaskParty from
-IsFrom Prepare from = IsNodeParty from
-IsFrom Promise from = IsNodeParty from
-IsFrom Accept from = IsNodeParty from
-IsFrom Accepted from = IsNodeParty from
-IsFrom Decided from = IsNodeParty from
-IsFrom Ask from = IsNodeParty from
-IsFrom Nack from = IsNodeParty from
-IsFrom Answer from = IsNodeParty from
-IsFrom Report from = IsNodeParty from
-IsFrom PrepareRange from = IsNodeParty from
-IsFrom PromiseRange from = IsNodeParty from
-
-abbrev pub IsTo : Kind → Party → Type 0
-IsTo Call to = IsNodeParty to
-IsTo Prepare to = IsNodeParty to
-IsTo Promise to = IsNodeParty to
-IsTo Accept to = IsNodeParty to
-IsTo Accepted to = IsNodeParty to
-IsTo Decided to = IsNodeParty to
-IsTo Ask to = IsNodeParty to
-IsTo Nack to = IsNodeParty to
-IsTo Answer to = IsTaskParty to
-IsTo Report to = IsAudit to
-IsTo PrepareRange to = IsNodeParty to
-IsTo PromiseRange to = IsNodeParty to
+-- a party is this
+abbrev pub HasRole : Role → Party → Type 0
+HasRole ANode party = IsNodeParty party
+HasRole ATask party = IsTaskParty party
+HasRole TheAudit party = IsAudit party
 
 -- what reading a body of this kind shows
 pub record IsSaid (v : Version) (kind : Kind) (from : Party) (body : Body) : Type 0 where
   pub number : number_of kind ≡ kind_number body
   pub ranges : IsBody body
   pub has : HasBodyText v body
-  pub rules : (to : Party) → IsFrom kind from → IsTo kind to → MaySay from to body
+  pub rules : (to : Party) → HasRole (sender_role kind) from → HasRole (receiver_role kind) to
+      → MaySay from to body
 
 abbrev pub TookBody : Version → Kind → Party → List ℕ → Body × List ℕ → Type 0
 TookBody v kind from bytes = Took (body_text_at v) (IsSaid v kind from) bytes

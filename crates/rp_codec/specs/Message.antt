@@ -1,5 +1,5 @@
 -- What a packet says, and which of it may be said (the rules are ours).
-use Rattle.std.specs.Prelude.{◌≡◌, ℕ, ◌+◌, ◌-◌, ◌^◌, ◌<◌, min, List, length, All, IfSome}
+use Rattle.std.specs.Prelude.{◌≡◌, ℕ, ◌+◌, ◌-◌, ◌^◌, ◌<◌, min, List, length, All, Option, Some, None, IfSome}
 use Rattle.rp_base.specs.Number.{IsNode, IsTask, IsPosition}
 use Rattle.rp_base.specs.Ballot.{IsBallot}
 use Rattle.rp_base.specs.Action.{IsRight, IsCount}
@@ -9,6 +9,7 @@ use Rattle.rp_base.specs.Right.{IsReply}
 use Rattle.rp_base.specs.declared.action.Action.{Action}
 use Rattle.rp_base.specs.declared.action.Action.TheVariants as actions
 use Rattle.rp_base.specs.declared.record.Vote.{Vote}
+use Rattle.rp_base.specs.declared.reply.Reply.{Reply}
 use Rattle.rp_codec.specs.declared.packet.Party.{Party}
 use Rattle.rp_codec.specs.declared.packet.Party.TheVariants.{Node, Task, Audit}
 use Rattle.rp_codec.specs.declared.packet.Body.{Body}
@@ -119,3 +120,8 @@ pub record HasRanges (m : Message) : Type 0 where
 pub record IsPacket (m : Message) : Type 0 where
   pub ranges : HasRanges m
   pub rules : KeepsRules m
+
+-- the number and the reply in a body, if it is a reply
+abbrev pub reply_in : Body → Option (ℕ × Reply)
+reply_in (Answer number reply) = Some (number, reply)
+reply_in _ = None

@@ -22,7 +22,7 @@ use Rattle.rp_codec.specs.declared.packet.Body.TheVariants as bodies
 use Rattle.rp_codec.specs.declared.kind.Kind.{Kind}
 use Rattle.rp_codec.specs.declared.kind.Kind.TheVariants.{Call, Prepare, Promise, Accept, Accepted, Decided, Ask, Nack}
 use Rattle.rp_codec.specs.declared.kind.Kind.TheVariants.{Reply as Answer, Report, PrepareRange, PromiseRange}
-use Rattle.rp_codec.specs.Kind.{kind_of}
+use Rattle.rp_codec.specs.Kind.{kind_of, Role, ANode, ATask, TheAudit, sender_role, receiver_role}
 use Rattle.rp_codec.specs.declared.version.Version.{Version}
 use Rattle.rp_codec.specs.declared.version.Version.TheVariants.{V1, V2}
 use Rattle.rp_codec.specs.Version.{version_of}
@@ -404,40 +404,17 @@ audit_at bytes = do
   audit ← ruled (n.0 == 32) n
   Ok (Audit, audit.1)
 
--- who may send a kind, and to whom
-unfoldable pub from_at : Kind → List ℕ → Read Party
-from_at Call bytes = task_at bytes
-from_at Prepare bytes = node_at bytes
-from_at Promise bytes = node_at bytes
-from_at Accept bytes = node_at bytes
-from_at Accepted bytes = node_at bytes
-from_at Decided bytes = node_at bytes
-from_at Ask bytes = node_at bytes
-from_at Nack bytes = node_at bytes
-from_at Answer bytes = node_at bytes
-from_at Report bytes = node_at bytes
-from_at PrepareRange bytes = node_at bytes
-from_at PromiseRange bytes = node_at bytes
-
-unfoldable pub to_at : Kind → List ℕ → Read Party
-to_at Call bytes = node_at bytes
-to_at Prepare bytes = node_at bytes
-to_at Promise bytes = node_at bytes
-to_at Accept bytes = node_at bytes
-to_at Accepted bytes = node_at bytes
-to_at Decided bytes = node_at bytes
-to_at Ask bytes = node_at bytes
-to_at Nack bytes = node_at bytes
-to_at Answer bytes = task_at bytes
-to_at Report bytes = audit_at bytes
-to_at PrepareRange bytes = node_at bytes
-to_at PromiseRange bytes = node_at bytes
+-- a party that is this
+unfoldable pub role_at : Role → List ℕ → Read Party
+role_at ANode bytes = node_at bytes
+role_at ATask bytes = task_at bytes
+role_at TheAudit bytes = audit_at bytes
 
 -- what is after the kind
 unfoldable pub said_at : Version → Kind → List ℕ → Read Message
 said_at version kind bytes = do
-  from ← from_at kind bytes
-  to ← to_at kind from.1
+  from ← role_at (sender_role kind) bytes
+  to ← role_at (receiver_role kind) from.1
   body ← body_at version kind from.0 to.1
   Ok (record { from = from.0; to = to.0; body = body.0 }, body.1)
 

@@ -1,9 +1,10 @@
 //! Bytes to packets.
 
 ghost use Rattle.std.specs.Prelude.{◌≡◌, ◌↔◌, ℕ, List, length, Some, IsSome, IfSome, IfOk, OnErr};
-ghost use Rattle.rp_codec.specs.Message.{Message, IsPacket};
+ghost use Rattle.rp_codec.specs.Kind.{sender_role, receiver_role};
+ghost use Rattle.rp_codec.specs.Message.{Message, IsPacket, reply_in};
 ghost use Rattle.rp_codec.specs.Text.{text_of, IsTextBefore};
-ghost use Rattle.rp_codec.specs.Reading.{Gives, node_at, task_at, audit_at, from_at, to_at, version_at, kind_at, packet_at, all_of};
+ghost use Rattle.rp_codec.specs.Reading.{Gives, node_at, task_at, audit_at, role_at, version_at, kind_at, packet_at, all_of};
 ghost use Rattle.rp_codec.specs.Found.{Skips, FindsPacket, FindsWhole, KeepsRulesAt, IsListed, IsList};
 ghost use Rattle.rp_codec.specs.Decoding.{IsDecoded, IsLongText, BeginsWithPacket};
 
@@ -19,7 +20,7 @@ use crate::usual_texts::{
 };
 use crate::version::Version;
 use crate::votes_text::list_votes;
-use rp_base::{NodeId, PacketReason, TaskId};
+use rp_base::{NodeId, PacketReason, Reply, TaskId};
 use std::alloc::{AllocError, Global};
 
 #[inline(always)]
@@ -60,44 +61,25 @@ fn read_audit(reader: &mut Reader) -> Result<Party, PacketReason>
 }
 
 #[inline(always)]
-#[tactic(auto, unfolding(crate::specs::Reading::from_at))]
+#[tactic(auto, unfolding(crate::specs::Reading::role_at))]
 fn read_from(reader: &mut Reader, kind: Kind) -> Result<Party, PacketReason>
-    ensures { Gives result reader.new (from_at kind reader.old) }
+    ensures { Gives result reader.new (role_at (sender_role kind) reader.old) }
 {
     match kind {
         Kind::Call => read_task(reader),
-        Kind::Prepare
-        | Kind::Promise
-        | Kind::Accept
-        | Kind::Accepted
-        | Kind::Decided
-        | Kind::Ask
-        | Kind::Nack
-        | Kind::Reply
-        | Kind::Report
-        | Kind::PrepareRange
-        | Kind::PromiseRange => read_node(reader),
+        _ => read_node(reader),
     }
 }
 
 #[inline(always)]
-#[tactic(auto, unfolding(crate::specs::Reading::to_at))]
+#[tactic(auto, unfolding(crate::specs::Reading::role_at))]
 fn read_to(reader: &mut Reader, kind: Kind) -> Result<Party, PacketReason>
-    ensures { Gives result reader.new (to_at kind reader.old) }
+    ensures { Gives result reader.new (role_at (receiver_role kind) reader.old) }
 {
     match kind {
         Kind::Reply => read_task(reader),
         Kind::Report => read_audit(reader),
-        Kind::Call
-        | Kind::Prepare
-        | Kind::Promise
-        | Kind::Accept
-        | Kind::Accepted
-        | Kind::Decided
-        | Kind::Ask
-        | Kind::Nack
-        | Kind::PrepareRange
-        | Kind::PromiseRange => read_node(reader),
+        _ => read_node(reader),
     }
 }
 
@@ -309,6 +291,22 @@ pub fn decode(alloc: Global, bytes: &[u8]) -> Result<Result<Packet, PacketReason
     match any_usual(bytes) {
         Some(packet) => Ok(Ok(packet)),
         None => decode_fields(alloc, bytes),
+    }
+}
+
+/// The number of a call and the reply to it, as a packet's text states them; `None` where the packet
+/// is no reply, or the bytes are no packet's text. Refused for memory as `decode` is.
+pub fn stated_reply(alloc: Global, bytes: &[u8]) -> Result<Option<(u32, Reply)>, AllocError>
+    // claim: The number and the reply are returned exactly if the packet of this text is a reply
+    ensures { IfOk result (λ stated. (m : Message) → IsPacket m → bytes.now ≡ text_of m
+        → stated ≡ reply_in m.body) }
+{
+    let Ok(packet) = decode(alloc, bytes)? else {
+        return Ok(None);
+    };
+    match *packet.body() {
+        Body::Reply { number, reply } => Ok(Some((number, reply))),
+        _ => Ok(None),
     }
 }
 

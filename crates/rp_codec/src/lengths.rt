@@ -1,4 +1,4 @@
-//! Where a packet's text ends, without reading it.
+//! Where a packet's text ends, and to whom it is, without reading it.
 
 ghost use Rattle.std.specs.Prelude.{◌≡◌, ℕ, List, length};
 ghost use Rattle.rp_codec.specs.Decoding.{BeginsWithPacket};
@@ -7,6 +7,12 @@ ghost use Rattle.rp_codec.specs.Message.{Message, IsPacket};
 ghost use Rattle.rp_codec.specs.Text.{text_of, IsTextBefore};
 
 use crate::decoding::packet_len;
+use crate::fields::TASK_BASE;
+use crate::packet::Party;
+use rp_base::{NodeId, TaskId};
+
+/// Where the number of a packet's receiver is in its text, from 0.
+const RECEIVER: usize = 3;
 
 #[inline(always)]
 fn action_len(tag: u8) -> usize
@@ -55,5 +61,22 @@ pub fn text_len(bytes: &[u8]) -> usize
         9 => 8 + reply_len(bytes[8]),
         12 => 15,
         _ => packet_len(bytes).unwrap(),
+    }
+}
+
+/// To whom a packet is, by its text. It reads one byte.
+#[inline(always)]
+pub fn receiver(text: &[u8]) -> Party
+    requires { (m : Message) × IsPacket m × (text.now ≡ text_of m) }
+    // claim: The receiver of a packet whose text is known is returned without decoding it
+    ensures { (m : Message) → IsPacket m → text.now ≡ text_of m → result ≡ m.to }
+{
+    let number = text[RECEIVER];
+    if let Some(node) = NodeId::new(number) {
+        return Party::Node(node);
+    }
+    match TaskId::new(number.wrapping_sub(TASK_BASE)) {
+        Some(task) => Party::Task(task),
+        None => Party::Audit,
     }
 }

@@ -19,7 +19,7 @@
 //! - `usual_texts`: packets of the usual kinds, each read in one piece
 //! - `encoding`: packets to bytes
 //! - `decoding`: bytes to packets
-//! - `lengths`: where a packet's text ends, without reading it
+//! - `lengths`: where a packet's text ends, and to whom it is, without reading it
 //! - `record_text`: records as bytes
 //! - `short_text`: texts that need no memory
 #![tactic(auto)]
@@ -47,12 +47,12 @@ mod votes_text;
 
 pub use actions::Actions;
 pub use decoding::{
-    decode, decode_fields, packet_len, usual_accept, usual_accepted, usual_call, usual_decided,
-    usual_prepare, usual_promise,
+    decode, decode_fields, packet_len, stated_reply, usual_accept, usual_accepted, usual_call,
+    usual_decided, usual_prepare, usual_promise,
 };
 pub use encoding::{encode, encode_onto, one_text, text_of_packet, two_texts};
 pub use kind::Kind;
-pub use lengths::text_len;
+pub use lengths::{receiver, text_len};
 pub use packet::{Body, Packet, Party};
 pub use record_text::{
     decode_front, encode_rec, one_record_text, text_of_record, two_record_texts,

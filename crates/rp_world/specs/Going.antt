@@ -1,9 +1,5 @@
 -- The result of a call of a cluster's parts (no public clause names it).
 use Rattle.std.specs.Prelude.{◌≡◌, ◌⊎◌, ℕ, Option, None, Some, Result, Ok, Err, List, length}
-use Rattle.rp_base.specs.declared.reply.Reply.{Reply}
-use Rattle.rp_codec.specs.declared.packet.Body.{Body}
-use Rattle.rp_codec.specs.declared.packet.Body.TheVariants.{Call, Prepare, Promise, Accept, Accepted, Decided, Ask}
-use Rattle.rp_codec.specs.declared.packet.Body.TheVariants.{Nack, Reply as Answer, Report, PrepareRange, PromiseRange}
 use Rattle.rp_base.specs.declared.fault.Fault.{Fault}
 use Rattle.rp_base.specs.declared.fault.Fault.TheVariants.{OutOfMemory, Device, NotRunning}
 use Rattle.rp_model.specs.Answers.{Describes, IsLeft}
@@ -77,18 +73,3 @@ pub record StartsNot (w : World) (me : ℕ) (effect : Result Transition Fault) (
 abbrev pub AnswersRestart : World → ℕ → Result Transition Fault → World → Result Effect Fault → Type 0
 AnswersRestart w me effect new (Ok stated) = Goes w effect new stated
 AnswersRestart w me effect new (Err fault) = Refuses w effect new fault ⊎ StartsNot w me effect new fault
-
--- the number and the reply in a body, if it is a reply
-abbrev pub reply_in : Body → Option (ℕ × Reply)
-reply_in (Call action) = None
-reply_in (Prepare position ballot) = None
-reply_in (Promise position ballot last) = None
-reply_in (Accept position ballot action) = None
-reply_in (Accepted position ballot action) = None
-reply_in (Decided position action) = None
-reply_in (Ask position) = None
-reply_in (Nack position ballot bound) = None
-reply_in (Answer number reply) = Some (number, reply)
-reply_in (Report first applied actions) = None
-reply_in (PrepareRange range ballot) = None
-reply_in (PromiseRange range ballot votes) = None

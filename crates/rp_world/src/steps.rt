@@ -16,7 +16,7 @@ ghost use Rattle.rp_model.specs.World.{part_at, node_takes, node_is_cut, deliver
 ghost use Rattle.rp_agreement.specs.Ranges.{IsRangedWorld};
 ghost use Rattle.rp_replica.specs.Inputs.{IsRightInput, given_by};
 ghost use Rattle.rp_world.specs.Choosing.{AreNodesOf, Chosen, IsRefused};
-ghost use Rattle.rp_world.specs.Going.{Answers, Counts, reply_in, stated};
+ghost use Rattle.rp_world.specs.Going.{Answers, Counts, stated};
 ghost use Rattle.rp_world.specs.Steps.{IsStep, IsSameSetup, setting_of};
 
 use crate::effect::{no_effect, of_step, taken};
@@ -24,28 +24,13 @@ use crate::messages::Messages;
 use crate::node;
 use crate::world::{World, put_back};
 use rp_agreement::events_keep_ranges;
-use rp_base::{Fault, NodeId, Position, PositionRange, Reply, TaskId};
-use rp_codec::{Body, Party, decode};
+use rp_base::{Fault, NodeId, Position, PositionRange, TaskId};
+use rp_codec::{Party, receiver, stated_reply};
 use rp_machine::Machine;
 use rp_model::{Effect, Event, Interrupt, Step};
 use rp_replica::{Input, texts_are_packets};
 use rp_store::CutDevice;
-use std::alloc::{AllocError, Global};
-
-/// To whom a packet is, by its text.
-fn receiver(text: &[u8]) -> Party
-    requires { (m : Message) × IsPacket m × (text.now ≡ text_of m) }
-    ensures { (m : Message) → IsPacket m → text.now ≡ text_of m → result ≡ m.to }
-{
-    let number = text[3];
-    if let Some(node) = NodeId::new(number) {
-        return Party::Node(node);
-    }
-    match TaskId::new(number.wrapping_sub(16)) {
-        Some(task) => Party::Task(task),
-        None => Party::Audit,
-    }
-}
+use std::alloc::Global;
 
 impl<M: Machine, D: CutDevice> World<M, D> {
     /// The result of an event.
@@ -398,7 +383,7 @@ impl<M: Machine, D: CutDevice> World<M, D> {
     {
         let first = self.messages() + 1;
         let text = self.messages.text(number).unwrap();
-        let Ok(reply) = read_reply(alloc, text) else {
+        let Ok(reply) = stated_reply(alloc, text) else {
             return Err(Fault::OutOfMemory);
         };
         let Some((number, reply)) = reply else {
@@ -408,20 +393,5 @@ impl<M: Machine, D: CutDevice> World<M, D> {
             Ok(answer) => Ok(taken(first, answer)),
             Err(_) => Err(Fault::OutOfMemory),
         }
-    }
-}
-
-/// The number and the reply in the text of a packet, if it is a reply.
-fn read_reply(alloc: Global, text: &[u8]) -> Result<Option<(u32, Reply)>, AllocError>
-    requires { (m : Message) × IsPacket m × (text.now ≡ text_of m) }
-    ensures { IfOk result (λ stated. (m : Message) → IsPacket m → text.now ≡ text_of m
-        → stated ≡ reply_in m.body) }
-{
-    let Ok(packet) = decode(alloc, text)? else {
-        return Ok(None);
-    };
-    match *packet.body() {
-        Body::Reply { number, reply } => Ok(Some((number, reply))),
-        _ => Ok(None),
     }
 }

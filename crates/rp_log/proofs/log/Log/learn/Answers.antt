@@ -60,52 +60,29 @@ returns-then-number-len c =
 
 pub learn_next-requires-clause-room : goal.learn_next-requires-clause-room
 learn_next-requires-clause-room c =
-    let front = c.self.inside.front.items in
-    let reserved = c.self.inside.next_reserved in
-    let ahead = c.self.inside.ahead.entries in
-    let taken = c.self.inside.taken in
-    let log = c.args.self.now in
-    let p = c.args.position in
-    let none : action_at log p ≡ None = grind (arith, common_steps) in
-    let near : p ≤ length front + 1 = omega (arith, c.from-number.ensures, c.get-2.ensures.value, c.if-number-len.false, c.len.ensures) in
-    let next : p ≡ length front + 1 = unlearned_next front reserved ahead taken log p c.self.view_is (omega (arith, c.get-2.ensures.in_range)) none near in
-    let there : IsSome (place_of front reserved ahead (length front + 1)) =
-    subst (λ (n : ℕ). IsSome (place_of front reserved ahead n)) next (place_there front reserved ahead taken log p c.self.view_is c.requires) in
-    λ fewer count. room_to_put front reserved ahead (vec_capacity c.self.inside.front) taken c.self.inside.top fewer c.self.invariant there count
+    let near : c.args.position ≤ length c.self.inside.front.items + 1 = omega (arith, c.from-number.ensures, c.get-2.ensures.value, c.if-number-len.false, c.len.ensures) in
+    let next = unlearned_next _ _ c.self.inside.ahead.entries _ c.args.self.now c.args.position c.self.view_is (omega (arith, c.get-2.ensures.in_range)) (grind (arith, common_steps)) near in
+    let there : IsSome (place_of c.self.inside.front.items c.self.inside.next_reserved c.self.inside.ahead.entries (length c.self.inside.front.items + 1)) =
+    subst (λ (n : ℕ). IsSome (place_of c.self.inside.front.items c.self.inside.next_reserved c.self.inside.ahead.entries n)) next (place_there _ _ _ _ c.args.self.now c.args.position c.self.view_is c.requires) in
+    λ fewer count. room_to_put _ _ _ _ _ _ fewer c.self.invariant there count
 
 pub learn_next-requires-clause-bound : goal.learn_next-requires-clause-bound
 learn_next-requires-clause-bound c =
-    let front = c.self.inside.front.items in
-    let reserved = c.self.inside.next_reserved in
-    let ahead = c.self.inside.ahead.entries in
-    let taken = c.self.inside.taken in
-    let log = c.args.self.now in
-    let p = c.args.position in
-    let none : action_at log p ≡ None = grind (arith, common_steps) in
-    let near : p ≤ length front + 1 = omega (arith, c.from-number.ensures, c.get-2.ensures.value, c.if-number-len.false, c.len.ensures) in
-    let next : p ≡ length front + 1 = unlearned_next front reserved ahead taken log p c.self.view_is (omega (arith, c.get-2.ensures.in_range)) none near in
+    let near : c.args.position ≤ length c.self.inside.front.items + 1 = omega (arith, c.from-number.ensures, c.get-2.ensures.value, c.if-number-len.false, c.len.ensures) in
+    let next = unlearned_next _ _ c.self.inside.ahead.entries _ c.args.self.now c.args.position c.self.view_is (omega (arith, c.get-2.ensures.in_range)) (grind (arith, common_steps)) near in
     omega (arith, next, c.get-2.ensures.in_range)
 
 pub invariant_of-self-2 : goal.invariant_of-self-2
 invariant_of-self-2 c =
     let front = c.self.inside.front.items in
-    let reserved = c.self.inside.next_reserved in
-    let ahead = c.self.inside.ahead.entries in
-    let taken = c.self.inside.taken in
-    let log = c.args.self.now in
     let p = c.args.position in
-    let none : action_at log p ≡ None = grind (arith, common_steps) in
     let near : p ≤ length front + 1 = omega (arith, c.from-number.ensures, c.get-2.ensures.value, c.if-number-len.false, c.len.ensures) in
-    let next : p ≡ length front + 1 = unlearned_next front reserved ahead taken log p c.self.view_is (omega (arith, c.get-2.ensures.in_range)) none near in
-    let last = c.learn_next.new.front.items in
-    let rest = c.learn_next.new.ahead.entries in
-    let here : (i : ℕ) → place_of last false rest i ≡ cond (same i p) (Some (Some c.args.action)) (place_of front reserved ahead i) =
-    λ i. c.learn_next.ensures.places reserved i ∙ ap (λ n. cond (same i n) (Some (Some c.args.action)) (place_of front reserved ahead i)) (sym next) in
-    let more = c.learn_next.ensures.grown.0 in
-    let grown : last ≡ front ++ (c.args.action ∷ more) = c.learn_next.ensures.grown.1 in
+    let next = unlearned_next _ _ c.self.inside.ahead.entries _ c.args.self.now p c.self.view_is (omega (arith, c.get-2.ensures.in_range)) (grind (arith, common_steps)) near in
+    let here : (i : ℕ) → place_of c.learn_next.new.front.items false c.learn_next.new.ahead.entries i ≡ cond (same i p) (Some (Some c.args.action)) (place_of front c.self.inside.next_reserved c.self.inside.ahead.entries i) =
+    λ i. c.learn_next.ensures.places c.self.inside.next_reserved i ∙ ap (λ n. cond (same i n) (Some (Some c.args.action)) (place_of front c.self.inside.next_reserved c.self.inside.ahead.entries i)) (sym next) in
     let top_is : c.max-self-inside.result ≡ max c.self.inside.top p = grind (arith, common_steps) in
-    let long : length last ≡ length front + length (c.args.action ∷ more) = ap length grown ∙ length-append front (c.args.action ∷ more) in
-    fits_put front last reserved ahead rest (vec_capacity c.self.inside.front) (vec_capacity c.learn_next.new.front) taken c.self.inside.top c.max-self-inside.result p c.args.action c.self.invariant
+    let long = ap length c.learn_next.ensures.grown.1 ∙ length-append front (c.args.action ∷ c.learn_next.ensures.grown.0) in
+    fits_put front c.learn_next.new.front.items c.self.inside.next_reserved c.self.inside.ahead.entries c.learn_next.new.ahead.entries (vec_capacity c.self.inside.front) (vec_capacity c.learn_next.new.front) c.self.inside.taken c.self.inside.top c.max-self-inside.result p c.args.action c.self.invariant
     next (omega (arith, c.get-2.ensures.in_range)) here (omega (arith, long)) c.learn_next.ensures.bound c.learn_next.ensures.ahead c.learn_next.ensures.gap c.learn_next.ensures.room top_is
 
 pub returns : goal.returns

@@ -1,9 +1,8 @@
 -- The packet of which the bytes are the text is the one that was read.
 use Rattle.std.proofs.Common.{◌≡◌, sym, ap, ◌∙◌}
-use Rattle.rp_codec.specs.Message.{Message}
+use Rattle.rp_codec.specs.Message.{Message, reply_in}
 use Rattle.rp_codec.proofs.Decoded.{written_read, read_same}
-use Rattle.rp_world.specs.Going.{reply_in}
-use Rattle.rp_world.proofs.steps.read_reply.Goals as goal
+use Rattle.rp_codec.proofs.decoding.stated_reply.Goals as goal
 
 pub returns-in_default : goal.returns-in_default
 returns-in_default c = λ m packet text. absurd (c.in_default.not-Ok m (written_read _ _ m c.in_ok-packet.ensures.answer packet text))

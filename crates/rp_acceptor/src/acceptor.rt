@@ -176,6 +176,7 @@ impl Acceptor {
     }
 
     /// What is kept for a position.
+    #[inline(always)]
     fn slot(&self, position: Position) -> Slot
         ensures bound { number_of result.bound ≡ bound_at self.now.records position }
         ensures last { result.last ≡ last_vote_at self.now.records position }
@@ -185,6 +186,7 @@ impl Acceptor {
     }
 
     /// The last vote at a position.
+    #[inline(always)]
     fn last_vote(&self, position: Position) -> Option<Vote>
         ensures { result ≡ last_vote_at self.now.records position }
     {
@@ -193,6 +195,7 @@ impl Acceptor {
 
     /// What is answered to a `Prepare` of the ballot at the position (section 2.2, phase 1b). The
     /// promise counts once the record that it comes with is written and noted.
+    #[inline(always)]
     pub fn prepare(&self, position: Position, ballot: Ballot) -> PrepareAnswer
         // claim: A Prepare and an Accept are answered by the bound and the last vote of all records
         //   noted
@@ -225,6 +228,7 @@ impl Acceptor {
 }
 
 /// The bound, where the ballot lies below it.
+#[inline(always)]
 fn refusing(bound: Option<Ballot>, ballot: Ballot) -> Option<Ballot>
     ensures below { IfSome result (λ found. (found ≡ number_of bound) × (ballot < found)) }
     ensures not_below { IfNone result (number_of bound ≤ ballot) }
@@ -236,6 +240,7 @@ fn refusing(bound: Option<Ballot>, ballot: Ballot) -> Option<Ballot>
 }
 
 /// What is answered in a ballot that is not below the bound.
+#[inline(always)]
 fn vote(position: Position, ballot: Ballot, action: Action, last: Option<Vote>) -> AcceptAnswer
     ensures { result ≡ vote_answer position ballot action last }
 {
@@ -254,6 +259,7 @@ fn vote(position: Position, ballot: Ballot, action: Action, last: Option<Vote>) 
 }
 
 /// What is kept where this ballot is promised and this is the last vote.
+#[inline(always)]
 fn slot_of(promised: Option<Ballot>, last: Option<Vote>) -> Slot
     ensures bound { number_of result.bound ≡ max (number_of promised) (ballot_of_vote last) }
     ensures last { result.last ≡ last }

@@ -56,6 +56,7 @@ impl Page {
         self.votes.is_empty()
     }
 
+    #[inline(always)]
     fn vote(&self, offset: usize) -> Option<Vote>
         ensures { result ≡ vote_in_page self.now offset }
     {
@@ -78,6 +79,7 @@ impl Page {
 }
 
 /// The vote at an index, none in a page that is absent.
+#[inline(always)]
 pub fn vote_at(pages: &[Page], index: usize) -> Option<Vote>
     ensures { result ≡ vote_of pages.now index }
 {
@@ -117,6 +119,7 @@ fn grow(pages: &mut Vec<Page>, alloc: Global, number: usize) -> Result<(), Alloc
 }
 
 /// Makes the page of an index, unless it is there. Refused for memory, each place stays.
+#[inline(always)]
 pub fn make(pages: &mut Vec<Page>, alloc: Global, index: usize) -> Result<(), AllocError>
     requires { (n : ℕ) → IsWhole (page_at pages.old.items n) }
     ensures more { HasMore pages.old.items pages.new.items }
@@ -132,6 +135,7 @@ pub fn make(pages: &mut Vec<Page>, alloc: Global, index: usize) -> Result<(), Al
 }
 
 /// Notes the vote that a record is, if it is one. The place of its position is there.
+#[inline(always)]
 pub fn note(pages: &mut Vec<Page>, rec: &Rec)
     requires { (index : ℕ) → Has (index + 1) (voted_in rec.now) → HasSlot pages.old.items index }
     ensures len { (n : ℕ) → length (page_at pages.new.items n)

@@ -252,6 +252,7 @@ pub fn split_ends(steps: &mut Steps, first: usize, end: usize) -> Result<(), All
 }
 
 /// Notes the promise that a record is, if it is one. A step begins at each of its ends.
+#[inline(always)]
 pub fn raise_promised(steps: &mut Steps, rec: &Rec)
     requires { HasEnds steps.old (stretch_in rec.now) }
     ensures raised { (i : ℕ) → ballot_at steps.new i

@@ -68,6 +68,7 @@ impl Answers {
     }
 
     /// Adds an answer after the others.
+    #[inline(always)]
     pub fn push(&mut self, answer: Answer)
         requires { length self.old < 8 }
         ensures { self.new ≡ self.old ++ answer ∷ [] }

@@ -86,6 +86,7 @@ impl<M: Machine, D: Device> Replica<M, D> {
     }
 
     /// Whether an action is learned at the position.
+    #[inline(always)]
     pub(crate) fn is_learned(&self, position: Position) -> bool
         ensures { result ≡ is_some (learned_at self.now.records position) }
     {

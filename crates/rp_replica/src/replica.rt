@@ -83,6 +83,7 @@ impl<M: Machine, D: Device> Model for Replica<M, D> {
 }
 
 /// Makes room to note the record.
+#[inline(always)]
 fn reserve(acceptor: &mut Acceptor, rec: &Rec) -> Result<(), Fault>
     ensures room { OnOk result (HasRoom acceptor.new rec.now) }
     ensures records { acceptor.new.records ≡ acceptor.old.records }

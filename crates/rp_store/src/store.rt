@@ -81,6 +81,7 @@ fn restore<D: Device>(alloc: Global, device: &mut D) -> Result<(Vec<Rec>, u64), 
 }
 
 /// Appends the text and syncs.
+#[inline(always)]
 fn write<D: Device>(device: &mut D, text: &[u8]) -> Result<(), Fault>
     ensures ok { OnOk result (D.disk device.new ≡ synced (appended text.now (D.disk device.old))) }
     ensures refused { IsErrOf result Fault.OutOfMemory → D.disk device.new ≡ D.disk device.old }

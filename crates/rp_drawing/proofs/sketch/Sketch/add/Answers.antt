@@ -11,7 +11,7 @@ pub returns-clause-ways : goal.returns-clause-ways
 returns-clause-ways c =
     let place : c.len-place.result ≡ length c.args.self.now.rows.items = search rules in
     let ways_are = ways_by c.args.self.now.ways.items c.end-ended.new.self.ways.items c.send.new.self.ways.items c.args.moment.ending c.deref.result.now c.args.moment.sends.items
-        c.len-place.result (length c.args.self.now.rows.items) c.args.self.now.lines c.end-ended.ensures.ways c.in_ok-sent.ensures.ways c.deref.ensures.value place in
+    c.len-place.result (length c.args.self.now.rows.items) c.args.self.now.lines c.end-ended.ensures.ways c.in_ok-sent.ensures.ways c.deref.ensures.value place in
     let rows = c.args.self.now.rows.items in
     let ways = c.args.self.now.ways.items in
     let line = c.args.self.now.lines in
@@ -28,7 +28,7 @@ pub returns-clause-down : goal.returns-clause-down
 returns-clause-down c =
     let place : c.len-place.result ≡ length c.args.self.now.rows.items = search rules in
     let ways_are = ways_by c.args.self.now.ways.items c.end-ended.new.self.ways.items c.send.new.self.ways.items c.args.moment.ending c.deref.result.now c.args.moment.sends.items
-        c.len-place.result (length c.args.self.now.rows.items) c.args.self.now.lines c.end-ended.ensures.ways c.in_ok-sent.ensures.ways c.deref.ensures.value place in
+    c.len-place.result (length c.args.self.now.rows.items) c.args.self.now.lines c.end-ended.ensures.ways c.in_ok-sent.ensures.ways c.deref.ensures.value place in
     let rows = c.args.self.now.rows.items in
     let ways = c.args.self.now.ways.items in
     let line = c.args.self.now.lines in
@@ -46,7 +46,7 @@ pub returns-clause-count : goal.returns-clause-count
 returns-clause-count c =
     let place : c.len-place.result ≡ length c.args.self.now.rows.items = search rules in
     let ways_are = ways_by c.args.self.now.ways.items c.end-ended.new.self.ways.items c.send.new.self.ways.items c.args.moment.ending c.deref.result.now c.args.moment.sends.items
-        c.len-place.result (length c.args.self.now.rows.items) c.args.self.now.lines c.end-ended.ensures.ways c.in_ok-sent.ensures.ways c.deref.ensures.value place in
+    c.len-place.result (length c.args.self.now.rows.items) c.args.self.now.lines c.end-ended.ensures.ways c.in_ok-sent.ensures.ways c.deref.ensures.value place in
     ap (λ (l : List Way). length l) ways_are
     ∙ length_now c.args.self.now.ways.items c.args.moment.ending c.args.moment.sends.items (length c.args.self.now.rows.items) c.args.self.now.lines
     ∙ ap (λ (n : ℕ). n + length c.args.moment.sends.items) (sym c.requires.before)

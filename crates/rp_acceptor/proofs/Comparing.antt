@@ -1,18 +1,14 @@
 -- How a ballot compares with the bounds at positions: part by part, and with the greater of two bounds.
 use Rattle.std.proofs.Common.{◌≡◌, ℕ, zero, suc, ◌+◌, ◌<◌, ◌≤◌, max, Bool, true, false, cond, nat_eq, nat_le, nat_lt, ◌||◌, ◌&&◌, Option, Some, None, List, [], ◌∷◌, ◌++◌, length, ◌-◌, refl, sym, ap, subst, ◌∙◌, inl, inr, arith}
-use Rattle.std.specs.Prelude.{find, filter_map}
-use Rattle.std.specs.List.{list_all, range_with_len, cons_option, AllWithin}
+use Rattle.std.specs.Prelude.{find}
+use Rattle.std.specs.List.{list_all, range_with_len, AllWithin}
 use Rattle.std.proofs.lemmas.Bool.{and_parts, ltb-true, ne_eqb, eq-eqb, cases_order}
 use Rattle.std.proofs.lemmas.Bool.Decides.{leb_tells}
 use Rattle.rp_base.specs.declared.record.Rec.{Rec}
-use Rattle.rp_base.specs.declared.record.Vote.{Vote}
-use Rattle.rp_base.specs.declared.placed.PlacedVote.{PlacedVote}
-use Rattle.rp_base.specs.PlacedVotes.{placed_last}
-use Rattle.rp_base.specs.Records.{last_vote_at}
 use Rattle.rp_acceptor.specs.declared.comparison.Comparison.{Comparison}
 use Rattle.rp_acceptor.specs.declared.comparison.Comparison.TheVariants.{Above, Below, Equal}
-use Rattle.rp_acceptor.specs.Comparing.{not_above, compared, compared_at, followed_by, combined, compared_votes}
-use Rattle.rp_acceptor.specs.Slots.{ballot_of_vote, placed_if}
+use Rattle.rp_acceptor.specs.Comparing.{not_above, compared, compared_at, followed_by, combined, Bound, compared_bounds}
+use Rattle.rp_acceptor.specs.Slots.{Kept, nothing_kept, bound_of, kept_at, kept_in_page, bounds_from}
 use Rattle.rp_acceptor.specs.Steps.{Level, ballot_at, ballot_before}
 use Rattle.rp_acceptor.proofs.Splitting.{ballot_by}
 
@@ -283,24 +279,32 @@ combined_all f g b first (suc n) =
     ∙ ap (followed_by (compared_at first (max (f first) (g first)) b)) (combined_all f g b (first + 1) n)
     ∙ sym (compared_next (λ i. max (f i) (g i)) b first rest)
 
--- ---- votes
+-- ---- bounds at places
 
-pub compared_votes_parts : (b : ℕ) (votes more : List PlacedVote) → compared_votes b (votes ++ more) ≡ followed_by (compared_votes b votes) (compared_votes b more)
-compared_votes_parts b [] more = refl
-compared_votes_parts b (placed ∷ rest) more =
-    ap (followed_by (compared_at placed.position placed.vote.ballot b)) (compared_votes_parts b rest more)
-    ∙ sym (followed_again (compared_at placed.position placed.vote.ballot b) (compared_votes b rest) (compared_votes b more))
+pub compared_bounds_parts : (b : ℕ) (bounds more : List Bound) → compared_bounds b (bounds ++ more) ≡ followed_by (compared_bounds b bounds) (compared_bounds b more)
+compared_bounds_parts b [] more = refl
+compared_bounds_parts b (bound ∷ rest) more =
+    ap (followed_by (compared_at bound.position bound.ballot b)) (compared_bounds_parts b rest more)
+    ∙ sym (followed_again (compared_at bound.position bound.ballot b) (compared_bounds b rest) (compared_bounds b more))
 
-vote_here : (b i : ℕ) (last : Option Vote) (rest : List PlacedVote) → 0 < b
-    → followed_by (compared_at i (ballot_of_vote last) b) (compared_votes b rest) ≡ compared_votes b (cons_option (placed_if i last) rest)
-vote_here b i None rest some = ap (λ (c : Comparison). followed_by c (compared_votes b rest)) (here_below b i 0 some)
-vote_here b i (Some vote) rest some = refl
-
--- the ballots of the last votes, where there is one
-pub compared_last : (records : List Rec) (b : ℕ) (is : List ℕ) → 0 < b
-    → compared (λ i. ballot_of_vote (last_vote_at records i)) b is ≡ compared_votes b (filter_map (placed_last records) is)
-compared_last records b [] some = refl
-compared_last records b (i ∷ rest) some =
-    compared_next (λ j. ballot_of_vote (last_vote_at records j)) b i rest
-    ∙ ap (followed_by (compared_at i (ballot_of_vote (last_vote_at records i)) b)) (compared_last records b rest some)
-    ∙ vote_here b i (last_vote_at records i) (filter_map (placed_last records) rest) some
+-- places that hold what the records say, and nothing where they end
+pub compared_places : (records : List Rec) (places : List Kept) (b first n : ℕ) → 0 < b → length places ≤ n
+    → ((k : ℕ) → k < n → kept_in_page places k ≡ kept_at records (first + k))
+    → compared_bounds b (bounds_from first places) ≡ compared (λ i. bound_of (kept_at records i)) b (range_with_len first n)
+compared_places records [] b first zero some few right = refl
+compared_places records (kept ∷ places) b first zero some few right = absurd (omega (arith, few))
+compared_places records [] b first (suc n) some few right =
+    let same : nothing_kept ≡ kept_at records first = right 0 (omega arith) ∙ ap (kept_at records) (omega arith) in
+    let none : bound_of (kept_at records first) ≡ 0 = ap bound_of (sym same) in
+    let rest : List ℕ = range_with_len (first + 1) n in
+    compared_places records [] b (first + 1) n some (omega arith) (λ k within. right (suc k) (omega (arith, within)) ∙ ap (kept_at records) (omega arith))
+    ∙ ap (λ (c : Comparison). followed_by c (compared (λ i. bound_of (kept_at records i)) b rest))
+    (sym (ap (λ (x : ℕ). compared_at first x b) none ∙ here_below b first 0 some))
+    ∙ sym (compared_next (λ i. bound_of (kept_at records i)) b first rest)
+compared_places records (kept ∷ places) b first (suc n) some few right =
+    let same : kept ≡ kept_at records first = right 0 (omega arith) ∙ ap (kept_at records) (omega arith) in
+    let rest : List ℕ = range_with_len (first + 1) n in
+    ap (followed_by (compared_at first (bound_of kept) b))
+    (compared_places records places b (first + 1) n some (omega (arith, few)) (λ k within. right (suc k) (omega (arith, within)) ∙ ap (kept_at records) (omega arith)))
+    ∙ ap (λ (k : Kept). followed_by (compared_at first (bound_of k) b) (compared (λ i. bound_of (kept_at records i)) b rest)) same
+    ∙ sym (compared_next (λ i. bound_of (kept_at records i)) b first rest)

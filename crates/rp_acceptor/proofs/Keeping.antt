@@ -1,61 +1,70 @@
 -- What an acceptor keeps, as room is made and records are noted.
-use Rattle.std.proofs.Common.{◌≡◌, ℕ, ◌+◌, max, Option, List, [], ◌∷◌, ◌++◌, length, refl, sym, ap, subst, ◌∙◌, inl, inr}
-use Rattle.rp_base.specs.declared.record.Vote.{Vote}
+use Rattle.std.proofs.Common.{◌≡◌, ℕ, ◌+◌, max, List, [], ◌∷◌, ◌++◌, length, refl, sym, ap, subst, ◌∙◌, inl, inr}
 use Rattle.rp_base.specs.declared.record.Rec.{Rec}
 use Rattle.rp_base.specs.declared.record.Rec.TheVariants.{Started, Promised, Voted, Learned, PromisedRange}
-use Rattle.rp_base.specs.Records.{last_vote_at}
+use Rattle.rp_base.specs.Sets.{Has}
 use Rattle.rp_base.specs.Ranges.{Range, end_of}
 use Rattle.rp_base.proofs.Members.{has_left, has_right, has_split}
 use Rattle.rp_acceptor.specs.Noted.{Noted, HasRoom, reserves, reserves_vote, reserves_range, reserves_for, notes}
 use Rattle.rp_acceptor.specs.Steps.{Level, ballot_at, HasStep}
-use Rattle.rp_acceptor.specs.Slots.{ballot_of_vote, HasEnds, stretch_in, promise_at, AreBounds, vote_of, page_at, HasSlot, HasMore, AreVotes, HaveEnds, AreKept}
-use Rattle.rp_acceptor.proofs.Noting.{bounds_noted}
+use Rattle.rp_acceptor.specs.Slots.{Kept, bound_of, kept_at, HasEnds, stretch_in, promise_at, single_in, with_record, kept_of, page_at, HasSlot, HasMore, AreBounds, HaveEnds, AreKept}
+use Rattle.rp_acceptor.proofs.Noting.{records_kept, bounds_noted}
 use Rattle.rp_acceptor.proofs.Pages.{pages_still, pages_more, pages_noted}
 
 -- where there is room for a record, a step begins at each end of its promise
-pub ends_there : (steps : List Level) (noted : Noted) (rec : Rec) → HaveEnds steps noted.reserved noted.ranges → HasRoom noted rec → HasEnds steps (stretch_in rec)
+pub ends_there : (steps : List Level) (noted : Noted) (rec : Rec) → HaveEnds steps noted.ranges → HasRoom noted rec → HasEnds steps (stretch_in rec)
 ends_there steps noted (Started ballot) ends room = tt
-ends_there steps noted (Promised position ballot) ends room = ends.at_positions position (room.promise position (inl refl))
+ends_there steps noted (Promised position ballot) ends room = tt
 ends_there steps noted (Voted position ballot action) ends room = tt
 ends_there steps noted (Learned position action) ends room = tt
-ends_there steps noted (PromisedRange range ballot) ends room = ends.at_ranges range (room.range range (inl refl))
+ends_there steps noted (PromisedRange range ballot) ends room = ends range (room.range range (inl refl))
+
+-- and its position is reserved for votes
+reserved_there : (noted : Noted) (rec : Rec) (i : ℕ) → ((j : ℕ) → Has j noted.reserved → Has j noted.votes) → HasRoom noted rec → Has i (single_in rec) → Has i noted.votes
+reserved_there noted (Started ballot) i both room has = absurd has
+reserved_there noted (Promised position ballot) i both room has = both i (room.promise i has)
+reserved_there noted (Voted position ballot action) i both room has = room.vote i has
+reserved_there noted (Learned position action) i both room has = absurd has
+reserved_there noted (PromisedRange range ballot) i both room has = absurd has
+
+-- so there is a place for it
+pub place_there : (steps : List Level) (pages : List (List Kept)) (noted : Noted) (rec : Rec) (index : ℕ) → AreKept steps pages noted → HasRoom noted rec → Has (index + 1) (single_in rec)
+    → HasSlot pages index
+place_there steps pages noted rec index kept room has = kept.kept.room index (reserved_there noted rec (index + 1) kept.both room has)
 
 -- steps of which none is gone have the ends that there were
-pub ends_still : (before after : List Level) (reserved : List ℕ) (ranges : List Range) → ((i : ℕ) → HasStep before i → HasStep after i) → HaveEnds before reserved ranges
-    → HaveEnds after reserved ranges
-ends_still before after reserved ranges keeps ends = record {
-  at_positions = λ i h. let both = ends.at_positions i h in (keeps i both.0, keeps (i + 1) both.1);
-  at_ranges = λ range h. let both = ends.at_ranges range h in (keeps range.first both.0, keeps (end_of range) both.1);
-}
+ends_still : (before after : List Level) (ranges : List Range) → ((i : ℕ) → HasStep before i → HasStep after i) → HaveEnds before ranges → HaveEnds after ranges
+ends_still before after ranges keeps ends = λ range h. let both = ends range h in (keeps range.first both.0, keeps (end_of range) both.1)
 
 -- the same bounds by other steps
 bounds_still : (before after : List Level) (records : List Rec) → ((i : ℕ) → ballot_at after i ≡ ballot_at before i) → AreBounds before records → AreBounds after records
-bounds_still before after records same are = λ i. ap (λ (n : ℕ). max n (ballot_of_vote (last_vote_at records i))) (same i) ∙ are i
+bounds_still before after records same are = λ i. ap (λ (n : ℕ). max n (bound_of (kept_at records i))) (same i) ∙ are i
 
 -- a record is noted
-pub kept_noted : (steps after : List Level) (pages pages' : List (List (Option Vote))) (noted : Noted) (rec : Rec)
+pub kept_noted : (steps after : List Level) (pages pages' : List (List Kept)) (noted : Noted) (rec : Rec)
     → ((i : ℕ) → ballot_at after i ≡ max (ballot_at steps i) (promise_at i (stretch_in rec))) → ((i : ℕ) → HasStep steps i → HasStep after i)
-    → ((n : ℕ) → length (page_at pages' n) ≡ length (page_at pages n)) → AreVotes (vote_of pages') (noted.records ++ rec ∷ [])
+    → ((n : ℕ) → length (page_at pages' n) ≡ length (page_at pages n)) → ((index : ℕ) → kept_of pages' index ≡ with_record (index + 1) rec (kept_of pages index))
     → AreKept steps pages noted → AreKept after pages' (notes noted rec)
-kept_noted steps after pages pages' noted rec raised keeps same votes kept = record {
+kept_noted steps after pages pages' noted rec raised keeps same written kept = record {
   bounds = bounds_noted steps after noted.records rec raised kept.bounds;
-  ends = ends_still steps after noted.reserved noted.ranges keeps kept.ends;
-  kept = pages_noted pages pages' noted.votes noted.records (noted.records ++ rec ∷ []) kept.kept same votes;
+  ends = ends_still steps after noted.ranges keeps kept.ends;
+  kept = pages_noted pages pages' noted.votes noted.records (noted.records ++ rec ∷ []) kept.kept same
+      (records_kept (kept_of pages) (kept_of pages') noted.records rec written kept.kept.right);
   both = kept.both;
 }
 
 -- other steps, of which none is gone, keep the same
-pub kept_split : (steps after : List Level) (pages : List (List (Option Vote))) (noted : Noted) → ((i : ℕ) → ballot_at after i ≡ ballot_at steps i) → ((i : ℕ) → HasStep steps i → HasStep after i)
+pub kept_split : (steps after : List Level) (pages : List (List Kept)) (noted : Noted) → ((i : ℕ) → ballot_at after i ≡ ballot_at steps i) → ((i : ℕ) → HasStep steps i → HasStep after i)
     → AreKept steps pages noted → AreKept after pages noted
 kept_split steps after pages noted same keeps kept = record {
   bounds = bounds_still steps after noted.records same kept.bounds;
-  ends = ends_still steps after noted.reserved noted.ranges keeps kept.ends;
+  ends = ends_still steps after noted.ranges keeps kept.ends;
   kept = kept.kept;
   both = kept.both;
 }
 
 -- more pages keep the same
-pub kept_grown : (steps : List Level) (pages more : List (List (Option Vote))) (noted : Noted) → HasMore pages more → AreKept steps pages noted → AreKept steps more noted
+pub kept_grown : (steps : List Level) (pages more : List (List Kept)) (noted : Noted) → HasMore pages more → AreKept steps pages noted → AreKept steps more noted
 kept_grown steps pages more noted grown kept = record {
   bounds = kept.bounds;
   ends = kept.ends;
@@ -64,7 +73,7 @@ kept_grown steps pages more noted grown kept = record {
 }
 
 -- room for votes at a position
-pub kept_vote : (steps : List Level) (pages more : List (List (Option Vote))) (noted : Noted) (k i : ℕ) → k + 1 ≡ i → HasMore pages more → HasSlot more k
+pub kept_vote : (steps : List Level) (pages more : List (List Kept)) (noted : Noted) (k i : ℕ) → k + 1 ≡ i → HasMore pages more → HasSlot more k
     → AreKept steps pages noted → AreKept steps more (reserves_vote noted i)
 kept_vote steps pages more noted k i at grown has kept = record {
   bounds = kept.bounds;
@@ -74,35 +83,26 @@ kept_vote steps pages more noted k i at grown has kept = record {
 }
 
 -- room for promises of a range
-pub kept_range : (steps : List Level) (pages : List (List (Option Vote))) (noted : Noted) (range : Range) → HasStep steps range.first × HasStep steps (end_of range)
+pub kept_range : (steps : List Level) (pages : List (List Kept)) (noted : Noted) (range : Range) → HasStep steps range.first × HasStep steps (end_of range)
     → AreKept steps pages noted → AreKept steps pages (reserves_range noted range)
 kept_range steps pages noted range ends kept = record {
   bounds = kept.bounds;
-  ends = record {
-    at_positions = kept.ends.at_positions;
-    at_ranges = λ r h. elim (has_split r noted.ranges (range ∷ []) h) [
-      | inl old ↦ kept.ends.at_ranges r old
-      | inr new ↦ elim new [ inl same ↦ subst (λ (q : Range). HasStep steps q.first × HasStep steps (end_of q)) (sym same) ends | inr never ↦ absurd never ]
-    ];
-  };
+  ends = λ r h. elim (has_split r noted.ranges (range ∷ []) h) [
+    | inl old ↦ kept.ends r old
+    | inr new ↦ elim new [ inl same ↦ subst (λ (q : Range). HasStep steps q.first × HasStep steps (end_of q)) (sym same) ends | inr never ↦ absurd never ]
+  ];
   kept = kept.kept;
   both = kept.both;
 }
 
 -- room for both at a position
-pub kept_both : (steps : List Level) (pages more : List (List (Option Vote))) (noted : Noted) (k i : ℕ) → k + 1 ≡ i → HasMore pages more → HasSlot more k
-    → HasStep steps i × HasStep steps (i + 1) → AreKept steps pages noted → AreKept steps more (reserves noted i)
-kept_both steps pages more noted k i at grown has ends kept =
+pub kept_both : (steps : List Level) (pages more : List (List Kept)) (noted : Noted) (k i : ℕ) → k + 1 ≡ i → HasMore pages more → HasSlot more k
+    → AreKept steps pages noted → AreKept steps more (reserves noted i)
+kept_both steps pages more noted k i at grown has kept =
     let votes = kept_vote steps pages more noted k i at grown has kept in
     record {
       bounds = kept.bounds;
-      ends = record {
-        at_positions = λ j h. elim (has_split j noted.reserved (i ∷ []) h) [
-          | inl old ↦ kept.ends.at_positions j old
-          | inr new ↦ elim new [ inl same ↦ subst (λ (n : ℕ). HasStep steps n × HasStep steps (n + 1)) (sym same) ends | inr never ↦ absurd never ]
-        ];
-        at_ranges = kept.ends.at_ranges;
-      };
+      ends = kept.ends;
       kept = votes.kept;
       both = λ j h. elim (has_split j noted.reserved (i ∷ []) h) [
         | inl old ↦ has_left j noted.votes (i ∷ []) (kept.both j old)

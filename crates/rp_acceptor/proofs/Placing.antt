@@ -3,26 +3,24 @@ use Rattle.std.proofs.Common.{◌≡◌, ℕ, zero, suc, ◌+◌, ◌<◌, ◌�
 use Rattle.std.specs.Prelude.{filter_map}
 use Rattle.std.specs.List.{range_with_len, cons_option}
 use Rattle.rp_base.specs.declared.record.Rec.{Rec}
-use Rattle.rp_base.specs.declared.record.Vote.{Vote}
 use Rattle.rp_base.specs.declared.placed.PlacedVote.{PlacedVote}
 use Rattle.rp_base.specs.PlacedVotes.{placed_last}
-use Rattle.rp_base.specs.Records.{last_vote_at}
-use Rattle.rp_acceptor.specs.Slots.{vote_in_page, placed_if, placed_from}
+use Rattle.rp_acceptor.specs.Slots.{Kept, kept_in_page, kept_at, placed_if, votes_from}
 
--- places that hold the last votes, and none where they end
-pub placed_there : (records : List Rec) (places : List (Option Vote)) (first n : ℕ) → length places ≤ n
-    → ((k : ℕ) → k < n → vote_in_page places k ≡ last_vote_at records (first + k)) → placed_from first places ≡ filter_map (placed_last records) (range_with_len first n)
-placed_there records [] first zero few votes = refl
-placed_there records (last ∷ places) first zero few votes = absurd (omega (arith, few))
-placed_there records [] first (suc n) few votes =
-    placed_there records [] (first + 1) n (omega arith) (λ k within. votes (suc k) (omega (arith, within)) ∙ ap (last_vote_at records) (omega arith))
-    ∙ ap (λ (o : Option Vote). cons_option (placed_if first o) (filter_map (placed_last records) (range_with_len (first + 1) n)))
-    (votes 0 (omega arith) ∙ ap (last_vote_at records) (omega arith))
-placed_there records (last ∷ places) first (suc n) few votes =
-    ap (cons_option (placed_if first last))
-    (placed_there records places (first + 1) n (omega (arith, few)) (λ k within. votes (suc k) (omega (arith, within)) ∙ ap (last_vote_at records) (omega arith)))
-    ∙ ap (λ (o : Option Vote). cons_option (placed_if first o) (filter_map (placed_last records) (range_with_len (first + 1) n)))
-    (votes 0 (omega arith) ∙ ap (last_vote_at records) (omega arith))
+-- places that hold what the records say, and nothing where they end
+pub placed_there : (records : List Rec) (places : List Kept) (first n : ℕ) → length places ≤ n
+    → ((k : ℕ) → k < n → kept_in_page places k ≡ kept_at records (first + k)) → votes_from first places ≡ filter_map (placed_last records) (range_with_len first n)
+placed_there records [] first zero few right = refl
+placed_there records (kept ∷ places) first zero few right = absurd (omega (arith, few))
+placed_there records [] first (suc n) few right =
+    placed_there records [] (first + 1) n (omega arith) (λ k within. right (suc k) (omega (arith, within)) ∙ ap (kept_at records) (omega arith))
+    ∙ ap (λ (k : Kept). cons_option (placed_if first k.last) (filter_map (placed_last records) (range_with_len (first + 1) n)))
+    (right 0 (omega arith) ∙ ap (kept_at records) (omega arith))
+placed_there records (kept ∷ places) first (suc n) few right =
+    ap (cons_option (placed_if first kept.last))
+    (placed_there records places (first + 1) n (omega (arith, few)) (λ k within. right (suc k) (omega (arith, within)) ∙ ap (kept_at records) (omega arith)))
+    ∙ ap (λ (k : Kept). cons_option (placed_if first k.last) (filter_map (placed_last records) (range_with_len (first + 1) n)))
+    (right 0 (omega arith) ∙ ap (kept_at records) (omega arith))
 
 one_then : (o : Option PlacedVote) (votes more : List PlacedVote) → cons_option o (votes ++ more) ≡ cons_option o votes ++ more
 one_then None votes more = refl

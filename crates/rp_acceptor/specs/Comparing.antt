@@ -2,7 +2,6 @@
 use Rattle.std.specs.Prelude.{ℕ, nat_eq, nat_le, nat_lt, ◌&&◌, ◌||◌, Option, Some, None, List, [], ◌∷◌, find}
 use Rattle.std.specs.Prelude.{if◌then◌else◌}
 use Rattle.std.specs.List.{list_all}
-use Rattle.rp_base.specs.declared.placed.PlacedVote.{PlacedVote}
 use Rattle.rp_acceptor.specs.declared.comparison.Comparison.{Comparison}
 use Rattle.rp_acceptor.specs.declared.comparison.Comparison.TheVariants.{Above, Below, Equal}
 
@@ -41,8 +40,13 @@ combined Equal Above = Equal
 combined Equal (Below i bound) = Below i bound
 combined Equal Equal = Equal
 
--- the ballot against the ballots of votes, in order
-abbrev pub compared_votes : ℕ → List PlacedVote → Comparison
-compared_votes b [] = Above
-compared_votes b (placed ∷ rest) =
-    followed_by (compared_at placed.position placed.vote.ballot b) (compared_votes b rest)
+-- a bound at a position, 0 where there is none
+pub record Bound : Type 0 where
+  pub position : ℕ
+  pub ballot : ℕ
+
+-- the ballot against bounds, in order
+abbrev pub compared_bounds : ℕ → List Bound → Comparison
+compared_bounds b [] = Above
+compared_bounds b (bound ∷ rest) =
+    followed_by (compared_at bound.position bound.ballot b) (compared_bounds b rest)

@@ -1,9 +1,14 @@
--- The ballots that an acceptor promised, as steps: each holds from its position up to the next one (callers see none
--- of it).
+-- The ballots that an acceptor promised for ranges, as steps: each holds from its position up to the next one (callers
+-- see none of it).
 use Rattle.std.specs.Prelude.{◌≡◌, ◌<◌, ◌≤◌, ◌⊎◌, ℕ, zero, suc, max, Bool, false, ◌&&◌, nat_eq, Option, Some, None}
 use Rattle.std.specs.Prelude.{nat_le, nat_lt, List, [], ◌∷◌, length, if◌then◌else◌}
 use Rattle.std.specs.List.{AllWithin}
 use Rattle.std.specs.List.Sorted.{IsNonDecreasingBy}
+use Rattle.rp_base.specs.Ballot.{IsBallot}
+
+-- a ballot's number, or 0 where nothing is promised
+abbrev pub IsPromised : ℕ → Type 0
+IsPromised number = (number ≡ 0) ⊎ IsBallot number
 
 -- a step: the position from which its ballot holds, and the ballot, or 0 where nothing is promised
 pub record Level : Type 0 where

@@ -1,27 +1,27 @@
 //! The acceptor's questions and notes.
 
-ghost use Rattle.std.specs.Prelude.{◌≡◌, ◌≤◌, ◌<◌, [], ◌∷◌, ◌++◌, max, flat_map, IfOk, IfSome, IfNone, OnOk, OnErr, IsOkUnless};
+ghost use Rattle.std.specs.Prelude.{◌≡◌, ◌≤◌, ◌<◌, [], ◌∷◌, flat_map, IfOk, IfSome, IfNone, OnOk, OnErr};
 ghost use Rattle.rp_base.specs.Ballot.{number_of};
 ghost use Rattle.rp_base.specs.Records.{bound_at, last_vote_at};
 ghost use Rattle.rp_base.specs.Ranges.{positions_of};
 ghost use Rattle.rp_base.specs.Sets.{Has};
 ghost use Rattle.rp_acceptor.specs.Noted.{nothing_noted, places_in, HasRoom, reserves, reserves_vote, reserves_range, reserves_for, notes, restored};
-ghost use Rattle.rp_acceptor.specs.Slots.{ballot_of_vote};
 ghost use Rattle.rp_base.specs.Voting.{prepare_answer, vote_answer, accept_answer};
 
-use crate::page::{Page, make, note, vote_at};
+use crate::page::{Page, kept_at, make, note};
 use crate::slot::{Slot, index_of_position};
 use crate::steps::{Steps, raise_promised, split_ends};
 use rp_base::{
-    AcceptAnswer, Action, Ballot, Fault, History, Position, PositionRange, PrepareAnswer, Rec, Vote,
+    AcceptAnswer, Action, Ballot, History, Position, PositionRange, PrepareAnswer, Rec, Vote,
 };
-use std::alloc::Global;
+use std::alloc::{AllocError, Global};
 use std::marker::Model;
 
 /// An acceptor: what the records that it noted say at each position. Questions change nothing and
 /// notes take effect, so that a record can be written between the two (Lamport, "Paxos Made
-/// Simple", section 2.5). The bound at a position is the greater of the promised ballot, which a
-/// step holds for all positions up to the next one, and the last vote's.
+/// Simple", section 2.5). The bound at a position is the greatest of three ballots: the one promised
+/// for it alone and the last vote's, which its page keeps, and the one promised for a range, which a
+/// step holds for all positions up to the next one.
 #[derive(Drop)]
 pub struct Acceptor {
     alloc: Global,
@@ -74,11 +74,10 @@ impl Acceptor {
     /// The acceptor that notes these records in order, with room at each position at which one of
     /// them counts. `OutOfMemory` comes only where one of them is a promise or a vote, and then
     /// there is no acceptor.
-    pub fn restore(alloc: Global, records: &[Rec]) -> Result<Self, Fault>
+    pub fn restore(alloc: Global, records: &[Rec]) -> Result<Self, AllocError>
         // claim (restored): An acceptor that is restored is the one that noted the records in order
         ensures restored { IfOk result (λ acceptor. acceptor ≡ restored records.now) }
         ensures full { OnErr result (¬ (flat_map places_in records.now ≡ [])) }
-        ensures only { IsOkUnless result Fault.OutOfMemory }
     {
         let mut acceptor = Acceptor::new(alloc);
         for rec in records {
@@ -88,10 +87,9 @@ impl Acceptor {
     }
 
     /// Makes room for the record and notes it.
-    fn reserve_and_note(&mut self, rec: &Rec) -> Result<(), Fault>
+    fn reserve_and_note(&mut self, rec: &Rec) -> Result<(), AllocError>
         ensures ok { OnOk result (self.new ≡ notes (reserves_for self.old rec.now) rec.now) }
         ensures full { OnErr result (¬ (places_in rec.now ≡ [])) }
-        ensures only { IsOkUnless result Fault.OutOfMemory }
     {
         self.reserve_for(rec)?;
         self.note(rec);
@@ -99,10 +97,9 @@ impl Acceptor {
     }
 
     /// Makes room for the record.
-    fn reserve_for(&mut self, rec: &Rec) -> Result<(), Fault>
+    fn reserve_for(&mut self, rec: &Rec) -> Result<(), AllocError>
         ensures ok { OnOk result (self.new ≡ reserves_for self.old rec.now) }
         ensures full { OnErr result (¬ (places_in rec.now ≡ [])) }
-        ensures only { IsOkUnless result Fault.OutOfMemory }
     {
         match *rec {
             Rec::Promised(position, _) => self.reserve(position),
@@ -115,19 +112,16 @@ impl Acceptor {
     /// Makes room, so that records at this position can be noted, however many. `OutOfMemory` comes
     /// only where there was no room yet, and then nothing has changed.
     #[inline(always)]
-    pub fn reserve(&mut self, position: Position) -> Result<(), Fault>
+    pub fn reserve(&mut self, position: Position) -> Result<(), AllocError>
         // claim: Room is made only at the position or the range asked for, and a refusal changes
         //   nothing
         ensures ok { OnOk result (self.new ≡ reserves self.old position) }
         ensures err { OnErr result (self.new ≡ self.old) }
         ensures full { OnErr result (¬ Has position self.old.reserved) }
-        ensures only { IsOkUnless result Fault.OutOfMemory }
     {
         make(&mut self.pages, self.alloc, index_of_position(position))?;
-        let first = usize::from(position.get());
-        split_ends(&mut self.steps, first, first + 1)?;
-        self.reserved.push(position);
-        self.votes.push(position);
+        self.reserved.push(&position);
+        self.votes.push(&position);
         Ok(())
     }
 
@@ -135,31 +129,29 @@ impl Acceptor {
     /// promises. `OutOfMemory` comes only where there was no room yet, and then nothing has
     /// changed.
     #[inline(always)]
-    pub fn reserve_vote(&mut self, position: Position) -> Result<(), Fault>
+    pub fn reserve_vote(&mut self, position: Position) -> Result<(), AllocError>
         // claim as Acceptor::reserve
         ensures ok { OnOk result (self.new ≡ reserves_vote self.old position) }
         ensures err { OnErr result (self.new ≡ self.old) }
         ensures full { OnErr result (¬ Has position self.old.votes) }
-        ensures only { IsOkUnless result Fault.OutOfMemory }
     {
         make(&mut self.pages, self.alloc, index_of_position(position))?;
-        self.votes.push(position);
+        self.votes.push(&position);
         Ok(())
     }
 
     /// Makes room, so that promises for this range can be noted, however many: two steps at most.
     /// `OutOfMemory` comes only where there was no room yet, and then nothing has changed.
-    pub fn reserve_range(&mut self, range: PositionRange) -> Result<(), Fault>
+    pub fn reserve_range(&mut self, range: PositionRange) -> Result<(), AllocError>
         // claim as Acceptor::reserve
         ensures ok { OnOk result (self.new ≡ reserves_range self.old range) }
         ensures err { OnErr result (self.new ≡ self.old) }
         ensures full { OnErr result (¬ Has range self.old.ranges) }
         ensures some { OnErr result (¬ (positions_of range ≡ [])) }
-        ensures only { IsOkUnless result Fault.OutOfMemory }
     {
         let first = usize::from(range.first().get());
         split_ends(&mut self.steps, first, range.end() as usize)?;
-        self.ranges.push(range);
+        self.ranges.push(&range);
         Ok(())
     }
 
@@ -172,27 +164,26 @@ impl Acceptor {
     {
         raise_promised(&mut self.steps, rec);
         note(&mut self.pages, rec);
-        remember(&mut self.records, rec);
+        self.records.push(rec);
     }
 
-    /// What is kept for a position.
+    /// The bound and the last vote at a position.
+    #[inline(always)]
     fn slot(&self, position: Position) -> Slot
         ensures bound { number_of result.bound ≡ bound_at self.now.records position }
         ensures last { result.last ≡ last_vote_at self.now.records position }
     {
         let promised = self.steps.ballot(usize::from(position.get()));
-        slot_of(promised, self.last_vote(position))
-    }
-
-    /// The last vote at a position.
-    fn last_vote(&self, position: Position) -> Option<Vote>
-        ensures { result ≡ last_vote_at self.now.records position }
-    {
-        vote_at(&self.pages, index_of_position(position))
+        let kept = kept_at(&self.pages, index_of_position(position));
+        Slot {
+            bound: Ballot::greater(promised, kept.bound()),
+            last: kept.last(),
+        }
     }
 
     /// What is answered to a `Prepare` of the ballot at the position (section 2.2, phase 1b). The
     /// promise counts once the record that it comes with is written and noted.
+    #[inline(always)]
     pub fn prepare(&self, position: Position, ballot: Ballot) -> PrepareAnswer
         // claim: A Prepare and an Accept are answered by the bound and the last vote of all records
         //   noted
@@ -225,6 +216,7 @@ impl Acceptor {
 }
 
 /// The bound, where the ballot lies below it.
+#[inline(always)]
 fn refusing(bound: Option<Ballot>, ballot: Ballot) -> Option<Ballot>
     ensures below { IfSome result (λ found. (found ≡ number_of bound) × (ballot < found)) }
     ensures not_below { IfNone result (number_of bound ≤ ballot) }
@@ -236,6 +228,7 @@ fn refusing(bound: Option<Ballot>, ballot: Ballot) -> Option<Ballot>
 }
 
 /// What is answered in a ballot that is not below the bound.
+#[inline(always)]
 fn vote(position: Position, ballot: Ballot, action: Action, last: Option<Vote>) -> AcceptAnswer
     ensures { result ≡ vote_answer position ballot action last }
 {
@@ -250,36 +243,5 @@ fn vote(position: Position, ballot: Ballot, action: Action, last: Option<Vote>) 
         _ => AcceptAnswer::Vote {
             rec: Rec::Voted(position, ballot, action),
         },
-    }
-}
-
-/// What is kept where this ballot is promised and this is the last vote.
-fn slot_of(promised: Option<Ballot>, last: Option<Vote>) -> Slot
-    ensures bound { number_of result.bound ≡ max (number_of promised) (ballot_of_vote last) }
-    ensures last { result.last ≡ last }
-{
-    match last {
-        Some(vote) => Slot {
-            bound: Ballot::greater(promised, Some(vote.ballot)),
-            last: Some(vote),
-        },
-        None => Slot {
-            bound: promised,
-            last: None,
-        },
-    }
-}
-
-/// Adds a record after the others.
-fn remember(records: &mut History<Rec>, rec: &Rec)
-    ensures { records.new ≡ records.old ++ rec.now ∷ [] }
-{
-    // Case by case, since the proof of a move needs the action's type at hand.
-    match *rec {
-        Rec::Started(ballot) => records.push(Rec::Started(ballot)),
-        Rec::Promised(position, ballot) => records.push(Rec::Promised(position, ballot)),
-        Rec::Voted(position, ballot, action) => records.push(Rec::Voted(position, ballot, action)),
-        Rec::Learned(position, action) => records.push(Rec::Learned(position, action)),
-        Rec::PromisedRange(range, ballot) => records.push(Rec::PromisedRange(range, ballot)),
     }
 }

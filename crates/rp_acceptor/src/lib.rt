@@ -6,9 +6,10 @@
 //! - `range`: its questions for a range of positions
 //! - `comparison`: how a ballot compares with the bounds at positions
 //! - `slot`: what an acceptor keeps for a position
-//! - `steps`: the ballots that it promised
-//! - `page`: the last votes in pages, each made when a position of it is first reserved
-//! - `places`: the last votes at the positions of a range
+//! - `steps`: the ballots that it promised for ranges
+//! - `page`: what it keeps for single positions, in pages, each made when a position of it is first
+//!   reserved
+//! - `places`: what it keeps for the positions of a range
 #![tactic(auto)]
 
 mod acceptor;

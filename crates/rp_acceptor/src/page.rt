@@ -1,33 +1,104 @@
-//! The last votes of an acceptor in pages, each made when a position of it is first reserved.
+//! What an acceptor keeps for single positions, in pages, each made when a position of it is first
+//! reserved.
 
-ghost use Rattle.std.specs.Prelude.{Option, option_to_list, ◌≡◌, ◌+◌, ◌<◌, ◌≤◌, ◌∷◌, [], ℕ, length, slice_set, nat_eq, ◌/◌, ◌%◌, OnOk, OnErr, IfOk, List, None, ◌++◌};
+ghost use Rattle.std.specs.Prelude.{◌≡◌, ◌+◌, ◌<◌, ◌≤◌, [], ℕ, length, slice_set, nat_eq, ◌/◌, ◌%◌, OnOk, OnErr, IfOk};
+ghost use Rattle.rp_base.specs.Ballot.{number_of};
 ghost use Rattle.rp_base.specs.Sets.{Has};
-ghost use Rattle.rp_base.specs.Records.{highest};
-ghost use Rattle.rp_base.specs.declared.record.Rec.{Rec};
-ghost use Rattle.rp_acceptor.specs.Noted.{voted_in};
-ghost use Rattle.rp_acceptor.specs.Slots.{vote_in_page, page_at, vote_of, HasSlot, HasMore, IsWhole, AreVotes};
+ghost use Rattle.rp_acceptor.specs.Slots.{nothing_kept, bound_of, with_promise, with_vote, with_record, single_in, kept_in_page, page_at, kept_of, HasSlot, HasMore, IsWhole};
 
-use crate::slot::{index_of_position, placed_in};
-use rp_base::{Rec, Vote};
+use crate::slot::{ballot_of, index_of_position};
+use rp_base::{Ballot, Rec, Vote};
 use std::alloc::{AllocError, Global};
 use std::marker::Model;
 
 /// How many positions a page has.
 pub const PAGE: usize = 64;
 
-/// The last votes at 64 positions in a row, or nothing where no position of them was reserved.
+/// What is kept for one position: the number of the greatest ballot that was promised for it alone, 0
+/// where none was, and the last vote there.
+#[derive(Clone, Copy)]
+pub struct Kept {
+    promised: u64,
+    last: Option<Vote>,
+}
+
+impl Model for Kept {
+    ghost use Rattle.rp_acceptor.specs.Slots as slots;
+    ghost use Rattle.rp_acceptor.specs.Steps.{IsPromised};
+
+    ghost Value = { slots.Kept };
+
+    ghost view = { λ k. record { promised = k.promised; last = k.last } };
+
+    ghost invariant = { λ k. IsPromised k.promised };
+
+    ghost inverse = { λ k. record { promised = k.promised; last = k.last } };
+}
+
+impl Kept {
+    /// Nothing.
+    fn nothing() -> Kept
+        ensures { result ≡ nothing_kept }
+    {
+        Kept {
+            promised: 0,
+            last: None,
+        }
+    }
+
+    /// The last vote.
+    #[inline(always)]
+    pub fn last(&self) -> Option<Vote>
+        ensures { result ≡ self.now.last }
+    {
+        self.last
+    }
+
+    /// The greater of the ballot that was promised and the last vote's.
+    #[inline(always)]
+    pub fn bound(&self) -> Option<Ballot>
+        ensures { number_of result ≡ bound_of self.now }
+    {
+        let promised = ballot_of(self.promised);
+        match &self.last {
+            Some(vote) => Ballot::greater(promised, Some(vote.ballot)),
+            None => promised,
+        }
+    }
+
+    /// Notes a promise: the greatest ballot counts.
+    #[inline(always)]
+    fn promise(&mut self, ballot: Ballot)
+        ensures { self.new ≡ with_promise self.old ballot }
+    {
+        self.promised = self.promised.max(ballot.get());
+    }
+
+    /// Notes a vote: the last is the higher one.
+    #[inline(always)]
+    fn vote(&mut self, vote: Vote)
+        ensures { self.new ≡ with_vote self.old vote }
+    {
+        match &self.last {
+            Some(last) if last.ballot.get() >= vote.ballot.get() => {}
+            _ => self.last = Some(vote),
+        }
+    }
+}
+
+/// What is kept for 64 positions in a row, or nothing where no position of them was reserved.
 #[derive(Drop)]
 pub struct Page {
-    votes: Vec<Option<Vote>>,
+    places: Vec<Kept>,
 }
 
 impl Model for Page {
-    ghost use Rattle.std.specs.Prelude.{List, Option};
-    ghost use Rattle.rp_base.specs.declared.record.Vote.{Vote};
+    ghost use Rattle.std.specs.Prelude.{List};
+    ghost use Rattle.rp_acceptor.specs.Slots as slots;
 
-    ghost Value = { List (Option Vote) };
+    ghost Value = { List slots.Kept };
 
-    ghost view = { λ p. p.votes.items };
+    ghost view = { λ p. p.places.items };
 }
 
 impl Page {
@@ -36,69 +107,82 @@ impl Page {
         ensures { result ≡ [] }
     {
         Page {
-            votes: Vec::new(alloc),
+            places: Vec::new(alloc),
         }
     }
 
-    /// A page without a vote.
+    /// A page that keeps nothing.
     fn new(alloc: Global) -> Result<Page, AllocError>
         ensures len { IfOk result (λ page. length page ≡ 64) }
-        ensures empty { IfOk result (λ page. (offset : ℕ) → vote_in_page page offset ≡ None) }
+        ensures empty { IfOk result (λ page. (offset : ℕ)
+            → kept_in_page page offset ≡ nothing_kept) }
     {
-        let mut votes = Vec::new(alloc);
-        votes.resize(PAGE, None)?;
-        Ok(Page { votes })
+        let mut places = Vec::new(alloc);
+        places.resize(PAGE, Kept::nothing())?;
+        Ok(Page { places })
     }
 
     fn is_absent(&self) -> bool
         ensures { result ≡ nat_eq (length self.now) 0 }
     {
-        self.votes.is_empty()
+        self.places.is_empty()
     }
 
-    fn vote(&self, offset: usize) -> Option<Vote>
-        ensures { result ≡ vote_in_page self.now offset }
+    /// What is kept at an offset, nothing past the end.
+    #[inline(always)]
+    fn kept(&self, offset: usize) -> Kept
+        ensures { result ≡ kept_in_page self.now offset }
     {
-        match self.votes.get(offset) {
-            Some(vote) => *vote,
-            None => None,
+        match self.places.get(offset) {
+            Some(kept) => *kept,
+            None => Kept::nothing(),
         }
     }
 
-    /// Notes a vote at an offset: the last vote there is the higher one.
+    /// Notes a promise at an offset.
     #[inline(always)]
-    fn note_at(&mut self, offset: usize, vote: Vote)
+    fn note_promise(&mut self, offset: usize, ballot: Ballot)
         requires within { offset < length self.old }
         ensures { self.new ≡ slice_set self.old offset
-            (highest (option_to_list (vote_in_page self.old offset) ++ vote ∷ [])) }
+            (with_promise (kept_in_page self.old offset) ballot) }
     {
-        let last = self.votes[offset];
-        self.votes[offset] = Vote::higher(last, Some(vote));
+        self.places[offset].promise(ballot);
+    }
+
+    /// Notes a vote at an offset.
+    #[inline(always)]
+    fn note_vote(&mut self, offset: usize, vote: Vote)
+        requires within { offset < length self.old }
+        ensures { self.new ≡ slice_set self.old offset
+            (with_vote (kept_in_page self.old offset) vote) }
+    {
+        self.places[offset].vote(vote);
     }
 }
 
-/// The vote at an index, none in a page that is absent.
-pub fn vote_at(pages: &[Page], index: usize) -> Option<Vote>
-    ensures { result ≡ vote_of pages.now index }
+/// What is kept at an index, nothing in a page that is absent.
+#[inline(always)]
+pub fn kept_at(pages: &[Page], index: usize) -> Kept
+    ensures { result ≡ kept_of pages.now index }
 {
     match pages.get(index / PAGE) {
-        Some(page) => page.vote(index % PAGE),
-        None => None,
+        Some(page) => page.kept(index % PAGE),
+        None => Kept::nothing(),
     }
 }
 
 /// The places at indices of one page, this many from the first on; none in a page that is absent.
-pub fn places_at(pages: &[Page], index: usize, count: usize) -> &[Option<Vote>]
+pub fn places_at(pages: &[Page], index: usize, count: usize) -> &[Kept]
     requires whole { (n : ℕ) → IsWhole (page_at pages.now n) }
     requires within { index % 64 + count ≤ 64 }
     ensures few { length result.now ≤ count }
-    ensures votes { (k : ℕ) → k < count
-        → vote_in_page result.now k ≡ vote_of pages.now (index + k) }
+    ensures kept { (k : ℕ) → k < count
+        → kept_in_page result.now k ≡ kept_of pages.now (index + k) }
 {
     match pages.get(index / PAGE) {
         Some(page) if !page.is_absent() => {
             let offset = index % PAGE;
-            &page.votes[offset..offset + count]
+            &page.places[offset..offset + count]
         }
         _ => &[],
     }
@@ -116,7 +200,19 @@ fn grow(pages: &mut Vec<Page>, alloc: Global, number: usize) -> Result<(), Alloc
     Ok(())
 }
 
+/// Whether the page of this number is absent.
+#[inline(always)]
+fn is_absent(pages: &[Page], number: usize) -> bool
+    ensures { result ≡ nat_eq (length (page_at pages.now number)) 0 }
+{
+    match pages.get(number) {
+        Some(page) => page.is_absent(),
+        None => true,
+    }
+}
+
 /// Makes the page of an index, unless it is there. Refused for memory, each place stays.
+#[inline(always)]
 pub fn make(pages: &mut Vec<Page>, alloc: Global, index: usize) -> Result<(), AllocError>
     requires { (n : ℕ) → IsWhole (page_at pages.old.items n) }
     ensures more { HasMore pages.old.items pages.new.items }
@@ -124,24 +220,48 @@ pub fn make(pages: &mut Vec<Page>, alloc: Global, index: usize) -> Result<(), Al
     ensures full { OnErr result (length (page_at pages.old.items (index / 64)) ≡ 0) }
 {
     let number = index / PAGE;
-    grow(pages, alloc, number)?;
-    if pages[number].is_absent() {
-        pages[number] = Page::new(alloc)?;
+    if is_absent(pages, number) {
+        make_anew(pages, alloc, number)
+    } else {
+        Ok(())
     }
+}
+
+/// Makes the page of this number, which is absent. Refused for memory, each place stays.
+#[inline(never)]
+fn make_anew(pages: &mut Vec<Page>, alloc: Global, number: usize) -> Result<(), AllocError>
+    requires { length (page_at pages.old.items number) ≡ 0 }
+    ensures more { HasMore pages.old.items pages.new.items }
+    ensures made { OnOk result (length (page_at pages.new.items number) ≡ 64) }
+{
+    grow(pages, alloc, number)?;
+    pages[number] = Page::new(alloc)?;
     Ok(())
 }
 
-/// Notes the vote that a record is, if it is one. The place of its position is there.
+/// Notes the vote, or the promise for one position, that a record is, if it is one. The place of its
+/// position is there.
+#[inline(always)]
 pub fn note(pages: &mut Vec<Page>, rec: &Rec)
-    requires { (index : ℕ) → Has (index + 1) (voted_in rec.now) → HasSlot pages.old.items index }
+    requires { (index : ℕ) → Has (index + 1) (single_in rec.now) → HasSlot pages.old.items index }
     ensures len { (n : ℕ) → length (page_at pages.new.items n)
         ≡ length (page_at pages.old.items n) }
-    ensures right { (records : List Rec) → AreVotes (vote_of pages.old.items) records
-        → AreVotes (vote_of pages.new.items) (records ++ rec.now ∷ []) }
+    ensures noted { (index : ℕ) → kept_of pages.new.items index
+        ≡ with_record (index + 1) rec.now (kept_of pages.old.items index) }
 {
-    let Some(placed) = placed_in(rec) else {
-        return;
-    };
-    let index = index_of_position(placed.position);
-    pages[index / PAGE].note_at(index % PAGE, placed.vote);
+    match rec {
+        Rec::Promised(position, ballot) => {
+            let index = index_of_position(*position);
+            pages[index / PAGE].note_promise(index % PAGE, *ballot);
+        }
+        Rec::Voted(position, ballot, action) => {
+            let index = index_of_position(*position);
+            let vote = Vote {
+                ballot: *ballot,
+                action: *action,
+            };
+            pages[index / PAGE].note_vote(index % PAGE, vote);
+        }
+        Rec::Started(_) | Rec::Learned(_, _) | Rec::PromisedRange(_, _) => {}
+    }
 }

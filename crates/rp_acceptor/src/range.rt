@@ -6,6 +6,7 @@ ghost use Rattle.rp_base.specs.Ranges.{positions_of};
 ghost use Rattle.rp_base.specs.Records.{bound_at};
 ghost use Rattle.rp_base.specs.Voting.{range_answer};
 ghost use Rattle.rp_acceptor.specs.Comparing.{compared};
+ghost use Rattle.rp_acceptor.specs.Slots.{AreBoundsOf};
 
 use crate::acceptor::Acceptor;
 use crate::comparison::Comparison;
@@ -32,13 +33,13 @@ impl Acceptor {
     }
 
     /// How the ballot compares with the bounds at the positions of the range. Each step and each
-    /// page of votes is read once.
+    /// place is read once.
     pub fn compare(&self, range: PositionRange, ballot: Ballot) -> Comparison
         // claim: A ballot is compared with the bounds of a range exactly
         ensures { result ≡ compared (bound_at self.now.records) ballot (positions_of range) }
     {
-        let votes = self.places(range).compare(ballot);
-        self.steps.compare(range, ballot).combined(votes)
+        let single = self.places(range).compare(ballot);
+        self.steps.compare(range, ballot).combined(single)
     }
 
     /// The last votes at the positions of the range, in a vector, which takes no memory where there
@@ -62,9 +63,10 @@ impl Acceptor {
         self.places(range).votes()
     }
 
-    /// The places of the last votes at the positions of the range.
+    /// The places of the positions of the range.
     fn places(&self, range: PositionRange) -> Places<'_>
-        ensures { result ≡ last_votes self.now.records range }
+        ensures votes { result.votes ≡ last_votes self.now.records range }
+        ensures bounds { AreBoundsOf result.bounds self.now.records range }
     {
         Places::of(&self.pages, range)
     }

@@ -1,10 +1,11 @@
 //! What the records say of a position, and what a record adds.
 
 ghost use Rattle.std.specs.Prelude.{◌≡◌, ◌+◌, ◌<◌, IfSome};
-ghost use Rattle.rp_acceptor.specs.Noted.{placed_in};
+ghost use Rattle.rp_base.specs.Ballot.{number_of};
 ghost use Rattle.rp_acceptor.specs.Slots.{stretch_in};
+ghost use Rattle.rp_acceptor.specs.Steps.{IsPromised};
 
-use rp_base::{Ballot, PlacedVote, Position, Rec, Vote};
+use rp_base::{Ballot, Position, Rec, Vote};
 use std::marker::Model;
 
 /// The bound at a position and the last vote there.
@@ -32,44 +33,29 @@ impl Model for Stretch {
     ghost inverse = { λ s. record { first = s.first; end = s.end; ballot = s.ballot } };
 }
 
-/// The promise that a record is, if it is one.
+/// The promise for a range that a record is, if it is one.
+#[inline(always)]
 pub fn stretch_in(rec: &Rec) -> Option<Stretch>
     ensures stretch { result ≡ stretch_in rec.now }
     ensures rises { IfSome result (λ stretch. stretch.first < stretch.end) }
 {
     match rec {
-        Rec::Promised(position, ballot) => {
-            let first = usize::from(position.get());
-            Some(Stretch {
-                first,
-                end: first + 1,
-                ballot: *ballot,
-            })
-        }
         Rec::PromisedRange(range, ballot) => Some(Stretch {
             first: usize::from(range.first().get()),
             end: range.end() as usize,
             ballot: *ballot,
         }),
-        Rec::Started(_) | Rec::Voted(_, _, _) | Rec::Learned(_, _) => None,
+        Rec::Started(_) | Rec::Promised(_, _) | Rec::Voted(_, _, _) | Rec::Learned(_, _) => None,
     }
 }
 
-/// The vote that a record is, with its position, if it is one.
-pub fn placed_in(rec: &Rec) -> Option<PlacedVote>
-    ensures { result ≡ placed_in rec.now }
+/// The ballot of this number, or none where it is 0.
+#[inline(always)]
+pub fn ballot_of(number: u64) -> Option<Ballot>
+    requires { IsPromised number }
+    ensures { number_of result ≡ number }
 {
-    match rec {
-        Rec::Voted(position, ballot, action) => Some(PlacedVote {
-            position: *position,
-            vote: Vote {
-                ballot: *ballot,
-                action: *action,
-            },
-        }),
-        Rec::Started(_) | Rec::Promised(_, _) | Rec::Learned(_, _) | Rec::PromisedRange(_, _) =>
-            None,
-    }
+    Ballot::new(number)
 }
 
 /// The index of a position's place.

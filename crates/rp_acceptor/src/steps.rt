@@ -1,38 +1,39 @@
-//! The ballots that an acceptor promised, as steps: each holds from its position up to the next
-//! one.
+//! The ballots that an acceptor promised for ranges, as steps: each holds from its position up to the
+//! next one.
 
 ghost use Rattle.std.specs.Prelude.{◌≡◌, ℕ, ◌+◌, ◌-◌, ◌<◌, ◌≤◌, ◌^◌, [], max, map, length, IfSome, OnOk, OnErr, slice_get};
 ghost use Rattle.std.specs.List.{range_with_len};
 ghost use Rattle.rp_base.specs.Ballot.{number_of};
 ghost use Rattle.rp_base.specs.Ranges.{end_of, positions_of};
 ghost use Rattle.rp_acceptor.specs.Comparing.{compared};
-ghost use Rattle.rp_acceptor.specs.Steps.{Level, IsRising, IsCountBelow, ballot_at, ballot_before, begins_at, HasStep, raised_at, raised_step};
+ghost use Rattle.rp_acceptor.specs.Steps.{Level, IsPromised, IsRising, IsCountBelow, ballot_at, ballot_before, begins_at, HasStep, raised_at, raised_step};
 ghost use Rattle.rp_acceptor.specs.Slots.{stretch_in, promise_at, HasEnds};
 
 use crate::comparison::Comparison;
-use crate::slot::stretch_in;
+use crate::slot::{ballot_of, stretch_in};
 use rp_base::{Ballot, PositionRange, Rec};
 use std::alloc::{AllocError, Global};
 use std::marker::Model;
 
-/// How many of the last steps are read before all are searched: a promise for one position adds
-/// two.
+/// How many of the last steps are read before all are searched: a promise for a range adds two.
 const NEAR_END: usize = 4;
 
-/// From a position on the ballot is promised, or nothing is.
+/// From a position on the ballot of this number is promised, or nothing is where it is 0: so a step
+/// takes 16 bytes.
 #[derive(Drop)]
 struct Step {
     from: usize,
-    ballot: Option<Ballot>,
+    ballot: u64,
 }
 
 impl Model for Step {
-    ghost use Rattle.rp_base.specs.Ballot.{number_of};
-    ghost use Rattle.rp_acceptor.specs.Steps.{Level};
+    ghost use Rattle.rp_acceptor.specs.Steps.{Level, IsPromised};
 
     ghost Value = { Level };
 
-    ghost view = { λ s. record { from = s.from; ballot = number_of s.ballot } };
+    ghost view = { λ s. record { from = s.from; ballot = s.ballot } };
+
+    ghost invariant = { λ s. IsPromised s.ballot };
 }
 
 impl Step {
@@ -47,7 +48,7 @@ impl Step {
     fn raise(&mut self, ballot: Ballot)
         ensures { self.new ≡ record self.old { ballot = max self.old.ballot ballot } }
     {
-        self.ballot = Ballot::greater(self.ballot, Some(ballot));
+        self.ballot = self.ballot.max(ballot.get());
     }
 }
 
@@ -79,10 +80,14 @@ impl Steps {
     }
 
     /// The ballot that holds at a position.
+    #[inline(always)]
     pub fn ballot(&self, position: usize) -> Option<Ballot>
         requires { position < 2 ^ 32 }
         ensures { number_of result ≡ ballot_at self.now position }
     {
+        if self.steps.is_empty() {
+            return None;
+        }
         let count = count_below(&self.steps, position + 1);
         ballot_before(&self.steps, count)
     }
@@ -149,8 +154,17 @@ fn ballot_before(steps: &[Step], count: usize) -> Option<Ballot>
     requires { count ≤ length steps.now }
     ensures { number_of result ≡ ballot_before 0 steps.now count }
 {
+    ballot_of(number_before(steps, count))
+}
+
+/// Its number, or 0 where nothing is promised.
+fn number_before(steps: &[Step], count: usize) -> u64
+    requires { count ≤ length steps.now }
+    ensures value { result ≡ ballot_before 0 steps.now count }
+    ensures promised { IsPromised result }
+{
     if count == 0 {
-        None
+        0
     } else {
         let step = &steps[count - 1];
         step.ballot
@@ -218,7 +232,7 @@ fn split(steps: &mut Vec<Step>, position: usize) -> Result<(), AllocError>
 {
     let count = count_below(steps, position);
     if !begins_at(steps, count, position) {
-        let ballot = ballot_before(steps, count);
+        let ballot = number_before(steps, count);
         let step = Step {
             from: position,
             ballot,
@@ -252,6 +266,7 @@ pub fn split_ends(steps: &mut Steps, first: usize, end: usize) -> Result<(), All
 }
 
 /// Notes the promise that a record is, if it is one. A step begins at each of its ends.
+#[inline(always)]
 pub fn raise_promised(steps: &mut Steps, rec: &Rec)
     requires { HasEnds steps.old (stretch_in rec.now) }
     ensures raised { (i : ℕ) → ballot_at steps.new i

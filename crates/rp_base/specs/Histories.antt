@@ -6,4 +6,4 @@ use Rattle.rp_base.specs.declared.history.Last.TheVariants.{Nothing, After}
 -- the items of a history, oldest first
 abbrev pub listed : {T : Type 0} → Last T → List T
 listed Nothing = []
-listed (After before item) = before.value ++ item ∷ []
+listed (After before item) = before.value ++ item.value ∷ []

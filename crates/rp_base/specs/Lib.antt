@@ -15,3 +15,4 @@ pub mod Voting
 pub mod Promises
 pub mod Proposals
 pub mod Histories
+pub mod WriteFaults

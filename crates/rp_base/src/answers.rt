@@ -67,7 +67,16 @@ impl Answers {
         self.len == MOST_ANSWERS
     }
 
+    /// No answer, in place of those that there are.
+    #[inline(always)]
+    pub fn clear(&mut self)
+        ensures { self.new ≡ [] }
+    {
+        self.len = 0;
+    }
+
     /// Adds an answer after the others.
+    #[inline(always)]
     pub fn push(&mut self, answer: Answer)
         requires { length self.old < 8 }
         ensures { self.new ≡ self.old ++ answer ∷ [] }

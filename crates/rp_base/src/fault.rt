@@ -165,6 +165,41 @@ impl Fault {
     }
 }
 
+/// Why a record is not written, or what it takes is not reserved.
+#[derive(Clone, Copy, Debug, PartialEq, Eq)]
+pub enum WriteFault {
+    /// A growth was refused.
+    OutOfMemory,
+    /// The device's failure count rose in this call.
+    Device,
+    /// The device failed before, and was not opened anew.
+    Failed,
+}
+
+impl From<AllocError> for WriteFault {
+    ghost use Rattle.rp_base.specs.declared.fault.WriteFault.TheVariants.{OutOfMemory};
+
+    ghost from_gives = { λ _ e. e ≡ OutOfMemory };
+
+    fn from(_e: AllocError) -> WriteFault {
+        WriteFault::OutOfMemory
+    }
+}
+
+impl From<WriteFault> for Fault {
+    ghost use Rattle.rp_base.specs.WriteFaults.{fault_of};
+
+    ghost from_gives = { λ fault e. e ≡ fault_of fault };
+
+    fn from(fault: WriteFault) -> Fault {
+        match fault {
+            WriteFault::OutOfMemory => Fault::OutOfMemory,
+            WriteFault::Device => Fault::Device,
+            WriteFault::Failed => Fault::Failed,
+        }
+    }
+}
+
 impl From<AllocError> for Fault {
     ghost from_gives = { λ _ e. e ≡ OutOfMemory };
 

@@ -5,8 +5,8 @@ ghost use Rattle.std.specs.Prelude.{◌≡◌, [], ◌∷◌, ◌++◌};
 use std::marker::Model;
 use std::snapshot::Snapshot;
 
-/// A list of what happened, oldest first, of which memory holds the last item alone: the others are
-/// in snapshots, which take no bytes, for contracts.
+/// A list of what happened, oldest first, of which memory holds no item: they are in snapshots, which
+/// take no bytes, for contracts.
 #[cycle(history)]
 #[derive(Drop)]
 pub struct History<T: Drop> {
@@ -17,7 +17,7 @@ pub struct History<T: Drop> {
 #[derive(Drop)]
 enum Last<T: Drop> {
     Nothing,
-    After(Snapshot<History<T>>, T),
+    After(Snapshot<History<T>>, Snapshot<T>),
 }
 
 impl<T: Drop> Model for History<T> {
@@ -47,12 +47,12 @@ impl<T: Drop> History<T> {
     }
 
     /// Adds an item after the others, in constant time and with no memory.
-    pub fn push(&mut self, item: T)
-        // claim: A history, of which contracts see each item and memory holds the last, grows at
-        //   its end
-        ensures { self.new ≡ self.old ++ item ∷ [] }
+    #[inline(always)]
+    pub fn push(&mut self, item: &T)
+        // claim: A history, of which contracts see each item and memory holds none, grows at its end
+        ensures { self.new ≡ self.old ++ item.now ∷ [] }
     {
         let before = Snapshot::of(self);
-        self.last = Last::After(before, item);
+        self.last = Last::After(before, Snapshot::of(item));
     }
 }

@@ -40,7 +40,7 @@ pub use action::{Action, Operation};
 pub use answers::Answers;
 pub use ballot::Ballot;
 pub use config::Config;
-pub use fault::{DeckReason, Fault, PacketReason};
+pub use fault::{DeckReason, Fault, PacketReason, WriteFault};
 pub use history::History;
 pub use majorities::{majorities_intersect, majority};
 pub use number::{NodeId, Position, TaskId};

@@ -12,3 +12,4 @@ pub mod Decoded
 pub mod RecordLaws
 pub mod LengthLaws
 pub mod UsualTexts
+pub mod UsualPackets

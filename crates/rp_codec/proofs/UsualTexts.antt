@@ -49,6 +49,10 @@ pub decided_joined : (bytes head rest position last : List ℕ) (kind from to : 
     → bytes ≡ 2 ∷ kind ∷ from ∷ to ∷ (place ++ action)
 decided_joined bytes head rest position last kind from to place action e1 e2 h p a = rw (e1, e2, h, p, a) refl
 
+-- a call that is sent
+pub call_sent_joined : (bytes head rest : List ℕ) (from to : ℕ) (action : List ℕ) → bytes ≡ head ++ rest → head ≡ 2 ∷ 1 ∷ from ∷ to ∷ [] → rest ≡ action → bytes ≡ 2 ∷ 1 ∷ from ∷ to ∷ action
+call_sent_joined bytes head rest from to action e h a = rw (e, h, a) refl
+
 pub one : (l : List ℕ) (a : ℕ) → length l ≡ 1 → get_or l 0 0 ≡ a → l ≡ a ∷ []
 one [] a long is = absurd (omega (arith, long))
 one (x ∷ []) a long is = ap (λ (b : ℕ). b ∷ []) is

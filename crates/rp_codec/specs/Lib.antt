@@ -8,3 +8,4 @@ pub mod Record
 pub mod RecordReading
 pub mod Decoding
 pub mod Length
+pub mod Usual

@@ -1,8 +1,10 @@
 //! Bytes to packets.
 
-ghost use Rattle.std.specs.Prelude.{◌≡◌, ◌↔◌, ℕ, List, length, Some, IsSome, IfSome, IfOk, OnErr};
-ghost use Rattle.rp_codec.specs.Message.{Message, IsPacket};
+ghost use Rattle.std.specs.Prelude.{◌≡◌, ◌↔◌, ℕ, List, length, Some, Ok, IsSome, IfSome, IfOk, OnErr};
+ghost use Rattle.rp_codec.specs.Message.{Message, IsPacket, MaySay};
+ghost use Rattle.rp_codec.specs.declared.packet.Party.TheVariants.{Node};
 ghost use Rattle.rp_codec.specs.Text.{text_of, IsTextBefore};
+ghost use Rattle.rp_codec.specs.Usual.{between};
 ghost use Rattle.rp_codec.specs.Reading.{Gives, node_at, task_at, audit_at, from_at, to_at, version_at, kind_at, packet_at, all_of};
 ghost use Rattle.rp_codec.specs.Found.{Skips, FindsPacket, FindsWhole, KeepsRulesAt, IsListed, IsList};
 ghost use Rattle.rp_codec.specs.Decoding.{IsDecoded, IsLongText, BeginsWithPacket};
@@ -15,7 +17,8 @@ use crate::packet::{Body, Packet, Party};
 use crate::reader::Reader;
 use crate::report_text::list_actions;
 use crate::usual_texts::{
-    accept_of, accepted_of, decided_of, prepare_of, promise_of, reply_of, task_call_of,
+    Place, usual_accept, usual_accepted, usual_call, usual_decided, usual_prepare, usual_promise,
+    usual_reply,
 };
 use crate::version::Version;
 use crate::votes_text::list_votes;
@@ -211,71 +214,99 @@ pub fn decode_fields(
     }
 }
 
-/// This packet, whose text of version 2 the bytes are.
+/// The packet between the two nodes of a place that says this.
 #[inline(always)]
-fn of_its_text(bytes: &[u8], packet: Option<Packet>) -> Option<Packet>
-    requires text { IfSome packet (λ packet. bytes.now ≡ text_of packet) }
-    ensures { IfSome result (λ packet. IsDecoded bytes.now (Ok packet)) }
+fn between(place: Place, body: Body) -> Packet
+    requires { MaySay (Node place.from) (Node place.to) body }
+    ensures { result ≡ between place body }
 {
-    match packet {
-        Some(packet) => {
-            let _body = packet.body();
-            Some(packet)
-        }
-        None => None,
-    }
+    Packet::new(Party::Node(place.from), Party::Node(place.to), body)
 }
 
-/// The call of a task of which the bytes are a text, if it is of version 2 and read in one piece: its
-/// text has one length. It takes no memory. `None` says nothing of the bytes: `decode_fields` reads
-/// those. Which packets are read so is a matter of speed alone, and no clause says it. There is such a
-/// function for each usual kind, compiled into its caller: so what the caller does with the packet is
-/// compiled for that kind alone.
 #[inline(always)]
-pub fn usual_call(bytes: &[u8]) -> Option<Packet>
+fn call_packet(bytes: &[u8]) -> Option<Packet>
     ensures { IfSome result (λ packet. IsDecoded bytes.now (Ok packet)) }
 {
-    of_its_text(bytes, task_call_of(bytes))
+    let call = usual_call(bytes)?;
+    let body = Body::Call {
+        action: call.action,
+    };
+    Some(Packet::new(Party::Task(call.task), Party::Node(call.to), body))
 }
 
-/// The same, of a prepare.
 #[inline(always)]
-pub fn usual_prepare(bytes: &[u8]) -> Option<Packet>
+fn prepare_packet(bytes: &[u8]) -> Option<Packet>
     ensures { IfSome result (λ packet. IsDecoded bytes.now (Ok packet)) }
 {
-    of_its_text(bytes, prepare_of(bytes))
+    let place = usual_prepare(bytes)?;
+    let body = Body::Prepare {
+        position: place.position,
+        ballot: place.ballot,
+    };
+    Some(between(place, body))
 }
 
-/// The same, of a promise that reports no vote.
 #[inline(always)]
-pub fn usual_promise(bytes: &[u8]) -> Option<Packet>
+fn promise_packet(bytes: &[u8]) -> Option<Packet>
     ensures { IfSome result (λ packet. IsDecoded bytes.now (Ok packet)) }
 {
-    of_its_text(bytes, promise_of(bytes))
+    let place = usual_promise(bytes)?;
+    let body = Body::Promise {
+        position: place.position,
+        ballot: place.ballot,
+        last: None,
+    };
+    Some(between(place, body))
 }
 
-/// The same, of an accept whose action is a call.
 #[inline(always)]
-pub fn usual_accept(bytes: &[u8]) -> Option<Packet>
+fn accept_packet(bytes: &[u8]) -> Option<Packet>
     ensures { IfSome result (λ packet. IsDecoded bytes.now (Ok packet)) }
 {
-    of_its_text(bytes, accept_of(bytes))
+    let (place, action) = usual_accept(bytes)?;
+    let body = Body::Accept {
+        position: place.position,
+        ballot: place.ballot,
+        action,
+    };
+    Some(between(place, body))
 }
 
-/// The same, of a vote for a call.
 #[inline(always)]
-pub fn usual_accepted(bytes: &[u8]) -> Option<Packet>
+fn accepted_packet(bytes: &[u8]) -> Option<Packet>
     ensures { IfSome result (λ packet. IsDecoded bytes.now (Ok packet)) }
 {
-    of_its_text(bytes, accepted_of(bytes))
+    let (place, action) = usual_accepted(bytes)?;
+    let body = Body::Accepted {
+        position: place.position,
+        ballot: place.ballot,
+        action,
+    };
+    Some(between(place, body))
 }
 
-/// The same, of a decided call.
 #[inline(always)]
-pub fn usual_decided(bytes: &[u8]) -> Option<Packet>
+fn decided_packet(bytes: &[u8]) -> Option<Packet>
     ensures { IfSome result (λ packet. IsDecoded bytes.now (Ok packet)) }
 {
-    of_its_text(bytes, decided_of(bytes))
+    let decision = usual_decided(bytes)?;
+    let body = Body::Decided {
+        position: decision.position,
+        action: decision.action,
+    };
+    Some(Packet::new(Party::Node(decision.from), Party::Node(decision.to), body))
+}
+
+#[inline(always)]
+fn reply_packet(bytes: &[u8]) -> Option<Packet>
+    ensures { IfSome result (λ packet. IsDecoded bytes.now (Ok packet)) }
+{
+    let sent = usual_reply(bytes)?;
+    let body = Body::Reply {
+        number: sent.number,
+        reply: sent.reply,
+    };
+    Some(Packet::new(Party::Node(sent.from), Party::Task(sent.task), body))
 }
 
 /// The packet of which the bytes are a text, whatever its kind, if it is read in one piece.
@@ -283,13 +314,13 @@ fn any_usual(bytes: &[u8]) -> Option<Packet>
     ensures { IfSome result (λ packet. IsDecoded bytes.now (Ok packet)) }
 {
     match Kind::of_text(bytes)? {
-        Kind::Call => usual_call(bytes),
-        Kind::Prepare => usual_prepare(bytes),
-        Kind::Promise => usual_promise(bytes),
-        Kind::Accept => usual_accept(bytes),
-        Kind::Accepted => usual_accepted(bytes),
-        Kind::Decided => usual_decided(bytes),
-        Kind::Reply => of_its_text(bytes, reply_of(bytes)),
+        Kind::Call => call_packet(bytes),
+        Kind::Prepare => prepare_packet(bytes),
+        Kind::Promise => promise_packet(bytes),
+        Kind::Accept => accept_packet(bytes),
+        Kind::Accepted => accepted_packet(bytes),
+        Kind::Decided => decided_packet(bytes),
+        Kind::Reply => reply_packet(bytes),
         Kind::Ask | Kind::Nack | Kind::Report | Kind::PrepareRange | Kind::PromiseRange => None,
     }
 }

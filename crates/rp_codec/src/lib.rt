@@ -17,6 +17,7 @@
 //! - `body_text`: bodies as bytes
 //! - `content`: what was read of a packet, before memory is taken for a list
 //! - `usual_texts`: packets of the usual kinds, each read in one piece
+//! - `usual_encoding`: packets and records of the usual kinds to bytes, each in one piece
 //! - `encoding`: packets to bytes
 //! - `decoding`: bytes to packets
 //! - `lengths`: where a packet's text ends, without reading it
@@ -40,16 +41,14 @@ mod reply_text;
 mod report_text;
 mod rules;
 mod short_text;
+mod usual_encoding;
 mod usual_texts;
 mod version;
 mod votes;
 mod votes_text;
 
 pub use actions::Actions;
-pub use decoding::{
-    decode, decode_fields, packet_len, usual_accept, usual_accepted, usual_call, usual_decided,
-    usual_prepare, usual_promise,
-};
+pub use decoding::{decode, decode_fields, packet_len};
 pub use encoding::{encode, encode_onto, one_text, text_of_packet, two_texts};
 pub use kind::Kind;
 pub use lengths::text_len;
@@ -59,5 +58,13 @@ pub use record_text::{
 };
 pub use rules::report_len;
 pub use short_text::ShortText;
+pub use usual_encoding::{
+    accept_text, accepted_text, decided_text, is_call, learned_text, prepare_text, promise_text,
+    promised_text, value_reply_text, voted_text,
+};
+pub use usual_texts::{
+    Place, SentCall, SentDecision, SentReply, usual_accept, usual_accepted, usual_call,
+    usual_decided, usual_prepare, usual_promise, usual_reply,
+};
 pub use version::Version;
 pub use votes::Votes;

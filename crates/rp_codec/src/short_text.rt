@@ -68,7 +68,7 @@ impl ShortText {
 
 /// Puts a piece in place of as many bytes, in one move.
 #[inline(always)]
-fn overwrite<const N: usize>(bytes: &mut [u8], piece: &[u8; N])
+pub(crate) fn overwrite<const N: usize>(bytes: &mut [u8], piece: &[u8; N])
     requires { length bytes.old ≡ N }
     ensures len { length bytes.new ≡ length bytes.old }
     ensures after { bytes.new ≡ piece.now }

@@ -1,29 +1,63 @@
 //! Packets of the usual kinds, in texts of version 2, each read in one piece since its text has one
 //! length: those between nodes whose action, if any, is a call, a task's call, and a reply with a value.
 
-ghost use Rattle.std.specs.Prelude.{◌≡◌, [], ◌∷◌, ◌++◌, FitsSigned, IfSome};
+ghost use Rattle.std.specs.Prelude.{◌≡◌, [], ◌∷◌, ◌++◌, Ok, FitsSigned, IfSome};
 ghost use Rattle.std.specs.Int.{w32, w64};
+ghost use Rattle.rp_base.specs.Number.{IsNode, IsPosition};
+ghost use Rattle.rp_base.specs.Ballot.{IsBallot};
 ghost use Rattle.rp_base.specs.Action.{IsCount, IsRight, IsRightOperation};
-ghost use Rattle.rp_codec.specs.Text.{number_text, signed_text, position_text, ballot_text, operation_text, action_text, vote_text, text_of};
+ghost use Rattle.rp_codec.specs.Text.{number_text, signed_text, position_text, ballot_text, operation_text, action_text, vote_text};
+ghost use Rattle.rp_codec.specs.Message.{IsCallOf};
+ghost use Rattle.rp_codec.specs.declared.packet.Party.TheVariants.{Task};
+ghost use Rattle.rp_codec.specs.Decoding.{IsDecoded};
+ghost use Rattle.rp_codec.specs.Usual.{IsPlace, prepare_at, promise_at, accept_at, accepted_at, decided_of, call_sent, reply_sent};
 
 use crate::action_text::MOST_ENTRIES;
 use crate::fields::{TASK_BASE, VERSION};
-use crate::packet::{Body, Packet, Party};
+use crate::packet::Party;
 use crate::rules::is_call_of;
-use rp_base::{Action, Ballot, NodeId, Operation, Position, Reply, TaskId, Vote};
+use rp_base::{Action, Ballot, NodeId, Operation, Position, Reply, TaskId};
 
-/// What is before the action in most packets between nodes.
-#[derive(Clone, Copy)]
-struct Place {
-    from: NodeId,
-    to: NodeId,
-    position: Position,
-    ballot: Ballot,
+/// From whom a packet is and to whom, and its position and ballot: what is before the action in most
+/// packets between nodes.
+#[derive(Clone, Copy, Debug)]
+pub struct Place {
+    pub from: NodeId,
+    pub to: NodeId,
+    pub position: Position,
+    pub ballot: Ballot,
+}
+
+/// A decision that one node sends to another.
+#[derive(Clone, Copy, Debug)]
+pub struct SentDecision {
+    pub from: NodeId,
+    pub to: NodeId,
+    pub position: Position,
+    pub action: Action,
+}
+
+/// A reply that a node sends to a task.
+#[derive(Clone, Copy, Debug)]
+pub struct SentReply {
+    pub from: NodeId,
+    pub task: TaskId,
+    pub number: u32,
+    pub reply: Reply,
+}
+
+/// A call that a task sends to a node.
+#[derive(Clone, Copy, Debug)]
+pub struct SentCall {
+    pub task: TaskId,
+    pub to: NodeId,
+    pub action: Action,
 }
 
 #[inline(always)]
 fn position_of(field: &[u8; 2]) -> Option<Position>
-    ensures { IfSome result (λ position. field.now ≡ position_text position) }
+    ensures text { IfSome result (λ position. field.now ≡ position_text position) }
+    ensures in_range { IfSome result IsPosition }
 {
     let position = Position::new(u16::from_be_bytes(*field))?;
     Some(position)
@@ -31,7 +65,8 @@ fn position_of(field: &[u8; 2]) -> Option<Position>
 
 #[inline(always)]
 fn ballot_of(field: &[u8; 8]) -> Option<Ballot>
-    ensures { IfSome result (λ ballot. field.now ≡ ballot_text ballot) }
+    ensures text { IfSome result (λ ballot. field.now ≡ ballot_text ballot) }
+    ensures in_range { IfSome result IsBallot }
 {
     let ballot = Ballot::new(u64::from_be_bytes(*field))?;
     Some(ballot)
@@ -98,10 +133,26 @@ fn call_of(bytes: &[u8]) -> Option<Action>
     })
 }
 
+/// The same, if it is this task's own.
+#[inline(always)]
+fn own_call_of(bytes: &[u8], task: TaskId) -> Option<Action>
+    ensures text { IfSome result (λ action. bytes.now ≡ action_text action) }
+    ensures right { IfSome result IsRight }
+    ensures own { IfSome result (λ action. IsCallOf (Task task) action) }
+{
+    let action = call_of(bytes)?;
+    if is_call_of(&Party::Task(task), &action) {
+        Some(action)
+    } else {
+        None
+    }
+}
+
 /// The two nodes of a packet of this kind.
 #[inline(always)]
 fn nodes_of(head: &[u8; 4], kind: u8) -> Option<(NodeId, NodeId)>
-    ensures { IfSome result (λ nodes. head.now ≡ 2 ∷ kind ∷ nodes.0 ∷ nodes.1 ∷ []) }
+    ensures text { IfSome result (λ nodes. head.now ≡ 2 ∷ kind ∷ nodes.0 ∷ nodes.1 ∷ []) }
+    ensures in_range { IfSome result (λ nodes. IsNode nodes.0 × IsNode nodes.1) }
 {
     if head[0] != VERSION || head[1] != kind {
         return None;
@@ -113,8 +164,9 @@ fn nodes_of(head: &[u8; 4], kind: u8) -> Option<(NodeId, NodeId)>
 
 #[inline(always)]
 fn place_of(front: &[u8; 14], kind: u8) -> Option<Place>
-    ensures { IfSome result (λ place. front.now ≡ (2 ∷ kind ∷ place.from ∷ place.to ∷ [])
+    ensures text { IfSome result (λ place. front.now ≡ (2 ∷ kind ∷ place.from ∷ place.to ∷ [])
         ++ position_text place.position ++ ballot_text place.ballot) }
+    ensures in_range { IfSome result IsPlace }
 {
     let (head, rest) = front.split_first_chunk::<4>()?;
     let (position, rest) = rest.split_first_chunk::<2>()?;
@@ -136,6 +188,7 @@ fn place_of(front: &[u8; 14], kind: u8) -> Option<Place>
 fn vote_of(bytes: &[u8], kind: u8) -> Option<(Place, Action)>
     ensures text { IfSome result (λ vote. bytes.now ≡ (2 ∷ kind ∷ vote.0.from ∷ vote.0.to ∷ [])
         ++ vote_text vote.0.position vote.0.ballot vote.1) }
+    ensures in_range { IfSome result (λ vote. IsPlace vote.0) }
     ensures right { IfSome result (λ vote. IsRight vote.1) }
 {
     let (front, rest) = bytes.split_first_chunk::<14>()?;
@@ -144,83 +197,79 @@ fn vote_of(bytes: &[u8], kind: u8) -> Option<(Place, Action)>
     Some((place, action))
 }
 
+/// The place of a prepare of which the bytes are the text of version 2. `None` says nothing of the
+/// bytes: `decode_fields` reads those. There is such a function for each usual kind, compiled into its
+/// caller, which so has the fields without a packet in memory. Which packets are read so is a matter of
+/// speed alone, and no clause says it.
 #[inline(always)]
-pub(crate) fn prepare_of(bytes: &[u8]) -> Option<Packet>
-    ensures { IfSome result (λ packet. bytes.now ≡ text_of packet) }
+pub fn usual_prepare(bytes: &[u8]) -> Option<Place>
+    ensures { IfSome result (λ place. IsDecoded bytes.now (Ok (prepare_at place))) }
 {
     if bytes.len() != 14 {
         return None;
     }
     let (front, _) = bytes.split_first_chunk::<14>()?;
     let place = place_of(front, 2)?;
-    let body = Body::Prepare {
-        position: place.position,
-        ballot: place.ballot,
-    };
-    Some(Packet::new(Party::Node(place.from), Party::Node(place.to), body))
+    Some(place)
 }
 
-/// A promise that reports no vote.
+/// The same, of a promise that reports no vote.
 #[inline(always)]
-pub(crate) fn promise_of(bytes: &[u8]) -> Option<Packet>
-    ensures { IfSome result (λ packet. bytes.now ≡ text_of packet) }
+pub fn usual_promise(bytes: &[u8]) -> Option<Place>
+    ensures { IfSome result (λ place. IsDecoded bytes.now (Ok (promise_at place))) }
 {
-    let (front, rest) = bytes.split_first_chunk::<14>()?;
-    let [0] = rest else {
+    if bytes.len() != 15 {
         return None;
-    };
+    }
+    let (front, rest) = bytes.split_first_chunk::<14>()?;
+    let (tag, _) = rest.split_first_chunk::<1>()?;
+    if tag[0] != 0 {
+        return None;
+    }
     let place = place_of(front, 3)?;
-    let body = Body::Promise {
-        position: place.position,
-        ballot: place.ballot,
-        last: None,
-    };
-    Some(Packet::new(Party::Node(place.from), Party::Node(place.to), body))
+    Some(place)
 }
 
+/// The same, of an accept whose action is a call.
 #[inline(always)]
-pub(crate) fn accept_of(bytes: &[u8]) -> Option<Packet>
-    ensures { IfSome result (λ packet. bytes.now ≡ text_of packet) }
+pub fn usual_accept(bytes: &[u8]) -> Option<(Place, Action)>
+    ensures { IfSome result (λ vote. IsDecoded bytes.now (Ok (accept_at vote.0 vote.1))) }
 {
     let (place, action) = vote_of(bytes, 4)?;
-    let body = Body::Accept {
-        position: place.position,
-        ballot: place.ballot,
-        action,
-    };
-    Some(Packet::new(Party::Node(place.from), Party::Node(place.to), body))
+    Some((place, action))
 }
 
+/// The same, of a vote for a call.
 #[inline(always)]
-pub(crate) fn accepted_of(bytes: &[u8]) -> Option<Packet>
-    ensures { IfSome result (λ packet. bytes.now ≡ text_of packet) }
+pub fn usual_accepted(bytes: &[u8]) -> Option<(Place, Action)>
+    ensures { IfSome result (λ vote. IsDecoded bytes.now (Ok (accepted_at vote.0 vote.1))) }
 {
     let (place, action) = vote_of(bytes, 5)?;
-    let body = Body::Accepted {
-        position: place.position,
-        ballot: place.ballot,
-        action,
-    };
-    Some(Packet::new(Party::Node(place.from), Party::Node(place.to), body))
+    Some((place, action))
 }
 
+/// The same, of a decided call.
 #[inline(always)]
-pub(crate) fn decided_of(bytes: &[u8]) -> Option<Packet>
-    ensures { IfSome result (λ packet. bytes.now ≡ text_of packet) }
+pub fn usual_decided(bytes: &[u8]) -> Option<SentDecision>
+    ensures { IfSome result (λ decision. IsDecoded bytes.now (Ok (decided_of decision))) }
 {
     let (head, rest) = bytes.split_first_chunk::<4>()?;
     let (position, rest) = rest.split_first_chunk::<2>()?;
     let (from, to) = nodes_of(head, 6)?;
     let position = position_of(position)?;
     let action = call_of(rest)?;
-    let body = Body::Decided { position, action };
-    Some(Packet::new(Party::Node(from), Party::Node(to), body))
+    Some(SentDecision {
+        from,
+        to,
+        position,
+        action,
+    })
 }
 
-/// A task's call.
+/// The same, of a task's call.
 #[inline(always)]
-pub(crate) fn task_call_of(bytes: &[u8]) -> Option<Packet>
-    ensures { IfSome result (λ packet. bytes.now ≡ text_of packet) }
+pub fn usual_call(bytes: &[u8]) -> Option<SentCall>
+    ensures { IfSome result (λ call. IsDecoded bytes.now (Ok (call_sent call))) }
 {
     let (head, rest) = bytes.split_first_chunk::<4>()?;
     if head[0] != VERSION || head[1] != 1 || head[2] < TASK_BASE {
@@ -228,19 +277,14 @@ pub(crate) fn task_call_of(bytes: &[u8]) -> Option<Packet>
     }
     let task = TaskId::new(head[2] - TASK_BASE)?;
     let to = NodeId::new(head[3])?;
-    let party = Party::Task(task);
-    let action = call_of(rest)?;
-    if !is_call_of(&party, &action) {
-        return None;
-    }
-    let body = Body::Call { action };
-    Some(Packet::new(party, Party::Node(to), body))
+    let action = own_call_of(rest, task)?;
+    Some(SentCall { task, to, action })
 }
 
-/// A reply with a value.
+/// The same, of a reply with a value.
 #[inline(always)]
-pub(crate) fn reply_of(bytes: &[u8]) -> Option<Packet>
-    ensures { IfSome result (λ packet. bytes.now ≡ text_of packet) }
+pub fn usual_reply(bytes: &[u8]) -> Option<SentReply>
+    ensures { IfSome result (λ sent. IsDecoded bytes.now (Ok (reply_sent sent))) }
 {
     if bytes.len() != 17 {
         return None;
@@ -256,6 +300,10 @@ pub(crate) fn reply_of(bytes: &[u8]) -> Option<Packet>
     let task = TaskId::new(head[3] - TASK_BASE)?;
     let number = number_of(number)?;
     let reply = Reply::Value(value_of(value));
-    let body = Body::Reply { number, reply };
-    Some(Packet::new(Party::Node(from), Party::Task(task), body))
+    Some(SentReply {
+        from,
+        task,
+        number,
+        reply,
+    })
 }

@@ -90,8 +90,7 @@ impl Machine for BoundedCounter {
         })
     }
 
-    fn apply(&mut self, action: &Action) -> Answers {
-        let mut answers = Answers::new();
+    fn apply(&mut self, action: &Action, into: &mut Answers) {
         if let Action::Call {
             task,
             number,
@@ -101,13 +100,12 @@ impl Machine for BoundedCounter {
         } = *action
         {
             let reply = self.call(operation, arg);
-            answers.push(Answer {
+            into.push(Answer {
                 task,
                 number,
                 reply,
             });
         }
-        answers
     }
 
     fn image(&self, alloc: Global) -> Result<Vec<u8>, AllocError> {

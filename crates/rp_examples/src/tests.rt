@@ -2,7 +2,7 @@ ghost use Rattle.std.specs.Prelude.{◌≡◌};
 ghost use Rattle.rp_store.specs.Disk.{empty_disk};
 
 use crate::{BoundedCounter, CounterProgram, MirroredDevice};
-use rp_base::{Action, Ballot, Operation, Rec, Reply, TaskId};
+use rp_base::{Action, Answers, Ballot, Operation, Rec, Reply, TaskId};
 use rp_machine::Machine;
 use rp_store::{Device, DeviceCall, FailDevice, MemDevice, Store};
 use std::alloc::Global;
@@ -21,7 +21,8 @@ fn reply(counter: &mut BoundedCounter, procedure: u8, arg: i64) -> Result<Reply,
         operation,
         arg,
     };
-    let answers = counter.apply(&call);
+    let mut answers = Answers::new();
+    counter.apply(&call, &mut answers);
     let answer = answers.as_slice().first().ok_or("an answer")?;
     Ok(answer.reply)
 }

@@ -1,6 +1,6 @@
 -- What holds at a position of the window, by its place.
 use Rattle.std.proofs.Common.{arith, cond, ◌≡◌, ℕ, zero, suc, ◌+◌, ◌-◌, ◌<◌, ◌≤◌, Bool, true, false, ◌||◌, Option, Some, None, Result, Ok, Err, OnErr, List, [], ◌∷◌, length, set, sym, refl, subst, ap, ◌∙◌, inl, inr}
-use Rattle.std.specs.Prelude.{nat_eq, nat_le, nat_lt, slice_get, unwrap_or}
+use Rattle.std.specs.Prelude.{OnOk, nat_eq, nat_le, nat_lt, slice_get, unwrap_or}
 use Rattle.std.proofs.lemmas.Bool.{cases_Bool, le-leb, lt-leb, leb-true, leb-false, le-ltb, ltb-false, cond-true, cond-false}
 use Rattle.std.proofs.lemmas.Option.{slice_get_within}
 use Rattle.rp_base.specs.declared.record.Vote.{Vote}
@@ -136,3 +136,16 @@ offset_at first i k e =
 pub on_err : {T E P : Type 0} (r : Result T E) → P → OnErr r P
 on_err (Ok x) h = tt
 on_err (Err e) h = h
+
+-- what follows from what holds after an error, or with no error
+pub after_err : {T E A B : Type 0} (r : Result T E) → (A → B) → OnErr r A → OnErr r B
+after_err (Ok x) f h = tt
+after_err (Err e) f h = f h
+
+pub after_errs : {T E A B C : Type 0} (r : Result T E) → (A → B → C) → OnErr r A → OnErr r B → OnErr r C
+after_errs (Ok x) f h g = tt
+after_errs (Err e) f h g = f h g
+
+pub after_ok : {T E A B : Type 0} (r : Result T E) → (A → B) → OnOk r A → OnOk r B
+after_ok (Ok x) f h = f h
+after_ok (Err e) f h = tt

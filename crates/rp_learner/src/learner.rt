@@ -148,9 +148,9 @@ impl Learner {
         position: Position,
         ballot: Ballot,
         action: &Action,
-    ) -> Result<(), Fault>
+    ) -> Result<(), AllocError>
         requires sender { from ≤ self.old.nodes }
-        // claim (noted, unchanged, full, only): A learner is out of memory only for a vote that is
+        // claim (noted, unchanged, full): A learner is out of memory only for a vote that is
         //   counted and was not heard, and then nothing has changed
         ensures noted { OnOk result (NotesVote self.old from position
             (vote_for ballot action.now) self.new) }
@@ -158,7 +158,6 @@ impl Learner {
         ensures unchanged { OnErr result (self.new ≡ self.old) }
         ensures full { OnErr result (IsOneMore self.old from position
             (vote_for ballot action.now)) }
-        ensures only { IsOkUnless result Fault.OutOfMemory }
     {
         let Some(offset) = offset_from(self.first, position) else {
             return Ok(());
@@ -166,8 +165,7 @@ impl Learner {
         let Some(place) = self.places.get_mut(offset) else {
             return Ok(());
         };
-        place.hear(alloc, self.nodes, from, ballot, action)?;
-        Ok(())
+        place.hear(alloc, self.nodes, from, ballot, action)
     }
 
     /// What a decision at the position is that another node sends.

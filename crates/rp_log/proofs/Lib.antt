@@ -1,3 +1,4 @@
+pub mod Paging
 pub mod Places
 pub mod Views
 pub mod Tops

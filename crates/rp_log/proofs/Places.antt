@@ -217,3 +217,22 @@ next_put front true old new a removed i =
     ap₂ option_or (push_place front a i) there
     ∙ elim (same i (length front + 1)) as (λ b. option_or (cond b (Some (Some a)) (front_place front i)) (cond b None (place_ahead old i)) ≡ cond b (Some (Some a)) (option_or (front_place front i) (option_or (cond b (Some None) None) (place_ahead old i))))
     [ true ↦ refl | false ↦ refl ]
+
+-- ---- where none is ahead
+
+pub place_alone : (ahead : Ahead) → length ahead ≡ 0 → (i : ℕ) → place_ahead ahead i ≡ None
+place_alone [] none i = refl
+place_alone (place ∷ rest) none i = absurd (omega arith)
+
+pub follows_alone : (front : ℕ) (ahead : Ahead) → length ahead ≡ 0 → IsAhead front ahead
+follows_alone front ahead none i there =
+    let gone = place_alone ahead none i in
+    absurd cc
+
+pub put_alone : (front : List Action) (reserved : Bool) (ahead : Ahead) (a : Action) → length ahead ≡ 0
+    → (i : ℕ) → place_of (front ++ a ∷ []) false ahead i ≡ cond (same i (length front + 1)) (Some (Some a)) (place_of front reserved ahead i)
+put_alone front reserved ahead a none =
+    next_put front reserved ahead ahead a (λ i. ⊎_elim
+    (λ (e : length front + 1 ≡ i). place_alone ahead none i ∙ sym (ap (λ b. cond b None (place_ahead ahead i)) (same_is (length front + 1) i e)))
+    (λ (apart : length front + 1 ≢ i). sym (ap (λ b. cond b None (place_ahead ahead i)) (same_apart (length front + 1) i apart)))
+    (cases_eq (length front + 1) i))

@@ -5,6 +5,7 @@ use Rattle.std.specs.List.{slice_get}
 use Rattle.std.specs.Option.{option_map, option_or}
 use Rattle.std.specs.FinMap.{get, insert}
 use Rattle.std.proofs.lemmas.Bool.{cases_eq, cases_lt}
+use Rattle.std.proofs.lemmas.Option.{slice_get_past}
 use Rattle.std.proofs.Math.Logic.{⊎_elim}
 use Rattle.rp_base.specs.declared.action.Action.{Action}
 use Rattle.rp_log.specs.Contents.{Contents, Places, action_at, IsLearned, with_room, ready_of, next_to_take, IsTakenInOrder}
@@ -39,9 +40,9 @@ found_within [] k a found = absurd cc
 found_within (x ∷ rest) zero a found = omega arith
 found_within (x ∷ rest) (suc k) a found = let less = found_within rest k a found in omega arith
 
-pub is_missed : (found : Option Action) → ((a : Action) → found ≡ Some a → ⊥) → found ≡ None
-is_missed None never = refl
-is_missed (Some a) never = absurd (never a refl)
+pub map_missed : {X Y : Type 0} (f : X → Y) (found : Option X) → ((x : X) → found ≡ Some x → ⊥) → option_map f found ≡ None
+map_missed f None never = refl
+map_missed f (Some x) never = absurd (never x refl)
 
 pub missed_past : (front : List Action) (k : ℕ) → slice_get front k ≡ None → length front ≤ k
 missed_past [] k missed = omega arith
@@ -103,27 +104,24 @@ module _ (front : List Action) (reserved : Bool) (ahead : Ahead) (taken : ℕ) w
   pub next_is : taken ≤ length front → next_to_take log ≡ suc taken
   next_is within = omega (arith, taken_length within)
 
-  pub ready_is : taken ≤ length front → ready_of log ≡ option_map (λ action. (suc taken, action)) (action_at log (suc taken))
-  ready_is within = ap (λ n. option_map (λ action. (n, action)) (action_at log n)) (next_is within)
+  pub ready_is : taken ≤ length front → ready_of log ≡ action_at log (suc taken)
+  ready_is within = ap (action_at log) (next_is within)
 
-  pub some_ready : (a : Action) (position : ℕ) → taken ≤ length front → position ≡ suc taken → slice_get front taken ≡ Some a → taken < length front → Some (position, a) ≡ ready_of log
-  some_ready a position within is found more =
-      ap (λ n. Some (n, a)) is
-      ∙ sym (ready_is within ∙ ap (option_map (λ action. (suc taken, action))) (action_front taken more ∙ found))
-
-  pub none_ready : taken ≤ length front → length front ≤ taken → action_ahead ahead (length front + 1) ≡ None → None ≡ ready_of log
-  none_ready within all gap =
-      let end : suc taken ≡ length front + 1 = omega arith in
-      let none : action_at log (suc taken) ≡ None = ap (action_at log) end ∙ action_after (length front + 1) (omega arith) gap ∙ gap in
-      sym (ready_is within ∙ ap (option_map (λ action. (suc taken, action))) none)
+  -- what is ready is the action of the front after those that were taken
+  pub ready_front : taken ≤ length front → action_ahead ahead (length front + 1) ≡ None → slice_get front taken ≡ ready_of log
+  ready_front within gap = ⊎_elim
+      (λ (more : taken < length front). sym (ready_is within ∙ action_front taken more))
+      (λ (end : length front ≤ taken).
+      let next : suc taken ≡ length front + 1 = omega arith in
+      slice_get_past front taken end ∙ sym (ready_is within ∙ ap (action_at log) next ∙ action_after (length front + 1) (omega arith) gap ∙ gap))
+      (cases_lt taken (length front))
 
   pub all_taken : taken ≤ length front → ready_of log ≡ None → length front + 1 ≡ next_to_take log
   all_taken within none = ⊎_elim
       (λ (more : taken < length front).
       let there = front_within front taken more in
-      let ready = sym (ready_is within) ∙ none in
-      let found : option_map (λ action. (suc taken, action)) (slice_get front taken) ≡ None = ap (option_map (λ action. (suc taken, action))) (sym (action_front taken more)) ∙ ready in
-      absurd (grind arith))
+      let found : slice_get front taken ≡ None = sym (action_front taken more) ∙ sym (ready_is within) ∙ none in
+      absurd cc)
       (λ (end : length front ≤ taken). omega (arith, next_is within))
       (cases_lt taken (length front))
 
@@ -137,6 +135,18 @@ pub taken_more : (n : ℕ) (front : List Action) (a : Action) → slice_get fron
 taken_more n [] a found = absurd cc
 taken_more zero (x ∷ rest) a found = let is : x ≡ a = cc in ap (λ y. y ∷ []) is
 taken_more (suc n) (x ∷ rest) a found = ap (λ ys. x ∷ ys) (taken_more n rest a found)
+
+-- the action that is ready is taken
+pub takes_ready : (front : List Action) (taken : ℕ) (ready : Option Action) → slice_get front taken ≡ ready → IsSome ready → Some (take (taken + 1) front) ≡ option_map (λ action. take taken front ++ action ∷ []) ready
+takes_ready front taken None found there = absurd cc
+takes_ready front taken (Some a) found there =
+    let more : taken + 1 ≡ suc taken = omega arith in
+    ap (λ n. Some (take n front)) more ∙ ap (λ (l : List Action). Some l) (taken_more taken front a found)
+
+-- which is one of the front
+pub ready_within : (front : List Action) (taken : ℕ) (ready : Option Action) → slice_get front taken ≡ ready → IsSome ready → taken < length front
+ready_within front taken None found there = absurd cc
+ready_within front taken (Some a) found there = found_within front taken a found
 
 pub in_order : (front : List Action) (reserved : Bool) (ahead : Ahead) (taken : ℕ) → taken ≤ length front → IsTakenInOrder (seen front reserved ahead taken)
 in_order front reserved ahead taken within = λ k inside.

@@ -3,7 +3,6 @@
 use Rattle.std.specs.Prelude.{ℕ, ◌+◌, ◌≡◌, Option, Some, None, IsSome, is_some, unwrap_or, option_and_then, List, []}
 use Rattle.std.specs.Prelude.{length, EachIndex, slice_get, if◌then◌else◌, refl}
 use Rattle.std.specs.Ordering.{nat_cmp}
-use Rattle.std.specs.Option.{option_map}
 use Rattle.std.specs.FinMap.{FinMap, code, get, insert, empty}
 use Rattle.std.specs.Coded.{Coded, code_by, coded×, coded_ℕ, coded_list, coded_option}
 use Rattle.rp_base.specs.contracts.action.Action as declared
@@ -53,9 +52,9 @@ with_action log i v = record log { places = insert log.places i (Some (unwrap_or
 abbrev pub next_to_take : Contents → ℕ
 next_to_take log = length log.taken + 1
 
--- that position with its action, where one is learned there
-abbrev pub ready_of : Contents → Option (ℕ × Action)
-ready_of log = option_map (λ action. (next_to_take log, action)) (action_at log (next_to_take log))
+-- the action learned there, if any
+abbrev pub ready_of : Contents → Option Action
+ready_of log = action_at log (next_to_take log)
 
 -- what was taken are the actions learned at positions 1, 2, 3 and so on
 abbrev pub IsTakenInOrder : Contents → Type 0

@@ -1,3 +1,4 @@
 pub mod Contents
 pub mod Holding
+pub mod Pages
 pub mod Recorded

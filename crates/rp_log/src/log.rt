@@ -1,13 +1,13 @@
 //! What a node learned, and how far it is taken.
 
-ghost use Rattle.std.specs.Prelude.{◌≡◌, ℕ, ◌^◌, ◌<◌, ◌≤◌, [], ◌∷◌, ◌++◌, length, is_some, IfSome, IfNone, IfErr, OnOk, OnErr};
+ghost use Rattle.std.specs.Prelude.{◌≡◌, ℕ, ◌<◌, ◌≤◌, ◌^◌, [], ◌∷◌, ◌++◌, length, is_some, Some, None, IsSome, IfSome, IfNone, OnOk, OnErr, option_copied, option_map};
 ghost use Rattle.std.specs.FinMap.{get};
-ghost use Rattle.rp_base.specs.declared.fault.Fault.TheVariants.{OutOfMemory};
 ghost use Rattle.rp_log.specs.Contents.{empty_log, HasRoom, action_at, IsLearned, with_room, with_action, next_to_take, ready_of, IsTakenInOrder};
 
-use crate::front::{action_in, learn_ahead, learn_next, learned_at};
-use rp_base::{Action, Fault, Position};
-use std::alloc::Global;
+use crate::front::{learn_ahead, learn_next, learned_at};
+use crate::pages::Pages;
+use rp_base::{Action, Position};
+use std::alloc::{AllocError, Global};
 use std::collections::BTreeMap;
 use std::marker::Model;
 
@@ -17,7 +17,7 @@ use std::marker::Model;
 #[derive(Debug, Drop)]
 pub struct Log {
     /// The actions learned at positions 1, 2, 3 and so on, up to the first at which none is.
-    front: Vec<Action>,
+    front: Pages,
     /// Whether the position after the front is reserved here, and not among those ahead.
     next_reserved: bool,
     /// The reserved positions after the front, each with the action that was learned there.
@@ -29,7 +29,7 @@ pub struct Log {
 }
 
 impl Model for Log {
-    ghost use Rattle.std.specs.Prelude.{take, vec_capacity};
+    ghost use Rattle.std.specs.Prelude.{take};
     ghost use Rattle.rp_log.specs.Contents.{Contents, contents_code};
     ghost use Rattle.rp_log.specs.Holding.{places_of, Fits};
 
@@ -43,7 +43,7 @@ impl Model for Log {
     } };
 
     ghost invariant = { λ l. Fits l.front.items l.next_reserved l.ahead.entries
-        (vec_capacity l.front) l.taken l.top };
+        l.front.room l.taken l.top };
 }
 
 impl Log {
@@ -52,7 +52,7 @@ impl Log {
         ensures { result ≡ empty_log }
     {
         Log {
-            front: Vec::new(alloc),
+            front: Pages::new(alloc),
             next_reserved: false,
             ahead: BTreeMap::new(alloc),
             taken: 0,
@@ -60,15 +60,14 @@ impl Log {
         }
     }
 
-    /// Makes room for learning at the position, and at no other, or is refused with `OutOfMemory`,
-    /// which leaves the log as it was. Where there is room already no memory is asked for.
+    /// Makes room for learning at the position, and at no other, or is refused memory, which leaves
+    /// the log as it was. Where there is room already no memory is asked for.
     #[inline(always)]
-    pub fn reserve(&mut self, position: Position) -> Result<(), Fault>
+    pub fn reserve(&mut self, position: Position) -> Result<(), AllocError>
         // claim (ok, err, refused): Reserving and learning change one position and no other
         ensures ok { OnOk result (self.new ≡ with_room self.old position) }
         ensures room { OnOk result (HasRoom self.new position) }
         ensures err { OnErr result (self.new ≡ self.old) }
-        ensures only { IfErr result (λ fault. fault ≡ OutOfMemory) }
         ensures refused { OnErr result (¬ HasRoom self.old position) }
     {
         if self.has_room(position) {
@@ -103,29 +102,40 @@ impl Log {
     /// one stays and nothing changes. The first unlearned position moves on past the positions that
     /// are learned ahead of it, each of which it passes once in the log's life.
     #[inline(always)]
-    pub fn learn(&mut self, position: Position, action: Action)
+    pub fn learn(&mut self, position: Position, action: &Action)
         requires { HasRoom self.old position }
-        ensures { self.new ≡ with_action self.old position action }
+        ensures { self.new ≡ with_action self.old position action.now }
     {
-        if self.get(position).is_some() {
+        if self.is_learned(position) {
             return;
         }
         let number = u32::from(position.get());
         self.top = self.top.max(position.get());
         if number > self.front.len() as u32 + 1 {
-            learn_ahead(&mut self.ahead, number, action);
+            learn_ahead(&mut self.ahead, number, *action);
             return;
         }
         self.next_reserved = false;
-        learn_next(&mut self.front, &mut self.ahead, action);
+        learn_next(&mut self.front, &mut self.ahead, *action);
+    }
+
+    /// Whether an action was learned at the position.
+    #[inline(always)]
+    pub fn is_learned(&self, position: Position) -> bool
+        ensures { result ≡ is_some (action_at self.now position) }
+    {
+        if usize::from(position.get()) <= self.front.len() {
+            return true;
+        }
+        learned_at(&self.ahead, u32::from(position.get())).is_some()
     }
 
     /// The action that was learned first at the position, or `None`.
     pub fn get(&self, position: Position) -> Option<Action>
         ensures { result ≡ action_at self.now position }
     {
-        if let Some(action) = action_in(&self.front, usize::from(position.get() - 1)) {
-            return Some(action);
+        if let Some(action) = self.front.get(usize::from(position.get() - 1)) {
+            return Some(*action);
         }
         learned_at(&self.ahead, u32::from(position.get()))
     }
@@ -151,36 +161,35 @@ impl Log {
         Position::new(self.top)
     }
 
-    /// Takes the least position that was not taken yet, with its action, where that position is
-    /// learned. So the actions come in order and none is left out.
-    pub fn take_ready(&mut self) -> Option<(Position, Action)>
+    /// The action of the least position that was not taken yet, where that position is learned: so the
+    /// actions come in order and none is left out. It is lent where it lies.
+    #[inline(always)]
+    pub fn ready(&self) -> Option<&Action>
         // claim (ready): A log returns its learned actions in order, each once and none left out
-        ensures ready { result ≡ ready_of self.old }
-        ensures taken { IfSome result (λ ready. self.new.taken ≡ self.old.taken ++ ready.1 ∷ []) }
-        ensures none { IfNone result (self.new ≡ self.old) }
-        ensures places { self.new.places ≡ self.old.places }
+        ensures ready { option_copied result ≡ ready_of self.now }
     {
-        let action = action_in(&self.front, usize::from(self.taken))?;
+        self.front.get(usize::from(self.taken))
+    }
+
+    /// Takes the action that is ready.
+    #[inline(always)]
+    pub fn take(&mut self)
+        requires { IsSome (ready_of self.old) }
+        ensures taken { Some self.new.taken
+            ≡ option_map (λ action. self.old.taken ++ action ∷ []) (ready_of self.old) }
+        ensures places { self.new.places ≡ self.old.places }
+        ensures few { length self.new.taken < 2 ^ 16 }
+    {
         self.taken += 1;
-        Some((Position::new(self.taken)?, action))
     }
 
     /// How many actions were taken, at most 65,535: those learned at the positions up to that
     /// number.
     pub fn applied(&self) -> u32
         ensures count { result ≡ length self.now.taken }
+        ensures few { result < 2 ^ 16 }
         ensures in_order { IsTakenInOrder self.now }
     {
         u32::from(self.taken)
-    }
-
-    /// The actions that were taken, in order: those of positions 1, 2, 3 and so on, at most 65,535.
-    pub fn taken(&self) -> &[Action]
-        // claim (value): The actions that a log took are returned in order, and none is copied
-        ensures value { result.now ≡ self.now.taken }
-        ensures few { length result.now < 2 ^ 16 }
-    {
-        let (taken, _) = self.front.split_at(usize::from(self.taken));
-        taken
     }
 }

@@ -41,13 +41,15 @@ pub trait Machine: Drop {
     fn start(alloc: Global, program: &Self::Program) -> Result<Self, AllocError>
         ensures { IfOk result (λ m. m ≡ begin program.now) };
 
-    /// Applies an action. It takes no memory and always succeeds. The caller sees to it that no
-    /// call of the action's task waits.
-    fn apply(&mut self, action: &Action) -> Answers
+    /// Applies an action, and puts its answers where the caller holds none, so that they are not
+    /// copied. It takes no memory and always succeeds. The caller sees to it that no call of the
+    /// action's task waits.
+    fn apply(&mut self, action: &Action, into: &mut Answers)
+        requires none { into.old ≡ [] }
         requires right { IsRight action.now }
         requires free { MayApply (waiting self.old) action.now }
         ensures next { self.new ≡ next self.old action.now }
-        ensures answers { result ≡ answers self.old action.now };
+        ensures answers { into.new ≡ answers self.old action.now };
 
     /// Lines that show the state, each ended by a line feed.
     fn image(&self, alloc: Global) -> Result<Vec<u8>, AllocError>

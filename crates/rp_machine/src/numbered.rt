@@ -80,29 +80,30 @@ impl<M: Machine> Numbered<M> {
         })
     }
 
-    /// Applies the next action of the log, and gives the answers that result: those of the machine
-    /// where the action counts, else none. No call is answered twice. It takes no memory.
+    /// Applies the next action of the log, and puts the answers that result in place of those that are
+    /// there: those of the machine where the action counts, else none. No call is answered twice. It
+    /// takes no memory.
     #[inline(always)]
-    pub fn apply(&mut self, action: &Action) -> Answers
+    pub fn apply(&mut self, action: &Action, answers: &mut Answers)
         requires { IsRight action.now }
         // claim: After a log each action changes a machine exactly as the replay of the log does,
         //   with the same answers; no call is answered twice
         ensures applied { self.new
             ≡ record self.old { actions = self.old.actions ++ action.now ∷ [] } }
-        ensures answers { result ≡ answers_after M.next M.answers
+        ensures answers { answers.new ≡ answers_after M.next M.answers
             (outcome M.next M.answers self.old) action.now }
         ensures once { IsSet (map call_of (outcome M.next M.answers self.new).given) }
     {
         replay_may_go_on::<M>();
+        answers.clear();
         if !self.counts(action) {
-            self.actions.push(*action);
-            return Answers::new();
+            self.actions.push(action);
+            return;
         }
-        let answers = self.machine.apply(action);
+        self.machine.apply(action, answers);
         note(&mut self.callers, &mut self.occurrences, action);
         hear(&mut self.callers, answers.as_slice());
-        self.actions.push(*action);
-        answers
+        self.actions.push(action);
     }
 
     /// The reply to a call of this task, where the call is the last of the task that counted and has

@@ -119,8 +119,7 @@ impl Machine for Tally {
     }
 
     #[inline(never)]
-    fn apply(&mut self, action: &Action) -> Answers {
-        let mut answers = Answers::new();
+    fn apply(&mut self, action: &Action, into: &mut Answers) {
         if let Action::Call {
             task,
             number,
@@ -133,13 +132,12 @@ impl Machine for Tally {
                 Operation::Procedure(1) => self.add(object, arg),
                 _ => Reply::NoSuchOperation,
             };
-            answers.push(Answer {
+            into.push(Answer {
                 task,
                 number,
                 reply,
             });
         }
-        answers
     }
 
     fn image(&self, alloc: Global) -> Result<Vec<u8>, AllocError> {

@@ -45,8 +45,8 @@ impl Machine for Objects {
         Objects::start(alloc, program)
     }
 
-    fn apply(&mut self, action: &Action) -> Answers {
-        Objects::apply(self, action)
+    fn apply(&mut self, action: &Action, into: &mut Answers) {
+        *into = Objects::apply(self, action);
     }
 
     fn image(&self, alloc: Global) -> Result<Vec<u8>, AllocError> {

@@ -27,7 +27,9 @@ fn answers_to<M: Machine>(machine: &mut M, action: &Action) -> Answers
     requires right { IsRight action.now }
     requires free { MayApply (M.waiting machine.old) action.now }
 {
-    machine.apply(action)
+    let mut answers = Answers::new();
+    machine.apply(action, &mut answers);
+    answers
 }
 
 /// The last reply of these answers, where there is one.
@@ -162,7 +164,8 @@ fn expect_counted<M: Machine>(
     let task = TaskId::first();
     let Counted { last, kept } = counted;
     assert!(rt; action.is_right());
-    let answers = log.apply(action);
+    let mut answers = Answers::new();
+    log.apply(action, &mut answers);
     assert_eq!(rt; last_reply(&answers), reply, "{action:?}");
     expect_eq(rt, log.last(task), last);
     expect_eq(rt, log.kept(task, last), kept);
@@ -213,7 +216,8 @@ fn expect_occurrence<M: Machine>(
         occurrence,
     };
     assert!(rt; action.is_right());
-    let answers = log.apply(&action);
+    let mut answers = Answers::new();
+    log.apply(&action, &mut answers);
     expect_eq(rt, last_reply(&answers), None);
     assert_eq!(rt; log.last_occurrence(8), last, "{occurrence}");
     assert_eq!(rt; log.last_occurrence(1), 0);

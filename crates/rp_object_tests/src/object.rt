@@ -318,7 +318,8 @@ fn expect_answers<M: Machine>(
     expected: &[Answer],
 ) {
     assert!(rt; action.is_right());
-    let answers = log.apply(action);
+    let mut answers = Answers::new();
+    log.apply(action, &mut answers);
     assert_eq!(rt; answers.as_slice(), expected, "{action:?}");
 }
 

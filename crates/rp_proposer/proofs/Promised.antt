@@ -1,20 +1,16 @@
 -- What a proposal keeps says of the promises what they say themselves.
-use Rattle.std.proofs.Common.{◌≡◌, ℕ, List, [], ◌∷◌, ◌++◌, length, map, nat_eq, sym, ap, subst, ◌∙◌}
-use Rattle.std.proofs.lemmas.List.{map-append}
-use Rattle.std.specs.declared.snapshot.Snapshot.{Snapshot}
+use Rattle.std.proofs.Common.{◌≡◌, ℕ, List, [], ◌∷◌, ◌++◌, length, map, nat_eq, sym, subst}
 use Rattle.std.proofs.lemmas.Bool.Decides.{Decides-eqb}
 use Rattle.rp_base.specs.Number.{in_range}
-use Rattle.rp_base.specs.Sets.{IsSet, SameMembers, with_member, with_members}
+use Rattle.rp_base.specs.Sets.{IsSet, SameMembers, with_member}
 use Rattle.rp_base.specs.Majority.{nodes_among}
 use Rattle.rp_base.specs.Promises.{Promise, same_promise, promisers_of}
 use Rattle.rp_base.proofs.Members.{same_with, same_size, same_passing, set_passing, set_members, with_members-append}
 use Rattle.rp_proposer.specs.Heard.{set_of}
 use Rattle.rp_proposer.proofs.OnePromiseMore.{senders_after}
 
-pub heard_more : (heard : List (Snapshot Promise)) (s : Snapshot Promise) → set_of (heard ++ s ∷ []) ≡ with_member same_promise (set_of heard) s.value
-heard_more heard s =
-    ap (λ (l : List Promise). with_members same_promise [] l) (map-append (λ (t : Snapshot Promise). t.value) heard (s ∷ []))
-    ∙ with_members-append same_promise s.value [] (map (λ (t : Snapshot Promise). t.value) heard)
+pub heard_more : (heard : List Promise) (p : Promise) → set_of (heard ++ p ∷ []) ≡ with_member same_promise (set_of heard) p
+heard_more heard p = with_members-append same_promise p [] heard
 
 -- the senders with one more
 pub senders_more : (senders more : List ℕ) (promises : List Promise) (p : Promise) → SameMembers senders (promisers_of promises) → SameMembers more (with_member nat_eq senders p.0)

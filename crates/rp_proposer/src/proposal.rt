@@ -13,7 +13,6 @@ use rp_base::{
     Action, Ballot, History, NodeId, Phase, PlacedVote, Position, Senders, Vote, majority,
 };
 use std::marker::Model;
-use std::snapshot::Snapshot;
 
 /// What a promise makes of a proposal.
 #[derive(Clone, Copy, Debug, PartialEq, Eq)]
@@ -37,7 +36,7 @@ pub(crate) struct Proposal {
     phase: Phase,
     senders: Senders,
     last: Option<Vote>,
-    heard: History<Snapshot<HeardPromise>>,
+    heard: History<HeardPromise>,
 }
 
 impl Model for Proposal {
@@ -272,7 +271,7 @@ impl Proposal {
     {
         self.senders.insert(promise.from);
         raise(&mut self.last, promise.last);
-        self.heard.push(Snapshot::of(&promise));
+        self.heard.push(&promise);
     }
 
     /// Notes a promise in a ballot, if it counts: with a majority the second phase begins.

@@ -34,6 +34,6 @@ impl Count {
     pub fn raise(&mut self)
         ensures { self.new ≡ suc self.old }
     {
-        self.raised.push(());
+        self.raised.push(&());
     }
 }

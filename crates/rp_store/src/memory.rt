@@ -66,12 +66,14 @@ impl Device for MemDevice {
 
     ghost disk = { disk_of };
 
+    #[inline(always)]
     fn append(&mut self, bytes: &[u8]) -> Result<(), Fault> {
         self.bytes.extend_from_slice(bytes)?;
         self.appends.raise();
         Ok(())
     }
 
+    #[inline(always)]
     fn sync(&mut self) -> Result<(), Fault> {
         self.synced = self.bytes.len();
         self.syncs.raise();

@@ -3,14 +3,15 @@
 ghost use Rattle.std.specs.Prelude.{◌≡◌, ◌⊎◌, ◌+◌, ◌<◌, length, IfOk, IfErr, OnOk, OnErr, IsErrOf, false};
 ghost use Rattle.rp_base.specs.declared.fault.Fault.TheVariants as faults;
 ghost use Rattle.rp_base.specs.Right.{IsRightRecord};
+ghost use Rattle.rp_base.specs.WriteFaults.{fault_of};
 ghost use Rattle.rp_codec.specs.Record.{record_text};
 ghost use Rattle.rp_store.specs.Disk.{appended, stopped, synced, AppendFailed, IsTrimmed, KeepsFront};
 ghost use Rattle.rp_store.specs.Opening.{IsOpened, IsNotOpened};
 
 use crate::device::{CutDevice, Device};
 use crate::reading::whole_records;
-use rp_base::{Fault, Rec};
-use rp_codec::text_of_record;
+use rp_base::{Fault, Rec, WriteFault};
+use rp_codec::{is_call, learned_text, promised_text, text_of_record, voted_text};
 use std::alloc::Global;
 use std::marker::Model;
 
@@ -81,6 +82,7 @@ fn restore<D: Device>(alloc: Global, device: &mut D) -> Result<(Vec<Rec>, u64), 
 }
 
 /// Appends the text and syncs.
+#[inline(always)]
 fn write<D: Device>(device: &mut D, text: &[u8]) -> Result<(), Fault>
     ensures ok { OnOk result (D.disk device.new ≡ synced (appended text.now (D.disk device.old))) }
     ensures refused { IsErrOf result Fault.OutOfMemory → D.disk device.new ≡ D.disk device.old }
@@ -91,6 +93,29 @@ fn write<D: Device>(device: &mut D, text: &[u8]) -> Result<(), Fault>
 {
     device.append(text)?;
     device.sync()
+}
+
+/// Appends the text of a record and syncs. The usual records have texts of one length each.
+#[inline(always)]
+fn write_record<D: Device>(device: &mut D, rec: &Rec) -> Result<(), Fault>
+    ensures ok { OnOk result (D.disk device.new
+        ≡ synced (appended (record_text rec.now) (D.disk device.old))) }
+    ensures refused { IsErrOf result Fault.OutOfMemory → D.disk device.new ≡ D.disk device.old }
+    ensures failed { IsErrOf result Fault.Device
+        → AppendFailed (record_text rec.now) (D.disk device.old) (D.disk device.new) }
+    ensures faults { IfErr result (λ fault. (fault ≡ faults.OutOfMemory) ⊎ (fault
+        ≡ faults.Device)) }
+{
+    match rec {
+        Rec::Promised(position, ballot) => write(device, &promised_text(*position, *ballot)),
+        Rec::Voted(position, ballot, action) if is_call(action) => {
+            write(device, &voted_text(*position, *ballot, action))
+        }
+        Rec::Learned(position, action) if is_call(action) => {
+            write(device, &learned_text(*position, action))
+        }
+        _ => write(device, text_of_record(rec).as_slice()),
+    }
 }
 
 impl<D: Device> Store<D> {
@@ -130,20 +155,25 @@ impl<D: Device> Store<D> {
     /// `OutOfMemory`: then nothing has changed. After `Device`, some beginning of the text may be
     /// at the end.
     #[inline(always)]
-    pub fn put(&mut self, rec: &Rec) -> Result<(), Fault>
+    pub fn put(&mut self, rec: &Rec) -> Result<(), WriteFault>
         requires { IsRightRecord rec.now }
         // claim: A record is put whole and stable, in version 2 whatever the device holds, or a
         //   fault says what is left
         ensures ok { OnOk result (IsPut D.disk (record_text rec.now) self.old self.new) }
         ensures err { IfErr result (λ fault.
-            IsNotPut D.disk (record_text rec.now) self.old fault self.new) }
+            IsNotPut D.disk (record_text rec.now) self.old (fault_of fault) self.new) }
     {
         if self.failed {
-            return Err(Fault::Failed);
+            return Err(WriteFault::Failed);
         }
-        let result = write(&mut self.device, text_of_record(rec).as_slice());
-        self.failed = matches!(result, Err(Fault::Device));
-        result
+        match write_record(&mut self.device, rec) {
+            Ok(()) => Ok(()),
+            Err(Fault::Device) => {
+                self.failed = true;
+                Err(WriteFault::Device)
+            }
+            Err(_) => Err(WriteFault::OutOfMemory),
+        }
     }
 
     /// Whether the device failed since it was opened: then each `put` is refused with `Failed`.

@@ -3,7 +3,7 @@ ghost use Rattle.rp_acceptor.specs.Noted.{places_in, ranges_in};
 
 use crate::compare::expect_eq;
 use rp_acceptor::*;
-use rp_base::{Action, Ballot, Fault, Operation, Position, Rec, TaskId, Vote};
+use rp_base::{Action, Ballot, Operation, Position, Rec, TaskId, Vote};
 use std::alloc::Global;
 use std::process::Abort;
 use std::test::Fail;
@@ -178,10 +178,7 @@ fn restored_records_count_in_their_order(rt: HostRuntime) {
 fn restored_again(rt: &impl Abort, alloc: Global, records: &[Rec]) -> Acceptor {
     match Acceptor::restore(alloc, records) {
         Ok(acceptor) => acceptor,
-        Err(fault) => {
-            assert_eq!(rt; fault, Fault::OutOfMemory);
-            restored(rt, alloc, records)
-        }
+        Err(_) => restored(rt, alloc, records),
     }
 }
 
@@ -196,8 +193,7 @@ fn a_refusal_for_memory_changes_nothing(rt: HostRuntime) -> Result<(), Fail> {
     let far = position(&rt, 100);
     let ten = ballot(&rt, 10);
     let mut acceptor = restored_again(&rt, rt.alloc(), &[Rec::Promised(first, ten)]);
-    if let Err(fault) = acceptor.reserve(far) {
-        assert_eq!(rt; fault, Fault::OutOfMemory);
+    if acceptor.reserve(far).is_err() {
         expect_promised(&rt, &acceptor, first, ten);
     }
     write(&mut acceptor, far, &Rec::Promised(far, ten))?;

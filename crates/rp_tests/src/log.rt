@@ -1,4 +1,4 @@
-use rp_base::{Action, Fault, Position};
+use rp_base::{Action, Position};
 use rp_log::*;
 use std::alloc::Global;
 use std::test::Fail;
@@ -20,20 +20,26 @@ fn log_of(alloc: Global, numbers: &[u16]) -> Result<Log, Fail> {
     for number in numbers {
         let position = position_of(*number)?;
         log.reserve(position)?;
-        log.learn(position, action_of(*number));
+        log.learn(position, &action_of(*number));
     }
     Ok(log)
+}
+
+/// Takes the action that is ready, if one is.
+fn taken(log: &mut Log) -> Option<Action> {
+    let action = *log.ready()?;
+    log.take();
+    Some(action)
 }
 
 #[test]
 fn actions_learned_in_any_order_are_taken_in_order(rt: HostRuntime) -> Result<(), Fail> {
     let mut log = log_of(rt.alloc(), &[3, 1, 2])?;
     for number in [1, 2, 3] {
-        let ready = (position_of(number)?, action_of(number));
-        assert_eq!(rt; log.take_ready(), Some(ready));
+        assert_eq!(rt; taken(&mut log), Some(action_of(number)));
         assert_eq!(rt; log.applied(), u32::from(number));
     }
-    assert_eq!(rt; log.take_ready(), None);
+    assert_eq!(rt; taken(&mut log), None);
     taken_as_recorded();
     Ok(())
 }
@@ -42,9 +48,8 @@ fn actions_learned_in_any_order_are_taken_in_order(rt: HostRuntime) -> Result<()
 fn an_unlearned_position_holds_back_the_later_ones(rt: HostRuntime) -> Result<(), Fail> {
     let mut log = log_of(rt.alloc(), &[1, 3])?;
     log.reserve(position_of(2)?)?;
-    let first = (Position::first(), action_of(1));
-    assert_eq!(rt; log.take_ready(), Some(first));
-    assert_eq!(rt; log.take_ready(), None);
+    assert_eq!(rt; taken(&mut log), Some(action_of(1)));
+    assert_eq!(rt; taken(&mut log), None);
     assert_eq!(rt; log.applied(), 1);
     Ok(())
 }
@@ -53,7 +58,7 @@ fn an_unlearned_position_holds_back_the_later_ones(rt: HostRuntime) -> Result<()
 fn what_is_learned_first_at_a_position_stays(rt: HostRuntime) -> Result<(), Fail> {
     let mut log = log_of(rt.alloc(), &[1])?;
     log.reserve(Position::first())?;
-    log.learn(Position::first(), Action::Noop);
+    log.learn(Position::first(), &Action::Noop);
     assert_eq!(rt; log.get(Position::first()), Some(action_of(1)));
     assert_eq!(rt; log.get(position_of(2)?), None);
     Ok(())
@@ -82,13 +87,12 @@ fn a_refused_reservation_leaves_the_log_as_it_was(rt: HostRuntime) -> Result<(),
     let mut log = log_of(rt.alloc(), &[1])?;
     for number in 2..=40 {
         let position = position_of(number)?;
-        if let Err(fault) = log.reserve(position) {
-            assert_eq!(rt; fault, Fault::OutOfMemory);
+        if log.reserve(position).is_err() {
             log.reserve(position)?;
         }
         assert_eq!(rt; log.get(position), None);
         assert_eq!(rt; log.next_unlearned(), u32::from(number));
-        log.learn(position, action_of(number));
+        log.learn(position, &action_of(number));
     }
     Ok(())
 }
@@ -99,13 +103,13 @@ fn a_full_log_has_no_next_position(rt: HostRuntime) -> Result<(), Fail> {
     for number in 1..=u16::MAX {
         let position = position_of(number)?;
         log.reserve(position)?;
-        log.learn(position, Action::Noop);
+        log.learn(position, &Action::Noop);
     }
     assert_eq!(rt; log.next_unlearned(), 65_536);
     for _ in 1..=u16::MAX {
-        assert!(rt; log.take_ready().is_some());
+        assert!(rt; taken(&mut log).is_some());
     }
-    assert_eq!(rt; log.take_ready(), None);
+    assert_eq!(rt; taken(&mut log), None);
     assert_eq!(rt; log.applied(), 65_535);
     Ok(())
 }

@@ -1,7 +1,6 @@
 use Rattle.std.proofs.Common.{◌≡◌, ◌<◌, ◌≤◌, ℕ, List, false, length, sym, ap, subst, ◌∙◌}
 use Rattle.std.specs.Prelude.{slice_get}
 use Rattle.std.specs.List.{AllWithin}
-use Rattle.rp_base.specs.Ballot.{number_of}
 use Rattle.rp_acceptor.specs.Steps.{Level, IsRising, ballot_at, begins_at, ballot_before, HasStep}
 use Rattle.rp_acceptor.proofs.Pages.{on_err}
 use Rattle.rp_acceptor.proofs.Splitting.{same_ballot, step_put, steps_stay, begun, begin_later, none_begins, rising_still}
@@ -32,7 +31,7 @@ returns-in_ok-insert-clause-rising c =
     ap (λ (l : List Level). begins_at c.args.position (slice_get l count)) (sym c.deref-2.ensures.value) ∙ sym c.begins_at.ensures ∙ c.if-not-begins_at.true in
     let later : AllWithin (λ s. c.args.position < s.from) steps count (length steps) = begin_later steps count c.args.position c.requires other above in
     let within : count ≤ length steps = subst (λ (l : List Level). count ≤ length l) c.deref.ensures.value c.count_below-count.ensures.bound in
-    let step : Level = record { from = c.args.position; ballot = number_of c.ballot_before-ballot.result } in
+    let step : Level = record { from = c.args.position; ballot = c.number_before-ballot.result } in
     subst (λ (l : List Level). IsRising l) (sym c.in_ok-insert.ensures.items) (rising_still steps step count c.requires within below later)
 
 pub returns-in_ok-insert-clause-same : goal.returns-in_ok-insert-clause-same
@@ -47,19 +46,19 @@ returns-in_ok-insert-clause-same c =
     ap (λ (l : List Level). begins_at c.args.position (slice_get l count)) (sym c.deref-2.ensures.value) ∙ sym c.begins_at.ensures ∙ c.if-not-begins_at.true in
     let later : AllWithin (λ s. c.args.position < s.from) steps count (length steps) = begin_later steps count c.args.position c.requires other above in
     let within : count ≤ length steps = subst (λ (l : List Level). count ≤ length l) c.deref.ensures.value c.count_below-count.ensures.bound in
-    let step : Level = record { from = c.args.position; ballot = number_of c.ballot_before-ballot.result } in
+    let step : Level = record { from = c.args.position; ballot = c.number_before-ballot.result } in
     let ballot : step.ballot ≡ ballot_before 0 steps count =
-    c.ballot_before-ballot.ensures ∙ ap (λ (l : List Level). ballot_before 0 l count) c.deref-then-not-begins_at.ensures.value in
+    c.number_before-ballot.ensures.value ∙ ap (λ (l : List Level). ballot_before 0 l count) c.deref-then-not-begins_at.ensures.value in
     λ i. ap (λ (l : List Level). ballot_at l i) c.in_ok-insert.ensures.items ∙ same_ballot 0 steps step count i within ballot below later
 
 pub returns-in_ok-insert-clause-keeps : goal.returns-in_ok-insert-clause-keeps
 returns-in_ok-insert-clause-keeps c = λ i has.
-    let step : Level = record { from = c.args.position; ballot = number_of c.ballot_before-ballot.result } in
+    let step : Level = record { from = c.args.position; ballot = c.number_before-ballot.result } in
     subst (λ (l : List Level). HasStep l i) (sym c.in_ok-insert.ensures.items) (steps_stay c.args.steps.now.items step c.count_below-count.result i has)
 
 pub returns-in_ok-insert-clause-begins : goal.returns-in_ok-insert-clause-begins
 returns-in_ok-insert-clause-begins c =
-    let step : Level = record { from = c.args.position; ballot = number_of c.ballot_before-ballot.result } in
+    let step : Level = record { from = c.args.position; ballot = c.number_before-ballot.result } in
     subst (λ (l : List Level). HasStep l c.args.position) (sym c.in_ok-insert.ensures.items) (step_put c.args.steps.now.items step c.count_below-count.result)
 
 pub returns-else-not-begins_at-clause-begins : goal.returns-else-not-begins_at-clause-begins

@@ -4,6 +4,15 @@ use Rattle.rp_log.specs.Holding.{place_of, place_ahead}
 use Rattle.rp_log.proofs.Places.{same, action_some, removed_ahead, one_fewer, next_advanced}
 use Rattle.rp_log.proofs.front.advance.Goals as goal
 
+pub push_reserved-requires-clause-bound : goal.push_reserved-requires-clause-bound
+push_reserved-requires-clause-bound c =
+    let front = c.loop-action.front.items in
+    let len : c.len.result + 1 ≡ length front + 1 = omega (arith, c.len.ensures) in
+    let there = action_some (place_ahead c.loop-action.ahead.entries (length front + 1)) c.in-Some.action
+    (c.in-Some.ensures ∙ ap (λ k. option_and_then (λ learned. learned) (place_ahead c.loop-action.ahead.entries k)) len) in
+    let low = c.loop-action.invariant.ahead (length front + 1) (rw there refl) in
+    omega (arith, low.1)
+
 pub loop-action-preserved : goal.loop-action-preserved
 loop-action-preserved c =
     let front = c.loop-action.front.items in
@@ -27,6 +36,6 @@ loop-action-preserved c =
       places = λ i. ap (λ f. place_of f false new i) items ∙ next_advanced front old new a there removed i ∙ c.loop-action.invariant.places i;
       grown = (grown.0 ++ a ∷ [], items ∙ ap (λ f. f ++ a ∷ []) grown.1 ∙ append_assoc _ grown.0 (a ∷ []));
       ahead = λ i is. subst (λ n. (n < i) × (i ≤ 65535)) (sym longer) (ahead i is);
-      room = omega (arith, longer, fewer, c.loop-action.invariant.room, c.push_reserved.ensures.capacity);
+      room = omega (arith, longer, fewer, c.loop-action.invariant.room, c.push_reserved.ensures.room);
       bound = omega (arith, longer, low.1);
     }

@@ -1,10 +1,9 @@
-use Rattle.std.proofs.Common.{◌≡◌, ◌+◌, ◌++◌, ◌∷◌, [], List, ℕ, sym, subst, ◌∙◌}
+use Rattle.std.proofs.Common.{◌++◌, ◌∷◌, [], List, ℕ, sym, subst}
 use Rattle.rp_base.specs.Sets.{Has}
 use Rattle.rp_acceptor.specs.Noted.{Noted}
-use Rattle.rp_acceptor.specs.Steps.{HasStep}
 use Rattle.rp_acceptor.specs.Slots.{AreKept}
 use Rattle.rp_acceptor.proofs.Pages.{on_err, not_reserved}
-use Rattle.rp_acceptor.proofs.Keeping.{kept_both, kept_split}
+use Rattle.rp_acceptor.proofs.Keeping.{kept_both}
 use Rattle.rp_acceptor.proofs.acceptor.Acceptor.reserve.Goals as goal
 
 pub returns-in_err-make-clause-full : goal.returns-in_err-make-clause-full
@@ -16,10 +15,7 @@ returns-in_err-make-clause-full c =
 pub invariant_of-self-2 : goal.invariant_of-self-2
 invariant_of-self-2 c =
     let noted : Noted = record { records = c.self.inside.records; reserved = c.self.inside.reserved; votes = c.self.inside.votes; ranges = c.self.inside.ranges } in
-    let first : c.from-first.result ≡ c.args.position = c.from-first.ensures ∙ c.get.ensures.value in
-    let ends = subst (λ (n : ℕ). HasStep c.split_ends.new.steps n × HasStep c.split_ends.new.steps (n + 1)) first c.in_ok-split_ends.ensures.ends in
-    subst (λ (l : List ℕ). AreKept c.split_ends.new.steps c.make.new.pages.items (record noted { reserved = l; votes = c.push-2.new.self })) (sym c.push.ensures)
-    (subst (λ (l : List ℕ). AreKept c.split_ends.new.steps c.make.new.pages.items (record noted { reserved = noted.reserved ++ c.args.position ∷ []; votes = l })) (sym c.push-2.ensures)
-    (kept_both c.split_ends.new.steps c.self.inside.pages.items c.make.new.pages.items noted c.index_of_position.result c.args.position c.index_of_position.ensures
-    c.in_ok-make.ensures.more c.in_ok-make.ensures.made ends
-    (kept_split c.self.inside.steps c.split_ends.new.steps c.self.inside.pages.items noted c.in_ok-split_ends.ensures.same c.in_ok-split_ends.ensures.keeps c.self.invariant)))
+    subst (λ (l : List ℕ). AreKept c.self.inside.steps c.make.new.pages.items (record noted { reserved = l; votes = c.push-2.new.self })) (sym c.push.ensures)
+    (subst (λ (l : List ℕ). AreKept c.self.inside.steps c.make.new.pages.items (record noted { reserved = noted.reserved ++ c.args.position ∷ []; votes = l })) (sym c.push-2.ensures)
+    (kept_both c.self.inside.steps c.self.inside.pages.items c.make.new.pages.items noted c.index_of_position.result c.args.position c.index_of_position.ensures
+    c.in_ok-make.ensures.more c.in_ok-make.ensures.made c.self.invariant))

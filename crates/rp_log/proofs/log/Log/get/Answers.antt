@@ -3,7 +3,7 @@ use Rattle.std.specs.List.{slice_get}
 use Rattle.std.proofs.lemmas.Grind.{common_steps}
 use Rattle.rp_log.specs.Contents.{action_at}
 use Rattle.rp_log.specs.Holding.{action_ahead}
-use Rattle.rp_log.proofs.Views.{seen, is_missed, found_within, missed_past, action_front, action_after}
+use Rattle.rp_log.proofs.Views.{seen, map_missed, found_within, missed_past, action_front, action_after}
 use Rattle.rp_log.proofs.log.Log.get.Goals as goal
 
 pub returns-in-Some : goal.returns-in-Some
@@ -14,8 +14,8 @@ returns-in-Some c =
     let taken = c.self.inside.taken in
     let k = c.from.result in
     let at : suc k ≡ c.args.position = omega (arith, c.from.ensures, c.get.ensures.value, c.get.ensures.in_range) in
-    let found : slice_get front k ≡ Some c.in-Some.action = grind (arith, common_steps) in
-    sym (action_front front reserved ahead taken k (found_within front k c.in-Some.action found) ∙ found)
+    let found : slice_get front k ≡ Some c.in-Some.action.now = grind (arith, common_steps) in
+    sym (action_front front reserved ahead taken k (found_within front k c.in-Some.action.now found) ∙ found)
     ∙ ap (action_at (seen front reserved ahead taken)) at ∙ ap (λ log. action_at log c.args.position) c.self.view_is
 
 pub returns : goal.returns
@@ -26,9 +26,9 @@ returns c =
     let taken = c.self.inside.taken in
     let k = c.from.result in
     let at : suc k ≡ c.args.position = omega (arith, c.from.ensures, c.get.ensures.value, c.get.ensures.in_range) in
-    let missed : slice_get front k ≡ None = is_missed (slice_get front k) (λ a found. c.in_default.not-Some a (c.action_in.ensures ∙ ap (λ l. slice_get l k) c.deref.ensures.value ∙ found)) in
+    let missed : slice_get front k ≡ None = sym c.get-2.ensures ∙ map_missed (λ x. x.now) c.get-2.result (λ a found. c.in_default.not-Some a found) in
     let past : length front ≤ k = missed_past front k missed in
-    let is : c.from-2.result ≡ c.args.position = omega (arith, c.from-2.ensures, c.get-2.ensures.value) in
+    let is : c.from-2.result ≡ c.args.position = omega (arith, c.from-2.ensures, c.get-3.ensures.value) in
     c.learned_at.ensures ∙ ap (action_ahead ahead) is
     ∙ sym (action_after front reserved ahead taken c.args.position (omega arith) c.self.invariant.gap)
     ∙ ap (λ log. action_at log c.args.position) c.self.view_is

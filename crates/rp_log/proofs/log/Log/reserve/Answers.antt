@@ -1,5 +1,5 @@
 use Rattle.std.proofs.Common.{◌≡◌, ◌≢◌, ◌+◌, ◌≤◌, ℕ, true, false, cond, Some, None, List, length, ap, subst, sym, ◌∙◌, arith}
-use Rattle.std.specs.Prelude.{is_some, vec_capacity}
+use Rattle.std.specs.Prelude.{is_some}
 use Rattle.std.specs.FinMap.{get}
 use Rattle.std.proofs.lemmas.Grind.{common_steps}
 use Rattle.rp_base.specs.declared.action.Action.{Action}
@@ -15,11 +15,11 @@ invariant_of-self-then-number-len c =
     let ahead = c.self.inside.ahead.entries in
     let items : c.reserve.new.self.items ≡ front = c.reserve.ensures.items in
     let none : false ≡ is_some (get c.args.self.now.places c.args.position) = sym c.if-has_room.false ∙ c.has_room.ensures in
-    let enough : length front + (length ahead + 2) ≤ vec_capacity c.reserve.new.self = grind (arith, common_steps) in
+    let enough : length front + (length ahead + 2) ≤ c.reserve.new.self.room = grind (arith, common_steps) in
     let next : c.args.position ≡ length front + 1 = omega (arith, c.if-number-len.true, c.from-number.ensures, c.get.ensures.value, c.len-2.ensures, ap length items) in
-    let reserves = reserves_next front c.self.inside.next_reserved ahead (vec_capacity c.self.inside.front) (vec_capacity c.reserve.new.self) c.self.inside.taken c.self.inside.top
+    let reserves = reserves_next front c.self.inside.next_reserved ahead (c.self.inside.front.room) (c.reserve.new.self.room) c.self.inside.taken c.self.inside.top
     c.args.self.now c.args.position c.self.invariant c.self.view_is (omega (arith, c.get.ensures.in_range)) (omega (arith, c.get.ensures.in_range)) none enough next in
-    subst (λ (l : List Action). Fits l true ahead (vec_capacity c.reserve.new.self) c.self.inside.taken c.self.inside.top) (sym items) reserves.0
+    subst (λ (l : List Action). Fits l true ahead (c.reserve.new.self.room) c.self.inside.taken c.self.inside.top) (sym items) reserves.0
 
 pub returns-then-number-len-clause-ok : goal.returns-then-number-len-clause-ok
 returns-then-number-len-clause-ok c =
@@ -27,9 +27,9 @@ returns-then-number-len-clause-ok c =
     let ahead = c.self.inside.ahead.entries in
     let items : c.reserve.new.self.items ≡ front = c.reserve.ensures.items in
     let none : false ≡ is_some (get c.args.self.now.places c.args.position) = sym c.if-has_room.false ∙ c.has_room.ensures in
-    let enough : length front + (length ahead + 2) ≤ vec_capacity c.reserve.new.self = grind (arith, common_steps) in
+    let enough : length front + (length ahead + 2) ≤ c.reserve.new.self.room = grind (arith, common_steps) in
     let next : c.args.position ≡ length front + 1 = omega (arith, c.if-number-len.true, c.from-number.ensures, c.get.ensures.value, c.len-2.ensures, ap length items) in
-    let reserves = reserves_next front c.self.inside.next_reserved ahead (vec_capacity c.self.inside.front) (vec_capacity c.reserve.new.self) c.self.inside.taken c.self.inside.top
+    let reserves = reserves_next front c.self.inside.next_reserved ahead (c.self.inside.front.room) (c.reserve.new.self.room) c.self.inside.taken c.self.inside.top
     c.args.self.now c.args.position c.self.invariant c.self.view_is (omega (arith, c.get.ensures.in_range)) (omega (arith, c.get.ensures.in_range)) none enough next in
     ap (λ (l : List Action). seen l true ahead c.self.inside.taken) items ∙ reserves.1
 
@@ -39,7 +39,7 @@ invariant_of-self-in_ok-insert c =
     let ahead = c.self.inside.ahead.entries in
     let items : c.reserve.new.self.items ≡ front = c.reserve.ensures.items in
     let none : false ≡ is_some (get c.args.self.now.places c.args.position) = sym c.if-has_room.false ∙ c.has_room.ensures in
-    let enough : length front + (length ahead + 2) ≤ vec_capacity c.reserve.new.self = grind (arith, common_steps) in
+    let enough : length front + (length ahead + 2) ≤ c.reserve.new.self.room = grind (arith, common_steps) in
     let new = c.insert.new.self.entries in
     let number : c.from-number.result ≡ c.args.position = omega (arith, c.from-number.ensures, c.get.ensures.value) in
     let apart : c.args.position ≢ length front + 1 = λ e. c.if-number-len.false (omega (arith, e, number, c.len-2.ensures, ap length items)) in
@@ -49,9 +49,9 @@ invariant_of-self-in_ok-insert c =
     (is_free front c.self.inside.next_reserved ahead c.self.inside.taken c.args.self.now c.args.position c.self.view_is (omega (arith, c.get.ensures.in_range)) none).none in
     let old_none : c.in_ok-insert.field-0 ≡ None = grind (arith, common_steps) in
     let longer : length new ≡ length ahead + 1 = grind (arith, common_steps) in
-    let reserves = reserves_ahead front c.self.inside.next_reserved ahead (vec_capacity c.self.inside.front) (vec_capacity c.reserve.new.self) c.self.inside.taken c.self.inside.top
+    let reserves = reserves_ahead front c.self.inside.next_reserved ahead (c.self.inside.front.room) (c.reserve.new.self.room) c.self.inside.taken c.self.inside.top
     c.args.self.now c.args.position c.self.invariant c.self.view_is (omega (arith, c.get.ensures.in_range)) (omega (arith, c.get.ensures.in_range)) none enough new apart written longer in
-    subst (λ (l : List Action). Fits l c.self.inside.next_reserved new (vec_capacity c.reserve.new.self) c.self.inside.taken c.self.inside.top) (sym items) reserves.0
+    subst (λ (l : List Action). Fits l c.self.inside.next_reserved new (c.reserve.new.self.room) c.self.inside.taken c.self.inside.top) (sym items) reserves.0
 
 pub returns-in_ok-insert-clause-ok : goal.returns-in_ok-insert-clause-ok
 returns-in_ok-insert-clause-ok c =
@@ -59,7 +59,7 @@ returns-in_ok-insert-clause-ok c =
     let ahead = c.self.inside.ahead.entries in
     let items : c.reserve.new.self.items ≡ front = c.reserve.ensures.items in
     let none : false ≡ is_some (get c.args.self.now.places c.args.position) = sym c.if-has_room.false ∙ c.has_room.ensures in
-    let enough : length front + (length ahead + 2) ≤ vec_capacity c.reserve.new.self = grind (arith, common_steps) in
+    let enough : length front + (length ahead + 2) ≤ c.reserve.new.self.room = grind (arith, common_steps) in
     let new = c.insert.new.self.entries in
     let number : c.from-number.result ≡ c.args.position = omega (arith, c.from-number.ensures, c.get.ensures.value) in
     let apart : c.args.position ≢ length front + 1 = λ e. c.if-number-len.false (omega (arith, e, number, c.len-2.ensures, ap length items)) in
@@ -69,7 +69,7 @@ returns-in_ok-insert-clause-ok c =
     (is_free front c.self.inside.next_reserved ahead c.self.inside.taken c.args.self.now c.args.position c.self.view_is (omega (arith, c.get.ensures.in_range)) none).none in
     let old_none : c.in_ok-insert.field-0 ≡ None = grind (arith, common_steps) in
     let longer : length new ≡ length ahead + 1 = grind (arith, common_steps) in
-    let reserves = reserves_ahead front c.self.inside.next_reserved ahead (vec_capacity c.self.inside.front) (vec_capacity c.reserve.new.self) c.self.inside.taken c.self.inside.top
+    let reserves = reserves_ahead front c.self.inside.next_reserved ahead (c.self.inside.front.room) (c.reserve.new.self.room) c.self.inside.taken c.self.inside.top
     c.args.self.now c.args.position c.self.invariant c.self.view_is (omega (arith, c.get.ensures.in_range)) (omega (arith, c.get.ensures.in_range)) none enough new apart written longer in
     ap (λ (l : List Action). seen l c.self.inside.next_reserved new c.self.inside.taken) items ∙ reserves.1
 

@@ -13,8 +13,7 @@ use Rattle.rp_proposer.proofs.proposal.Proposal.add.Goals as goal
 pub invariant_of-self : goal.invariant_of-self
 invariant_of-self c =
     let heard : set_of c.push.new.self ≡ with_member same_promise (set_of c.self.inside.heard) c.args.promise =
-    ap set_of c.push.ensures ∙ heard_more c.self.inside.heard c.of.result
-    ∙ ap (λ (p : Promise). with_member same_promise (set_of c.self.inside.heard) p) c.of.ensures in (
+    ap set_of c.push.ensures ∙ heard_more c.self.inside.heard c.args.promise in (
       subst (λ (l : List Promise). SameMembers c.insert.new.self (promisers_of l)) (sym heard)
           (senders_more c.self.inside.senders c.insert.new.self (set_of c.self.inside.heard) c.args.promise c.self.invariant.0
           (subst (λ (p : Promise). SameMembers c.insert.new.self (with_member nat_eq c.self.inside.senders p.0)) c.promise.view_is c.insert.ensures)),
@@ -28,8 +27,7 @@ invariant_of-self c =
 pub returns : goal.returns
 returns c =
     let heard : set_of c.push.new.self ≡ with_member same_promise (set_of c.self.inside.heard) c.args.promise =
-    ap set_of c.push.ensures ∙ heard_more c.self.inside.heard c.of.result
-    ∙ ap (λ (p : Promise). with_member same_promise (set_of c.self.inside.heard) p) c.of.ensures in
+    ap set_of c.push.ensures ∙ heard_more c.self.inside.heard c.args.promise in
     rw (← c.self.view_is) (ap (λ (l : List Promise). record {
       position = c.self.inside.position;
       ballot = c.self.inside.ballot;

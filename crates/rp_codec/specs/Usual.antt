@@ -1,0 +1,50 @@
+-- The packets of the usual kinds, by the fields that are read from their texts.
+use Rattle.std.specs.Prelude.{None}
+use Rattle.rp_base.specs.Number.{IsNode, IsPosition}
+use Rattle.rp_base.specs.Ballot.{IsBallot}
+use Rattle.rp_base.specs.declared.action.Action.{Action}
+use Rattle.rp_base.specs.declared.action.Action.TheVariants as actions
+use Rattle.rp_codec.specs.Message.{Message}
+use Rattle.rp_codec.specs.declared.packet.Body.{Body}
+use Rattle.rp_codec.specs.declared.packet.Body.TheVariants as bodies
+use Rattle.rp_codec.specs.declared.packet.Party.TheVariants.{Node, Task}
+use Rattle.rp_codec.specs.declared.usual_texts.Place.{Place}
+use Rattle.rp_codec.specs.declared.usual_texts.SentCall.{SentCall}
+use Rattle.rp_codec.specs.declared.usual_texts.SentDecision.{SentDecision}
+use Rattle.rp_codec.specs.declared.usual_texts.SentReply.{SentReply}
+
+-- each number of the place is within its range
+abbrev pub IsPlace : Place → Type 0
+IsPlace place = IsNode place.from × IsNode place.to × IsPosition place.position × IsBallot place.ballot
+
+-- the packet between the two nodes of a place that says this
+abbrev pub between : Place → Body → Message
+between place body = record { from = Node place.from; to = Node place.to; body = body }
+
+abbrev pub prepare_at : Place → Message
+prepare_at place = between place (bodies.Prepare place.position place.ballot)
+
+abbrev pub promise_at : Place → Message
+promise_at place = between place (bodies.Promise place.position place.ballot None)
+
+abbrev pub accept_at : Place → Action → Message
+accept_at place action = between place (bodies.Accept place.position place.ballot action)
+
+abbrev pub accepted_at : Place → Action → Message
+accepted_at place action = between place (bodies.Accepted place.position place.ballot action)
+
+abbrev pub decided_of : SentDecision → Message
+decided_of d = record { from = Node d.from; to = Node d.to; body = bodies.Decided d.position d.action }
+
+abbrev pub call_sent : SentCall → Message
+call_sent c = record { from = Task c.task; to = Node c.to; body = bodies.Call c.action }
+
+abbrev pub reply_sent : SentReply → Message
+reply_sent r = record { from = Node r.from; to = Task r.task; body = bodies.Reply r.number r.reply }
+
+-- the action is a call
+abbrev pub IsCall : Action → Type 0
+IsCall actions.Noop = ⊥
+IsCall (actions.Call task number object operation arg) = Unit {0}
+IsCall (actions.Interrupt source occurrence) = ⊥
+IsCall (actions.Tick now) = ⊥

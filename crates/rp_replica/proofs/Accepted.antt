@@ -1,5 +1,5 @@
 -- The result of a vote or a decision, by what holds at its position.
-use Rattle.std.proofs.Common.{◌≡◌, ℕ, Bool, true, false, is_some, Option, Some, None, List, [], ◌∷◌, ◌++◌, length, drop, if◌then◌else◌, refl, ap, ◌∙◌, append-nil}
+use Rattle.std.proofs.Common.{◌≡◌, ℕ, Bool, true, false, is_some, Option, Some, None, List, [], ◌∷◌, ◌++◌, length, drop, if◌then◌else◌, refl, ap, ◌∙◌, append-nil, append_assoc, sym}
 use Rattle.rp_base.specs.declared.action.Action.{Action}
 use Rattle.rp_base.specs.declared.record.Rec.{Rec}
 use Rattle.rp_base.specs.declared.record.Rec.TheVariants as records
@@ -22,7 +22,6 @@ use Rattle.rp_model.specs.Learner.{learns, on_vote, on_accepted}
 use Rattle.rp_model.specs.Says.{says_to_others, notes}
 use Rattle.rp_replica.specs.Applying.{learns_alone}
 use Rattle.rp_replica.specs.State.{ReplicaState, after_turn}
-use Rattle.rp_replica.specs.Packets.{Run, with_packets}
 use Rattle.rp_replica.specs.Status.{status_of}
 use Rattle.rp_replica.specs.Committing.{Commits}
 
@@ -61,16 +60,15 @@ module _ {S : Type 0} (next : S → Action → S) (answers : S → Action → Li
       (λ learned. same_turn (learned_at records i) ∙ learned_is (learned_at records i) (makes_majority nodes i vote heard) learned)
 
 -- an action is learned, and these packets go before and after the replies
-pub learned_commits : {S : Type 0} (next : S → Action → S) (answers : S → Action → List Answer) (old new : ReplicaState S) (i : ℕ) (v : Action) (packets trailing : List Message) (before after : Run)
+pub learned_commits : {S : Type 0} (next : S → Action → S) (answers : S → Action → List Answer) (old new : ReplicaState S) (i : ℕ) (v : Action) (packets trailing : List Message) (before after : List Message)
     → new ≡ after_turn old (learns_alone next answers old i v)
-    → after ≡ with_packets before ((packets ++ (learns_alone next answers old i v).sent) ++ trailing)
-    → Commits (learns next answers old.begin old.me old.records old.running i v packets trailing) old new before after No
+    → after ≡ before ++ ((packets ++ (learns_alone next answers old i v).sent) ++ trailing)
+    → Commits (learns next answers old.begin old.me old.records old.running i v packets trailing) old new before after
 learned_commits next answers old new i v packets trailing before after goes is =
     let given = replay_answers next answers old.begin (applied_of old.records) in
     let later = replay_answers next answers old.begin (applied_of (old.records ++ records.Learned i v ∷ [])) in
     let replies : List Message = replies_to old.me old.running.pending (drop (length given) later) in
     record {
       goes = goes;
-      sent = is ∙ ap (λ (rs : List Message). with_packets before ((packets ++ rs) ++ trailing)) (append-nil replies);
-      is_dropped = refl;
+      sent = is ∙ ap (λ (rs : List Message). before ++ ((packets ++ rs) ++ trailing)) (append-nil replies);
     }

@@ -11,6 +11,8 @@ use Rattle.rp_store.specs.Records.{AreRecordsOf}
 use Rattle.rp_store.specs.Stored.{Stored, IsNotPut}
 use Rattle.rp_base.specs.declared.config.Config.{Config}
 use Rattle.rp_base.specs.declared.fault.Fault.{Fault}
+use Rattle.rp_base.specs.declared.fault.WriteFault.{WriteFault}
+use Rattle.rp_base.specs.WriteFaults.{fault_of}
 use Rattle.rp_base.specs.declared.fault.Fault.TheVariants.{OutOfMemory, Device, Failed}
 use Rattle.rp_store.proofs.Whole.{before_put, after_put, are_alone}
 use Rattle.rp_model.specs.Parts.{NodePart}
@@ -209,12 +211,12 @@ module _ {S D : Type 0} (disk : D → Disk) (me : ℕ) (config : Config) (begin 
       (λ i. record { me = me; config = config; begin = begin; records = same i; running = running; disk = not.0.disk_same i; failed = not.0.failed i }, not.1)
   stops_by _ rec old new records after on_device may same not = absurd not
 
-  pub write_stops : {T : Type 0} (r : Result T Fault) (rec : Rec) (old new : Stored D) (records after : List Rec) → IsOnDisk config.max_positions (disk old.device) old.failed records → MayWrite config.max_positions (Some rec)
-      → OnErr r (after ≡ records) → IfErr r (λ fault. IsNotPut disk (record_text rec) old fault new) → IfErr r (λ fault. Stops (Some rec) (replica_with old records) (replica_with new after) fault)
+  pub write_stops : {T : Type 0} (r : Result T WriteFault) (rec : Rec) (old new : Stored D) (records after : List Rec) → IsOnDisk config.max_positions (disk old.device) old.failed records → MayWrite config.max_positions (Some rec)
+      → OnErr r (after ≡ records) → IfErr r (λ fault. IsNotPut disk (record_text rec) old (fault_of fault) new) → IfErr r (λ fault. Stops (Some rec) (replica_with old records) (replica_with new after) (fault_of fault))
   write_stops (Ok x) rec old new records after on_device may same err = tt
-  write_stops (Err fault) rec old new records after on_device may same err = stops_by fault rec old new records after on_device may same err
+  write_stops (Err fault) rec old new records after on_device may same err = stops_by (fault_of fault) rec old new records after on_device may same err
 
 -- what is given on of a fault
-pub given_on : {S T : Type 0} (r : Result T Fault) (fault : Fault) (written : Option Rec) (old new : ReplicaState S) → IsErrAnd r (λ e. e ≡ fault) → Stops written old new fault → IfErr r (λ e. Stops written old new e)
+pub given_on : {S T : Type 0} (r : Result T WriteFault) (fault : WriteFault) (written : Option Rec) (old new : ReplicaState S) → IsErrAnd r (λ e. e ≡ fault) → Stops written old new (fault_of fault) → IfErr r (λ e. Stops written old new (fault_of e))
 given_on (Ok x) fault written old new is stops = tt
-given_on (Err e) fault written old new is stops = subst (λ (f : Fault). Stops written old new f) (sym is) stops
+given_on (Err e) fault written old new is stops = subst (λ (f : WriteFault). Stops written old new (fault_of f)) (sym is) stops

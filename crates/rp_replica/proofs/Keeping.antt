@@ -8,6 +8,8 @@ use Rattle.rp_base.specs.declared.config.Config.{Config}
 use Rattle.rp_base.specs.declared.record.Rec.{Rec}
 use Rattle.rp_base.specs.declared.record.Rec.TheVariants.{Started, Promised, Voted, Learned, PromisedRange}
 use Rattle.rp_base.specs.declared.fault.Fault.{Fault}
+use Rattle.rp_base.specs.declared.fault.WriteFault.{WriteFault}
+use Rattle.rp_base.specs.WriteFaults.{fault_of}
 use Rattle.rp_base.specs.declared.fault.Fault.TheVariants.{OutOfMemory, Device, Failed}
 use Rattle.rp_base.specs.Sets.{Has}
 use Rattle.rp_base.specs.Promises.{HeardVote}
@@ -216,12 +218,12 @@ module _ {S D : Type 0} (disk : D → Disk) (me : ℕ) (config : Config) (propos
   replica_refused bytes old new records after Failed t not same = unchanged old new records after t not.0 same
   replica_refused bytes old new records after _ t not same = absurd not
 
-  pub replica_write : {T : Type 0} (r : Result T Fault) (rec : Rec) (old new : Stored D) (records after : List Rec)
-      → OnOk r (IsPut disk (record_text rec) old new) → OnOk r (after ≡ records ++ rec ∷ []) → OnErr r (after ≡ records) → IfErr r (λ fault. IsNotPut disk (record_text rec) old fault new)
+  pub replica_write : {T : Type 0} (r : Result T WriteFault) (rec : Rec) (old new : Stored D) (records after : List Rec)
+      → OnOk r (IsPut disk (record_text rec) old new) → OnOk r (after ≡ records ++ rec ∷ []) → OnErr r (after ≡ records) → IfErr r (λ fault. IsNotPut disk (record_text rec) old (fault_of fault) new)
       → IsReplicaWith old records → IsAnswer rec → IsRecord rec → is_in_log config.max_positions rec ≡ true → IsReplicaWith new after
   replica_write (Ok v) rec old new records after put noted same err t answer right in_log =
       subst (λ (rs : List Rec). IsReplicaWith new rs) (sym noted)
       (subst (λ (b : Bool). IsReplica me config (disk new.device) b (records ++ rec ∷ []) proposer learner votes log applied) (sym put.working)
       (replica_answer me config (disk old.device) (disk new.device) records proposer learner votes log applied rec
       (subst (λ (b : Bool). IsReplica me config (disk old.device) b records proposer learner votes log applied) put.worked t) answer right in_log put.disk_is))
-  replica_write (Err fault) rec old new records after put noted same err t answer right in_log = replica_refused (record_text rec) old new records after fault t err same
+  replica_write (Err fault) rec old new records after put noted same err t answer right in_log = replica_refused (record_text rec) old new records after (fault_of fault) t err same

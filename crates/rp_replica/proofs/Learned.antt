@@ -1,5 +1,5 @@
 -- A replica's parts once an action is learned.
-use Rattle.std.proofs.Common.{◌≡◌, ◌≢◌, ℕ, suc, ◌+◌, ◌-◌, ◌<◌, ◌≤◌, Bool, true, false, cond, not, nat_eq, is_some, Option, Some, None, List, [], ◌∷◌, ◌++◌, length, drop, sym, ap, subst, ◌∙◌, inl, inr, arith, append-nil, eq-eqb}
+use Rattle.std.proofs.Common.{◌≡◌, ◌≢◌, ℕ, suc, ◌+◌, ◌-◌, ◌<◌, ◌≤◌, Bool, true, false, cond, not, nat_eq, is_some, Option, Some, None, List, [], ◌∷◌, ◌++◌, length, drop, sym, ap, subst, ◌∙◌, inl, inr, arith, append-nil, eq-eqb, append_assoc}
 use Rattle.std.specs.Prelude.{IsSome, nat_le, slice_get, filter}
 use Rattle.std.specs.List.{AllByRecursion}
 use Rattle.std.proofs.lemmas.Bool.{cases_lt, ne_eqb, le-leb}
@@ -33,7 +33,7 @@ use Rattle.rp_machine.specs.Replay.{Replayed, replay_of, kept_of, replay_answers
 use Rattle.rp_model.specs.Parts.{is_in_log}
 use Rattle.rp_model.specs.Pending.{stays, replies_to}
 use Rattle.rp_replica.specs.Applying.{learns_alone, HasReplied}
-use Rattle.rp_replica.specs.Packets.{BufferState, with_packets}
+use Rattle.rp_outbox.specs.Packets.{Sending}
 use Rattle.rp_replica.specs.State.{ReplicaState, after_turn}
 use Rattle.rp_replica.specs.Invariant.{IsOnDisk, IsProposer, IsLearner, IsSettledAlike, Follows, IsApplied, IsReplica}
 use Rattle.rp_replica.proofs.Answering.{right_records}
@@ -41,6 +41,7 @@ use Rattle.rp_replica.proofs.Applied.{applied_is, learned_right}
 use Rattle.rp_replica.proofs.Keeping.{or_none, disk_more}
 use Rattle.rp_replica.proofs.Promising.{places, leads_passing}
 use Rattle.rp_replica.proofs.Settling.{learns_more, taken_same}
+use Rattle.rp_codec.specs.Message.{Message}
 use Rattle.rp_replica.proofs.Starting.{same_learned}
 
 -- ---- room in the log
@@ -174,7 +175,7 @@ leads_learned me config records taken proposer log i v t longer alike ordered =
 -- ---- all parts
 
 module _ {S D : Type 0} (next : S → Action → S) (answers : S → Action → List Answer) (disk : D → Disk) (me : ℕ) (config : Config) (old new : Stored D) (records after : List Rec) (proposer leading : ProposerPart)
-    (learner learning : Learning) (votes heard : List HeardVote) (log buffer learned taken : Contents) (applied applying : Applied S) (pending : List Action) (out said : BufferState) (i : ℕ) (v : Action)
+    (learner learning : Learning) (votes heard : List HeardVote) (log buffer learned taken : Contents) (applied applying : Applied S) (pending : List Action) (out said : Sending) (i : ℕ) (v : Action)
     (t : IsReplica me config (disk old.device) old.failed records proposer learner votes log applied)
     (put : IsPut disk (record_text (Learned i v)) old new) (noted : after ≡ records ++ Learned i v ∷ []) (ends : leading ≡ settles proposer i) (settled : Settles learner i learning) (gone : heard ≡ heard_elsewhere votes i)
     (room : buffer ≡ with_room log i) (learning_it : learned ≡ with_action buffer i v) (replied : HasReplied next answers me pending learned taken applied applying out said)
@@ -245,7 +246,7 @@ module _ {S D : Type 0} (next : S → Action → S) (answers : S → Action → 
       ∙ ap (λ (list : List Action). filter (stays (kept_of next answers applied.begin (applied_of (records ++ Learned i v ∷ []))) (replay_answers next answers applied.begin (applied_of (records ++ Learned i v ∷ []))) list) pending) which
 
   -- the replies
-  pub replies_learned : said.run ≡ with_packets out.run (replies_to me pending
+  pub replies_learned : said.sent ≡ out.sent ++ (replies_to me pending
       (drop (length (replay_answers next answers applied.begin (applied_of records))) (replay_answers next answers applied.begin (applied_of (records ++ Learned i v ∷ [])))) ++ [])
   replies_learned =
       let before = replay_answers next answers applied.begin (applied_of records) in
@@ -253,9 +254,9 @@ module _ {S D : Type 0} (next : S → Action → S) (answers : S → Action → 
       let grown : later ≡ before ++ replied.more =
       sym (ap (λ (r : Replayed S). r.given) is) ∙ replied.applies.given ∙ ap (λ (r : Replayed S). r.given ++ replied.more) was in
       let which : replied.more ≡ drop (length before) later = sym (ap (drop (length before)) grown ∙ drop-append_seam before replied.more) in
-      replied.run
-      ∙ ap (λ (given : List Answer). with_packets out.run (replies_to me pending given)) which
-      ∙ ap (with_packets out.run) (sym (append-nil (replies_to me pending (drop (length before) later))))
+      replied.sent
+      ∙ ap (λ (given : List Answer). out.sent ++ (replies_to me pending given)) which
+      ∙ ap (λ (l : List Message). out.sent ++ l) (sym (append-nil (replies_to me pending (drop (length before) later))))
 
   -- and what the replica holds
   pub learned_taken : (left newly : List Action) (before : ℕ) → before ≡ length learned.taken → newly ≡ drop before taken.taken

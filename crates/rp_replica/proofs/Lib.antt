@@ -2,7 +2,7 @@ pub mod Noting
 pub mod Keeping
 pub mod Answering
 pub mod Applied
-pub mod Queueing
+pub mod Sending
 pub mod Promising
 pub mod Settling
 pub mod Starting
@@ -20,6 +20,7 @@ pub mod Cuts
 pub mod Replying
 pub mod Learned
 pub mod Staying
+pub mod Taken
 pub mod Missing
 pub mod Accepted
 pub mod Restarting

@@ -1,8 +1,11 @@
 -- What a plan writes, and what is left where it is not committed.
-use Rattle.std.proofs.Common.{◌≡◌, Bool, true, false, cond, Option, None, List, refl, sym, subst}
-use Rattle.std.specs.Prelude.{Result, Ok, Err, IfErr, IfOk, filter, not}
+use Rattle.std.proofs.Common.{◌≡◌, Bool, true, false, cond, Option, None, List, refl, sym, subst, ◌∙◌}
+use Rattle.std.specs.Prelude.{Result, Ok, Err, filter, not}
+use Rattle.std.specs.Result.{IsErrAnd}
 use Rattle.rp_base.specs.declared.action.Action.{Action}
 use Rattle.rp_base.specs.declared.fault.Fault.{Fault}
+use Rattle.rp_base.specs.declared.fault.WriteFault.{WriteFault}
+use Rattle.rp_base.specs.WriteFaults.{fault_of}
 use Rattle.rp_base.specs.declared.record.Rec.{Rec}
 use Rattle.rp_base.specs.declared.reply.Answer.{Answer}
 use Rattle.rp_base.specs.Ballot.{greatest_with}
@@ -12,40 +15,59 @@ use Rattle.rp_model.specs.Says.{notes}
 use Rattle.rp_replica.specs.declared.plan.Plan.{Plan}
 use Rattle.rp_replica.specs.declared.plan.Plan.TheVariants.{Pass, Promise, PromiseRange, Vote, Repeat, Refuse, Inform, Answer as Reply, Await, Lead, LeadRange, OfferPrepared, Count, CountRange, Offer, Yield, Hear, Learn, Follow, Report}
 use Rattle.rp_replica.specs.State.{ReplicaState}
-use Rattle.rp_replica.specs.Plans.{turn_of, written_by}
-use Rattle.rp_replica.specs.Turning.{Stops, StopsIf}
+use Rattle.rp_replica.specs.Plans.{turn_of, written_by, dropped_by}
+use Rattle.rp_codec.specs.Message.{Message}
+use Rattle.rp_model.specs.declared.effect.Dropped.{Dropped}
+use Rattle.rp_model.specs.declared.effect.Dropped.TheVariants.{No}
+use Rattle.rp_replica.specs.Committing.{Commits}
+use Rattle.rp_replica.specs.Turning.{Stops, StopsIf, TurnsOnto, AnswersOnto}
 
 module _ {S : Type 0} (next : S → Action → S) (answers : S → Action → List Answer) (replica : ReplicaState S) where
-  plan_writes : (plan : Plan) → (turn_of next answers replica plan).written ≡ written_by plan
-  plan_writes (Pass dropped) = refl
-  plan_writes (Promise to i b last) = refl
-  plan_writes (PromiseRange p) = refl
-  plan_writes (Vote to i b v) = refl
-  plan_writes (Repeat to i b v) = refl
-  plan_writes (Refuse to i b bound) = refl
-  plan_writes (Inform to i v) = refl
-  plan_writes (Reply task number reply) = refl
-  plan_writes (Await item) = refl
-  plan_writes (Lead i b own) = refl
-  plan_writes (LeadRange range b) = refl
-  plan_writes (OfferPrepared i b v) = refl
-  plan_writes (Count promise) = refl
-  plan_writes (CountRange promise) = refl
-  plan_writes (Offer promise v) = refl
-  plan_writes (Yield i b bound) = by (is_in b (proposal_at replica.running.proposals i))
+  -- what a plan writes and drops is what its turn does
+  plan_is : (plan : Plan) → ((turn_of next answers replica plan).written ≡ written_by plan) × ((turn_of next answers replica plan).dropped ≡ dropped_by plan)
+  plan_is (Pass dropped) = (refl, refl)
+  plan_is (Promise place last) = (refl, refl)
+  plan_is (PromiseRange p) = (refl, refl)
+  plan_is (Vote place v) = (refl, refl)
+  plan_is (Repeat to i b v) = (refl, refl)
+  plan_is (Refuse to i b bound) = (refl, refl)
+  plan_is (Inform to i v) = (refl, refl)
+  plan_is (Reply task number reply) = (refl, refl)
+  plan_is (Await item) = (refl, refl)
+  plan_is (Lead i b own) = (refl, refl)
+  plan_is (LeadRange range b) = (refl, refl)
+  plan_is (OfferPrepared i b v) = (refl, refl)
+  plan_is (Count promise) = (refl, refl)
+  plan_is (CountRange promise) = (refl, refl)
+  plan_is (Offer promise v) = (refl, refl)
+  plan_is (Yield i b bound) = by (is_in b (proposal_at replica.running.proposals i))
     where
-      by : (t : Bool)
-          → (cond t (notes (record replica.running { proposals = filter (λ p. not (is_given_up replica.config.nodes i b p)) replica.running.proposals; refused = greatest_with replica.running.refused bound }))
-          (notes replica.running)).written ≡ None
-      by true = refl
-      by false = refl
-  plan_writes (Hear from i vote) = refl
-  plan_writes (Learn i v) = refl
-  plan_writes (Follow from i v) = refl
-  plan_writes (Report first) = refl
+      given_up : Turn
+      given_up = notes (record replica.running { proposals = filter (λ p. not (is_given_up replica.config.nodes i b p)) replica.running.proposals; refused = greatest_with replica.running.refused bound })
+
+      by : (t : Bool) → ((cond t given_up (notes replica.running)).written ≡ None) × ((cond t given_up (notes replica.running)).dropped ≡ No)
+      by true = (refl, refl)
+      by false = (refl, refl)
+  plan_is (Hear from i vote) = (refl, refl)
+  plan_is (Learn i v) = (refl, refl)
+  plan_is (Follow from i v) = (refl, refl)
+  plan_is (Report first) = (refl, refl)
 
   -- a plan that is not committed
   pub stops_plan : (effect : Result Turn Fault) (plan : Plan) (new : ReplicaState S) (fault : Fault) → Ok (turn_of next answers replica plan) ≡ effect
       → Stops (written_by plan) replica new fault → StopsIf effect replica new fault
   stops_plan effect plan new fault same stops =
-      subst (λ (e : Result Turn Fault). StopsIf e replica new fault) same (subst (λ (w : Option Rec). Stops w replica new fault) (sym (plan_writes plan)) stops)
+      subst (λ (e : Result Turn Fault). StopsIf e replica new fault) same (subst (λ (w : Option Rec). Stops w replica new fault) (sym (plan_is plan).0) stops)
+
+  -- a plan that was committed after others
+  pub committed : (effect : Result Turn Fault) (plan : Plan) (new : ReplicaState S) (before after : List Message) (dropped : Dropped) → Ok (turn_of next answers replica plan) ≡ effect → replica.failed ≡ false
+      → Commits (turn_of next answers replica plan) replica new before after → dropped ≡ dropped_by plan → TurnsOnto effect replica new before after dropped
+  committed effect plan new before after dropped same working commits is =
+      subst (λ (e : Result Turn Fault). TurnsOnto e replica new before after dropped) same (commits, is ∙ sym (plan_is plan).1, working)
+
+  -- a plan that was not committed
+  pub refused : (effect : Result Turn Fault) (plan : Plan) (new : ReplicaState S) (before after : List Message) (answer : Result Dropped Fault) (fault : WriteFault) → IsErrAnd answer (λ e. e ≡ fault_of fault)
+      → Ok (turn_of next answers replica plan) ≡ effect → Stops (written_by plan) replica new (fault_of fault) → after ≡ before → AnswersOnto effect replica new before after answer
+  refused effect plan new before after (Ok dropped) fault is same stops unsent = absurd is
+  refused effect plan new before after (Err e) fault is same stops unsent =
+      (subst (λ (f : Fault). StopsIf effect replica new f) (sym is) (stops_plan effect plan new (fault_of fault) same stops), unsent)

@@ -20,9 +20,8 @@ use Rattle.rp_machine.proofs.Replaying.{replay_from-append}
 use Rattle.rp_machine.proofs.Few.{set_within, calls_few}
 use Rattle.rp_model.specs.Pending.{is_answered_by, replies_to}
 use Rattle.rp_model.specs.Says.{says_to_task}
-use Rattle.rp_replica.specs.Packets.{Run, BufferState, with_packets, longest_text}
+use Rattle.rp_outbox.specs.Packets.{Sending, longest_text}
 use Rattle.rp_replica.specs.Applying.{AppliesMore, HasReplied}
-use Rattle.rp_replica.proofs.Queueing.{no_packet, packets_then}
 
 -- ---- replies to several answers
 
@@ -145,16 +144,16 @@ module _ {S : Type 0} (next : S → Action → S) (answers : S → Action → Li
   }
 
   module _ (me : ℕ) (pending : List Action) where
-    pub replied_none : (log : Contents) (applied : Applied S) (out : BufferState) → applied.actions ≡ log.taken → HasReplied next answers me pending log log applied applied out out
+    pub replied_none : (log : Contents) (applied : Applied S) (out : Sending) → applied.actions ≡ log.taken → HasReplied next answers me pending log log applied applied out out
     replied_none log applied out taken = record {
       more = [];
       applies = applies_none log applied taken;
-      run = no_packet out.run;
+      sent = sym (append-nil out.sent);
       few = omega arith;
       room = omega arith;
     }
 
-    module _ (before after further : Contents) (old new newer : Applied S) (out said : BufferState) (given : List Answer)
+    module _ (before after further : Contents) (old new newer : Applied S) (out said : Sending) (given : List Answer)
         (so_far : HasReplied next answers me pending before after old new out said) (one : AppliesMore next answers after further new newer given)
         (once : IsSet (map call_of (outcome next answers newer).given)) where
       few_more : length (replies_to me pending (so_far.more ++ given)) ≤ length pending
@@ -170,15 +169,15 @@ module _ {S : Type 0} (next : S → Action → S) (answers : S → Action → Li
       room_left room = omega (arith, few_more, both_long, so_far.room, room)
 
       -- and they are after the others
-      pub replied_more : (saying : BufferState) → saying.run ≡ with_packets said.run (replies_to me pending given) → said.room ≤ saying.room + longest_text * length (replies_to me pending given)
+      pub replied_more : (saying : Sending) → saying.sent ≡ said.sent ++ (replies_to me pending given) → said.room ≤ saying.room + longest_text * length (replies_to me pending given)
           → HasReplied next answers me pending before further old newer out saying
-      replied_more saying run room = record {
+      replied_more saying sent room = record {
         more = so_far.more ++ given;
         applies = applies_then before after further old new newer so_far.more given so_far.applies one;
-        run = run
-            ∙ ap (λ (r : Run). with_packets r (replies_to me pending given)) so_far.run
-            ∙ packets_then out.run (replies_to me pending so_far.more) (replies_to me pending given)
-            ∙ ap (with_packets out.run) (sym (replies_append me pending so_far.more given));
+        sent = sent
+            ∙ ap (λ (r : List Message). r ++ (replies_to me pending given)) so_far.sent
+            ∙ append_assoc out.sent (replies_to me pending so_far.more) (replies_to me pending given)
+            ∙ ap (λ (l : List Message). out.sent ++ l) (sym (replies_append me pending so_far.more given));
         few = few_more;
         room = omega (arith, both_long, so_far.room, room);
       }

@@ -11,7 +11,7 @@ use Rattle.rp_model.specs.Learner.{learns}
 use Rattle.rp_model.specs.Pending.{replies_to}
 use Rattle.rp_model.specs.Says.{says_to_others}
 use Rattle.rp_replica.specs.State.{ReplicaState}
-use Rattle.rp_replica.specs.Packets.{BufferState, longest_text, with_packets}
+use Rattle.rp_outbox.specs.Packets.{Sending, longest_text}
 
 -- the packets that go before the replies: the other nodes are informed where this one informs them
 abbrev pub decided_packets : ℕ → ℕ → ℕ → Action → Bool → List Message
@@ -32,9 +32,9 @@ module _ {S : Type 0} (next : S → Action → S) (answers : S → Action → Li
 
   -- the answers whose call is pending are among the packets, one for each pending item at most
   pub record HasReplied (me : ℕ) (pending : List Action) (before after : Contents) (old new : Applied S)
-      (out said : BufferState) : Type 0 where
+      (out said : Sending) : Type 0 where
     pub more : List Answer
     pub applies : AppliesMore before after old new more
-    pub run : said.run ≡ with_packets out.run (replies_to me pending more)
+    pub sent : said.sent ≡ out.sent ++ replies_to me pending more
     pub few : length (replies_to me pending more) ≤ length pending
     pub room : out.room ≤ said.room + longest_text * length (replies_to me pending more)

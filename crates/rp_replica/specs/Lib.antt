@@ -1,5 +1,4 @@
 pub mod Notes
-pub mod Packets
 pub mod State
 pub mod Kept
 pub mod Invariant

@@ -1,5 +1,6 @@
 -- The result of a plan, and when it may be committed (no public clause names it).
-use Rattle.std.specs.Prelude.{◌≡◌, ℕ, ◌+◌, ◌<◌, ◌≤◌, Option, Some, None, IfSome, List, [], ◌∷◌, ◌++◌, length}
+use Rattle.std.specs.Prelude.{◌≡◌, ℕ, ◌+◌, ◌<◌, ◌≤◌, Bool, true, false, Ok}
+use Rattle.std.specs.Prelude.{Option, Some, None, IfSome, List, [], ◌∷◌, ◌++◌, length}
 use Rattle.std.specs.List.{AllByRecursion}
 use Rattle.rp_base.specs.Action.{IsRight, IsCount}
 use Rattle.rp_base.specs.Ballot.{IsAbove}
@@ -26,6 +27,10 @@ use Rattle.rp_model.specs.Leader.{window, starts_above, begins_range, on_promise
 use Rattle.rp_model.specs.Learner.{learns, asks_for, missing_position}
 use Rattle.rp_model.specs.Pending.{most_pending}
 use Rattle.rp_model.specs.Says.{says, says_to_all, says_to_others, says_to_task, sends, notes, writes}
+use Rattle.rp_model.specs.declared.effect.Dropped.{Dropped}
+use Rattle.rp_model.specs.declared.effect.Dropped.TheVariants.{No}
+use Rattle.rp_codec.specs.Reading.{all_of}
+use Rattle.rp_replica.specs.Inputs.{packet_given, effect_if_given}
 use Rattle.rp_replica.specs.declared.plan.CountedPromise.{CountedPromise}
 use Rattle.rp_replica.specs.declared.plan.CountedRange.{CountedRange}
 use Rattle.rp_replica.specs.declared.plan.RangePromise.{RangePromise}
@@ -40,9 +45,9 @@ use Rattle.rp_replica.specs.Status.{status_of}
 
 -- the record that a plan writes, if it writes one
 abbrev pub written_by : Plan → Option Rec
-written_by (Promise to i b last) = Some (Promised i b)
+written_by (Promise place last) = Some (Promised place.position place.ballot)
 written_by (PromiseRange p) = Some (PromisedRange p.range p.ballot)
-written_by (Vote to i b v) = Some (Voted i b v)
+written_by (Vote place v) = Some (Voted place.position place.ballot v)
 written_by (Lead i b own) = Some (Started b)
 written_by (LeadRange range b) = Some (Started b)
 written_by (Learn i v) = Some (Learned i v)
@@ -65,12 +70,13 @@ module _ {S : Type 0} (next : S → Action → S) (answers : S → Action → Li
   -- the turn that a plan is
   abbrev pub turn_of : Plan → Turn
   turn_of (Pass dropped) = record { written = None; sent = []; running = replica.running; dropped = dropped }
-  turn_of (Promise to i b last) =
-      writes (Promised i b) replica.running (says replica.me (bodies.Promise i b last) to ∷ [])
+  turn_of (Promise place last) = writes (Promised place.position place.ballot) replica.running
+      (says replica.me (bodies.Promise place.position place.ballot last) place.to ∷ [])
   turn_of (PromiseRange p) =
       writes (PromisedRange p.range p.ballot) replica.running
       (says replica.me (bodies.PromiseRange p.range p.ballot (last_votes replica.records p.range)) p.to ∷ [])
-  turn_of (Vote to i b v) = writes (Voted i b v) replica.running (says replica.me (bodies.Accepted i b v) to ∷ [])
+  turn_of (Vote place v) = writes (Voted place.position place.ballot v) replica.running
+      (says replica.me (bodies.Accepted place.position place.ballot v) place.to ∷ [])
   turn_of (Repeat to i b v) = sends replica.running (says replica.me (bodies.Accepted i b v) to ∷ [])
   turn_of (Refuse to i b bound) = sends replica.running (says replica.me (bodies.Nack i b bound) to ∷ [])
   turn_of (Inform to i v) = sends replica.running (says replica.me (bodies.Decided i v) to ∷ [])
@@ -137,9 +143,10 @@ pub record MayHear {S : Type 0} (replica : ReplicaState S) (from i : ℕ) (vote 
   pub counting : status_of replica.config.nodes replica.records replica.running.heard from i vote ≡ Counting
 
 abbrev pub MayCommit : {S : Type 0} → ReplicaState S → Plan → Type 0
-MayCommit replica (Promise to i b last) = (i ≤ replica.config.max_positions) × IfSome last (IsVoteBelow b)
+MayCommit replica (Promise place last) = (place.from ≡ replica.me) × (place.position ≤ replica.config.max_positions)
+    × IfSome last (IsVoteBelow place.ballot)
 MayCommit replica (PromiseRange p) = MayPromiseRange replica p
-MayCommit replica (Vote to i b v) = MayLearn replica i v
+MayCommit replica (Vote place v) = (place.from ≡ replica.me) × MayLearn replica place.position v
 MayCommit replica (Repeat to i b v) = IsRight v
 MayCommit replica (Refuse to i b bound) = b < bound
 MayCommit replica (Inform to i v) = IsRight v
@@ -164,3 +171,16 @@ OnlySends (Inform to i v) = Unit {0}
 OnlySends (Reply task number reply) = Unit {0}
 OnlySends (Report first) = Unit {0}
 OnlySends _ = ⊥
+
+-- what a plan drops
+abbrev pub dropped_by : Plan → Dropped
+dropped_by (Pass dropped) = dropped
+dropped_by _ = No
+
+-- What the function of a usual kind makes of bytes: they are no text of that kind, and the plan stays; or it decides
+-- what the rules say of their packet.
+abbrev pub Decides : {S : Type 0} → (S → Action → S) → (S → Action → List Answer) → ReplicaState S
+    → List ℕ → Plan → Plan → Bool → Type 0
+Decides next answers replica bytes before after false = after ≡ before
+Decides next answers replica bytes before after true = MayCommit replica after
+    × (Ok (turn_of next answers replica after) ≡ effect_if_given next answers replica (packet_given (all_of bytes)))

@@ -8,8 +8,11 @@ use Rattle.rp_base.specs.declared.record.Rec.{Rec}
 use Rattle.rp_codec.specs.Record.{record_text}
 use Rattle.rp_store.specs.Disk.{AppendFailed}
 use Rattle.rp_model.specs.Parts.{Turn}
+use Rattle.rp_codec.specs.Message.{Message}
+use Rattle.rp_model.specs.declared.effect.Dropped.{Dropped}
+use Rattle.rp_replica.specs.Committing.{Commits}
 use Rattle.rp_replica.specs.declared.sent.Sent.{Sent}
-use Rattle.rp_replica.specs.Packets.{texts_of}
+use Rattle.rp_outbox.specs.Packets.{texts_of}
 use Rattle.rp_model.specs.Effect.{NodeInput, running_effect}
 use Rattle.rp_replica.specs.Kept.{HoldsCut}
 use Rattle.rp_replica.specs.State.{ReplicaState, setting_of, after_turn}
@@ -57,6 +60,19 @@ TurnsIf (Err refusal) old new sent = ⊥
 abbrev pub Answers : {S : Type 0} → Result Turn Fault → ReplicaState S → ReplicaState S → Result Sent Fault → Type 0
 Answers effect old new (Ok sent) = TurnsIf effect old new sent
 Answers effect old new (Err fault) = StopsIf effect old new fault
+
+-- it took effect, and its packets are after those that were sent before
+abbrev pub TurnsOnto : {S : Type 0} → Result Turn Fault → ReplicaState S → ReplicaState S → List Message → List Message
+    → Dropped → Type 0
+TurnsOnto (Ok turn) old new before after dropped =
+    Commits turn old new before after × (dropped ≡ turn.dropped) × (old.failed ≡ false)
+TurnsOnto (Err refusal) old new before after dropped = ⊥
+
+-- The same result, where the packets are put after others: if it did not take effect, none is.
+abbrev pub AnswersOnto : {S : Type 0} → Result Turn Fault → ReplicaState S → ReplicaState S → List Message
+    → List Message → Result Dropped Fault → Type 0
+AnswersOnto effect old new before after (Ok dropped) = TurnsOnto effect old new before after dropped
+AnswersOnto effect old new before after (Err fault) = StopsIf effect old new fault × (after ≡ before)
 
 -- the result of an input for a replica, or its refusal
 abbrev pub effect_of : {S : Type 0} → (S → Action → S) → (S → Action → List Answer) → ReplicaState S → NodeInput

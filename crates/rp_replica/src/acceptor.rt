@@ -29,7 +29,9 @@ impl<M: Machine, D: Device> Replica<M, D> {
     {
         last_votes_lie_below();
         match self.acceptor.prepare(position, ballot) {
-            PrepareAnswer::Promise { last, rec: _ } => Plan::Promise(from, position, ballot, last),
+            PrepareAnswer::Promise { last, rec: _ } => {
+                Plan::Promise(self.place_to(from, position, ballot), last)
+            }
             PrepareAnswer::Nack(bound) => Plan::Refuse(from, position, ballot, bound),
             PrepareAnswer::Silent => Plan::Pass(Dropped::No),
         }
@@ -77,7 +79,9 @@ impl<M: Machine, D: Device> Replica<M, D> {
         ensures may { MayCommit self.now result }
     {
         match self.acceptor.accept(position, ballot, action) {
-            AcceptAnswer::Vote { rec: _vote } => Plan::Vote(from, position, ballot, *action),
+            AcceptAnswer::Vote { rec: _vote } => {
+                Plan::Vote(self.place_to(from, position, ballot), *action)
+            }
             AcceptAnswer::Again => Plan::Repeat(from, position, ballot, *action),
             AcceptAnswer::Nack(bound) => Plan::Refuse(from, position, ballot, bound),
             AcceptAnswer::Silent => Plan::Pass(Dropped::No),

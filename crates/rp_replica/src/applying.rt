@@ -1,6 +1,6 @@
 //! What is learned is applied in order, and answered (Lamport, "Paxos Made Simple", section 3).
 
-ghost use Rattle.std.specs.Prelude.{◌≡◌, ℕ, suc, ◌+◌, ◌*◌, ◌<◌, ◌≤◌, Some, None, IfSome, IfNone, length, map};
+ghost use Rattle.std.specs.Prelude.{◌≡◌, ℕ, suc, ◌+◌, ◌*◌, ◌<◌, ◌≤◌, ◌++◌, false, Some, None, IsTrue, length, map};
 ghost use Rattle.rp_base.specs.Action.{IsRight};
 ghost use Rattle.rp_base.specs.Sets.{IsSet};
 ghost use Rattle.rp_base.specs.declared.action.Action.{Action};
@@ -9,30 +9,35 @@ ghost use Rattle.rp_machine.specs.Calls.{call_of};
 ghost use Rattle.rp_machine.specs.Numbered.{outcome};
 ghost use Rattle.rp_model.specs.Pending.{replies_to};
 ghost use Rattle.rp_replica.specs.Applying.{AppliesMore, HasReplied};
-ghost use Rattle.rp_replica.specs.Packets.{longest_text, with_packets};
+ghost use Rattle.rp_outbox.specs.Packets.{longest_text};
 
 use crate::pending::Pending;
-use crate::sent::Outbox;
 use rp_base::{Action, Answer, Answers, NodeId};
 use rp_log::Log;
 use rp_machine::{Machine, Numbered};
+use rp_outbox::Outbox;
 
-/// Applies the next action that is ready, and gives the answers that result.
+/// Applies the next action that is ready, if one is, and puts its answers in place of those that are
+/// there.
 #[inline(always)]
-fn apply_next<M: Machine>(machine: &mut Numbered<M>, log: &mut Log) -> Option<Answers>
+fn apply_next<M: Machine>(machine: &mut Numbered<M>, log: &mut Log, answers: &mut Answers) -> bool
     requires right { (i : ℕ) (v : Action) → action_at log.old i ≡ Some v → IsRight v }
     requires taken { machine.old.actions ≡ log.old.taken }
-    ensures more { IfSome result (λ answers.
-        AppliesMore M.next M.answers log.old log.new machine.old machine.new answers) }
-    ensures one { IfSome result (λ _. length log.new.taken ≡ suc (length log.old.taken)) }
-    ensures within { IfSome result (λ _. length log.new.taken < 65536) }
-    ensures once { IfSome result (λ _.
-        IsSet (map call_of (outcome M.next M.answers machine.new).given)) }
-    ensures none { IfNone result (action_at log.old (next_to_take log.old) ≡ None) }
-    ensures stays { IfNone result ((log.new ≡ log.old) × (machine.new ≡ machine.old)) }
+    ensures more { IsTrue result →
+        AppliesMore M.next M.answers log.old log.new machine.old machine.new answers.new }
+    ensures one { IsTrue result → length log.new.taken ≡ suc (length log.old.taken) }
+    ensures within { IsTrue result → length log.new.taken < 65536 }
+    ensures once { IsTrue result →
+        IsSet (map call_of (outcome M.next M.answers machine.new).given) }
+    ensures none { result ≡ false → action_at log.old (next_to_take log.old) ≡ None }
+    ensures stays { result ≡ false → (log.new ≡ log.old) × (machine.new ≡ machine.old) }
 {
-    let (_, action) = log.take_ready()?;
-    Some(machine.apply(&action))
+    let Some(action) = log.ready() else {
+        return false;
+    };
+    machine.apply(action, answers);
+    log.take();
+    true
 }
 
 /// Applies all that is ready, in order.
@@ -45,7 +50,8 @@ pub(crate) fn apply_ready<M: Machine>(machine: &mut Numbered<M>, log: &mut Log)
     ensures none { action_at log.new (next_to_take log.new) ≡ None }
     ensures ordered { IsTakenInOrder log.new }
 {
-    while apply_next(machine, log).is_some() {}
+    let mut answers = Answers::new();
+    while apply_next(machine, log, &mut answers) {}
     log.applied();
 }
 
@@ -67,7 +73,8 @@ pub(crate) fn apply_and_reply<M: Machine>(
     ensures none { action_at log.new (next_to_take log.new) ≡ None }
     ensures ordered { IsTakenInOrder log.new }
 {
-    while let Some(answers) = apply_next(machine, log) {
+    let mut answers = Answers::new();
+    while apply_next(machine, log, &mut answers) {
         reply_to(me, pending, answers.as_slice(), out);
     }
     log.applied();
@@ -77,8 +84,8 @@ pub(crate) fn apply_and_reply<M: Machine>(
 #[inline(always)]
 fn reply_to(me: NodeId, pending: &Pending, answers: &[Answer], out: &mut Outbox)
     requires { longest_text * length (replies_to me pending.now answers.now) ≤ out.old.room }
-    ensures run { out.new.run
-        ≡ with_packets out.old.run (replies_to me pending.now answers.now) }
+    ensures sent { out.new.sent
+        ≡ out.old.sent ++ replies_to me pending.now answers.now }
     ensures room { out.old.room
         ≤ out.new.room + longest_text * length (replies_to me pending.now answers.now) }
 {

@@ -64,6 +64,7 @@ impl<M: Machine, D: Device> Replica<M, D> {
     }
 
     /// A call comes of which no reply is kept.
+    #[inline(always)]
     fn on_unanswered(&self, task: TaskId, number: u32, call: Action, plan: &mut Plan)
         requires right { IsRight call }
         ensures turn { turn_of M.next M.answers self.now plan.new ≡ on_numbered self.now.me

@@ -4,7 +4,8 @@
 ghost use Rattle.std.specs.Prelude.{◌≡◌, ◌++◌, ◌∷◌, ◌<◌, [], Some, None, length, OnOk, OnErr, IfErr, IfOk, IsOkUnless, true, false};
 ghost use Rattle.rp_base.specs.Action.{IsCount};
 ghost use Rattle.rp_base.specs.Right.{IsRightRecord};
-ghost use Rattle.rp_base.specs.declared.fault.Fault.TheVariants as faults;
+ghost use Rattle.rp_base.specs.declared.fault.WriteFault.TheVariants as faults;
+ghost use Rattle.rp_base.specs.WriteFaults.{fault_of};
 ghost use Rattle.rp_codec.specs.Decoding.{IsLongBody};
 ghost use Rattle.rp_codec.specs.Message.{MaySay};
 ghost use Rattle.rp_codec.specs.declared.packet.Party.TheVariants.{Node};
@@ -14,18 +15,18 @@ ghost use Rattle.rp_model.specs.Pending.{most_pending};
 ghost use Rattle.rp_model.specs.Says.{says, says_to_task, notes, sends, writes};
 ghost use Rattle.rp_replica.specs.Committing.{Commits};
 ghost use Rattle.rp_replica.specs.State.{after_turn};
-ghost use Rattle.rp_replica.specs.Packets.{with_packet};
+ghost use Rattle.rp_replica.specs.declared.plan.Plan.TheVariants as plans;
 ghost use Rattle.rp_replica.specs.Plans.{turn_of, written_by, MayCommit, OnlySends};
 ghost use Rattle.rp_replica.specs.Invariant.{IsAnswer};
 ghost use Rattle.rp_replica.specs.Turning.{Stops};
 
 use crate::plan::Plan;
 use crate::replica::{Replica, write};
-use crate::sent::Outbox;
-use rp_base::{Action, Answer, Ballot, Fault, NodeId, Position, Rec, Reply, TaskId};
-use rp_codec::Body;
+use rp_base::{Action, Answer, Ballot, NodeId, Position, Rec, Reply, TaskId, Vote, WriteFault};
+use rp_codec::{Body, Place};
 use rp_machine::Machine;
-use rp_model::{Dropped, RightAction};
+use rp_model::RightAction;
+use rp_outbox::Outbox;
 use rp_store::Device;
 use std::alloc::Global;
 
@@ -39,62 +40,92 @@ impl<M: Machine, D: Device> Replica<M, D> {
         alloc: Global,
         out: &mut Outbox,
         plan: &Plan,
-    ) -> Result<Dropped, Fault>
+    ) -> Result<(), WriteFault>
         requires working { self.old.failed ≡ false }
         requires may { MayCommit self.old plan.now }
-        ensures ok { IfOk result (λ dropped.
-            Commits (turn_of M.next M.answers self.old plan.now) self.old self.new
-            out.old.run out.new.run dropped) }
-        ensures err { IfErr result (λ fault. Stops (written_by plan.now) self.old self.new fault) }
-        ensures unsent { OnErr result (out.new.run ≡ out.old.run) }
+        ensures ok { OnOk result (Commits (turn_of M.next M.answers self.old plan.now)
+            self.old self.new out.old.sent out.new.sent) }
+        ensures err { IfErr result (λ fault.
+            Stops (written_by plan.now) self.old self.new (fault_of fault)) }
+        ensures unsent { OnErr result (out.new.sent ≡ out.old.sent) }
     {
         match plan {
-            Plan::Pass(dropped) => return Ok(*dropped),
-            Plan::Promise(to, position, ballot, last) => {
-                let stated = Body::Promise {
-                    position: *position,
-                    ballot: *ballot,
-                    last: *last,
-                };
-                self.keep_and_send(out, &Rec::Promised(*position, *ballot), stated, *to)?;
+            Plan::Pass(_) => return Ok(()),
+            Plan::Promise(place, last) => return self.promise(out, place, last),
+            Plan::Vote(place, action) => return self.vote(out, place, action),
+            Plan::PromiseRange(promise) => return self.promise_range(alloc, out, promise),
+            Plan::Lead(position, ballot, own) => {
+                return self.begin(out, *position, *ballot, own);
             }
-            Plan::Vote(to, position, ballot, action) => {
-                let stated = Body::Accepted {
-                    position: *position,
-                    ballot: *ballot,
-                    action: *action,
-                };
-                self.keep_and_send(out, &Rec::Voted(*position, *ballot, *action), stated, *to)?;
-            }
-            Plan::PromiseRange(promise) => self.promise_range(alloc, out, promise)?,
-            Plan::Lead(position, ballot, own) => self.begin(out, *position, *ballot, own)?,
-            Plan::LeadRange(range, ballot) => self.begin_range(out, *range, *ballot)?,
+            Plan::LeadRange(range, ballot) => return self.begin_range(out, *range, *ballot),
             Plan::OfferPrepared(position, ballot, action) => {
-                self.offer_prepared(out, *position, *ballot, action)?;
+                return self.offer_prepared(out, *position, *ballot, action);
             }
-            Plan::Learn(position, action) => self.learn_by_votes(out, *position, action)?,
+            Plan::Learn(position, action) => return self.learn_by_votes(out, *position, action),
             Plan::Follow(from, position, action) => {
-                self.learn_by_decision(out, *from, *position, action)?;
+                return self.learn_by_decision(out, *from, *position, action);
             }
-            Plan::Offer(promise, action) => self.offer(out, promise, action)?,
+            Plan::Offer(promise, action) => return self.offer(out, promise, action),
+            Plan::Hear(from, position, vote) => return self.hear(alloc, *from, *position, vote),
             Plan::Count(promise) => self.note_promise(promise),
             Plan::CountRange(promise) => self.note_range(promise),
             Plan::Yield(position, ballot, bound) => self.note_refusal(*position, *ballot, *bound),
-            Plan::Hear(from, position, vote) => self.hear(alloc, *from, *position, vote)?,
             Plan::Await(item) => self.add(*item),
-            _ => self.send(alloc, out, plan)?,
+            _ => return self.send(alloc, out, plan),
         }
-        Ok(Dropped::No)
+        Ok(())
+    }
+
+    /// Writes a promise, and sends it.
+    #[inline(never)]
+    fn promise(
+        &mut self,
+        out: &mut Outbox,
+        place: &Place,
+        last: &Option<Vote>,
+    ) -> Result<(), WriteFault>
+        requires working { self.old.failed ≡ false }
+        requires may { MayCommit self.old (plans.Promise place.now last.now) }
+        ensures ok { OnOk result (Commits
+            (turn_of M.next M.answers self.old (plans.Promise place.now last.now))
+            self.old self.new out.old.sent out.new.sent) }
+        ensures err { IfErr result (λ fault.
+            Stops (written_by (plans.Promise place.now last.now)) self.old self.new (fault_of fault)) }
+        ensures unsent { OnErr result (out.new.sent ≡ out.old.sent) }
+    {
+        out.reserve(1)?;
+        self.keep(&Rec::Promised(place.position, place.ballot))?;
+        out.promise(*place, *last);
+        Ok(())
+    }
+
+    /// Writes a vote, and sends it.
+    #[inline(never)]
+    fn vote(&mut self, out: &mut Outbox, place: &Place, action: &Action) -> Result<(), WriteFault>
+        requires working { self.old.failed ≡ false }
+        requires may { MayCommit self.old (plans.Vote place.now action.now) }
+        ensures ok { OnOk result (Commits
+            (turn_of M.next M.answers self.old (plans.Vote place.now action.now))
+            self.old self.new out.old.sent out.new.sent) }
+        ensures err { IfErr result (λ fault.
+            Stops (written_by (plans.Vote place.now action.now)) self.old self.new (fault_of fault)) }
+        ensures unsent { OnErr result (out.new.sent ≡ out.old.sent) }
+    {
+        out.reserve(1)?;
+        self.keep(&Rec::Voted(place.position, place.ballot, *action))?;
+        out.accepted(*place, action);
+        Ok(())
     }
 
     /// Commits a plan that writes nothing and changes nothing.
-    fn send(&self, alloc: Global, out: &mut Outbox, plan: &Plan) -> Result<(), Fault>
+    #[inline(never)]
+    fn send(&self, alloc: Global, out: &mut Outbox, plan: &Plan) -> Result<(), WriteFault>
         requires may { MayCommit self.now plan.now }
         requires sends { OnlySends plan.now }
         ensures ok { OnOk result (Commits (turn_of M.next M.answers self.now plan.now)
-            self.now self.now out.old.run out.new.run Dropped.No) }
+            self.now self.now out.old.sent out.new.sent) }
         ensures only { IsOkUnless result faults.OutOfMemory }
-        ensures unsent { OnErr result (out.new.run ≡ out.old.run) }
+        ensures unsent { OnErr result (out.new.sent ≡ out.old.sent) }
     {
         match *plan {
             Plan::Repeat(to, position, ballot, action) => self.send_to(
@@ -125,13 +156,13 @@ impl<M: Machine, D: Device> Replica<M, D> {
     }
 
     /// A body is sent to a node.
-    fn send_to(&self, out: &mut Outbox, stated: Body, to: NodeId) -> Result<(), Fault>
+    fn send_to(&self, out: &mut Outbox, stated: Body, to: NodeId) -> Result<(), WriteFault>
         requires may { MaySay (Node self.now.me) (Node to) stated }
         requires short { ¬ IsLongBody stated }
         ensures ok { OnOk result (Commits (sends self.now.running (says self.now.me stated to ∷ []))
-            self.now self.now out.old.run out.new.run Dropped.No) }
+            self.now self.now out.old.sent out.new.sent) }
         ensures only { IsOkUnless result faults.OutOfMemory }
-        ensures unsent { OnErr result (out.new.run ≡ out.old.run) }
+        ensures unsent { OnErr result (out.new.sent ≡ out.old.sent) }
     {
         out.reserve(1)?;
         out.say(self.me, to, stated);
@@ -139,13 +170,19 @@ impl<M: Machine, D: Device> Replica<M, D> {
     }
 
     /// A task gets the reply that is kept for its call.
-    fn answer(&self, out: &mut Outbox, task: TaskId, number: u32, reply: Reply) -> Result<(), Fault>
+    fn answer(
+        &self,
+        out: &mut Outbox,
+        task: TaskId,
+        number: u32,
+        reply: Reply,
+    ) -> Result<(), WriteFault>
         requires { IsCount number }
         ensures ok { OnOk result (Commits
             (sends self.now.running (says_to_task self.now.me (Answered number reply) task ∷ []))
-            self.now self.now out.old.run out.new.run Dropped.No) }
+            self.now self.now out.old.sent out.new.sent) }
         ensures only { IsOkUnless result faults.OutOfMemory }
-        ensures unsent { OnErr result (out.new.run ≡ out.old.run) }
+        ensures unsent { OnErr result (out.new.sent ≡ out.old.sent) }
     {
         out.reserve(1)?;
         out.reply(
@@ -159,31 +196,18 @@ impl<M: Machine, D: Device> Replica<M, D> {
         Ok(())
     }
 
-    /// Writes a promise or a vote, and sends it to a node.
+    /// The place of a packet of this node to another.
     #[inline(always)]
-    fn keep_and_send(
-        &mut self,
-        out: &mut Outbox,
-        rec: &Rec,
-        stated: Body,
-        to: NodeId,
-    ) -> Result<(), Fault>
-        requires working { self.old.failed ≡ false }
-        requires right { IsRightRecord rec.now }
-        requires place { is_in_log self.old.config.max_positions rec.now ≡ true }
-        requires answer { IsAnswer rec.now }
-        requires may { MaySay (Node self.old.me) (Node to) stated }
-        requires short { ¬ IsLongBody stated }
-        ensures ok { OnOk result (Commits
-            (writes rec.now self.old.running (says self.old.me stated to ∷ []))
-            self.old self.new out.old.run out.new.run Dropped.No) }
-        ensures err { IfErr result (λ fault. Stops (Some rec.now) self.old self.new fault) }
-        ensures unsent { OnErr result (out.new.run ≡ out.old.run) }
+    pub(crate) fn place_to(&self, to: NodeId, position: Position, ballot: Ballot) -> Place
+        ensures { result
+            ≡ record { from = self.now.me; to = to; position = position; ballot = ballot } }
     {
-        out.reserve(1)?;
-        self.keep(rec)?;
-        out.say(self.me, to, stated);
-        Ok(())
+        Place {
+            from: self.me,
+            to,
+            position,
+            ballot,
+        }
     }
 
     /// An item becomes pending.
@@ -198,14 +222,15 @@ impl<M: Machine, D: Device> Replica<M, D> {
 
     /// Writes a promise or a vote.
     #[inline(always)]
-    pub(crate) fn keep(&mut self, rec: &Rec) -> Result<(), Fault>
+    pub(crate) fn keep(&mut self, rec: &Rec) -> Result<(), WriteFault>
         requires working { self.old.failed ≡ false }
         requires right { IsRightRecord rec.now }
         requires place { is_in_log self.old.config.max_positions rec.now ≡ true }
         requires answer { IsAnswer rec.now }
         ensures ok { OnOk result (self.new ≡ after_turn self.old
             (writes rec.now self.old.running [])) }
-        ensures err { IfErr result (λ fault. Stops (Some rec.now) self.old self.new fault) }
+        ensures err { IfErr result (λ fault.
+            Stops (Some rec.now) self.old self.new (fault_of fault)) }
     {
         write(&mut self.store, &mut self.acceptor, rec)
     }

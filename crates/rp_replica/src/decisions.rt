@@ -2,44 +2,46 @@
 //! section 2.3).
 
 ghost use Rattle.std.specs.Prelude.{◌≡◌, ◌++◌, ◌∷◌, ◌+◌, ◌*◌, ◌≤◌, [], length, Some, true, false, IfErr, IsOkUnless, OnOk, OnErr};
-ghost use Rattle.rp_base.specs.declared.fault.Fault.TheVariants as faults;
+ghost use Rattle.rp_base.specs.declared.fault.WriteFault.TheVariants as faults;
 ghost use Rattle.rp_base.specs.declared.record.Rec.TheVariants.{Learned};
+ghost use Rattle.rp_base.specs.WriteFaults.{fault_of};
 ghost use Rattle.rp_codec.specs.declared.packet.Body.TheVariants as bodies;
 ghost use Rattle.rp_model.specs.Learner.{learns, missing_position, asks_for};
 ghost use Rattle.rp_model.specs.Says.{says_to_others, notes};
 ghost use Rattle.rp_replica.specs.Committing.{Commits};
 ghost use Rattle.rp_replica.specs.State.{after_turn};
-ghost use Rattle.rp_replica.specs.Packets.{longest_text, with_packets};
+ghost use Rattle.rp_outbox.specs.Packets.{longest_text};
 ghost use Rattle.rp_replica.specs.Plans.{MayHear, MayLearn, once_heard};
 ghost use Rattle.rp_replica.specs.Turning.{Stops};
 
 use crate::replica::Replica;
-use crate::sent::Outbox;
-use rp_base::{Action, Fault, NodeId, Position, Vote};
+use rp_base::{Action, NodeId, Position, Vote, WriteFault};
 use rp_codec::Body;
 use rp_machine::Machine;
 use rp_model::Dropped;
+use rp_outbox::Outbox;
 use rp_store::Device;
 use std::alloc::Global;
 
 impl<M: Machine, D: Device> Replica<M, D> {
     /// A vote makes a majority: the action is learned, and the other nodes are informed.
+    #[inline(never)]
     pub(crate) fn learn_by_votes(
         &mut self,
         out: &mut Outbox,
         position: Position,
         action: &Action,
-    ) -> Result<(), Fault>
+    ) -> Result<(), WriteFault>
         requires working { self.old.failed ≡ false }
         requires may { MayLearn self.old position action.now }
         ensures ok { OnOk result (Commits (learns M.next M.answers self.old.begin
             self.old.me self.old.records self.old.running position action.now
             (says_to_others self.old.config.nodes self.old.me
             (bodies.Decided position action.now)) [])
-            self.old self.new out.old.run out.new.run Dropped.No) }
+            self.old self.new out.old.sent out.new.sent) }
         ensures err { IfErr result (λ fault.
-            Stops (Some (Learned position action.now)) self.old self.new fault) }
-        ensures unsent { OnErr result (out.new.run ≡ out.old.run) }
+            Stops (Some (Learned position action.now)) self.old self.new (fault_of fault)) }
+        ensures unsent { OnErr result (out.new.sent ≡ out.old.sent) }
     {
         self.reserve_replies(out)?;
         self.learn(position, action, true, out)?;
@@ -47,23 +49,24 @@ impl<M: Machine, D: Device> Replica<M, D> {
     }
 
     /// A node sent a decision: the action is learned, and the node is asked for what is missing.
+    #[inline(never)]
     pub(crate) fn learn_by_decision(
         &mut self,
         out: &mut Outbox,
         from: NodeId,
         position: Position,
         action: &Action,
-    ) -> Result<(), Fault>
+    ) -> Result<(), WriteFault>
         requires working { self.old.failed ≡ false }
         requires may { MayLearn self.old position action.now }
         ensures ok { OnOk result (Commits (learns M.next M.answers self.old.begin
             self.old.me self.old.records self.old.running position action.now []
             (asks_for self.old.me from (missing_position
             (self.old.records ++ Learned position action.now ∷ []))))
-            self.old self.new out.old.run out.new.run Dropped.No) }
+            self.old self.new out.old.sent out.new.sent) }
         ensures err { IfErr result (λ fault.
-            Stops (Some (Learned position action.now)) self.old self.new fault) }
-        ensures unsent { OnErr result (out.new.run ≡ out.old.run) }
+            Stops (Some (Learned position action.now)) self.old self.new (fault_of fault)) }
+        ensures unsent { OnErr result (out.new.sent ≡ out.old.sent) }
     {
         self.reserve_replies(out)?;
         self.learn(position, action, false, out)?;
@@ -73,13 +76,14 @@ impl<M: Machine, D: Device> Replica<M, D> {
 
     /// Notes a vote of one of the nodes that is counted, and settles nothing. Out of memory, it
     /// changes nothing.
+    #[inline(never)]
     pub(crate) fn hear(
         &mut self,
         alloc: Global,
         from: NodeId,
         position: Position,
         vote: &Vote,
-    ) -> Result<(), Fault>
+    ) -> Result<(), WriteFault>
         requires may { MayHear self.old from position vote.now }
         ensures ok { OnOk result (self.new
             ≡ after_turn self.old (notes (once_heard self.old from position vote.now))) }
@@ -93,8 +97,8 @@ impl<M: Machine, D: Device> Replica<M, D> {
     }
 
     /// Makes room for a packet to each node, a reply to each pending call, and one packet more.
-    fn reserve_replies(&self, out: &mut Outbox) -> Result<(), Fault>
-        ensures run { out.new.run ≡ out.old.run }
+    fn reserve_replies(&self, out: &mut Outbox) -> Result<(), WriteFault>
+        ensures sent { out.new.sent ≡ out.old.sent }
         ensures room { OnOk result (longest_text
             * (self.now.config.nodes + length self.now.running.pending + 1) ≤ out.new.room) }
         ensures only { IsOkUnless result faults.OutOfMemory }
@@ -105,8 +109,8 @@ impl<M: Machine, D: Device> Replica<M, D> {
     /// Where a position is missing below a learned one, the node is asked for it.
     fn ask_for_missing(&self, from: NodeId, out: &mut Outbox)
         requires { longest_text ≤ out.old.room }
-        ensures { out.new.run ≡ with_packets out.old.run
-            (asks_for self.now.me from (missing_position self.now.records)) }
+        ensures { out.new.sent ≡ out.old.sent
+            ++ asks_for self.now.me from (missing_position self.now.records) }
     {
         if let Some(position) = self.missing_position() {
             out.say(self.me, from, Body::Ask { position });

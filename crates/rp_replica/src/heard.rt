@@ -47,13 +47,13 @@ impl Heard {
         ensures { self.new ≡ with_member same_heard self.old (from, position, vote) }
     {
         self.notes
-            .push(Note::Heard(from, position, vote.ballot, vote.action));
+            .push(&Note::Heard(from, position, vote.ballot, vote.action));
     }
 
     /// The votes heard at the position are let go.
     pub(crate) fn settle(&mut self, position: Position, action: Action)
         ensures { self.new ≡ heard_elsewhere self.old position }
     {
-        self.notes.push(Note::Settled(position, action));
+        self.notes.push(&Note::Settled(position, action));
     }
 }

@@ -86,10 +86,11 @@ impl<M: Machine, D: Device> Replica<M, D> {
     }
 
     /// Whether an action is learned at the position.
+    #[inline(always)]
     pub(crate) fn is_learned(&self, position: Position) -> bool
         ensures { result ≡ is_some (learned_at self.now.records position) }
     {
-        self.log.get(position).is_some()
+        self.log.is_learned(position)
     }
 
     /// Whether the position is above the log, or too far above the first unlearned one.

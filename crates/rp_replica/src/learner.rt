@@ -31,6 +31,7 @@ impl<M: Machine, D: Device> Replica<M, D> {
     }
 
     /// What holds at a position of the log once a vote of one of the nodes is counted.
+    #[inline(always)]
     fn status(
         &self,
         from: NodeId,

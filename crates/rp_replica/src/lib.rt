@@ -10,6 +10,7 @@
 //!   rules, which read alone: for a packet, a question for a promise or a vote, promises, the word to
 //!   lead at a position or a range, the action that a proposal takes as its own, votes and decisions,
 //!   calls and interrupts and ticks
+//! - `usual`: the rules for a packet of a usual kind, whose fields were read from its text
 //! - `commit`: a plan, committed: it is written, takes effect and is sent
 //! - `range_promise`, `proposal`, `decisions`, `report`: a promise for a range, plans of a leader, of a
 //!   learner and for the audit, committed
@@ -17,7 +18,7 @@
 //!   answered; the learner's window, which follows the log; the items that wait to be proposed
 //! - `cut`: a node that stops within a step
 //! - `heard`: the votes that were heard, which memory does not hold
-//! - `sent`: the packets of one step
+//! - `sent`: what a step sends
 //! - `infallible`: what a replica's device holds
 //! - `laws`: how the calls are related to the definitions of worlds
 #![tactic(auto)]
@@ -48,6 +49,7 @@ mod replica;
 mod report;
 mod sent;
 mod turn;
+mod usual;
 mod window;
 
 pub use cut::NotCut;

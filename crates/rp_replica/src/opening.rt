@@ -72,9 +72,9 @@ pub(crate) fn log_of(alloc: Global, records: &[Rec]) -> Result<Log, Fault>
 {
     let mut log = Log::new(alloc);
     for rec in records {
-        if let Rec::Learned(position, action) = *rec {
-            log.reserve(position)?;
-            log.learn(position, action);
+        if let Rec::Learned(position, action) = rec {
+            log.reserve(*position)?;
+            log.learn(*position, action);
         }
     }
     Ok(log)

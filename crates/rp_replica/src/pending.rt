@@ -7,8 +7,10 @@ ghost use Rattle.rp_base.specs.declared.fault.Fault.TheVariants as faults;
 ghost use Rattle.rp_machine.specs.Numbered.{outcome};
 ghost use Rattle.rp_model.specs.Pending.{most_pending, is_same_call, is_answered_by, stays};
 
+use crate::lead::position_at;
 use circular_buffer::HeapCircularBuffer;
 use rp_base::{Action, Answer, Fault};
+use rp_log::Log;
 use rp_machine::{Machine, Numbered};
 use rp_model::RightAction;
 use std::alloc::Global;
@@ -78,15 +80,16 @@ impl Pending {
         has_call(front, answer) || has_call(back, answer)
     }
 
-    /// Takes out the items that do not stay, once these actions are the last that were applied to the
-    /// machine.
-    pub(crate) fn settle<M: Machine>(&mut self, machine: &Numbered<M>, applied: &[Action])
+    /// Takes out the items that do not stay, once what the log took since n actions were taken are the
+    /// last that were applied to the machine.
+    pub(crate) fn settle<M: Machine>(&mut self, machine: &Numbered<M>, log: &Log, before: u32)
+        requires { before ≤ length log.now.taken }
         ensures { let r = outcome M.next M.answers machine.now in self.new
-            ≡ filter (stays r.kept r.given applied.now) self.old }
+            ≡ filter (stays r.kept r.given (drop before log.now.taken)) self.old }
     {
         for _ in 0..self.len() {
             if let Some(item) = self.pop() {
-                if stays(machine, applied, item) {
+                if stays(machine, log, before, item) {
                     self.push(item);
                 }
             }
@@ -165,29 +168,39 @@ fn has_call(items: &[RightAction], answer: &Answer) -> bool
     false
 }
 
-/// Whether a pending item stays, once these actions are the last that were applied to the machine.
-fn stays<M: Machine>(machine: &Numbered<M>, applied: &[Action], item: RightAction) -> bool
+/// Whether a pending item stays, once what the log took since n actions were taken are the last that
+/// were applied to the machine.
+fn stays<M: Machine>(machine: &Numbered<M>, log: &Log, before: u32, item: RightAction) -> bool
+    requires { before ≤ length log.now.taken }
     ensures { let r = outcome M.next M.answers machine.now in result
-        ≡ stays r.kept r.given applied.now item }
+        ≡ stays r.kept r.given (drop before log.now.taken) item }
 {
     match item.get() {
         Action::Noop => false,
         Action::Call { task, number, .. } => machine.is_open(task, number),
         Action::Interrupt { source, occurrence } => machine.last_occurrence(source) < occurrence,
-        Action::Tick { now } => !has_action(applied, Action::Tick { now }),
+        Action::Tick { now } => !has_taken(log, before, &Action::Tick { now }),
     }
 }
 
-/// Whether the action is among these.
-fn has_action(actions: &[Action], action: Action) -> bool
-    ensures { result ≡ list_any (same_action action) actions.now }
+/// Whether the log took the action since n actions were taken.
+fn has_taken(log: &Log, before: u32, action: &Action) -> bool
+    requires { before ≤ length log.now.taken }
+    ensures { result ≡ list_any (same_action action.now) (drop before log.now.taken) }
 {
-    actions.iter().any(|other| is_same(action, *other))
+    for place in before..log.applied() {
+        if let Some(taken) = log.get(position_at(place + 1)) {
+            if is_same(action, &taken) {
+                return true;
+            }
+        }
+    }
+    false
 }
 
 /// Whether the actions are the same.
-fn is_same(action: Action, other: Action) -> bool
-    ensures { result ≡ same_action action other }
+fn is_same(action: &Action, other: &Action) -> bool
+    ensures { result ≡ same_action action.now other.now }
 {
     action == other
 }

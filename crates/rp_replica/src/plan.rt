@@ -2,10 +2,10 @@
 
 ghost use Rattle.std.specs.Prelude.{◌≡◌, IfSome};
 ghost use Rattle.rp_codec.specs.Record.{HasRecordRanges};
-ghost use Rattle.rp_replica.specs.Plans.{written_by};
+ghost use Rattle.rp_replica.specs.Plans.{dropped_by, written_by};
 
 use rp_base::{Action, Ballot, NodeId, Position, PositionRange, Rec, Reply, TaskId, Vote};
-use rp_codec::Votes;
+use rp_codec::{Place, Votes};
 use rp_model::{Dropped, RightAction};
 
 /// A promise that came from a node, in a ballot at a position, with the vote that it reports.
@@ -40,12 +40,12 @@ pub(crate) struct CountedRange {
 pub(crate) enum Plan {
     /// Nothing, and what is dropped.
     Pass(Dropped),
-    /// A promise to a node at a position in a ballot, with the last vote there.
-    Promise(NodeId, Position, Ballot, Option<Vote>),
+    /// A promise, which is sent to a node, with the last vote at its position.
+    Promise(Place, Option<Vote>),
     /// A promise for a range, with the last votes there.
     PromiseRange(RangePromise),
-    /// A vote for an action, at a position in a ballot, that is sent to a node.
-    Vote(NodeId, Position, Ballot, Action),
+    /// A vote for an action, which is sent to a node.
+    Vote(Place, Action),
     /// A vote that was cast before is sent to a node again.
     Repeat(NodeId, Position, Ballot, Action),
     /// A node gets the bound that its ballot lies below.
@@ -105,16 +105,27 @@ pub(crate) fn record_in_range(rec: &Rec)
 }
 
 impl Plan {
+    /// What it drops.
+    #[inline(always)]
+    pub(crate) fn dropped(&self) -> Dropped
+        ensures { result ≡ dropped_by self.now }
+    {
+        match *self {
+            Plan::Pass(dropped) => dropped,
+            _ => Dropped::No,
+        }
+    }
+
     /// The record that it writes, if it writes one.
     pub(crate) fn record(&self) -> Option<Rec>
         ensures { result ≡ written_by self.now }
     {
         match *self {
-            Plan::Promise(_, position, ballot, _) => Some(Rec::Promised(position, ballot)),
+            Plan::Promise(place, _) => Some(Rec::Promised(place.position, place.ballot)),
             Plan::PromiseRange(promise) => {
                 Some(Rec::PromisedRange(promise.range, promise.ballot))
             }
-            Plan::Vote(_, position, ballot, action) => Some(Rec::Voted(position, ballot, action)),
+            Plan::Vote(place, action) => Some(Rec::Voted(place.position, place.ballot, action)),
             Plan::Lead(_, ballot, _) | Plan::LeadRange(_, ballot) => Some(Rec::Started(ballot)),
             Plan::Learn(position, action) | Plan::Follow(_, position, action) => {
                 Some(Rec::Learned(position, action))

@@ -6,6 +6,7 @@ ghost use Rattle.rp_base.specs.Action.{IsRight};
 ghost use Rattle.rp_base.specs.declared.record.Rec.TheVariants.{Started};
 ghost use Rattle.rp_codec.specs.declared.packet.Body.TheVariants as bodies;
 ghost use Rattle.rp_base.specs.Proposals.{proposal_at};
+ghost use Rattle.rp_base.specs.WriteFaults.{fault_of};
 ghost use Rattle.rp_model.specs.Leader.{begins_range, on_promise_range, on_nack};
 ghost use Rattle.rp_model.specs.Says.{says_to_all, notes, sends, writes};
 ghost use Rattle.rp_replica.specs.Committing.{Commits};
@@ -16,40 +17,37 @@ ghost use Rattle.rp_replica.specs.Turning.{Stops};
 
 use crate::plan::{CountedPromise, CountedRange};
 use crate::replica::{Replica, write};
-use crate::sent::Outbox;
-use rp_base::{Action, Ballot, Fault, Position, PositionRange, Rec};
+use rp_base::{Action, Ballot, Position, PositionRange, Rec, WriteFault};
 use rp_codec::Body;
 use rp_machine::Machine;
 use rp_model::Dropped;
+use rp_outbox::Outbox;
 use rp_store::Device;
 
 impl<M: Machine, D: Device> Replica<M, D> {
     /// A proposal begins, in place of another at its position: its ballot is written, and then each
     /// node is asked for a promise.
+    #[inline(never)]
     pub(crate) fn begin(
         &mut self,
         out: &mut Outbox,
         position: Position,
         ballot: Ballot,
         own: &Action,
-    ) -> Result<(), Fault>
+    ) -> Result<(), WriteFault>
         requires working { self.old.failed ≡ false }
         requires may { MayBegin self.old position ballot own.now }
         ensures ok { OnOk result (Commits (writes (Started ballot)
             (started_running self.old.running position ballot own.now)
             (says_to_all self.old.config.nodes self.old.me (bodies.Prepare position ballot)))
-            self.old self.new out.old.run out.new.run Dropped.No) }
+            self.old self.new out.old.sent out.new.sent) }
         ensures err { IfErr result (λ fault.
-            Stops (Some (Started ballot)) self.old self.new fault) }
-        ensures unsent { OnErr result (out.new.run ≡ out.old.run) }
+            Stops (Some (Started ballot)) self.old self.new (fault_of fault)) }
+        ensures unsent { OnErr result (out.new.sent ≡ out.old.sent) }
     {
         out.reserve(usize::from(self.config.nodes))?;
         self.start(position, ballot, own)?;
-        out.say_to_all(
-            self.me,
-            self.config.nodes,
-            Body::Prepare { position, ballot },
-        );
+        out.prepare_all(self.place_to(self.me, position, ballot), self.config.nodes);
         Ok(())
     }
 
@@ -60,15 +58,15 @@ impl<M: Machine, D: Device> Replica<M, D> {
         out: &mut Outbox,
         range: PositionRange,
         ballot: Ballot,
-    ) -> Result<(), Fault>
+    ) -> Result<(), WriteFault>
         requires working { self.old.failed ≡ false }
         requires may { MayBeginRange self.old range ballot }
         ensures ok { OnOk result (Commits (begins_range self.old.config.nodes self.old.me
             self.old.records self.old.running range ballot)
-            self.old self.new out.old.run out.new.run Dropped.No) }
+            self.old self.new out.old.sent out.new.sent) }
         ensures err { IfErr result (λ fault.
-            Stops (Some (Started ballot)) self.old self.new fault) }
-        ensures unsent { OnErr result (out.new.run ≡ out.old.run) }
+            Stops (Some (Started ballot)) self.old self.new (fault_of fault)) }
+        ensures unsent { OnErr result (out.new.sent ≡ out.old.sent) }
     {
         out.reserve(usize::from(self.config.nodes))?;
         self.start_range(range, ballot)?;
@@ -87,53 +85,46 @@ impl<M: Machine, D: Device> Replica<M, D> {
         position: Position,
         ballot: Ballot,
         action: &Action,
-    ) -> Result<(), Fault>
+    ) -> Result<(), WriteFault>
         requires working { self.old.failed ≡ false }
         requires right { IsRight action.now }
         ensures ok { OnOk result (Commits (sends (offered_running self.old.config.nodes
             self.old.running action.now (proposal_at self.old.running.proposals position))
             (says_to_all self.old.config.nodes self.old.me
             (bodies.Accept position ballot action.now)))
-            self.old self.new out.old.run out.new.run Dropped.No) }
-        ensures err { IfErr result (λ fault. Stops None self.old self.new fault) }
-        ensures unsent { OnErr result (out.new.run ≡ out.old.run) }
+            self.old self.new out.old.sent out.new.sent) }
+        ensures err { IfErr result (λ fault. Stops None self.old self.new (fault_of fault)) }
+        ensures unsent { OnErr result (out.new.sent ≡ out.old.sent) }
     {
         out.reserve(usize::from(self.config.nodes))?;
         self.start_offer(position, action);
-        let offered = Body::Accept {
-            position,
-            ballot,
-            action: *action,
-        };
-        out.say_to_all(self.me, self.config.nodes, offered);
+        let place = self.place_to(self.me, position, ballot);
+        out.accept_all(place, action, self.config.nodes);
         Ok(())
     }
 
     /// A promise makes a majority, and the action is offered to all.
+    #[inline(never)]
     pub(crate) fn offer(
         &mut self,
         out: &mut Outbox,
         promise: &CountedPromise,
         action: &Action,
-    ) -> Result<(), Fault>
+    ) -> Result<(), WriteFault>
         requires working { self.old.failed ≡ false }
         requires may { MayCount self.old promise.now }
         requires right { IsRight action.now }
         ensures ok { OnOk result (Commits (sends (once_promised self.old promise.now)
             (says_to_all self.old.config.nodes self.old.me
             (bodies.Accept promise.now.position promise.now.ballot action.now)))
-            self.old self.new out.old.run out.new.run Dropped.No) }
-        ensures err { IfErr result (λ fault. Stops None self.old self.new fault) }
-        ensures unsent { OnErr result (out.new.run ≡ out.old.run) }
+            self.old self.new out.old.sent out.new.sent) }
+        ensures err { IfErr result (λ fault. Stops None self.old self.new (fault_of fault)) }
+        ensures unsent { OnErr result (out.new.sent ≡ out.old.sent) }
     {
         out.reserve(usize::from(self.config.nodes))?;
         self.note_promise(promise);
-        let offered = Body::Accept {
-            position: promise.position,
-            ballot: promise.ballot,
-            action: *action,
-        };
-        out.say_to_all(self.me, self.config.nodes, offered);
+        let place = self.place_to(self.me, promise.position, promise.ballot);
+        out.accept_all(place, action, self.config.nodes);
         Ok(())
     }
 
@@ -147,13 +138,13 @@ impl<M: Machine, D: Device> Replica<M, D> {
 
     /// Begins a proposal at an unlearned position within reach, in place of another there: its ballot
     /// is written first.
-    fn start(&mut self, position: Position, ballot: Ballot, own: &Action) -> Result<(), Fault>
+    fn start(&mut self, position: Position, ballot: Ballot, own: &Action) -> Result<(), WriteFault>
         requires working { self.old.failed ≡ false }
         requires may { MayBegin self.old position ballot own.now }
         ensures ok { OnOk result (self.new ≡ after_turn self.old (writes (Started ballot)
             (started_running self.old.running position ballot own.now) [])) }
         ensures err { IfErr result (λ fault.
-            Stops (Some (Started ballot)) self.old self.new fault) }
+            Stops (Some (Started ballot)) self.old self.new (fault_of fault)) }
     {
         let rec = Rec::Started(ballot);
         write(&mut self.store, &mut self.acceptor, &rec)?;
@@ -163,14 +154,14 @@ impl<M: Machine, D: Device> Replica<M, D> {
     }
 
     /// Begins a proposal at each unlearned position of a range: the ballot is written first.
-    fn start_range(&mut self, range: PositionRange, ballot: Ballot) -> Result<(), Fault>
+    fn start_range(&mut self, range: PositionRange, ballot: Ballot) -> Result<(), WriteFault>
         requires working { self.old.failed ≡ false }
         requires may { MayBeginRange self.old range ballot }
         ensures ok { OnOk result (self.new ≡ after_turn self.old (writes (Started ballot)
             (begins_range self.old.config.nodes self.old.me self.old.records self.old.running
             range ballot).running [])) }
         ensures err { IfErr result (λ fault.
-            Stops (Some (Started ballot)) self.old self.new fault) }
+            Stops (Some (Started ballot)) self.old self.new (fault_of fault)) }
     {
         let learned = self.learned_mask(range);
         let rec = Rec::Started(ballot);

@@ -3,20 +3,21 @@
 ghost use Rattle.std.specs.Prelude.{◌≡◌, [], ◌∷◌, Some, OnOk, OnErr, IfErr, IfOk, false};
 ghost use Rattle.rp_base.specs.PlacedVotes.{last_votes};
 ghost use Rattle.rp_base.specs.declared.record.Rec.TheVariants.{PromisedRange};
-ghost use Rattle.rp_codec.specs.Text.{text_of};
+ghost use Rattle.rp_base.specs.WriteFaults.{fault_of};
 ghost use Rattle.rp_codec.specs.declared.packet.Body.TheVariants as bodies;
 ghost use Rattle.rp_model.specs.Says.{says, writes};
 ghost use Rattle.rp_replica.specs.Committing.{Commits};
+ghost use Rattle.rp_outbox.specs.Packets.{IsTextOf};
 ghost use Rattle.rp_replica.specs.Plans.{MayPromiseRange};
 ghost use Rattle.rp_replica.specs.Turning.{Stops};
 
 use crate::plan::RangePromise;
 use crate::replica::Replica;
-use crate::sent::Outbox;
-use rp_base::{Fault, Rec};
+use rp_base::{Rec, WriteFault};
 use rp_codec::{Body, Packet, Party, Votes, encode};
 use rp_machine::Machine;
 use rp_model::Dropped;
+use rp_outbox::Outbox;
 use rp_store::Device;
 use std::alloc::{AllocError, Global};
 
@@ -30,7 +31,7 @@ impl<M: Machine, D: Device> Replica<M, D> {
         alloc: Global,
         out: &mut Outbox,
         promise: &RangePromise,
-    ) -> Result<(), Fault>
+    ) -> Result<(), WriteFault>
         requires working { self.old.failed ≡ false }
         requires may { MayPromiseRange self.old promise.now }
         ensures ok { OnOk result
@@ -38,13 +39,13 @@ impl<M: Machine, D: Device> Replica<M, D> {
             self.old.running (says self.old.me
             (bodies.PromiseRange promise.now.range promise.now.ballot
             (last_votes self.old.records promise.now.range)) promise.now.to ∷ []))
-            self.old self.new out.old.run out.new.run Dropped.No) }
+            self.old self.new out.old.sent out.new.sent) }
         ensures err { IfErr result (λ fault. Stops (Some
-            (PromisedRange promise.now.range promise.now.ballot)) self.old self.new fault) }
-        ensures unsent { OnErr result (out.new.run ≡ out.old.run) }
+            (PromisedRange promise.now.range promise.now.ballot)) self.old self.new (fault_of fault)) }
+        ensures unsent { OnErr result (out.new.sent ≡ out.old.sent) }
     {
         let text = self.promise_text(alloc, promise)?;
-        out.make_room(text.len())?;
+        out.reserve_one(text.len())?;
         self.keep(&Rec::PromisedRange(promise.range, promise.ballot))?;
         out.put_text(&text);
         Ok(())
@@ -53,7 +54,7 @@ impl<M: Machine, D: Device> Replica<M, D> {
     /// The text of a promise for a range, with the last votes of the range.
     fn promise_text(&self, alloc: Global, promise: &RangePromise) -> Result<Vec<u8>, AllocError>
         requires may { MayPromiseRange self.now promise.now }
-        ensures { IfOk result (λ text. text.items ≡ text_of (says self.now.me
+        ensures { IfOk result (λ text. IsTextOf text.items (says self.now.me
             (bodies.PromiseRange promise.now.range promise.now.ballot
             (last_votes self.now.records promise.now.range)) promise.now.to)) }
     {
@@ -64,9 +65,8 @@ impl<M: Machine, D: Device> Replica<M, D> {
             ballot,
             votes,
         };
-        encode(
-            alloc,
-            &Packet::new(Party::Node(self.me), Party::Node(to), stated),
-        )
+        let packet = Packet::new(Party::Node(self.me), Party::Node(to), stated);
+        let _body = packet.body();
+        encode(alloc, &packet)
     }
 }

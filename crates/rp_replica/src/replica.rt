@@ -7,6 +7,7 @@ ghost use Rattle.rp_base.specs.Records.{applied_of};
 ghost use Rattle.rp_machine.specs.Asked.{last_number, last_occurrence, kept_reply};
 ghost use Rattle.rp_machine.specs.Replay.{kept_of, replay_answers, replay_state};
 ghost use Rattle.rp_base.specs.Right.{IsRightRecord};
+ghost use Rattle.rp_base.specs.WriteFaults.{fault_of};
 ghost use Rattle.rp_acceptor.specs.Noted.{HasRoom};
 ghost use Rattle.rp_codec.specs.Message.{MaySay};
 ghost use Rattle.rp_codec.specs.Record.{record_text, HasRecordRanges};
@@ -18,7 +19,6 @@ ghost use Rattle.rp_model.specs.Parts.{is_in_log};
 ghost use Rattle.rp_model.specs.Says.{says, says_to_task, writes};
 ghost use Rattle.rp_replica.specs.Kept.{HoldsPart, HoldsItsRecords, HoldsOnly};
 ghost use Rattle.rp_replica.specs.State.{after_turn, part_of};
-ghost use Rattle.rp_replica.specs.Packets.{run_of};
 ghost use Rattle.rp_replica.specs.Invariant.{IsAnswer};
 ghost use Rattle.rp_replica.specs.Turning.{Stops};
 
@@ -26,13 +26,13 @@ use crate::heard::Heard;
 use crate::pending::Pending;
 use crate::plan::record_in_range;
 use rp_acceptor::Acceptor;
-use rp_base::{Config, Fault, NodeId, Rec, Reply, TaskId};
+use rp_base::{Config, Fault, NodeId, Rec, Reply, TaskId, WriteFault};
 use rp_learner::Learner;
 use rp_log::Log;
 use rp_machine::{Machine, Numbered};
 use rp_proposer::Proposer;
 use rp_store::{Device, Store};
-use std::alloc::Global;
+use std::alloc::{AllocError, Global};
 use std::marker::Model;
 
 /// One node as it runs, over a device of its own (Lamport, "Paxos Made Simple", sections 2.2, 2.3 and
@@ -83,10 +83,10 @@ impl<M: Machine, D: Device> Model for Replica<M, D> {
 }
 
 /// Makes room to note the record.
-fn reserve(acceptor: &mut Acceptor, rec: &Rec) -> Result<(), Fault>
+#[inline(always)]
+fn reserve(acceptor: &mut Acceptor, rec: &Rec) -> Result<(), AllocError>
     ensures room { OnOk result (HasRoom acceptor.new rec.now) }
     ensures records { acceptor.new.records ≡ acceptor.old.records }
-    ensures only { IsOkUnless result faults.OutOfMemory }
 {
     match *rec {
         Rec::Promised(position, _) => acceptor.reserve(position),
@@ -102,7 +102,7 @@ pub(crate) fn write<D: Device>(
     store: &mut Store<D>,
     acceptor: &mut Acceptor,
     rec: &Rec,
-) -> Result<(), Fault>
+) -> Result<(), WriteFault>
     requires right { IsRightRecord rec.now }
     requires working { store.old.failed ≡ false }
     ensures put { OnOk result (IsPut D.disk (record_text rec.now) store.old store.new) }
@@ -110,7 +110,7 @@ pub(crate) fn write<D: Device>(
     ensures range { HasRecordRanges rec.now }
     ensures unchanged { OnErr result (acceptor.new.records ≡ acceptor.old.records) }
     ensures err { IfErr result (λ fault.
-        IsNotPut D.disk (record_text rec.now) store.old fault store.new) }
+        IsNotPut D.disk (record_text rec.now) store.old (fault_of fault) store.new) }
 {
     record_in_range(rec);
     reserve(acceptor, rec)?;

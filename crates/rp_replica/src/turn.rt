@@ -1,28 +1,29 @@
 //! A step of a replica: it decides, and then commits.
 
-ghost use Rattle.std.specs.Prelude.{◌≡◌, Some, Ok, IfSome, IfErr, OnOk, false};
+ghost use Rattle.std.specs.Prelude.{◌≡◌, ◌<◌, Some, Ok, IfSome, IfErr, OnOk, false, length, slice_get};
 ghost use Rattle.rp_base.specs.Action.{IsRight};
 ghost use Rattle.rp_base.specs.declared.action.Action.TheVariants as actions;
+ghost use Rattle.rp_codec.specs.Message.{Message};
 ghost use Rattle.rp_codec.specs.Reading.{all_of};
 ghost use Rattle.rp_codec.specs.Decoding.{IsDecoded};
 ghost use Rattle.rp_model.specs.Effect as inputs;
 ghost use Rattle.rp_replica.specs.Inputs.{IsRightInput, input_effect, packet_given, effect_if_given};
 ghost use Rattle.rp_replica.specs.Plans.{turn_of, MayCommit};
-ghost use Rattle.rp_replica.specs.Turning.{Answers, StopsIf, effect_of};
+ghost use Rattle.rp_replica.specs.Turning.{Answers, AnswersOnto, StopsIf, effect_of};
 
 use crate::input::Input;
+use crate::laws::texts_are_packets;
 use crate::plan::Plan;
 use crate::replica::Replica;
-use crate::sent::{Outbox, Sent};
+use crate::sent::Sent;
 use rp_base::{Fault, Position, PositionRange};
-use rp_codec::{
-    Kind, Packet, decode_fields, usual_accept, usual_accepted, usual_call, usual_decided,
-    usual_prepare, usual_promise,
-};
+use rp_codec::{Kind, decode_fields};
 use rp_machine::Machine;
 use rp_model::Dropped;
+use rp_outbox::Outbox;
 use rp_store::Device;
 use std::alloc::Global;
+use std::mem::replace;
 
 impl<M: Machine, D: Device> Replica<M, D> {
     /// What the step of an input does, or why there is no step: `BadPacket` where the bytes of a
@@ -55,8 +56,8 @@ impl<M: Machine, D: Device> Replica<M, D> {
         Ok(())
     }
 
-    /// A packet comes, as its text. Each usual kind has its arm, in which reading the packet and the
-    /// rule for it are compiled for that kind alone.
+    /// A packet comes, as its text. Each usual kind has its function, in which reading the packet and
+    /// the rule for it are compiled for that kind alone.
     #[inline(always)]
     fn on_text(&self, alloc: Global, bytes: &[u8], plan: &mut Plan) -> Result<(), Fault>
         requires working { self.now.failed ≡ false }
@@ -67,38 +68,19 @@ impl<M: Machine, D: Device> Replica<M, D> {
             (effect_if_given M.next M.answers self.now (packet_given (all_of bytes.now)))
             self.now self.now fault) }
     {
-        match Kind::of_text(bytes) {
-            Some(Kind::Call) => self.on_usual(alloc, usual_call(bytes), bytes, plan),
-            Some(Kind::Prepare) => self.on_usual(alloc, usual_prepare(bytes), bytes, plan),
-            Some(Kind::Promise) => self.on_usual(alloc, usual_promise(bytes), bytes, plan),
-            Some(Kind::Accept) => self.on_usual(alloc, usual_accept(bytes), bytes, plan),
-            Some(Kind::Accepted) => self.on_usual(alloc, usual_accepted(bytes), bytes, plan),
-            Some(Kind::Decided) => self.on_usual(alloc, usual_decided(bytes), bytes, plan),
-            _ => self.on_other_text(alloc, bytes, plan),
-        }
-    }
-
-    /// The same, where this packet was read in one piece, if one was.
-    #[inline(always)]
-    fn on_usual(
-        &self,
-        alloc: Global,
-        packet: Option<Packet>,
-        bytes: &[u8],
-        plan: &mut Plan,
-    ) -> Result<(), Fault>
-        requires decoded { IfSome packet (λ packet. IsDecoded bytes.now (Ok packet)) }
-        requires working { self.now.failed ≡ false }
-        ensures ok { OnOk result (Ok (turn_of M.next M.answers self.now plan.new)
-            ≡ effect_if_given M.next M.answers self.now (packet_given (all_of bytes.now))) }
-        ensures may { OnOk result (MayCommit self.now plan.new) }
-        ensures err { IfErr result (λ fault. StopsIf
-            (effect_if_given M.next M.answers self.now (packet_given (all_of bytes.now)))
-            self.now self.now fault) }
-    {
-        match &packet {
-            Some(packet) => self.on_packet(packet, plan),
-            None => self.on_other_text(alloc, bytes, plan),
+        let is_usual = match Kind::of_text(bytes) {
+            Some(Kind::Call) => self.on_call_text(bytes, plan),
+            Some(Kind::Prepare) => self.on_prepare_text(bytes, plan),
+            Some(Kind::Promise) => self.on_promise_text(bytes, plan),
+            Some(Kind::Accept) => self.on_accept_text(bytes, plan),
+            Some(Kind::Accepted) => self.on_accepted_text(bytes, plan),
+            Some(Kind::Decided) => self.on_decided_text(bytes, plan),
+            _ => false,
+        };
+        if is_usual {
+            Ok(())
+        } else {
+            self.on_other_text(alloc, bytes, plan)
         }
     }
 
@@ -120,20 +102,6 @@ impl<M: Machine, D: Device> Replica<M, D> {
         }
     }
 
-    /// Why the step of an input would not be made where memory runs out: as it would be refused with
-    /// memory enough, and else `OutOfMemory`.
-    pub fn refusal(&self, alloc: Global, input: &Input) -> Fault
-        requires right { IsRightInput input.now }
-        ensures { StopsIf (input_effect M.next M.answers self.now input.now)
-            self.now self.now result }
-    {
-        let mut plan = Plan::Pass(Dropped::No);
-        match self.decide(alloc, input, &mut plan) {
-            Ok(()) => Fault::OutOfMemory,
-            Err(fault) => fault,
-        }
-    }
-
     /// One step of the node: at most one record is written, and the packets are given out once it is
     /// stable. Refused with `BadPacket` where the bytes of a packet are none's text, with `BallotsSpent`
     /// or `LogFull` where the node cannot lead, with `OutOfMemory`: then nothing has changed. After
@@ -143,18 +111,43 @@ impl<M: Machine, D: Device> Replica<M, D> {
         ensures { Answers (input_effect M.next M.answers self.old input.now)
             self.old self.new result }
     {
-        self.turn_into(alloc, Vec::new(alloc), input)
+        self.turn_with(alloc, Vec::new(alloc), &mut Vec::new(alloc), input)
     }
 
-    /// The same, with a buffer into which the packets are put, in place of what it holds: so steps
-    /// that use one buffer again take no memory for their packets.
+    /// The same, in buffers for the texts of the packets and for the places where these end, in place
+    /// of what they hold: so steps that use them again take no memory for their packets.
+    #[inline(always)]
+    pub fn turn_with(
+        &mut self,
+        alloc: Global,
+        bytes: Vec<u8>,
+        ends: &mut Vec<usize>,
+        input: &Input,
+    ) -> Result<Sent, Fault>
+        requires right { IsRightInput input.now }
+        ensures { Answers (input_effect M.next M.answers self.old input.now)
+            self.old self.new result }
+    {
+        let mut out = Outbox::over(bytes, replace(ends, Vec::new(alloc)));
+        let answer = self.turn_into(alloc, &mut out, input);
+        let (bytes, places) = out.into_parts();
+        let packets = places.len();
+        *ends = places;
+        Ok(Sent {
+            bytes,
+            packets,
+            dropped: answer?,
+        })
+    }
+
+    /// The same, whose packets are put after those that were sent before; refused, it puts none.
     #[inline(always)]
     pub fn turn_into(
         &mut self,
         alloc: Global,
-        buffer: Vec<u8>,
+        out: &mut Outbox,
         input: &Input,
-    ) -> Result<Sent, Fault>
+    ) -> Result<Dropped, Fault>
         requires right { IsRightInput input.now }
         // claim (result): Each input of a replica has exactly the node's effect that the
         //   definitions give, or is refused for the one reason that they give and changes nothing;
@@ -166,16 +159,34 @@ impl<M: Machine, D: Device> Replica<M, D> {
         // claim (result): Interrupts and ticks become pending as the definition says
         // claim (result): A report has the applied actions from a position on, as many as a packet
         //   takes
-        ensures { Answers (input_effect M.next M.answers self.old input.now)
-            self.old self.new result }
+        ensures { AnswersOnto (input_effect M.next M.answers self.old input.now)
+            self.old self.new out.old.sent out.new.sent result }
     {
-        let mut out = Outbox::new(buffer);
         let mut plan = Plan::Pass(Dropped::No);
         self.decide(alloc, input, &mut plan)?;
-        match self.commit(alloc, &mut out, &plan) {
-            Ok(dropped) => Ok(out.sent(dropped)),
-            Err(fault) => Err(fault),
-        }
+        self.commit(alloc, out, &plan)?;
+        Ok(plan.dropped())
+    }
+
+    /// The packet of a place, from 0, among those that were sent comes: it is read where it lies, and
+    /// the packets of the step are put after the others.
+    #[inline(always)]
+    pub fn deliver(
+        &mut self,
+        alloc: Global,
+        out: &mut Outbox,
+        place: usize,
+    ) -> Result<Dropped, Fault>
+        requires place { place < length out.old.sent }
+        ensures { (m : Message) → slice_get out.old.sent place ≡ Some m
+            → AnswersOnto (effect_of M.next M.answers self.old (inputs.NodeInput.Receive m))
+            self.old self.new out.old.sent out.new.sent result }
+    {
+        texts_are_packets();
+        let mut plan = Plan::Pass(Dropped::No);
+        self.decide(alloc, &Input::Receive(out.text(place).unwrap()), &mut plan)?;
+        self.commit(alloc, out, &plan)?;
+        Ok(plan.dropped())
     }
 
     /// A packet comes, as its text. Refused with `BadPacket` where the bytes are no packet's text, and

@@ -33,7 +33,7 @@ fn learned_bits(log: &Log, first: u32) -> u64
     let end = (u32::from(top.get()) + 1).min(first + WINDOW);
     let mut bits = 0;
     for number in first..end {
-        let is_learned = log.get(position_at(number)).is_some();
+        let is_learned = log.is_learned(position_at(number));
         bits = with_bit(bits, number - first, is_learned);
     }
     bits

@@ -12,7 +12,7 @@ use Rattle.rp_machine.specs.Replay.{replay_state}
 use Rattle.rp_model.specs.Parts.{Turn}
 use Rattle.rp_model.specs.Effect.{NodeInput}
 use Rattle.rp_replica.specs.Inputs.{effect_if_given}
-use Rattle.rp_replica.specs.Packets.{texts_of}
+use Rattle.rp_outbox.specs.Packets.{texts_of}
 use Rattle.rp_replica.specs.State.{ReplicaState, after_turn}
 use Rattle.rp_replica.specs.Turning.{StopsIf}
 use Rattle.rp_requests.specs.declared.buffer.Lengths.{Lengths}

@@ -1,7 +1,7 @@
-use Rattle.std.proofs.Common.{◌≡◌, ◌+◌, ◌*◌, ◌≤◌, List, length, subst, sym}
+use Rattle.std.proofs.Common.{◌≡◌, ◌+◌, ◌*◌, ◌≤◌, List, length, subst, sym, ◌++◌}
 use Rattle.rp_base.specs.declared.reply.Answer.{Answer}
 use Rattle.rp_model.specs.Pending.{replies_to}
-use Rattle.rp_replica.specs.Packets.{with_packets, longest_text}
+use Rattle.rp_outbox.specs.Packets.{longest_text}
 use Rattle.rp_replica.proofs.Replying.{room_left, replied_more}
 use Rattle.rp_replica.proofs.applying.apply_and_reply.Goals as goal
 
@@ -9,17 +9,19 @@ pub reply_to-requires : goal.reply_to-requires
 reply_to-requires g c =
     let m = g.M.Machine in
     let a = c.args in
-    let room : longest_text * length (replies_to a.me a.pending.now c.in-Some.answers) ≤ c.loop-answers.out.room =
-    room_left m.next m.answers a.me a.pending.now a.log.now c.loop-answers.log c.apply_next.new.log a.machine.now c.loop-answers.machine c.apply_next.new.machine a.out.now c.loop-answers.out c.in-Some.answers
-    c.loop-answers.invariant c.in-Some.ensures.more c.in-Some.ensures.once c.requires.room in
-    subst (λ (given : List Answer). longest_text * length (replies_to a.me a.pending.now given) ≤ c.loop-answers.out.room) (sym c.as_slice.ensures) room
+    let given : List Answer = c.apply_next.new.answers in
+    let room : longest_text * length (replies_to a.me a.pending.now given) ≤ c.loop-me.out.room =
+    room_left m.next m.answers a.me a.pending.now a.log.now c.loop-me.log c.apply_next.new.log a.machine.now c.loop-me.machine c.apply_next.new.machine a.out.now c.loop-me.out given
+    c.loop-me.invariant (c.apply_next.ensures.more c.loop-me-test.true) (c.apply_next.ensures.once c.loop-me-test.true) c.requires.room in
+    subst (λ (given : List Answer). longest_text * length (replies_to a.me a.pending.now given) ≤ c.loop-me.out.room) (sym c.as_slice.ensures) room
 
-pub loop-answers-preserved : goal.loop-answers-preserved
-loop-answers-preserved g c =
+pub loop-me-preserved : goal.loop-me-preserved
+loop-me-preserved g c =
     let m = g.M.Machine in
     let a = c.args in
+    let given : List Answer = c.apply_next.new.answers in
     let said = c.reply_to.new.out in
-    replied_more m.next m.answers a.me a.pending.now a.log.now c.loop-answers.log c.apply_next.new.log a.machine.now c.loop-answers.machine c.apply_next.new.machine a.out.now c.loop-answers.out c.in-Some.answers
-    c.loop-answers.invariant c.in-Some.ensures.more c.in-Some.ensures.once said
-    (subst (λ (given : List Answer). said.run ≡ with_packets c.loop-answers.out.run (replies_to a.me a.pending.now given)) c.as_slice.ensures c.reply_to.ensures.run)
-    (subst (λ (given : List Answer). c.loop-answers.out.room ≤ said.room + longest_text * length (replies_to a.me a.pending.now given)) c.as_slice.ensures c.reply_to.ensures.room)
+    replied_more m.next m.answers a.me a.pending.now a.log.now c.loop-me.log c.apply_next.new.log a.machine.now c.loop-me.machine c.apply_next.new.machine a.out.now c.loop-me.out given
+    c.loop-me.invariant (c.apply_next.ensures.more c.loop-me-test.true) (c.apply_next.ensures.once c.loop-me-test.true) said
+    (subst (λ (given : List Answer). said.sent ≡ c.loop-me.out.sent ++ (replies_to a.me a.pending.now given)) c.as_slice.ensures c.reply_to.ensures.sent)
+    (subst (λ (given : List Answer). c.loop-me.out.room ≤ said.room + longest_text * length (replies_to a.me a.pending.now given)) c.as_slice.ensures c.reply_to.ensures.room)

@@ -2,7 +2,6 @@
 use Rattle.std.proofs.Common.{◌≡◌, ◌∙◌, ◌+◌, ◌-◌, ℕ, None, is_some, inl, inr, sym, ap, subst, lt-ltb, arith}
 use Rattle.std.specs.Prelude.{nat_eq, nat_le, nat_lt, filter}
 use Rattle.std.specs.List.{list_any}
-use Rattle.std.specs.Option.{option_map}
 use Rattle.std.proofs.lemmas.Bool.{cases_lt, or_left}
 use Rattle.rp_base.specs.declared.action.Action.{Action}
 use Rattle.rp_base.specs.Promises.{HeardVote}
@@ -17,7 +16,7 @@ returns c =
     let log = c.args.log.now in
     let after = c.advance.new.self in
     let first = c.next_unlearned-first.result in
-    let ready : ready_of log ≡ None = ap (option_map (λ (v : Action). (next_to_take log, v))) c.requires.none in
+    let ready : ready_of log ≡ None = c.requires.none in
     let next : first ≡ next_to_take log = c.next_unlearned-first.ensures.taken ready in
     let begins : after.first ≡ first = c.advance.ensures.begins in
     let settled : IsSettledAlike after log = λ j low within.

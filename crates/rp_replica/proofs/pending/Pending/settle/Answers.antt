@@ -1,4 +1,4 @@
-use Rattle.std.proofs.Common.{◌<◌, Bool, true, false, length, sym, ◌∙◌, arith}
+use Rattle.std.proofs.Common.{◌<◌, Bool, true, false, drop, length, sym, ◌∙◌, arith}
 use Rattle.rp_base.specs.declared.action.Action.{Action}
 use Rattle.rp_base.specs.declared.action.Action.TheVariants.{Noop}
 use Rattle.rp_machine.specs.Numbered.{outcome}
@@ -10,7 +10,7 @@ use Rattle.rp_replica.proofs.pending.Pending.settle.Goals as goal
 pub push-requires : goal.push-requires
 push-requires g c =
     let r = outcome g.M.Machine.next g.M.Machine.answers c.args.machine.now in
-    let test : Action → Bool = stays r.kept r.given c.args.applied.now in
+    let test : Action → Bool = stays r.kept r.given (drop c.args.before c.args.log.now.taken) in
     let below : c.loop.counter < length c.args.self.now = omega (arith, c.loop-test.true, c.loop.invariant.0) in
     let room = room_again test c.args.self.now c.loop.self c.pop.new.self c.loop.counter c.in-Some.item below c.loop.invariant.2 (sym c.pop.ensures.first ∙ c.in-Some.is) c.pop.ensures.rest in
     omega (arith, room, c.loop.invariant.0, c.loop.invariant.1)
@@ -18,7 +18,7 @@ push-requires g c =
 pub loop-preserved : goal.loop-preserved
 loop-preserved g c =
     let r = outcome g.M.Machine.next g.M.Machine.answers c.args.machine.now in
-    let test : Action → Bool = stays r.kept r.given c.args.applied.now in
+    let test : Action → Bool = stays r.kept r.given (drop c.args.before c.args.log.now.taken) in
     let p = c.loop.counter in
     let old = c.args.self.now in
     let below : p < length old = omega (arith, c.loop-test.true, c.loop.invariant.0) in

@@ -8,4 +8,4 @@ use Rattle.rp_replica.proofs.pending.Pending.settle.Given as goal
 abbrev pub invariant-loop : goal.invariant-loop
 invariant-loop g l =
     let r = outcome g.M.Machine.next g.M.Machine.answers l.machine in
-    (l.end ≡ length l.fn.self) × (l.end ≤ most_pending) × (l.self ≡ drop l.counter l.fn.self ++ filter (stays r.kept r.given l.applied) (take l.counter l.fn.self))
+    (l.end ≡ length l.fn.self) × (l.end ≤ most_pending) × (l.self ≡ drop l.counter l.fn.self ++ filter (stays r.kept r.given (drop l.before l.log.taken)) (take l.counter l.fn.self))

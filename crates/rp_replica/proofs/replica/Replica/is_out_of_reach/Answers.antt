@@ -1,6 +1,5 @@
 use Rattle.std.proofs.Common.{◌≡◌, ℕ, ◌+◌, ◌≤◌, None, subst, ap, ◌∙◌}
 use Rattle.std.specs.Prelude.{nat_le}
-use Rattle.std.specs.Option.{option_map}
 use Rattle.rp_base.specs.declared.action.Action.{Action}
 use Rattle.rp_base.specs.Records.{first_unlearned}
 use Rattle.rp_log.specs.Contents.{next_to_take, ready_of}
@@ -14,7 +13,7 @@ returns-else-self-get g c =
     let r = c.self.inside in
     let a = c.self.invariant.applies in
     let i = c.args.position in
-    let ready : ready_of r.log ≡ None = ap (option_map (λ (v : Action). (next_to_take r.log, v))) a.none in
+    let ready : ready_of r.log ≡ None = a.none in
     let next : c.next_unlearned.result ≡ first_unlearned r.acceptor.records = next_is r.acceptor.records r.log r.machine c.next_unlearned.result a (c.next_unlearned.ensures.taken ready) in
     let number : c.from-number.result ≡ i = c.from-number.ensures ∙ c.get.ensures.value in
     let within : i ≤ r.config.max_positions = subst (λ (n : ℕ). n ≤ r.config.max_positions) c.get-2.ensures.value c.if-self-get.false in

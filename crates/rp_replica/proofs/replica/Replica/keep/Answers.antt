@@ -1,6 +1,7 @@
 use Rattle.std.proofs.Common.{◌≡◌, true, Some, sym, subst}
 use Rattle.std.specs.Prelude.{IfErr}
 use Rattle.rp_base.specs.declared.config.Config.{Config}
+use Rattle.rp_base.specs.WriteFaults.{fault_of}
 use Rattle.rp_model.specs.Parts.{is_in_log}
 use Rattle.rp_model.specs.Parts.{Running}
 use Rattle.rp_replica.specs.Cutting.{MayWrite}
@@ -27,5 +28,5 @@ returns-clause-err g c =
     let same : r.config ≡ c.args.self.now.config = λ i. (c.self.view_is i).config in
     let may : MayWrite r.config.max_positions (Some c.args.rec.now) =
     (record { ranges = c.write.ensures.range; right = c.requires.right }, subst (λ (k : Config). is_in_log k.max_positions c.args.rec.now ≡ true) (sym same) c.requires.place) in
-    subst (λ (k : ReplicaState g.row.M.Denot). IfErr c.write.result (λ fault. Stops (Some c.args.rec.now) k (replica_with disk r.me r.config r.machine.begin known c.write.new.store c.write.new.acceptor.records) fault)) c.self.view_is
+    subst (λ (k : ReplicaState g.row.M.Denot). IfErr c.write.result (λ fault. Stops (Some c.args.rec.now) k (replica_with disk r.me r.config r.machine.begin known c.write.new.store c.write.new.acceptor.records) (fault_of fault))) c.self.view_is
     (write_stops disk r.me r.config r.machine.begin known c.write.result c.args.rec.now r.store c.write.new.store r.acceptor.records c.write.new.acceptor.records c.self.invariant.on_device may c.write.ensures.unchanged c.write.ensures.err)

@@ -1,6 +1,7 @@
-use Rattle.std.proofs.Common.{◌≡◌, ◌≤◌, Bool, Some, ap, subst, sym, ◌∙◌}
+use Rattle.std.proofs.Common.{◌≡◌, ◌≤◌, Bool, Some, ap, refl, subst, sym, ◌∙◌, drop, ◌++◌, ◌∷◌, [], append_assoc, append-nil, List}
 use Rattle.rp_base.specs.declared.record.Rec.TheVariants.{Learned}
 use Rattle.rp_base.specs.declared.record.Rec.{Rec}
+use Rattle.rp_base.specs.WriteFaults.{fault_of}
 use Rattle.rp_codec.specs.Record.{record_text}
 use Rattle.rp_model.specs.Parts.{Running}
 use Rattle.rp_replica.proofs.Cuts.{replica_with, stops_by, given_on}
@@ -11,18 +12,18 @@ use Rattle.rp_replica.specs.Cutting.{MayWrite}
 use Rattle.rp_replica.specs.Turning.{Stops}
 use Rattle.std.proofs.lemmas.Bool.{le-leb}
 use Rattle.rp_replica.specs.State.{ReplicaState, after_turn}
-use Rattle.rp_replica.specs.Packets.{Run, BufferState, with_packets}
-use Rattle.rp_replica.proofs.Queueing.{no_packet, packets_then}
+use Rattle.rp_outbox.specs.Packets.{Sending}
 use Rattle.rp_replica.proofs.Keeping.{replica_refused}
 use Rattle.rp_replica.proofs.Learned.{replica_room, log_learned, learned_is_right, follows_on, follows_alike, replica_learned, learned_taken, replies_learned}
 use Rattle.rp_replica.proofs.replica.Replica.learn.Goals.{then-announces, else-announces}
+use Rattle.rp_codec.specs.Message.{Message}
 use Rattle.rp_replica.proofs.replica.Replica.learn.Goals as goal
 
 pub invariant_of-self-in_err-write : goal.invariant_of-self-in_err-write
 invariant_of-self-in_err-write g c =
     let r = c.self.inside in
     let disk = g.D.Device.disk in
-    replica_refused disk r.me r.config r.proposer r.learner r.heard c.reserve.new.self r.machine (record_text (Learned c.args.position c.args.action.now)) r.store c.write.new.store r.acceptor.records c.write.new.acceptor.records c.in_err-write.field-0.0
+    replica_refused disk r.me r.config r.proposer r.learner r.heard c.reserve.new.self r.machine (record_text (Learned c.args.position c.args.action.now)) r.store c.write.new.store r.acceptor.records c.write.new.acceptor.records (fault_of c.in_err-write.field-0.0)
     (replica_room r.me r.config (disk r.store.device) r.store.failed r.acceptor.records r.proposer r.learner r.heard r.log c.reserve.new.self r.machine c.args.position c.in_ok-reserve.ensures.ok c.self.invariant)
     c.in_err-write.ensures.err c.in_err-write.ensures.unchanged
 
@@ -75,7 +76,7 @@ returns-clause-learned g c =
     r.learner c.settled-2.new.self r.heard c.settle.new.self r.log c.reserve.new.self c.learn.new.self c.apply_and_reply.new.log r.machine c.apply_and_reply.new.machine r.pending c.if-announces.out c.apply_and_reply.new.out i v
     c.self.invariant c.in_ok-write.ensures.put c.in_ok-write.ensures.noted c.settled.ensures c.settled-2.ensures.settled c.settle.ensures
     c.in_ok-reserve.ensures.ok c.learn.ensures c.apply_and_reply.ensures.replied c.apply_and_reply.ensures.ordered c.apply_and_reply.ensures.none
-    c.settle-2.new.self c.taken_since.result.now c.applied-before.result c.applied-before.ensures.count c.taken_since.ensures c.settle-2.ensures
+    c.settle-2.new.self (drop c.applied-before.result c.apply_and_reply.new.log.taken) c.applied-before.result c.applied-before.ensures.count refl c.settle-2.ensures
     ∙ ap (λ (h : ReplicaState g.row.M.Denot). after_turn h (learns_alone m.next m.answers h i v)) c.self.view_is
 
 pub returns-clause-replied : goal.returns-clause-replied
@@ -84,26 +85,26 @@ returns-clause-replied g c =
     let r = c.self.inside in
     let i = c.args.position in
     let v = c.args.action.now in
-    let start = c.args.out.now.run in
-    let stated : c.if-announces.out.run ≡ with_packets start (decided_packets c.args.self.now.config.nodes c.args.self.now.me i v c.args.announces) =
+    let start = c.args.out.now.sent in
+    let stated : c.if-announces.out.sent ≡ start ++ (decided_packets c.args.self.now.config.nodes c.args.self.now.me i v c.args.announces) =
     elim c.if-announces.branch [
       | then-announces w ↦
-          ap (λ (out : BufferState). out.run) w.out-is
-          ∙ w.say_to_others.ensures.run
-          ∙ ap (λ (h : ReplicaState g.row.M.Denot). with_packets start (says_to_others h.config.nodes h.me (Decided i v))) c.self.view_is
-          ∙ ap (λ (b : Bool). with_packets start (decided_packets c.args.self.now.config.nodes c.args.self.now.me i v b)) (sym w.if-announces.true)
+          ap (λ (out : Sending). out.sent) w.out-is
+          ∙ w.inform_others.ensures.sent
+          ∙ ap (λ (h : ReplicaState g.row.M.Denot). start ++ (says_to_others h.config.nodes h.me (Decided i v))) c.self.view_is
+          ∙ ap (λ (b : Bool). start ++ (decided_packets c.args.self.now.config.nodes c.args.self.now.me i v b)) (sym w.if-announces.true)
       | else-announces w ↦
-          ap (λ (out : BufferState). out.run) w.out-is
-          ∙ no_packet start
-          ∙ ap (λ (b : Bool). with_packets start (decided_packets c.args.self.now.config.nodes c.args.self.now.me i v b)) (sym w.if-announces.false)
+          ap (λ (out : Sending). out.sent) w.out-is
+          ∙ sym (append-nil start)
+          ∙ ap (λ (b : Bool). start ++ (decided_packets c.args.self.now.config.nodes c.args.self.now.me i v b)) (sym w.if-announces.false)
     ] in
     replies_learned m.next m.answers g.D.Device.disk r.me r.config r.store c.write.new.store r.acceptor.records c.write.new.acceptor.records r.proposer c.settled.new.self
     r.learner c.settled-2.new.self r.heard c.settle.new.self r.log c.reserve.new.self c.learn.new.self c.apply_and_reply.new.log r.machine c.apply_and_reply.new.machine r.pending c.if-announces.out c.apply_and_reply.new.out i v
     c.self.invariant c.in_ok-write.ensures.put c.in_ok-write.ensures.noted c.settled.ensures c.settled-2.ensures.settled c.settle.ensures
     c.in_ok-reserve.ensures.ok c.learn.ensures c.apply_and_reply.ensures.replied c.apply_and_reply.ensures.ordered c.apply_and_reply.ensures.none
-    ∙ ap (λ (h : ReplicaState g.row.M.Denot). with_packets c.if-announces.out.run (learns_alone m.next m.answers h i v).sent) c.self.view_is
-    ∙ ap (λ (r : Run). with_packets r (learns_alone m.next m.answers c.args.self.now i v).sent) stated
-    ∙ packets_then c.args.out.now.run (decided_packets c.args.self.now.config.nodes c.args.self.now.me i v c.args.announces) (learns_alone m.next m.answers c.args.self.now i v).sent
+    ∙ ap (λ (h : ReplicaState g.row.M.Denot). c.if-announces.out.sent ++ (learns_alone m.next m.answers h i v).sent) c.self.view_is
+    ∙ ap (λ (r : List Message). r ++ (learns_alone m.next m.answers c.args.self.now i v).sent) stated
+    ∙ append_assoc c.args.out.now.sent (decided_packets c.args.self.now.config.nodes c.args.self.now.me i v c.args.announces) (learns_alone m.next m.answers c.args.self.now i v).sent
 
 pub returns-in_err-write-clause-err : goal.returns-in_err-write-clause-err
 returns-in_err-write-clause-err g c =
@@ -117,5 +118,5 @@ returns-in_err-write-clause-err g c =
     let within : i ≤ r.config.max_positions = subst (λ (h : ReplicaState g.row.M.Denot). i ≤ h.config.max_positions) (sym c.self.view_is) c.requires.place in
     let may : MayWrite r.config.max_positions (Some rec) = (record { ranges = c.in_err-write.ensures.range; right = c.requires.right }, le-leb i r.config.max_positions within) in
     given_on c.from_residual-in_err-write.result fault (Some rec) c.args.self.now after c.from_residual-in_err-write.ensures.1
-    (subst (λ (k : ReplicaState g.row.M.Denot). Stops (Some rec) k after fault) c.self.view_is
-    (stops_by disk r.me r.config r.machine.begin known fault rec r.store c.write.new.store r.acceptor.records c.write.new.acceptor.records c.self.invariant.on_device may c.in_err-write.ensures.unchanged c.in_err-write.ensures.err))
+    (subst (λ (k : ReplicaState g.row.M.Denot). Stops (Some rec) k after (fault_of fault)) c.self.view_is
+    (stops_by disk r.me r.config r.machine.begin known (fault_of fault) rec r.store c.write.new.store r.acceptor.records c.write.new.acceptor.records c.self.invariant.on_device may c.in_err-write.ensures.unchanged c.in_err-write.ensures.err))

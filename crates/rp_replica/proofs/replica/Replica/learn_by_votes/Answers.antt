@@ -1,9 +1,9 @@
-use Rattle.std.proofs.Common.{[], ◌++◌, ap, sym, ◌∙◌, append-nil}
+use Rattle.std.proofs.Common.{[], ◌++◌, ap, sym, ◌∙◌, append-nil, ◌∷◌, append_assoc, List}
 use Rattle.rp_codec.specs.declared.packet.Body.TheVariants as bodies
 use Rattle.rp_model.specs.Says.{says_to_others}
 use Rattle.rp_replica.specs.Applying.{learns_alone}
-use Rattle.rp_replica.specs.Packets.{Run, with_packets}
 use Rattle.rp_replica.proofs.Accepted.{learned_commits}
+use Rattle.rp_codec.specs.Message.{Message}
 use Rattle.rp_replica.proofs.replica.Replica.learn_by_votes.Goals as goal
 
 pub returns-clause-ok : goal.returns-clause-ok
@@ -14,6 +14,6 @@ returns-clause-ok g c =
     let v = c.args.action.now in
     let stated = says_to_others h.config.nodes h.me (bodies.Decided i v) in
     let said = stated ++ (learns_alone m.next m.answers h i v).sent in
-    learned_commits m.next m.answers h c.learn.new.self i v stated [] c.args.out.now.run c.learn.new.out.run
+    learned_commits m.next m.answers h c.learn.new.self i v stated [] c.args.out.now.sent c.learn.new.out.sent
     c.in_ok-learn.ensures.learned
-    (c.in_ok-learn.ensures.replied ∙ ap (λ (r : Run). with_packets r said) c.reserve_replies.ensures.run ∙ ap (with_packets c.args.out.now.run) (sym (append-nil said)))
+    (c.in_ok-learn.ensures.replied ∙ ap (λ (r : List Message). r ++ said) c.reserve_replies.ensures.sent ∙ ap (λ (l : List Message). c.args.out.now.sent ++ l) (sym (append-nil said)))

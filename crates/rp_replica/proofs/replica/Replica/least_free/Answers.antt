@@ -1,6 +1,5 @@
 use Rattle.std.proofs.Common.{◌≡◌, ◌+◌, ◌≤◌, ℕ, true, false, None, sym, subst, ap, ◌∙◌, arith}
 use Rattle.std.specs.Prelude.{min}
-use Rattle.std.specs.Option.{option_map}
 use Rattle.rp_base.specs.declared.action.Action.{Action}
 use Rattle.rp_base.specs.Records.{first_unlearned}
 use Rattle.rp_log.specs.Contents.{next_to_take, ready_of}
@@ -42,7 +41,7 @@ returns-clause-none g c =
     let a = c.self.invariant.applies in
     let first = c.next_unlearned-first.result in
     let end = c.min-end.result in
-    let ready : ready_of r.log ≡ None = ap (option_map (λ (v : Action). (next_to_take r.log, v))) a.none in
+    let ready : ready_of r.log ≡ None = a.none in
     let at : first ≡ first_unlearned r.acceptor.records = next_is r.acceptor.records r.log r.machine first a (c.next_unlearned-first.ensures.taken ready) in
     let is : end ≡ min (first + 64) (r.config.max_positions + 1) = c.min-end.ensures ∙ ap (λ (n : ℕ). min (first + 64) (n + 1)) c.from.ensures in
     let here : NoneFree r.config.nodes r.acceptor.records r.proposer.proposals first end =

@@ -2,6 +2,7 @@ use Rattle.std.proofs.Common.{◌≡◌, [], ◌∷◌, sym, ap, ◌∙◌}
 use Rattle.rp_base.specs.declared.record.Rec.{Rec}
 use Rattle.rp_base.specs.declared.record.Rec.TheVariants.{Voted}
 use Rattle.rp_codec.specs.declared.packet.Body.TheVariants as bodies
+use Rattle.rp_codec.specs.declared.usual_texts.Place.{Place}
 use Rattle.rp_model.specs.Acceptor.{answers_accept}
 use Rattle.rp_model.specs.Says.{says, writes}
 use Rattle.rp_base.specs.Voting.{accept_answer}
@@ -16,6 +17,7 @@ returns-in-Vote-clause-turn g c =
     let b = c.args.ballot in
     let v = c.args.action.now in
     let is : c.in-Vote._vote ≡ Voted i b v = voted c.self.inside.acceptor.records i b v c.in-Vote._vote c.in-Vote.ensures.answer in
-    ap (λ (rec : Rec). writes rec h.running (says h.me (bodies.Accepted i b v) c.args.from ∷ [])) (sym is)
+    ap (λ (p : Place). writes (Voted p.position p.ballot v) h.running (says h.me (bodies.Accepted p.position p.ballot v) p.to ∷ [])) c.place_to.ensures
+    ∙ ap (λ (rec : Rec). writes rec h.running (says h.me (bodies.Accepted i b v) c.args.from ∷ [])) (sym is)
     ∙ ap (answers_accept h.me h.running c.args.from i b v) c.in-Vote.ensures.answer
     ∙ ap (λ (k : ReplicaState g.row.M.Denot). answers_accept h.me h.running c.args.from i b v (accept_answer k.records i b v)) c.self.view_is

@@ -3,6 +3,7 @@ use Rattle.rp_base.specs.Records.{learned_at, first_unlearned}
 use Rattle.rp_proposer.proofs.Windows.{window_has_room}
 use Rattle.rp_proposer.specs.Proposing.{begins}
 use Rattle.rp_base.specs.declared.record.Rec.{Rec}
+use Rattle.rp_base.specs.WriteFaults.{fault_of}
 use Rattle.rp_base.specs.declared.record.Rec.TheVariants.{Started}
 use Rattle.rp_model.specs.Parts.{Running}
 use Rattle.rp_replica.specs.Cutting.{MayWrite}
@@ -46,5 +47,5 @@ returns-in_err-write-clause-err g c =
     let after : ReplicaState g.row.M.Denot = replica_with disk r.me r.config r.machine.begin known c.write.new.store c.write.new.acceptor.records in
     let may : MayWrite r.config.max_positions (Some rec) = (record { ranges = c.requires.may.ballot.ballot; right = tt }, refl) in
     given_on c.from_residual.result fault (Some rec) c.args.self.now after c.from_residual.ensures.1
-    (subst (λ (k : ReplicaState g.row.M.Denot). Stops (Some rec) k after fault) c.self.view_is
-    (stops_by disk r.me r.config r.machine.begin known fault rec r.store c.write.new.store r.acceptor.records c.write.new.acceptor.records c.self.invariant.on_device may c.in_err-write.ensures.unchanged c.in_err-write.ensures.err))
+    (subst (λ (k : ReplicaState g.row.M.Denot). Stops (Some rec) k after (fault_of fault)) c.self.view_is
+    (stops_by disk r.me r.config r.machine.begin known (fault_of fault) rec r.store c.write.new.store r.acceptor.records c.write.new.acceptor.records c.self.invariant.on_device may c.in_err-write.ensures.unchanged c.in_err-write.ensures.err))

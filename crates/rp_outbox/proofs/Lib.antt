@@ -1,0 +1,3 @@
+pub mod Joined
+pub mod Queueing
+pub mod Placed

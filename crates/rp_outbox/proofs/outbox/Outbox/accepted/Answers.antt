@@ -1,0 +1,7 @@
+use Rattle.rp_codec.specs.Usual.{accepted_at}
+use Rattle.rp_outbox.proofs.Placed.{accepted_is_packet}
+use Rattle.rp_outbox.proofs.outbox.Outbox.accepted.Goals as goal
+
+pub put_short-requires-clause-packet : goal.put_short-requires-clause-packet
+put_short-requires-clause-packet c =
+    (accepted_at c.args.place c.args.action.now, (accepted_is_packet c.args.place c.place_in_range.ensures c.args.action.now c.requires.right, c.accepted_text.ensures))

@@ -1,0 +1,19 @@
+use Rattle.std.proofs.Common.{◌≡◌, ℕ, subst, ap, ◌∙◌}
+use Rattle.rp_codec.specs.Text.{text_of}
+use Rattle.rp_codec.specs.declared.packet.Body.TheVariants.{Prepare}
+use Rattle.rp_model.specs.Says.{says}
+use Rattle.rp_outbox.specs.Packets.{IsTextOf}
+use Rattle.rp_outbox.proofs.Placed.{prepare_is_packet}
+use Rattle.rp_outbox.proofs.outbox.Outbox.prepare_all.Goals as goal
+
+pub put_to_all-requires-clause-packet : goal.put_to_all-requires-clause-packet
+put_to_all-requires-clause-packet c =
+    let place = c.args.place in
+    let body = Prepare place.position place.ballot in
+    (place.from, (body, subst (λ (to : ℕ). IsTextOf c.prepare_text.result (says place.from body to)) c.requires.itself (prepare_is_packet place c.place_in_range.ensures, c.prepare_text.ensures)))
+
+pub returns-clause-sent : goal.returns-clause-sent
+returns-clause-sent c =
+    let place = c.args.place in
+    let body = Prepare place.position place.ballot in
+    c.put_to_all.ensures.sent place.from body (subst (λ (to : ℕ). IsTextOf c.prepare_text.result (says place.from body to)) c.requires.itself (prepare_is_packet place c.place_in_range.ensures, c.prepare_text.ensures))

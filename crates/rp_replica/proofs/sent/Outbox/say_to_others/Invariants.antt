@@ -1,8 +1,0 @@
-use Rattle.std.proofs.Common.{◌≡◌, ◌+◌, ◌*◌, ◌≤◌}
-use Rattle.rp_model.specs.Says.{says_to_others}
-use Rattle.rp_replica.specs.Packets.{with_packets, longest_text}
-use Rattle.rp_replica.proofs.sent.Outbox.say_to_others.Given as goal
-
-abbrev pub invariant-loop-place : goal.invariant-loop-place
-invariant-loop-place l =
-    (l.self.run ≡ with_packets l.fn.self.run (says_to_others l.place l.fn.me l.fn.body)) × (l.fn.self.room ≤ l.self.room + longest_text * l.place)

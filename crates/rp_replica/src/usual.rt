@@ -1,0 +1,177 @@
+//! What a replica decides that is given a packet of a usual kind: its text is read into fields, and the
+//! rule for it is called with these. Each function says whether the bytes are such a packet's text; where
+//! they are not, it leaves the plan as it is.
+
+ghost use Rattle.std.specs.Prelude.{◌≡◌, ◌&&◌, not, nat_lt};
+ghost use Rattle.rp_codec.specs.declared.packet.Body.TheVariants.{Prepare};
+ghost use Rattle.rp_codec.specs.declared.packet.Party.TheVariants.{Node};
+ghost use Rattle.rp_model.specs.Receiving.{is_for_node, is_node, is_no_node_above};
+ghost use Rattle.rp_model.specs.Says.{says};
+ghost use Rattle.rp_replica.specs.Plans.{Decides};
+
+use crate::plan::{CountedPromise, Plan};
+use crate::replica::Replica;
+use rp_base::{Ballot, NodeId, Position};
+use rp_codec::{
+    Place, SentCall, SentDecision, usual_accept, usual_accepted, usual_call, usual_decided,
+    usual_prepare, usual_promise,
+};
+use rp_machine::Machine;
+use rp_model::Dropped;
+use rp_store::Device;
+
+impl<M: Machine, D: Device> Replica<M, D> {
+    /// Whether a packet between these nodes, for a position, is for this node and keeps to the
+    /// configuration.
+    #[inline(always)]
+    fn takes(&self, from: NodeId, to: NodeId, position: Position) -> bool
+        ensures { result ≡ (is_node self.now.me (Node to)
+            && is_no_node_above self.now.config.nodes (Node from)
+            && not (nat_lt self.now.config.max_positions position)) }
+    {
+        to == self.me
+            && from.get() <= self.config.nodes
+            && position.get() <= self.config.max_positions
+    }
+
+    /// The same, for a packet in a ballot that its sender must own.
+    #[inline(always)]
+    fn takes_from_owner(&self, from: NodeId, to: NodeId, position: Position, ballot: Ballot) -> bool
+        ensures { result ≡ is_for_node self.now.config self.now.me
+            (says from (Prepare position ballot) to) }
+    {
+        self.takes(from, to, position) && ballot.owner() == from
+    }
+
+    /// A task's call comes.
+    #[inline(never)]
+    pub(crate) fn on_call_text(&self, bytes: &[u8], plan: &mut Plan) -> bool
+        ensures { Decides M.next M.answers self.now bytes.now plan.old plan.new result }
+    {
+        let Some(call) = usual_call(bytes) else {
+            return false;
+        };
+        let SentCall { to, action, .. } = call;
+        if to == self.me {
+            self.on_call(action, plan);
+            return true;
+        }
+        *plan = Plan::Pass(Dropped::Foreign);
+        true
+    }
+
+    /// A prepare comes.
+    #[inline(never)]
+    pub(crate) fn on_prepare_text(&self, bytes: &[u8], plan: &mut Plan) -> bool
+        ensures { Decides M.next M.answers self.now bytes.now plan.old plan.new result }
+    {
+        let Some(place) = usual_prepare(bytes) else {
+            return false;
+        };
+        let Place {
+            from,
+            to,
+            position,
+            ballot,
+        } = place;
+        if self.takes_from_owner(from, to, position, ballot) {
+            *plan = self.on_prepare(from, position, ballot);
+            return true;
+        }
+        *plan = Plan::Pass(Dropped::Foreign);
+        true
+    }
+
+    /// A promise comes that reports no vote.
+    #[inline(never)]
+    pub(crate) fn on_promise_text(&self, bytes: &[u8], plan: &mut Plan) -> bool
+        ensures { Decides M.next M.answers self.now bytes.now plan.old plan.new result }
+    {
+        let Some(place) = usual_promise(bytes) else {
+            return false;
+        };
+        let Place {
+            from,
+            to,
+            position,
+            ballot,
+        } = place;
+        if self.takes(from, to, position) {
+            *plan = self.on_promise(CountedPromise {
+                from,
+                position,
+                ballot,
+                last: None,
+            });
+            return true;
+        }
+        *plan = Plan::Pass(Dropped::Foreign);
+        true
+    }
+
+    /// An accept comes, whose action is a call.
+    #[inline(never)]
+    pub(crate) fn on_accept_text(&self, bytes: &[u8], plan: &mut Plan) -> bool
+        ensures { Decides M.next M.answers self.now bytes.now plan.old plan.new result }
+    {
+        let Some((place, action)) = usual_accept(bytes) else {
+            return false;
+        };
+        let Place {
+            from,
+            to,
+            position,
+            ballot,
+        } = place;
+        if self.takes_from_owner(from, to, position, ballot) {
+            *plan = self.on_accept(from, position, ballot, &action);
+            return true;
+        }
+        *plan = Plan::Pass(Dropped::Foreign);
+        true
+    }
+
+    /// A vote for a call comes.
+    #[inline(never)]
+    pub(crate) fn on_accepted_text(&self, bytes: &[u8], plan: &mut Plan) -> bool
+        ensures { Decides M.next M.answers self.now bytes.now plan.old plan.new result }
+    {
+        let Some((place, action)) = usual_accepted(bytes) else {
+            return false;
+        };
+        let Place {
+            from,
+            to,
+            position,
+            ballot,
+        } = place;
+        if self.takes(from, to, position) {
+            *plan = self.on_accepted(from, position, ballot, &action);
+            return true;
+        }
+        *plan = Plan::Pass(Dropped::Foreign);
+        true
+    }
+
+    /// A decided call comes.
+    #[inline(never)]
+    pub(crate) fn on_decided_text(&self, bytes: &[u8], plan: &mut Plan) -> bool
+        ensures { Decides M.next M.answers self.now bytes.now plan.old plan.new result }
+    {
+        let Some(decision) = usual_decided(bytes) else {
+            return false;
+        };
+        let SentDecision {
+            from,
+            to,
+            position,
+            action,
+        } = decision;
+        if self.takes(from, to, position) {
+            *plan = self.on_decided(from, position, &action);
+            return true;
+        }
+        *plan = Plan::Pass(Dropped::Foreign);
+        true
+    }
+}

@@ -11,7 +11,7 @@ use Rattle.rp_model.specs.Parts.{NodePart, Running as Known}
 use Rattle.rp_model.specs.World.{part_at}
 use Rattle.rp_replica.specs.State.{ReplicaState}
 use Rattle.rp_world.specs.Callers.{Caller}
-use Rattle.rp_world.specs.Messages.{Sending}
+use Rattle.rp_outbox.specs.Packets.{Sending}
 use Rattle.rp_world.specs.Nodes.{Member, member_of, RunsAs, Represents, stored_length}
 use Rattle.rp_world.specs.Shape.{part_by, world_of, IsWorld}
 use Rattle.rp_world.specs.Steps.{IsQueryAnswer, IsRunningQueryAnswer, Runs, IsReplicaOf, IsStored}

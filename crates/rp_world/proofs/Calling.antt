@@ -1,6 +1,6 @@
 -- The results of a task's calls in the world.
-use Rattle.std.proofs.Common.{◌≡◌, ℕ, suc, ◌+◌, ◌-◌, ◌^◌, ◌<◌, ◌≤◌, Bool, true, false, if◌then◌else◌, Option, Some, None, Result, Ok, Err, List, [], ◌∷◌, ◌++◌, length, slice_get, slice_set, inl, inr, refl, sym, ap, subst, ◌∙◌, arith}
-use Rattle.std.specs.Prelude.{ℤ, nat_le, nat_lt, not, ◌||◌, FitsSigned, IsErrAnd, min}
+use Rattle.std.proofs.Common.{◌≡◌, ℕ, suc, ◌+◌, ◌-◌, ◌^◌, ◌<◌, ◌≤◌, Bool, true, false, if◌then◌else◌, Option, Some, None, Result, Ok, Err, List, [], ◌∷◌, ◌++◌, length, slice_set, inl, inr, refl, sym, ap, subst, ◌∙◌, arith}
+use Rattle.std.specs.Prelude.{ℤ, nat_le, nat_lt, not, ◌||◌, ◌&&◌, FitsSigned, IsErrAnd, min}
 use Rattle.std.specs.Int.{w64}
 use Rattle.std.proofs.lemmas.Bool.{and_parts, leb-true, leb-false, both_ways, lt-ltb, le-ltb}
 use Rattle.std.proofs.lemmas.List.{append-nil}
@@ -23,34 +23,31 @@ use Rattle.rp_model.specs.declared.effect.Dropped.TheVariants.{No}
 use Rattle.rp_model.specs.declared.effect.Effect.{Effect}
 use Rattle.rp_world.specs.Callers.{Caller}
 use Rattle.rp_world.specs.Going.{Goes, Answers, no_cut}
-use Rattle.rp_world.specs.Messages.{Sending}
-use Rattle.rp_world.specs.Shape.{world_of}
+use Rattle.rp_outbox.specs.Packets.{Sending}
+use Rattle.rp_world.specs.Shape.{world_of, IsWorld}
 use Rattle.rp_world.specs.declared.node.Node.{Node}
-use Rattle.rp_world.proofs.Moving.{part_same, task_here, tasks_moved}
+use Rattle.rp_world.proofs.Moving.{part_same, task_here, number_here, tasks_moved}
+use Rattle.rp_world.proofs.Placing.{Found}
 
 -- ---- what a task may call
 
--- the test for an operation decides which are right
+-- the tests for a number, an operation and a call decide which are right
+range : (low high n : ℕ) → (nat_le low n && nat_le n high) ≡ true → (low ≤ n) × (n ≤ high)
+range low high n e = let both = and_parts _ _ e in (leb-true low n both.0, leb-true n high both.1)
+
 operation_right : (operation : Operation) → is_right_operation operation ≡ true → IsRightOperation operation
-operation_right (Function index) e = let both = and_parts _ _ e in (leb-true 1 index both.0, leb-true index 8 both.1)
-operation_right (Procedure index) e = let both = and_parts _ _ e in (leb-true 1 index both.0, leb-true index 8 both.1)
-operation_right (Entry index) e = let both = and_parts _ _ e in (leb-true 1 index both.0, leb-true index 4 both.1)
-operation_right (SetTimer index) e = let both = and_parts _ _ e in (leb-true 1 index both.0, leb-true index 8 both.1)
-operation_right (CancelTimer index) e = let both = and_parts _ _ e in (leb-true 1 index both.0, leb-true index 8 both.1)
+operation_right (Function index) e = range 1 8 index e
+operation_right (Procedure index) e = range 1 8 index e
+operation_right (Entry index) e = range 1 4 index e
+operation_right (SetTimer index) e = range 1 8 index e
+operation_right (CancelTimer index) e = range 1 8 index e
 
 call_right : (task number object : ℕ) (operation : Operation) (arg : ℤ) → number < 2 ^ 32 → FitsSigned w64 arg → is_right (Call task number object operation arg) ≡ true → IsRight (Call task number object operation arg)
 call_right task number object operation arg small fits e =
     let last = and_parts _ _ e in
     let third = and_parts _ _ last.0 in
     let second = and_parts _ _ third.0 in
-    let of_task = and_parts _ _ second.0 in
-    let of_object = and_parts _ _ third.1 in (
-      (leb-true 1 task of_task.0, leb-true task 8 of_task.1),
-      (leb-true 1 number second.1, small),
-      (leb-true 1 object of_object.0, leb-true object 8 of_object.1),
-      operation_right operation last.1,
-      fits,
-    )
+    (range 1 8 task second.0, (leb-true 1 number second.1, small), range 1 8 object third.1, operation_right operation last.1, fits)
 
 -- what may be called is this call, and it is right
 abbrev IsMadeIf : Action → Result Action Fault → Type 0
@@ -95,7 +92,7 @@ above config w me node (Some part) over =
     ap (λ (b : Bool). let r : Result (Done TaskPart) Fault = if b then Err BadConfig else Ok (asks_again me node part part.outstanding) in task_done_if w me r) (lt-ltb config.nodes node over)
 
 module _ {S D P : Type 0} (disk : D → Disk) (config : Config) (begin : S) (nodes : List (Node S D P)) (tasks : List Caller) (messages : Sending)
-    (i me : ℕ) (placed : suc i ≡ me) (t : Caller) (here : slice_get tasks i ≡ Some t) where
+    {i me : ℕ} {t : Caller} (found : Found tasks i me t) where
   abbrev most : ℕ
   most = config.max_positions
 
@@ -106,7 +103,7 @@ module _ {S D P : Type 0} (disk : D → Disk) (config : Config) (begin : S) (nod
   whole input = task_takes config w me input (part_at w.tasks me)
 
   whole_is : (input : TaskInput) (result : Result (Done TaskPart) Fault) → task_effect config me t.part input ≡ result → whole input ≡ task_done_if w me result
-  whole_is input result is = ap (task_takes config w me input) (task_here disk config begin nodes tasks i me placed t here) ∙ ap (task_done_if w me) is
+  whole_is input result is = ap (task_takes config w me input) (task_here disk config begin nodes tasks i me found.placed t found.here) ∙ ap (task_done_if w me) is
 
   stays : (later : Sending) → later.sent ≡ messages.sent → world_of disk most nodes tasks later ≡ w
   stays later sent = ap (λ (ms : List Message). let x : World = record { nodes = w.nodes; tasks = w.tasks; sent = ms } in x) sent
@@ -128,7 +125,7 @@ module _ {S D P : Type 0} (disk : D → Disk) (config : Config) (begin : S) (nod
     transition = task_done w me done;
     resulted = whole_is input (Ok done) resulted;
     world = ap (λ (ps : List TaskPart). let x : World = record { nodes = w.nodes; tasks = ps; sent = later.sent } in x)
-        (tasks_moved disk config begin nodes tasks i me placed t here new ∙ ap (with_part w.tasks me) part)
+        (tasks_moved disk config begin nodes tasks i me found.placed t found.here new ∙ ap (with_part w.tasks me) part)
         ∙ ap (λ (ms : List Message). let x : World = record { nodes = w.nodes; tasks = with_part w.tasks me done.part; sent = ms } in x) sent;
     describes = describes;
   }
@@ -146,32 +143,39 @@ module _ {S D P : Type 0} (disk : D → Disk) (config : Config) (begin : S) (nod
 
   -- the task is at its place
   to_same : (Q : List Caller → Type 0) → Q tasks → Q (slice_set tasks i t)
-  to_same Q q = subst Q (sym (part_same tasks i t here)) q
+  to_same Q q = subst Q (sym (part_same tasks i t found.here)) q
 
   from_same : (Q : List Caller → Type 0) → Q (slice_set tasks i t) → Q tasks
-  from_same Q q = subst Q (part_same tasks i t here) q
+  from_same Q q = subst Q (part_same tasks i t found.here) q
 
   -- ---- a call
 
-  module _ (number : t.task ≡ me) (node object : ℕ) (operation : Operation) (arg : ℤ) where
+  module _ (is : IsWorld disk config begin nodes tasks) (node object : ℕ) (operation : Operation) (arg : ℤ) (fits : FitsSigned w64 arg) {z : ℤ} (arg_is : z ≡ arg)
+      {answer : Result Action Fault} (answered : answer ≡ may_call config node t.part (next_call t.task t.part object operation z) t.part.outstanding) where
+    number : t.task ≡ me
+    number = number_here disk config begin nodes tasks i me found.placed t found.here is
+
     abbrev next : Action
     next = next_call t.task t.part object operation arg
 
     abbrev may : Result Action Fault
     may = may_call config node t.part next t.part.outstanding
 
+    may_is : (r : Result Action Fault) → answer ≡ r → may ≡ r
+    may_is r is_so = ap (λ (x : ℤ). may_call config node t.part (next_call t.task t.part object operation x) t.part.outstanding) (sym arg_is) ∙ sym answered ∙ is_so
+
     abbrev input : TaskInput
     input = Submit node object operation arg
 
-    effect_is : (r : Result Action Fault) → may ≡ r → task_effect config me t.part input ≡ calls_if me node t.part r
-    effect_is r is = ap (calls_if me node t.part) (subst (λ (k : ℕ). may_call config node t.part (next_call k t.part object operation arg) t.part.outstanding ≡ r) number is)
+    effect_is : (r : Result Action Fault) → answer ≡ r → task_effect config me t.part input ≡ calls_if me node t.part r
+    effect_is r is_so = ap (calls_if me node t.part) (subst (λ (k : ℕ). may_call config node t.part (next_call k t.part object operation arg) t.part.outstanding ≡ r) number (may_is r is_so))
 
-    pub may_not : (fault : Fault) (r : Result Effect Fault) → may ≡ Err fault → IsErrAnd r (λ e. e ≡ fault) → Answers w (whole input) no_cut (world_of disk most nodes (slice_set tasks i t) messages) r
-    may_not fault r is at = to_same (λ ts. Answers w (whole input) no_cut (world_of disk most nodes ts messages) r) (refused input fault r (effect_is (Err fault) is) at)
+    pub may_not : (fault : Fault) (r : Result Effect Fault) → answer ≡ Err fault → IsErrAnd r (λ e. e ≡ fault) → Answers w (whole input) no_cut (world_of disk most nodes (slice_set tasks i t) messages) r
+    may_not fault r is_so at = to_same (λ ts. Answers w (whole input) no_cut (world_of disk most nodes ts messages) r) (refused input fault r (effect_is (Err fault) is_so) at)
 
-    module _ (fits : FitsSigned w64 arg) (call : Action) (is : may ≡ Ok call) where
+    module _ (call : Action) (is_so : answer ≡ Ok call) where
       made_so : (call ≡ next) × IsRight next
-      made_so = subst (IsMadeIf next) is (made config t.task node t.part object operation arg t.part.outstanding fits)
+      made_so = subst (IsMadeIf next) (may_is (Ok call) is_so) (made config t.task node t.part object operation arg t.part.outstanding fits)
 
       pub call_own : IsCallBy me call
       call_own = subst (IsCallBy me) (sym made_so.0) number
@@ -184,12 +188,13 @@ module _ {S D P : Type 0} (disk : D → Disk) (config : Config) (begin : S) (nod
 
       pub call_runs_out : (later : Sending) (r : Result Effect Fault) → later.sent ≡ messages.sent → IsErrAnd r (λ e. e ≡ OutOfMemory)
           → Answers w (whole input) no_cut (world_of disk most nodes (slice_set tasks i t) later) r
-      call_runs_out later r sent at = to_same (λ ts. Answers w (whole input) no_cut (world_of disk most nodes ts later) r) (runs_out input done later r (effect_is (Ok call) is) sent at)
+      call_runs_out later r sent at = to_same (λ ts. Answers w (whole input) no_cut (world_of disk most nodes ts later) r) (runs_out input done later r (effect_is (Ok call) is_so) sent at)
 
-      pub called : (new : Caller) (later : Sending) (stated : Effect) → new.part ≡ record t.part { outstanding = Some next } → later.sent ≡ messages.sent ++ asks me node call ∷ [] → stated ≡ stated_of (length w.sent + 1) 1
-          → Goes w (whole input) (world_of disk most nodes (slice_set tasks i new) later) stated
+      pub called : (new : Caller) (later : Sending) (stated : Effect) → new.part ≡ record t.part { outstanding = Some (next_call t.task t.part object operation z) }
+          → later.sent ≡ messages.sent ++ asks me node call ∷ [] → stated ≡ stated_of (length w.sent + 1) 1 → Goes w (whole input) (world_of disk most nodes (slice_set tasks i new) later) stated
       called new later stated part sent is_stated =
-          goes input done new later stated (effect_is (Ok call) is) (part ∙ ap (λ (c : Action). let p : TaskPart = record t.part { outstanding = Some c } in p) (sym made_so.0)) sent
+          let calls : next_call t.task t.part object operation z ≡ call = ap (next_call t.task t.part object operation) arg_is ∙ sym made_so.0 in
+          goes input done new later stated (effect_is (Ok call) is_so) (part ∙ ap (λ (c : Action). let p : TaskPart = record t.part { outstanding = Some c } in p) calls) sent
           (describes done stated 1 is_stated refl refl refl refl)
 
   -- ---- a call asked for again

@@ -24,7 +24,7 @@ use Rattle.rp_replica.specs.declared.input.Input.TheVariants as inputs
 use Rattle.rp_store.specs.Disk.{Disk}
 use Rattle.rp_world.specs.Choosing.{AreNodesOf, IsOf, IsOfNone, IsRefused}
 use Rattle.rp_world.specs.Callers.{Caller}
-use Rattle.rp_world.specs.Messages.{Sending}
+use Rattle.rp_outbox.specs.Packets.{Sending}
 use Rattle.rp_world.specs.Nodes.{Represents, member_of}
 use Rattle.rp_world.specs.Shape.{IsWorld, part_by, world_of}
 use Rattle.rp_world.specs.declared.node.Node.{Node as OneNode}

@@ -21,7 +21,7 @@ use Rattle.rp_replica.specs.Inputs.{given_by}
 use Rattle.rp_world.specs.declared.node.Node.{Node}
 use Rattle.rp_world.specs.Callers.{Caller}
 use Rattle.rp_world.specs.Going.{Goes, Answers, AnswersRestart, Refuses}
-use Rattle.rp_world.specs.Messages.{Sending}
+use Rattle.rp_outbox.specs.Packets.{Sending}
 use Rattle.rp_world.specs.Nodes.{Member, member_of, Represents, GoesBy, RefusedBy, IsCutBy, IsLeftTorn, IsResting, NotTaken, DescribesNothing, DescribesOpened, setting_at, node_step}
 use Rattle.rp_world.specs.Shape.{part_by, world_of, IsWorld}
 use Rattle.rp_world.proofs.Moving.{no_node, part_here, represents_here, still_nodes, moved, stayed, goes, answered, represents_after}

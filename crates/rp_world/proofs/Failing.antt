@@ -1,5 +1,5 @@
 -- How often the device of a node failed, after a step of it.
-use Rattle.std.proofs.Common.{◌≡◌, ◌≢◌, ℕ, suc, ◌<◌, Option, Some, None, Result, Ok, Err, List, map, option_map, slice_get, slice_set, inl, inr, refl, sym, ap, subst, ◌∙◌, arith}
+use Rattle.std.proofs.Common.{◌≡◌, ◌≢◌, ℕ, suc, ◌<◌, Option, Some, None, Result, Ok, Err, List, map, option_map, slice_get, slice_set, inl, inr, refl, sym, ap, subst, ◌∙◌}
 use Rattle.std.specs.Prelude.{IsSome}
 use Rattle.rp_base.specs.declared.action.Action.{Action}
 use Rattle.rp_base.specs.declared.fault.Fault.{Fault}
@@ -13,6 +13,7 @@ use Rattle.rp_store.specs.Disk.{Disk}
 use Rattle.rp_model.specs.Effect.{Setting, NodeInput, node_effect}
 use Rattle.rp_model.specs.Parts.{NodePart, Turn}
 use Rattle.rp_codec.specs.declared.packet.Party.{Party}
+use Rattle.rp_model.specs.declared.effect.Dropped.{Dropped}
 use Rattle.rp_model.specs.declared.effect.Effect.{Effect}
 use Rattle.rp_model.specs.World.{World, part_at, with_part, written_by, node_named, receiver_of, node_writes, arrival_writes, delivery_writes}
 use Rattle.rp_model.proofs.Devices.{NoDevice, input_is, turn_is}
@@ -20,12 +21,11 @@ use Rattle.rp_replica.specs.declared.cut.NotCut.{NotCut}
 use Rattle.rp_replica.specs.declared.cut.NotCut.TheVariants.{Failed as DeviceFailed, Refused}
 use Rattle.rp_replica.specs.declared.input.Input.{Input}
 use Rattle.rp_replica.specs.declared.input.Input.TheVariants.{Receive, Lead, LeadRange, Interrupt, Tick, Report}
-use Rattle.rp_replica.specs.declared.sent.Sent.{Sent}
 use Rattle.rp_replica.specs.Cutting.{CutsIf, IsNotCutIf, cut_disk}
 use Rattle.rp_replica.specs.State.{ReplicaState, setting_of, with_text}
 use Rattle.rp_replica.specs.Inputs.{packet_given, effect_if_given, input_effect}
 use Rattle.rp_replica.specs.Opening.{IsRefusedOpening}
-use Rattle.rp_replica.specs.Turning.{Answers, TurnsIf, Stops, StopsIf, IsRefused}
+use Rattle.rp_replica.specs.Turning.{AnswersOnto, TurnsOnto, Stops, StopsIf, IsRefused}
 use Rattle.rp_world.specs.Failures.{RisesAt}
 use Rattle.rp_world.specs.Going.{Counts}
 use Rattle.rp_world.specs.Nodes.{Member, Represents, NotTaken, failures_in, IsCounted, setting_at, node_step}
@@ -35,7 +35,7 @@ use Rattle.rp_world.proofs.Moving.{get_map, set_map, set_same}
 -- ---- one device
 
 -- a fault that is none of the device leaves the count
-pub not_device : (k : ℕ) (fault : Fault) → fault ≢ Device → IsCounted k k (let r : Result Sent Fault = Err fault in r)
+pub not_device : (k : ℕ) (fault : Fault) → fault ≢ Device → IsCounted k k (let r : Result Dropped Fault = Err fault in r)
 not_device k Device none = absurd (none refl)
 not_device k _ none = refl
 
@@ -58,7 +58,7 @@ no_packet next answers old (Err reason) = tt
 
 module _ {S : Type 0} (next : S → Action → S) (answers : S → Action → List Answer) (old : ReplicaState S) where
   -- no input is refused as a fault of the device
-  input_so : (input : Input) → NoDevice (input_effect next answers old input)
+  pub input_so : (input : Input) → NoDevice (input_effect next answers old input)
   input_so (Receive bytes) = no_packet next answers old (all_of bytes.now)
   input_so (Lead choice) = turn_is (setting_of next answers old) old.me old.records old.running (NodeInput.Lead choice)
   input_so (LeadRange range) = turn_is (setting_of next answers old) old.me old.records old.running (NodeInput.LeadRange range.first range.count)
@@ -66,7 +66,7 @@ module _ {S : Type 0} (next : S → Action → S) (answers : S → Action → Li
   input_so (Tick now) = tt
   input_so (Report first) = tt
 
-  stops_counted : (new : ReplicaState S) (written : Option Rec) (fault : Fault) → Stops written old new fault → IsCounted old.disk.failures new.disk.failures (let r : Result Sent Fault = Err fault in r)
+  stops_counted : (new : ReplicaState S) (written : Option Rec) (fault : Fault) → Stops written old new fault → IsCounted old.disk.failures new.disk.failures (let r : Result Dropped Fault = Err fault in r)
   stops_counted new written OutOfMemory stops = ap (λ (h : ReplicaState S). h.disk.failures) stops.0
   stops_counted new written Device stops = stops.0.disk.cause
   stops_counted new written Failed stops = ap (λ (h : ReplicaState S). h.disk.failures) stops.0
@@ -85,31 +85,25 @@ module _ {S : Type 0} (next : S → Action → S) (answers : S → Action → Li
   )
 
   by_refusal : (new : ReplicaState S) (refusal fault : Fault) → (let r : Result Turn Fault = Err refusal in NoDevice r) → IsRefused refusal old new fault
-      → IsCounted old.disk.failures new.disk.failures (let r : Result Sent Fault = Err fault in r)
+      → IsCounted old.disk.failures new.disk.failures (let r : Result Dropped Fault = Err fault in r)
   by_refusal new refusal fault none refused =
       let is = refused_counted new refusal fault none refused in
-      subst (λ (k : ℕ). IsCounted k new.disk.failures (let r : Result Sent Fault = Err fault in r)) is.1
-      (subst (λ (k : ℕ). IsCounted is.0 k (let r : Result Sent Fault = Err fault in r)) is.2 (not_device is.0 fault is.3))
+      subst (λ (k : ℕ). IsCounted k new.disk.failures (let r : Result Dropped Fault = Err fault in r)) is.1
+      (subst (λ (k : ℕ). IsCounted is.0 k (let r : Result Dropped Fault = Err fault in r)) is.2 (not_device is.0 fault is.3))
 
-  by_effect : (new : ReplicaState S) (effect : Result Turn Fault) → NoDevice effect → (fault : Fault) → StopsIf effect old new fault → IsCounted old.disk.failures new.disk.failures (let r : Result Sent Fault = Err fault in r)
+  by_effect : (new : ReplicaState S) (effect : Result Turn Fault) → NoDevice effect → (fault : Fault) → StopsIf effect old new fault → IsCounted old.disk.failures new.disk.failures (let r : Result Dropped Fault = Err fault in r)
   by_effect new (Ok turn) none fault stops = stops_counted new turn.written fault stops
   by_effect new (Err refusal) none fault stops = by_refusal new refusal fault none stops
 
-  goes_counted : (new : ReplicaState S) (effect : Result Turn Fault) (sent : Sent) → TurnsIf effect old new sent → new.disk.failures ≡ old.disk.failures
-  goes_counted new (Ok turn) sent turns = ap (λ (h : ReplicaState S). h.disk.failures) turns.0.goes ∙ written_counted old.disk turn.written
-  goes_counted new (Err refusal) sent turns = absurd turns
+  module _ (new : ReplicaState S) (before after : List Message) where
+    goes_counted : (effect : Result Turn Fault) (dropped : Dropped) → TurnsOnto effect old new before after dropped → new.disk.failures ≡ old.disk.failures
+    goes_counted (Ok turn) dropped turns = ap (λ (h : ReplicaState S). h.disk.failures) turns.0.goes ∙ written_counted old.disk turn.written
+    goes_counted (Err refusal) dropped turns = absurd turns
 
-  -- a turn
-  pub turn_counted : (input : Input) (new : ReplicaState S) (answer : Result Sent Fault) → Answers (input_effect next answers old input) old new answer → IsCounted old.disk.failures new.disk.failures answer
-  turn_counted input new (Ok sent) turns = goes_counted new (input_effect next answers old input) sent turns
-  turn_counted input new (Err fault) stops = by_effect new (input_effect next answers old input) (input_so input) fault stops
-
-  -- a step that would be refused
-  pub refuses_no_device : (input : Input) (fault : Fault) → StopsIf (input_effect next answers old input) old old fault → fault ≢ Device
-  refuses_no_device input fault stops device =
-      let counted : old.disk.failures < old.disk.failures =
-      subst (λ (f : Fault). IsCounted old.disk.failures old.disk.failures (let r : Result Sent Fault = Err f in r)) device (by_effect old (input_effect next answers old input) (input_so input) fault stops) in
-      absurd (omega (arith, counted))
+    -- a turn
+    pub turn_counted : (effect : Result Turn Fault) → NoDevice effect → (answer : Result Dropped Fault) → AnswersOnto effect old new before after answer → IsCounted old.disk.failures new.disk.failures answer
+    turn_counted effect none (Ok dropped) turns = goes_counted effect dropped turns
+    turn_counted effect none (Err fault) stops = by_effect new effect none fault stops.0
 
   cut_counted_by : (effect : Result Turn Fault) (kept : ℕ) (d : Disk) → CutsIf effect kept old d → d.failures ≡ old.disk.failures
   cut_counted_by (Ok turn) kept d cuts = ap (λ (x : Disk). x.failures) cuts.disk_is ∙ torn_counted kept old.disk turn.written
@@ -129,17 +123,17 @@ module _ {S : Type 0} (next : S → Action → S) (answers : S → Action → Li
     cut_failed input device fails = fails_by (input_effect next answers old input) device fails
 
     refused_by : (effect : Result Turn Fault) → NoDevice effect → (fault : Fault) (new : ReplicaState S) → IsNotCutIf disk effect old (let r : NotCut S D P = Refused fault new in r)
-        → IsCounted old.disk.failures new.disk.failures (let r : Result Sent Fault = Err fault in r)
+        → IsCounted old.disk.failures new.disk.failures (let r : Result Dropped Fault = Err fault in r)
     refused_by (Ok turn) none fault new stops = stops_counted new turn.written fault stops.0
     refused_by (Err refusal) none fault new stops = by_refusal new refusal fault none stops
 
     -- where it is refused
     pub cut_refused : (input : Input) (fault : Fault) (new : ReplicaState S) → IsNotCutIf disk (input_effect next answers old input) old (let r : NotCut S D P = Refused fault new in r)
-        → IsCounted old.disk.failures new.disk.failures (let r : Result Sent Fault = Err fault in r)
+        → IsCounted old.disk.failures new.disk.failures (let r : Result Dropped Fault = Err fault in r)
     cut_refused input fault new stops = refused_by (input_effect next answers old input) (input_so input) fault new stops
 
 -- an opening that is refused
-pub opening_counted : (old new : Disk) (fault : Fault) → IsRefusedOpening old fault new → IsCounted old.failures new.failures (let r : Result Sent Fault = Err fault in r)
+pub opening_counted : (old new : Disk) (fault : Fault) → IsRefusedOpening old fault new → IsCounted old.failures new.failures (let r : Result Dropped Fault = Err fault in r)
 opening_counted old new OutOfMemory why = elim why [ inl same ↦ same.failures | inr opened ↦ opened.2.failures ]
 opening_counted old new Device why = why.1
 opening_counted old new _ why = absurd why
@@ -171,7 +165,7 @@ module _ {S D P : Type 0} (disk : D → Disk) (nodes : List (Node S D P)) (i me 
   }
 
   -- or higher, where the device failed
-  pub counts : (why : Type 0) (fault : Fault) → (fault ≡ Device → why) → IsCounted (failures_in disk n) (failures_in disk new) (let r : Result Sent Fault = Err fault in r)
+  pub counts : (why : Type 0) (fault : Fault) → (fault ≡ Device → why) → IsCounted (failures_in disk n) (failures_in disk new) (let r : Result Dropped Fault = Err fault in r)
       → Counts why (Some me) before after (let r : Result Effect Fault = Err fault in r)
   counts why Device so counted = (so refl, rises_at counted)
   counts why _ so counted = same_counts counted

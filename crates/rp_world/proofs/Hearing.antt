@@ -1,5 +1,5 @@
 -- The result of the delivery of a message, by whom it is for.
-use Rattle.std.proofs.Common.{◌≡◌, ℕ, zero, suc, ◌+◌, ◌-◌, ◌^◌, min, true, false, Option, Some, None, Result, Ok, Err, List, [], ◌∷◌, ◌++◌, length, slice_get, option_map, inl, inr, refl, sym, ap, subst, ◌∙◌, Bor, if◌then◌else◌}
+use Rattle.std.proofs.Common.{◌≡◌, ℕ, zero, suc, ◌+◌, ◌-◌, ◌<◌, ◌^◌, min, true, arith, false, Option, Some, None, Result, Ok, Err, List, [], ◌∷◌, ◌++◌, length, slice_get, option_map, inl, inr, refl, sym, ap, subst, ◌∙◌, Bor, if◌then◌else◌}
 use Rattle.std.specs.Prelude.{IsSome, IfOk, OnErr, option_copied}
 use Rattle.std.specs.List.{AllByRecursion}
 use Rattle.std.proofs.lemmas.List.{append-nil}
@@ -50,6 +50,19 @@ has_got (x ∷ xs) (suc k) m here = inr (has_got xs k m here)
 pub has_at : (xs : List Message) (number : ℕ) (m : Message) → part_at xs number ≡ Some m → Has m xs
 has_at xs zero m here = absurd cc
 has_at xs (suc k) m here = has_got xs k m here
+
+-- it lies at the place before its number
+pub at_place : (xs : List Message) (number : ℕ) (m : Message) → part_at xs number ≡ Some m → slice_get xs (number - 1) ≡ Some m
+at_place xs zero m here = absurd cc
+at_place xs (suc k) m here = subst (λ (j : ℕ). slice_get xs j ≡ Some m) (let same : k ≡ suc k - 1 = omega arith in same) here
+
+got_below : (xs : List Message) (k : ℕ) (m : Message) → slice_get xs k ≡ Some m → k < length xs
+got_below [] k m here = absurd cc
+got_below (x ∷ xs) zero m here = omega arith
+got_below (x ∷ xs) (suc k) m here = omega (arith, got_below xs k m here)
+
+pub place_below : (xs : List Message) (number : ℕ) (m : Message) → part_at xs number ≡ Some m → number - 1 < length xs
+place_below xs number m here = got_below xs (number - 1) m (at_place xs number m here)
 
 some_is : {A : Type 0} (x y : A) → (let o : Option A = Some x in let p : Option A = Some y in o ≡ p) → x ≡ y
 some_is {A = A} x y same = cc

@@ -1,6 +1,5 @@
 pub mod Represented
 pub mod Turning
-pub mod Joined
 pub mod Resting
 pub mod Moving
 pub mod Answering
@@ -13,3 +12,9 @@ pub mod Asked
 pub mod Fresh
 pub mod Failing
 pub mod Choosing
+pub mod Placing
+pub mod Leaving
+pub mod Stepping
+pub mod Replied
+pub mod NodeTurns
+pub mod NodeCuts

@@ -1,12 +1,13 @@
 -- What a replica's turn is for the node's part.
-use Rattle.std.proofs.Common.{◌≡◌, ℕ, Bool, true, false, if◌then◌else◌, Option, Some, None, Result, Ok, Err, List, [], ◌∷◌, ◌++◌, length, ◌⊎◌, inl, inr, refl, sym, ap, subst, ◌∙◌}
-use Rattle.std.specs.Prelude.{nat_le, IfOk, IfErr, IsSome}
+use Rattle.std.proofs.Common.{◌≡◌, ◌<◌, ℕ, zero, suc, slice_get, arith, Bool, true, false, if◌then◌else◌, Option, Some, None, Result, Ok, Err, List, [], ◌∷◌, ◌++◌, length, ◌⊎◌, inl, inr, refl, sym, ap, subst, ◌∙◌}
+use Rattle.std.specs.Prelude.{nat_le, IfOk, IfErr, IsSome, OnErr}
 use Rattle.rp_base.specs.declared.action.Action.{Action}
 use Rattle.rp_base.specs.declared.config.Config.{Config}
 use Rattle.rp_base.specs.declared.fault.Fault.{Fault}
 use Rattle.rp_base.specs.declared.fault.Fault.TheVariants.{OutOfMemory, Device, Failed}
 use Rattle.rp_base.specs.declared.record.Rec.{Rec}
 use Rattle.rp_base.specs.declared.reply.Answer.{Answer}
+use Rattle.rp_codec.specs.Message.{Message}
 use Rattle.rp_codec.specs.Record.{record_text}
 use Rattle.rp_store.specs.Disk.{Disk}
 use Rattle.rp_store.specs.Records.{AreTextsOf}
@@ -15,19 +16,20 @@ use Rattle.rp_codec.proofs.RecordLaws.{has_latest}
 use Rattle.rp_store.proofs.Whole.{texts_end}
 use Rattle.rp_model.specs.Parts.{NodePart}
 use Rattle.rp_model.specs.Parts.{Turn, with_record}
-use Rattle.rp_model.specs.Effect.{Setting, Done, NodeInput, running_effect, turn_done, turn_done_if, node_effect, cut_part, stop_part}
+use Rattle.rp_model.specs.Effect.{Receive, Setting, Done, NodeInput, running_effect, turn_done, turn_done_if, node_effect, cut_part, stop_part}
+use Rattle.rp_model.specs.declared.effect.Dropped.{Dropped}
 use Rattle.rp_replica.specs.declared.sent.Sent.{Sent}
-use Rattle.rp_replica.specs.State.{ReplicaState, part_of, setting_of, with_text}
+use Rattle.rp_replica.specs.State.{ReplicaState, part_of, setting_of, with_text, after_turn}
 use Rattle.rp_replica.specs.Kept.{HoldsPart, HoldsOnly, HoldsItsRecords, HoldsCut}
 use Rattle.rp_replica.specs.declared.input.Input.{Input}
 use Rattle.rp_replica.specs.Inputs.{given_by, effect_if_given, input_effect}
-use Rattle.rp_replica.specs.Turning.{Answers, Turns, TurnsIf, FailsAt, Stops, StopsIf, IsRefused, effect_of}
+use Rattle.rp_replica.specs.Turning.{AnswersOnto, TurnsIf, TurnsOnto, FailsAt, Stops, StopsIf, IsRefused, effect_of}
 use Rattle.rp_replica.specs.Cutting.{CutsIf, IsNotCutIf}
 use Rattle.rp_replica.specs.declared.cut.NotCut.{NotCut}
 use Rattle.rp_replica.specs.declared.cut.NotCut.TheVariants.{Failed as DeviceFailed, Refused}
 use Rattle.rp_world.specs.declared.node.Node.{Node}
 use Rattle.rp_world.specs.declared.node.Node.TheVariants.{Running, Stopped}
-use Rattle.rp_world.specs.Nodes.{Member, RunsAs, RestsAs, setting_at, node_step, IsNotRefused, RepresentsWhile, Represents, GoesBy, IsCutBy, NotTaken, DescribesSent}
+use Rattle.rp_world.specs.Nodes.{Member, RunsAs, RestsAs, setting_at, node_step, IsNotRefused, RepresentsWhile, Represents, GoesBy, IsCutBy, NotTaken, DescribesSent, DescribesSending}
 use Rattle.rp_world.proofs.Represented.{represents, represents_failed, as_running}
 
 some_of : {A : Type 0} (o : Option A) (x : A) → o ≡ Some x → IsSome o
@@ -59,18 +61,15 @@ module _ {S : Type 0} (next : S → Action → S) (answers : S → Action → Li
       ∙ ap (λ (k : ℕ). turn_done_if (part_of old) (running_effect (setting_of next answers old) k old.records old.running input)) (sym runs.node))
 
   -- a turn that took effect
-  pub goes : (new : ReplicaState S) (turn : Turn) (sent : Sent) → Turns turn old new sent → RunsAs member new (turn_done part turn).part × DescribesSent sent (turn_done part turn)
-  goes new turn sent turns = (
-    record {
-      node = ap (λ (h : ReplicaState S). h.me) turns.goes ∙ runs.node;
-      config = ap (λ (h : ReplicaState S). h.config) turns.goes ∙ runs.config;
-      begin = ap (λ (h : ReplicaState S). h.begin) turns.goes ∙ runs.begin;
-      working = ap (λ (h : ReplicaState S). h.failed) turns.goes ∙ runs.working;
-      known = ap (λ (p : NodePart). (turn_done p turn).part) runs.known ∙ sym (ap part_of turns.goes);
-      only = subst HoldsItsRecords (sym turns.goes) (holds_more old.disk old.records turn.written runs.only);
-    },
-    record { bytes = turns.bytes; packets = turns.packets; dropped = turns.dropped; nothing = (refl, refl) },
-  )
+  runs_on : (new : ReplicaState S) (turn : Turn) → new ≡ after_turn old turn → RunsAs member new (turn_done part turn).part
+  runs_on new turn goes = record {
+    node = ap (λ (h : ReplicaState S). h.me) goes ∙ runs.node;
+    config = ap (λ (h : ReplicaState S). h.config) goes ∙ runs.config;
+    begin = ap (λ (h : ReplicaState S). h.begin) goes ∙ runs.begin;
+    working = ap (λ (h : ReplicaState S). h.failed) goes ∙ runs.working;
+    known = ap (λ (p : NodePart). (turn_done p turn).part) runs.known ∙ sym (ap part_of goes);
+    only = subst HoldsItsRecords (sym goes) (holds_more old.disk old.records turn.written runs.only);
+  }
 
   -- a replica that stays as it was
   pub stays : (new : ReplicaState S) → new ≡ old → RunsAs member new part
@@ -89,10 +88,24 @@ module _ {S : Type 0} (next : S → Action → S) (answers : S → Action → Li
   -- what was answered, if it was taken
   pub taken : (input : NodeInput) (new : ReplicaState S) (sent : Sent) (turn : Result Turn Fault) → effect_of next answers old input ≡ turn → TurnsIf turn old new sent
       → (done : Done NodePart) × (node_effect (setting_at next answers member) member.me part input ≡ Ok done) × RunsAs member new done.part × DescribesSent sent done
-  taken input new sent (Ok turn) is turns =
-      let g = goes new turn sent turns.0 in
-      (turn_done part turn, same_effect input ∙ ap (turn_done_if part) is, g.0, g.1)
+  taken input new sent (Ok turn) is turns = (
+    turn_done part turn,
+    same_effect input ∙ ap (turn_done_if part) is,
+    runs_on new turn turns.0.goes,
+    record { bytes = turns.0.bytes; packets = turns.0.packets; dropped = turns.0.dropped; nothing = (refl, refl) },
+  )
   taken input new sent (Err refusal) is turns = absurd turns
+
+  -- and what was sent after others
+  pub taken_onto : (input : NodeInput) (new : ReplicaState S) (before after : List Message) (dropped : Dropped) (turn : Result Turn Fault) → effect_of next answers old input ≡ turn → TurnsOnto turn old new before after dropped
+      → (done : Done NodePart) × (node_effect (setting_at next answers member) member.me part input ≡ Ok done) × RunsAs member new done.part × DescribesSending before after dropped done
+  taken_onto input new before after dropped (Ok turn) is turns = (
+    turn_done part turn,
+    same_effect input ∙ ap (turn_done_if part) is,
+    runs_on new turn turns.0.goes,
+    record { sent = turns.0.sent; is_dropped = turns.1; nothing = (refl, refl) },
+  )
+  taken_onto input new before after dropped (Err refusal) is turns = absurd turns
 
 pub false_true : {b : Bool} → b ≡ false → b ≡ true → ⊥
 false_true one other = absurd cc
@@ -102,10 +115,10 @@ module _ {S : Type 0} (D P : Type 0) (next : S → Action → S) (answers : S �
   abbrev before : Node S D P
   before = Running old
 
-  taken_by : (new : ReplicaState S) (sent : Sent) → TurnsIf (effect_of next answers old input) old new sent → (member : Member S)
-      → GoesBy disk member before (Running new) (node_step next answers member input) DescribesSent sent
-  taken_by new sent turns member part is =
-      let t = taken next answers member old part (as_running member old part working is) input new sent (effect_of next answers old input) refl turns in
+  taken_by : (new : ReplicaState S) (sent later : List Message) (dropped : Dropped) → TurnsOnto (effect_of next answers old input) old new sent later dropped → (member : Member S)
+      → GoesBy disk member before (Running new) (node_step next answers member input) (DescribesSending sent later) dropped
+  taken_by new sent later dropped turns member part is =
+      let t = taken_onto next answers member old part (as_running member old part working is) input new sent later dropped (effect_of next answers old input) refl turns in
       (t.0, t.1, represents member new t.0.part t.2, t.3)
 
   module _ (member : Member S) (part : NodePart) (is : RepresentsWhile member old part old.failed) where
@@ -184,6 +197,23 @@ module _ {S : Type 0} (D P : Type 0) (next : S → Action → S) (answers : S �
       → (member : Member S) → NotTaken disk member before (Running new) (node_step next answers member input) fault
   not_answered new fault stops = λ member part is. by_effect member part is new (effect_of next answers old input) refl fault stops
 
+  -- what was answered
+  module _ (new : ReplicaState S) (sent later : List Message) where
+    pub answered_ok : (answer : Result Dropped Fault) → AnswersOnto (effect_of next answers old input) old new sent later answer
+        → IfOk answer (λ dropped. (member : Member S) → GoesBy disk member before (Running new) (node_step next answers member input) (DescribesSending sent later) dropped)
+    answered_ok (Ok dropped) turns = taken_by new sent later dropped turns
+    answered_ok (Err fault) turns = tt
+
+    pub answered_err : (answer : Result Dropped Fault) → AnswersOnto (effect_of next answers old input) old new sent later answer
+        → IfErr answer (λ fault. (member : Member S) → NotTaken disk member before (Running new) (node_step next answers member input) fault)
+    answered_err (Ok dropped) stops = tt
+    answered_err (Err fault) stops = not_answered new fault stops.0
+
+-- nothing was sent where it was not taken
+pub unsent : {S : Type 0} (effect : Result Turn Fault) (old new : ReplicaState S) (sent later : List Message) (answer : Result Dropped Fault) → AnswersOnto effect old new sent later answer → OnErr answer (later ≡ sent)
+unsent effect old new sent later (Ok dropped) turns = tt
+unsent effect old new sent later (Err fault) stops = stops.1
+
 -- the same of an input that gives this to the node
 module _ {S : Type 0} (D P : Type 0) (next : S → Action → S) (answers : S → Action → List Answer) (disk : D → Disk) (old : ReplicaState S) (working : old.failed ≡ false) (input : Input) where
   abbrev was : Node S D P
@@ -192,23 +222,23 @@ module _ {S : Type 0} (D P : Type 0) (next : S → Action → S) (answers : S �
   same_input : (given : NodeInput) → given_by input ≡ Ok given → input_effect next answers old input ≡ effect_of next answers old given
   same_input given is = ap (effect_if_given next answers old) is
 
-  pub turned_ok : (new : ReplicaState S) (answer : Result Sent Fault) → Answers (input_effect next answers old input) old new answer
-      → IfOk answer (λ sent. (member : Member S) (given : NodeInput) → given_by input ≡ Ok given → GoesBy disk member was (Running new) (node_step next answers member given) DescribesSent sent)
-  turned_ok new (Ok sent) turns = λ member given is.
-      taken_by D P next answers disk given old working new sent (subst (λ (r : Result Turn Fault). TurnsIf r old new sent) (same_input given is) turns) member
-  turned_ok new (Err fault) turns = tt
+  so_given : (new : ReplicaState S) (sent later : List Message) (answer : Result Dropped Fault) → AnswersOnto (input_effect next answers old input) old new sent later answer → (given : NodeInput) → given_by input ≡ Ok given
+      → AnswersOnto (effect_of next answers old given) old new sent later answer
+  so_given new sent later answer answered given is = subst (λ (r : Result Turn Fault). AnswersOnto r old new sent later answer) (same_input given is) answered
 
-  pub turned_err : (new : ReplicaState S) (answer : Result Sent Fault) → Answers (input_effect next answers old input) old new answer
+  pub turned_ok : (new : ReplicaState S) (sent later : List Message) (answer : Result Dropped Fault) → AnswersOnto (input_effect next answers old input) old new sent later answer
+      → IfOk answer (λ dropped. (member : Member S) (given : NodeInput) → given_by input ≡ Ok given → GoesBy disk member was (Running new) (node_step next answers member given) (DescribesSending sent later) dropped)
+  turned_ok new sent later (Ok dropped) answered = λ member given is.
+      let went : Result Dropped Fault = Ok dropped in
+      answered_ok D P next answers disk given old working new sent later went (so_given new sent later went answered given is) member
+  turned_ok new sent later (Err fault) answered = tt
+
+  pub turned_err : (new : ReplicaState S) (sent later : List Message) (answer : Result Dropped Fault) → AnswersOnto (input_effect next answers old input) old new sent later answer
       → IfErr answer (λ fault. (member : Member S) (given : NodeInput) → given_by input ≡ Ok given → NotTaken disk member was (Running new) (node_step next answers member given) fault)
-  turned_err new (Ok sent) stops = tt
-  turned_err new (Err fault) stops = λ member given is.
-      not_answered D P next answers disk given old working new fault (subst (λ (r : Result Turn Fault). StopsIf r old new fault) (same_input given is) stops) member
-
-  -- why a step would not be made
-  pub is_refused : (fault : Fault) → StopsIf (input_effect next answers old input) old old fault
-      → (member : Member S) (given : NodeInput) → given_by input ≡ Ok given → NotTaken disk member was was (node_step next answers member given) fault
-  is_refused fault stops member given gives =
-      not_answered D P next answers disk given old working old fault (subst (λ (r : Result Turn Fault). StopsIf r old old fault) (same_input given gives) stops) member
+  turned_err new sent later (Ok dropped) answered = tt
+  turned_err new sent later (Err fault) answered = λ member given is.
+      let went : Result Dropped Fault = Err fault in
+      answered_err D P next answers disk given old working new sent later went (so_given new sent later went answered given is) member
 
   -- a step that was cut, or was not
   pub is_cut_so : (kept : ℕ) (device : D) → CutsIf (input_effect next answers old input) kept old (disk device)
@@ -227,3 +257,25 @@ module _ {S : Type 0} (D P : Type 0) (next : S → Action → S) (answers : S �
   refused_in_cut fault new stops member given gives part represents_now =
       refused_cut D P next answers disk given old working member part represents_now (effect_of next answers old given) refl fault new
       (subst (λ (r : Result Turn Fault). IsNotCutIf disk r old (let n : NotCut S D P = Refused fault new in n)) (same_input given gives) stops)
+
+-- a message that was sent is at each place below the last
+pub got_at : (ms : List Message) (place : ℕ) → place < length ms → (m : Message) × (slice_get ms place ≡ Some m)
+got_at [] place less = absurd (omega (arith, less))
+got_at (m ∷ ms) zero less = (m, refl)
+got_at (m ∷ ms) (suc k) less = got_at ms k (omega (arith, less))
+
+-- the same of the packet of a place among those that were sent
+module _ {S : Type 0} (D P : Type 0) (next : S → Action → S) (answers : S → Action → List Answer) (disk : D → Disk) (old : ReplicaState S) (working : old.failed ≡ false) (new : ReplicaState S) (sent later : List Message) (place : ℕ) where
+  -- what was answered to each packet that is there
+  abbrev pub EachHeard : Result Dropped Fault → Type 0
+  EachHeard answer = (m : Message) → slice_get sent place ≡ Some m → AnswersOnto (effect_of next answers old (Receive m)) old new sent later answer
+
+  pub heard_ok : (answer : Result Dropped Fault) → EachHeard answer
+      → IfOk answer (λ dropped. (member : Member S) (m : Message) → slice_get sent place ≡ Some m → GoesBy {D = D} {P = P} disk member (Running old) (Running new) (node_step next answers member (Receive m)) (DescribesSending sent later) dropped)
+  heard_ok (Ok dropped) each = λ member m at. let went : Result Dropped Fault = Ok dropped in answered_ok D P next answers disk (Receive m) old working new sent later went (each m at) member
+  heard_ok (Err fault) each = tt
+
+  pub heard_err : (answer : Result Dropped Fault) → EachHeard answer
+      → IfErr answer (λ fault. (member : Member S) (m : Message) → slice_get sent place ≡ Some m → NotTaken {D = D} {P = P} disk member (Running old) (Running new) (node_step next answers member (Receive m)) fault)
+  heard_err (Ok dropped) each = tt
+  heard_err (Err fault) each = λ member m at. let went : Result Dropped Fault = Err fault in answered_err D P next answers disk (Receive m) old working new sent later went (each m at) member

@@ -3,7 +3,6 @@ pub mod Failures
 pub mod Runs
 pub mod Agreeing
 pub mod Shape
-pub mod Messages
 pub use Rattle.rp_model.specs.World
 pub mod Callers
 pub mod Nodes

@@ -1,17 +1,19 @@
 -- A node of a cluster: a replica that runs, or the device of a stopped node. A replica whose device failed is stopped
 -- too.
 use Rattle.std.specs.Prelude.{◌≡◌, ◌⊎◌, ℕ, ◌+◌, ◌<◌, min, Bool, true, false, Option, None, IsSome, Result, Ok, Err}
-use Rattle.std.specs.Prelude.{List, length}
+use Rattle.std.specs.Prelude.{List, ◌++◌, length}
 use Rattle.rp_base.specs.declared.action.Action.{Action}
 use Rattle.rp_base.specs.declared.reply.Answer.{Answer}
 use Rattle.rp_base.specs.declared.fault.Fault.TheVariants.{OutOfMemory, Device}
 use Rattle.rp_replica.specs.declared.sent.Sent.{Sent}
-use Rattle.rp_replica.specs.Packets.{texts_of}
+use Rattle.rp_outbox.specs.Packets.{texts_of}
 use Rattle.rp_base.specs.declared.config.Config.{Config}
 use Rattle.rp_base.specs.declared.fault.Fault.{Fault}
+use Rattle.rp_codec.specs.Message.{Message}
 use Rattle.rp_store.specs.Disk.{Disk}
 use Rattle.rp_store.specs.Records.{records_text}
 use Rattle.rp_model.specs.Parts.{NodePart}
+use Rattle.rp_model.specs.declared.effect.Dropped.{Dropped}
 use Rattle.rp_model.specs.Effect.{Setting, Done, NodeInput, node_effect, cut_part}
 use Rattle.rp_replica.specs.State.{ReplicaState, part_of}
 use Rattle.rp_replica.specs.Kept.{HoldsPart, HoldsOnly, HoldsItsRecords}
@@ -128,6 +130,12 @@ DescribesNothing answer done = Unit {0}
 -- what a restart returns
 abbrev pub DescribesOpened : Option (ℕ × ℕ) → Done NodePart → Type 0
 DescribesOpened opened done = opened ≡ done.opened
+
+-- the packets that the step sends are after those that were sent before
+pub record DescribesSending (before after : List Message) (dropped : Dropped) (done : Done NodePart) : Type 0 where
+  pub sent : after ≡ before ++ done.sends
+  pub is_dropped : dropped ≡ done.dropped
+  pub nothing : (done.taken ≡ None) × (done.opened ≡ None)
 
 -- the bytes are the texts of the packets that were sent
 pub record DescribesSent (sent : Sent) (done : Done NodePart) : Type 0 where

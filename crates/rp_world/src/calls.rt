@@ -10,12 +10,12 @@ ghost use Rattle.rp_world.specs.Going.{Answers, no_cut};
 ghost use Rattle.rp_world.specs.Steps.{IsSameSetup};
 
 use crate::effect::{no_effect, one_message};
-use crate::messages::Messages;
 use crate::world::World;
 use rp_base::{Action, Fault, NodeId, Operation, TaskId};
 use rp_codec::{Body, Packet, Party};
 use rp_machine::Machine;
 use rp_model::Effect;
+use rp_outbox::Outbox;
 use rp_store::CutDevice;
 use std::alloc::AllocError;
 
@@ -33,15 +33,16 @@ pub fn asks(task: TaskId, node: NodeId, call: Action) -> Packet
 }
 
 /// A task's call goes to a node. Refused for memory, nothing is sent.
-fn send(messages: &mut Messages, task: TaskId, node: NodeId, call: Action) -> Result<(), AllocError>
+fn send(messages: &mut Outbox, task: TaskId, node: NodeId, call: Action) -> Result<(), AllocError>
     requires own { IsCallBy task call }
     requires right { IsRight call }
     ensures ok { OnOk result (messages.new.sent
         ≡ messages.old.sent ++ tasks.asks task node call ∷ []) }
     ensures err { OnErr result (messages.new.sent ≡ messages.old.sent) }
 {
-    messages.settle()?;
-    messages.say(&asks(task, node, call))
+    messages.reserve(1)?;
+    messages.put(&asks(task, node, call));
+    Ok(())
 }
 
 impl<M: Machine, D: CutDevice> World<M, D> {

@@ -1,11 +1,10 @@
 //! The result of an event, as a step returns it.
 
-ghost use Rattle.std.specs.Prelude.{◌≡◌, ◌-◌, ◌^◌, min, None};
+ghost use Rattle.std.specs.Prelude.{◌≡◌, ◌≤◌, ◌<◌, ◌+◌, ◌-◌, ◌^◌, min, None};
 ghost use Rattle.rp_model.specs.declared.effect.Dropped.TheVariants.{No};
 
 use rp_base::{Answer, Fault};
 use rp_model::{Dropped, Effect};
-use rp_replica::Sent;
 
 /// Where a run stopped.
 #[derive(Clone, Copy, Debug, PartialEq, Eq)]
@@ -64,21 +63,24 @@ pub(crate) fn opened(first: u64, opened: Option<(u64, u64)>) -> Effect
     }
 }
 
-/// What a node's step sent and dropped.
+/// What a node's step dropped, where this is the number of the next message and how many there are
+/// now.
 #[inline(always)]
-pub(crate) fn of_step(first: u64, sent: &Sent) -> Effect
+pub(crate) fn of_step(first: u64, count: u64, dropped: Dropped) -> Effect
+    requires below { first ≤ count + 1 }
+    requires small { count < 2 ^ 63 }
     ensures { result ≡ record {
       first = first;
-      sent = min sent.now.packets (2 ^ 32 - 1);
-      dropped = sent.now.dropped;
+      sent = min (count + 1 - first) (2 ^ 32 - 1);
+      dropped = dropped;
       taken = None;
       opened = None;
     } }
 {
     Effect {
         first,
-        sent: u32::try_from(sent.packets).unwrap_or(u32::MAX),
-        dropped: sent.dropped,
+        sent: u32::try_from(count + 1 - first).unwrap_or(u32::MAX),
+        dropped,
         taken: None,
         opened: None,
     }

@@ -8,7 +8,6 @@
 //! - `calls`: what tasks ask for, and the replies to them
 //! - `stops`: stops and restarts of nodes
 //! - `effect`: the result of an event, as a step returns it
-//! - `messages`: every message that was sent, as its text
 //! - `node`: a node: a replica that runs, or a device that rests
 //! - `task`: a task: what it keeps of its calls, and the replies that it took
 #![tactic(auto)]
@@ -17,7 +16,6 @@ mod calls;
 mod cluster;
 mod effect;
 mod headline;
-mod messages;
 mod node;
 mod steps;
 mod stops;

@@ -1,18 +1,21 @@
 //! A node: a replica that runs, or a device that rests.
 
-ghost use Rattle.std.specs.Prelude.{◌≡◌, ◌≢◌, ◌⊎◌, ◌≤◌, ℕ, [], false, min, Ok, Some, None, IfOk, IfErr, IfSome, IfNone, IsErrOf, IsSome, IsTrue};
+ghost use Rattle.std.specs.Prelude.{◌≡◌, ◌⊎◌, ◌≤◌, ◌<◌, ℕ, [], false, min, length, slice_get, Ok, Some, None, IfOk, IfErr, IfSome, IfNone, OnErr, IsErrOf, IsSome, IsTrue};
 ghost use Rattle.rp_base.specs.Config.{IsRightConfig};
+ghost use Rattle.rp_codec.specs.Message.{Message};
 ghost use Rattle.rp_replica.specs.Inputs.{IsRightInput, given_by};
 ghost use Rattle.rp_base.specs.declared.fault.Fault.TheVariants as faults;
 ghost use Rattle.rp_model.specs.Effect.{NodeInput, stop_effect, restart_part};
 ghost use Rattle.rp_model.specs.Parts.{fresh_node};
 ghost use Rattle.rp_model.specs.Parts.{NodePart};
 ghost use Rattle.rp_world.specs.Failures.{SomeHasFailed};
-ghost use Rattle.rp_world.specs.Nodes.{Member, member_of, RunsAs, RestsAs, Represents, GoesBy, IsCutBy, IsCounted, IsResting, RefusedBy, IsLeftTorn, NotTaken, DescribesNothing, DescribesOpened, DescribesSent, failures_in, node_step, stored_length};
+ghost use Rattle.rp_world.specs.Nodes.{Member, member_of, RunsAs, RestsAs, Represents, GoesBy, IsCutBy, IsCounted, IsResting, RefusedBy, IsLeftTorn, NotTaken, DescribesNothing, DescribesOpened, DescribesSending, failures_in, node_step, stored_length};
 
 use rp_base::{Config, Fault, NodeId};
 use rp_machine::Machine;
-use rp_replica::{Input, NotCut, Replica, Sent};
+use rp_model::Dropped;
+use rp_outbox::Outbox;
+use rp_replica::{Input, NotCut, Replica};
 use rp_store::{CutDevice, Device, InfallibleDevice};
 use std::alloc::Global;
 
@@ -146,23 +149,25 @@ impl<M: Machine, D: CutDevice> Node<M, D> {
         }
     }
 
-    /// The node makes the step of an input, whose packets are put into the buffer. `NotRunning` where
+    /// The node makes the step of an input, whose packets are put after the others. `NotRunning` where
     /// it is stopped, and else as the replica says; where its device failed it is stopped within the
     /// step.
     #[inline(always)]
     pub(crate) fn turn(
         &mut self,
         alloc: Global,
-        buffer: Vec<u8>,
+        messages: &mut Outbox,
         input: &Input,
-    ) -> Result<Sent, Fault>
+    ) -> Result<Dropped, Fault>
         requires right { IsRightInput input.now }
-        ensures ok { IfOk result (λ sent. (member : Member M) (given : NodeInput)
+        ensures ok { IfOk result (λ dropped. (member : Member M) (given : NodeInput)
             → given_by input.now ≡ Ok given → GoesBy D.disk member self.old self.new
-            (node_step M.next M.answers member given) DescribesSent sent) }
+            (node_step M.next M.answers member given)
+            (DescribesSending messages.old.sent messages.new.sent) dropped) }
         ensures err { IfErr result (λ fault. (member : Member M) (given : NodeInput)
             → given_by input.now ≡ Ok given → NotTaken D.disk member self.old self.new
             (node_step M.next M.answers member given) fault) }
+        ensures unsent { OnErr result (messages.new.sent ≡ messages.old.sent) }
         ensures failures { IsCounted (failures_in D.disk self.old) (failures_in D.disk self.new)
             result }
     {
@@ -171,29 +176,40 @@ impl<M: Machine, D: CutDevice> Node<M, D> {
                 if replica.has_failed() {
                     return Err(Fault::NotRunning);
                 }
-                replica.turn_into(alloc, buffer, input)
+                replica.turn_into(alloc, messages, input)
             }
             Node::Stopped(_) => Err(Fault::NotRunning),
         }
     }
 
-    /// Why the step of an input would not be made where memory runs out: as it would be refused with
-    /// memory enough, and else `OutOfMemory`.
-    pub(crate) fn refusal(&self, alloc: Global, input: &Input) -> Fault
-        requires right { IsRightInput input.now }
-        ensures why { (member : Member M) (given : NodeInput) → given_by input.now ≡ Ok given
-            → NotTaken D.disk member self.now self.now
-            (node_step M.next M.answers member given) result }
-        ensures working { result ≢ faults.Device }
+    /// The same, for the packet of a place among the messages, from 0.
+    #[inline(always)]
+    pub(crate) fn hear(
+        &mut self,
+        alloc: Global,
+        messages: &mut Outbox,
+        place: usize,
+    ) -> Result<Dropped, Fault>
+        requires place { place < length messages.old.sent }
+        ensures ok { IfOk result (λ dropped. (member : Member M) (m : Message)
+            → slice_get messages.old.sent place ≡ Some m → GoesBy D.disk member self.old self.new
+            (node_step M.next M.answers member (NodeInput.Receive m))
+            (DescribesSending messages.old.sent messages.new.sent) dropped) }
+        ensures err { IfErr result (λ fault. (member : Member M) (m : Message)
+            → slice_get messages.old.sent place ≡ Some m → NotTaken D.disk member self.old self.new
+            (node_step M.next M.answers member (NodeInput.Receive m)) fault) }
+        ensures unsent { OnErr result (messages.new.sent ≡ messages.old.sent) }
+        ensures failures { IsCounted (failures_in D.disk self.old) (failures_in D.disk self.new)
+            result }
     {
         match self {
             Node::Running(replica) => {
                 if replica.has_failed() {
-                    return Fault::NotRunning;
+                    return Err(Fault::NotRunning);
                 }
-                replica.refusal(alloc, input)
+                replica.deliver(alloc, messages, place)
             }
-            Node::Stopped(_) => Fault::NotRunning,
+            Node::Stopped(_) => Err(Fault::NotRunning),
         }
     }
 

@@ -1,6 +1,6 @@
 //! The result of an event: steps of nodes, and stops within them.
 
-ghost use Rattle.std.specs.Prelude.{◌≡◌, ℕ, Ok, Some, IfOk, IfErr, IsSome, length, option_map};
+ghost use Rattle.std.specs.Prelude.{◌≡◌, ℕ, Ok, Some, IfOk, IfErr, IsSome, length, option_copied, option_map};
 ghost use Rattle.std.specs.List.{AllByRecursion};
 ghost use Rattle.rp_base.specs.Config.{IsRightConfig};
 ghost use Rattle.rp_base.specs.Sets.{Has};
@@ -20,14 +20,14 @@ ghost use Rattle.rp_world.specs.Going.{Answers, Counts, reply_in, stated};
 ghost use Rattle.rp_world.specs.Steps.{IsStep, IsSameSetup, setting_of};
 
 use crate::effect::{no_effect, of_step, taken};
-use crate::messages::Messages;
 use crate::node;
 use crate::world::{World, put_back};
 use rp_agreement::events_keep_ranges;
 use rp_base::{Fault, NodeId, Position, PositionRange, Reply, TaskId};
-use rp_codec::{Body, Party, decode};
+use rp_codec::{Body, Party, decode, usual_reply};
 use rp_machine::Machine;
 use rp_model::{Effect, Event, Interrupt, Step};
+use rp_outbox::Outbox;
 use rp_replica::{Input, texts_are_packets};
 use rp_store::CutDevice;
 use std::alloc::{AllocError, Global};
@@ -45,6 +45,17 @@ fn receiver(text: &[u8]) -> Party
         Some(task) => Party::Task(task),
         None => Party::Audit,
     }
+}
+
+/// The text of the message of this number, from 1.
+#[inline(always)]
+pub(crate) fn text_of_number(messages: &Outbox, number: u64) -> Option<&[u8]>
+    ensures { option_copied result ≡ option_map text_of (part_at messages.now.sent number) }
+{
+    if number == 0 {
+        return None;
+    }
+    messages.text((number - 1) as usize)
 }
 
 impl<M: Machine, D: CutDevice> World<M, D> {
@@ -147,7 +158,7 @@ impl<M: Machine, D: CutDevice> World<M, D> {
     /// message, `NotRunning` where a message is for no node of these, `BadConfig` above the last node,
     /// and as `range_for` where there is no range to lead at.
     fn chosen<'a>(
-        messages: &'a Messages,
+        messages: &'a Outbox,
         nodes: &[node::Node<M, D>],
         step: Step,
     ) -> Result<(NodeId, Input<'a>), Fault>
@@ -159,7 +170,7 @@ impl<M: Machine, D: CutDevice> World<M, D> {
         let (node, input) = match step {
             Step::Deliver(number) => {
                 texts_are_packets();
-                let Some(text) = messages.text(number) else {
+                let Some(text) = text_of_number(messages, number) else {
                     return Err(Fault::NoSuchMessage);
                 };
                 let Party::Node(node) = receiver(text) else {
@@ -242,18 +253,8 @@ impl<M: Machine, D: CutDevice> World<M, D> {
         let Some(node) = self.nodes.get_mut(usize::from(node.get()) - 1) else {
             return Err(Fault::BadConfig);
         };
-        if self.messages.settle().is_err() {
-            return Err(node.refusal(alloc, input));
-        }
-        let buffer = self.messages.lend(alloc);
-        match node.turn(alloc, buffer, input) {
-            Ok(sent) => {
-                let effect = of_step(first, &sent);
-                self.messages.put(sent.bytes, sent.packets);
-                Ok(effect)
-            }
-            Err(fault) => Err(fault),
-        }
+        let dropped = node.turn(alloc, &mut self.messages, input)?;
+        Ok(of_step(first, self.messages(), dropped))
     }
 
     /// To whom the message of this number is, from 1.
@@ -262,7 +263,7 @@ impl<M: Machine, D: CutDevice> World<M, D> {
         requires ranged { IsRangedWorld self.now.config.nodes self.now.world }
         ensures { result ≡ option_map (λ m. m.to) (part_at self.now.world.sent number) }
     {
-        let text = self.messages.text(number)?;
+        let text = self.text(number)?;
         Some(receiver(text))
     }
 
@@ -340,7 +341,6 @@ impl<M: Machine, D: CutDevice> World<M, D> {
         node: NodeId,
         effect: &mut Effect,
     ) -> Result<(), Fault>
-        requires ranged { IsRangedWorld self.old.config.nodes self.old.world }
         requires to { (m : Message) × (part_at self.old.world.sent number ≡ Some m)
             × (m.to ≡ Node node) }
         ensures answer { let setting = setting_of M.next M.answers M.begin self.old in
@@ -355,8 +355,6 @@ impl<M: Machine, D: CutDevice> World<M, D> {
             Counts (IsSome (delivery_writes setting self.old.world message)) (receiver_of message)
             self.old.failures self.new.failures result }
     {
-        events_keep_ranges::<M>();
-        texts_are_packets();
         let first = self.messages() + 1;
         let Some(node) = self.nodes.get_mut(usize::from(node.get()) - 1) else {
             *effect = no_effect(first);
@@ -366,19 +364,10 @@ impl<M: Machine, D: CutDevice> World<M, D> {
             *effect = no_effect(first);
             return Ok(());
         }
-        if self.messages.settle().is_err() {
-            return Err(Fault::OutOfMemory);
-        }
-        let buffer = self.messages.lend(alloc);
-        let text = self.messages.text(number).unwrap();
-        match node.turn(alloc, buffer, &Input::Receive(text)) {
-            Ok(sent) => {
-                *effect = of_step(first, &sent);
-                self.messages.put(sent.bytes, sent.packets);
-                Ok(())
-            }
-            Err(fault) => Err(fault),
-        }
+        let place = (number - 1) as usize;
+        let dropped = node.hear(alloc, &mut self.messages, place)?;
+        *effect = of_step(first, self.messages(), dropped);
+        Ok(())
     }
 
     /// A message arrives at its task, which takes a reply to the call that it waits for.
@@ -397,7 +386,7 @@ impl<M: Machine, D: CutDevice> World<M, D> {
         ensures failures { self.new.failures ≡ self.old.failures }
     {
         let first = self.messages() + 1;
-        let text = self.messages.text(number).unwrap();
+        let text = self.text(number).unwrap();
         let Ok(reply) = read_reply(alloc, text) else {
             return Err(Fault::OutOfMemory);
         };
@@ -417,6 +406,9 @@ fn read_reply(alloc: Global, text: &[u8]) -> Result<Option<(u32, Reply)>, AllocE
     ensures { IfOk result (λ stated. (m : Message) → IsPacket m → text.now ≡ text_of m
         → stated ≡ reply_in m.body) }
 {
+    if let Some(sent) = usual_reply(text) {
+        return Ok(Some((sent.number, sent.reply)));
+    }
     let Ok(packet) = decode(alloc, text)? else {
         return Ok(None);
     };

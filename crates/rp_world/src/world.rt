@@ -12,11 +12,12 @@ ghost use Rattle.rp_world.specs.Steps.{IsStored, IsQueryAnswer, IsQueryAnswerUnl
 ghost use Rattle.rp_base.specs.Records.{applied_of};
 ghost use Rattle.rp_machine.specs.Replay.{replay_state};
 
-use crate::messages::Messages;
 use crate::node::Node;
+use crate::steps::text_of_number;
 use crate::task::Task;
 use rp_base::{Answer, Config, Fault, NodeId, TaskId};
 use rp_machine::Machine;
+use rp_outbox::Outbox;
 use rp_replica::Replica;
 use rp_store::{CutDevice, InfallibleDevice};
 use std::alloc::{AllocError, Global};
@@ -29,7 +30,7 @@ pub(crate) struct World<M: Machine, D: CutDevice> {
     pub(crate) program: M::Program,
     pub(crate) nodes: Vec<Node<M, D>>,
     pub(crate) tasks: Vec<Task>,
-    pub(crate) messages: Messages,
+    pub(crate) messages: Outbox,
 }
 
 impl<M: Machine, D: CutDevice> Model for World<M, D> {
@@ -130,23 +131,25 @@ impl<M: Machine, D: CutDevice> World<M, D> {
             program,
             nodes,
             tasks,
-            messages: Messages::new(alloc),
+            messages: Outbox::new(alloc),
         })
     }
 
     /// How many messages were sent.
+    #[inline(always)]
     pub(crate) fn messages(&self) -> u64
         ensures value { result ≡ length self.now.world.sent }
         ensures few { result < 2 ^ 63 }
     {
-        self.messages.count()
+        self.messages.count() as u64
     }
 
     /// The text of the message of this number, from 1.
+    #[inline(always)]
     pub(crate) fn text(&self, number: u64) -> Option<&[u8]>
         ensures { option_copied result ≡ option_map text_of (part_at self.now.world.sent number) }
     {
-        self.messages.text(number)
+        text_of_number(&self.messages, number)
     }
 
     /// The replies that a task got, in order.

@@ -1,14 +1,15 @@
 -- Each event's answer is a step of the world, and the counts of failures are as it says.
-use Rattle.std.proofs.Common.{None, Some, sym, subst}
-use Rattle.std.specs.Prelude.{IsSome, ℤ}
+use Rattle.std.proofs.Common.{None, Some, sym, ap, subst}
+use Rattle.std.specs.Prelude.{ℤ}
 use Rattle.std.specs.Int.{w64}
 use Rattle.std.proofs.lemmas.Int.{to_z-of_z}
 use Rattle.rp_model.specs.Events.{Submit, Again, Stop, IsEvent, event_of, step_of}
-use Rattle.rp_model.specs.World.{event_effect, stepping, step_writes}
+use Rattle.rp_model.specs.World.{event_effect}
 use Rattle.rp_model.proofs.Devices.{event_is}
 use Rattle.rp_world.specs.Going.{Answers, no_cut}
 use Rattle.rp_world.specs.Steps.{IsStep, setting_of}
-use Rattle.rp_world.proofs.Answering.{submitted, asked, made, was_cut, stopped, restarted, rose, as_answers, none_rose}
+use Rattle.rp_world.proofs.Answering.{submitted, asked, stopped, restarted, as_answers, none_rose}
+use Rattle.rp_world.proofs.Stepping.{made_whole, made_cut}
 use Rattle.rp_world.proofs.world.World.step.Goals as goal
 
 pub returns-in-Submit : goal.returns-in-Submit
@@ -51,35 +52,17 @@ returns-in-Again g c =
 pub returns-in-Node : goal.returns-in-Node
 returns-in-Node g c =
     let m = g.M.Machine in
-    let old = c.args.self.now in
-    let new = c.makes.new.self in
-    let s = setting_of m.next m.answers m.begin old in
-    let step = step_of c.in-Node.step in
-    let node = stepping old.world step in
     record {
-      step = subst (λ e. IsStep m.next m.answers m.begin old e new c.makes.result) (sym c.in-Node.is)
-          (record {
-            world = made s old.world new.world c.makes.result node old.failures new.failures step c.makes.ensures.failures c.makes.ensures.answer;
-            setup = c.makes.ensures.setup;
-            failures = rose (IsSome (step_writes s old.world step)) node old.failures new.failures c.makes.result c.makes.ensures.failures;
-          });
+      step = made_whole m.next m.answers m.begin c.args.self.now c.makes.new.self c.args.event.now (step_of c.in-Node.step) c.makes.result
+          c.makes.ensures.setup c.makes.ensures.failures (ap event_of c.in-Node.is) c.makes.ensures.answer;
     }
 
 pub returns-in-Cut : goal.returns-in-Cut
 returns-in-Cut g c =
     let m = g.M.Machine in
-    let old = c.args.self.now in
-    let new = c.cuts.new.self in
-    let s = setting_of m.next m.answers m.begin old in
-    let step = step_of c.in-Cut.step in
-    let node = stepping old.world step in
     record {
-      step = subst (λ e. IsStep m.next m.answers m.begin old e new c.cuts.result) (sym c.in-Cut.is)
-          (record {
-            world = was_cut s old.world new.world c.cuts.result node old.failures new.failures step c.in-Cut.kept c.cuts.ensures.failures c.cuts.ensures.answer;
-            setup = c.cuts.ensures.setup;
-            failures = rose (IsSome (step_writes s old.world step)) node old.failures new.failures c.cuts.result c.cuts.ensures.failures;
-          });
+      step = made_cut m.next m.answers m.begin c.args.self.now c.cuts.new.self c.args.event.now (step_of c.in-Cut.step) c.cuts.result
+          c.cuts.ensures.setup c.cuts.ensures.failures c.in-Cut.kept (ap event_of c.in-Cut.is) c.cuts.ensures.answer;
     }
 
 pub returns-in-Stop : goal.returns-in-Stop

@@ -1,15 +1,10 @@
-use Rattle.std.proofs.Common.{◌≡◌, ℕ, suc, ◌+◌, ◌-◌, ◌<◌, None, length, map, slice_set, refl, sym, ap, subst, ◌∙◌, arith}
-use Rattle.std.specs.Prelude.{IfOk, IfErr, insert}
-use Rattle.rp_model.specs.declared.effect.Dropped.TheVariants.{No}
-use Rattle.rp_model.specs.Effect.{stop_effect}
+use Rattle.std.proofs.Common.{◌≡◌, suc, ◌-◌, None, length, refl, sym, ap, subst, ◌∙◌, arith}
 use Rattle.rp_model.specs.World.{stops, part_at}
-use Rattle.rp_model.specs.declared.effect.Effect.{Effect}
 use Rattle.rp_world.specs.Going.{AnswersStop}
-use Rattle.rp_world.specs.Nodes.{Member, GoesBy, RefusedBy, DescribesNothing, failures_in, member_of}
 use Rattle.rp_world.specs.Shape.{world_of}
-use Rattle.rp_world.proofs.Moving.{here_of, put_back}
-use Rattle.rp_world.proofs.Failing.{same_counts}
-use Rattle.rp_world.proofs.Ending.{none_here, still, stopped, not_stopped, left_by_stop}
+use Rattle.rp_world.proofs.Placing.{changed}
+use Rattle.rp_world.proofs.Ending.{none_here}
+use Rattle.rp_world.proofs.Leaving.{still_by_stop, stop_ok, stop_err, same_left}
 use Rattle.rp_world.proofs.world.World.stop.Goals.{in-Ok, in-Err}
 use Rattle.rp_world.proofs.world.World.stop.Goals as goal
 
@@ -25,61 +20,25 @@ returns-then-place-len-clause-answer g c =
 pub invariant_of-self : goal.invariant_of-self
 invariant_of-self g c =
     let inside = c.self.inside in
-    let disk = g.D.Device.disk in
-    let begin = g.M.Machine.begin inside.program in
-    let i = c.from-place.result - 1 in
-    let nodes = inside.nodes.items in
-    let placed : suc i ≡ c.args.node = omega (arith, c.get.ensures.value, c.get.ensures.in_range.0, c.from-place.ensures) in
-    let within : i < length nodes = omega (arith, c.if-place-len.false, c.len.ensures, inside.nodes.ok.0) in
-    let n = c.remove.result in
-    let new = c.stop-node.result.0 in
-    let here = here_of nodes i n within c.remove.ensures.value in
-    let put : c.put_back.new.nodes.items ≡ slice_set nodes i new = c.put_back.ensures ∙ ap (λ l. insert l i new) c.remove.ensures.items ∙ put_back nodes i new within in
-    still disk inside.config begin nodes inside.tasks.items inside.messages c.self.invariant i c.args.node placed n here new c.put_back.new.nodes.items put
-    (left_by_stop disk inside.config begin nodes inside.tasks.items inside.messages c.self.invariant i c.args.node placed n here new c.put_back.new.nodes.items put
-    c.stop-node.result.1 c.stop-node.ensures.ok c.stop-node.ensures.err)
+    let at = changed inside.nodes.items c.args.node c.get.result c.from-place.result c.remove.result c.stop-node.result.0 c.put_back.new.nodes.items c.get.ensures.value c.get.ensures.in_range.0 c.from-place.ensures
+    (omega (arith, c.if-place-len.false, c.len.ensures, inside.nodes.ok.0)) c.remove.ensures.value c.remove.ensures.items c.put_back.ensures in
+    still_by_stop g.D.Device.disk at inside.config (g.M.Machine.begin inside.program) inside.tasks.items inside.messages c.self.invariant c.stop-node.result.1 c.stop-node.ensures.ok c.stop-node.ensures.err
 
 pub returns-clause-answer : goal.returns-clause-answer
 returns-clause-answer g c =
     let inside = c.self.inside in
-    let disk = g.D.Device.disk in
-    let begin = g.M.Machine.begin inside.program in
-    let i = c.from-place.result - 1 in
-    let nodes = inside.nodes.items in
-    let placed : suc i ≡ c.args.node = omega (arith, c.get.ensures.value, c.get.ensures.in_range.0, c.from-place.ensures) in
-    let within : i < length nodes = omega (arith, c.if-place-len.false, c.len.ensures, inside.nodes.ok.0) in
-    let n = c.remove.result in
-    let new = c.stop-node.result.0 in
-    let here = here_of nodes i n within c.remove.ensures.value in
-    let put : c.put_back.new.nodes.items ≡ slice_set nodes i new = c.put_back.ensures ∙ ap (λ l. insert l i new) c.remove.ensures.items ∙ put_back nodes i new within in
-    let member = member_of c.args.node inside.config begin in
-    let after = world_of disk inside.config.max_positions c.put_back.new.nodes.items inside.tasks.items inside.messages in
-    let first : c.messages-first.result + 1 ≡ length inside.messages.sent + 1 = ap (λ k. k + 1) (c.messages-first.ensures.value ∙ ap (λ v. length v.world.sent) (sym c.self.view_is)) in
+    let at = changed inside.nodes.items c.args.node c.get.result c.from-place.result c.remove.result c.stop-node.result.0 c.put_back.new.nodes.items c.get.ensures.value c.get.ensures.in_range.0 c.from-place.ensures
+    (omega (arith, c.if-place-len.false, c.len.ensures, inside.nodes.ok.0)) c.remove.ensures.value c.remove.ensures.items c.put_back.ensures in
+    let after = world_of g.D.Device.disk inside.config.max_positions c.put_back.new.nodes.items inside.tasks.items inside.messages in
     subst (λ v. AnswersStop v.world (stops v.world c.args.node (part_at v.world.nodes c.args.node)) after c.match-answer.result) c.self.view_is
     (elim c.match-answer.branch [
-      | in-Ok b ↦
-          let stated = b.no_effect.ensures ∙ ap (λ (k : ℕ). let e : Effect = record { first = k; sent = 0; dropped = No; taken = None; opened = None } in e) first in
-          let ok = subst (λ r. IfOk r (λ done. (m : Member g.row.M.Denot) → GoesBy disk m n new stop_effect DescribesNothing done)) b.in-Ok.is c.stop-node.ensures.ok in
-          subst (AnswersStop _ _ after) (sym b.result-is)
-          (stopped disk inside.config begin nodes inside.tasks.items inside.messages c.self.invariant i c.args.node placed n here new c.put_back.new.nodes.items put (ok member) b.no_effect.result stated)
-      | in-Err b ↦
-          let err = subst (λ r. IfErr r (λ fault. (m : Member g.row.M.Denot) → RefusedBy disk m n new stop_effect fault)) b.in-Err.is c.stop-node.ensures.err in
-          subst (AnswersStop _ _ after) (sym b.result-is)
-          (not_stopped disk inside.config begin nodes inside.tasks.items inside.messages c.self.invariant i c.args.node placed n here new c.put_back.new.nodes.items put b.in-Err.fault (err member))
+      | in-Ok b ↦ stop_ok g.D.Device.disk at inside.config (g.M.Machine.begin inside.program) inside.tasks.items inside.messages c.self.invariant c.stop-node.result.1 b.in-Ok.is b.result-is c.stop-node.ensures.ok (c.messages-first.ensures.value ∙ ap (λ v. length v.world.sent) (sym c.self.view_is)) b.no_effect.ensures
+      | in-Err b ↦ stop_err g.D.Device.disk at inside.config (g.M.Machine.begin inside.program) inside.tasks.items inside.messages c.self.invariant c.stop-node.result.1 b.in-Err.is b.result-is c.stop-node.ensures.err
     ])
 
 pub returns-clause-failures : goal.returns-clause-failures
 returns-clause-failures g c =
     let inside = c.self.inside in
-    let disk = g.D.Device.disk in
-    let i = c.from-place.result - 1 in
-    let me = c.args.node in
-    let nodes = inside.nodes.items in
-    let placed : suc i ≡ me = omega (arith, c.get.ensures.value, c.get.ensures.in_range.0, c.from-place.ensures) in
-    let within : i < length nodes = omega (arith, c.if-place-len.false, c.len.ensures, inside.nodes.ok.0) in
-    let n = c.remove.result in
-    let new = c.stop-node.result.0 in
-    let here = here_of nodes i n within c.remove.ensures.value in
-    let put : c.put_back.new.nodes.items ≡ slice_set nodes i new = c.put_back.ensures ∙ ap (λ l. insert l i new) c.remove.ensures.items ∙ put_back nodes i new within in
-    let is_after : map (failures_in disk) c.put_back.new.nodes.items ≡ map (failures_in disk) (slice_set nodes i new) = ap (map (failures_in disk)) put in
-    is_after ∙ same_counts disk nodes i me placed n here new c.stop-node.ensures.failures ∙ ap (λ v. v.failures) c.self.view_is
+    let at = changed inside.nodes.items c.args.node c.get.result c.from-place.result c.remove.result c.stop-node.result.0 c.put_back.new.nodes.items c.get.ensures.value c.get.ensures.in_range.0 c.from-place.ensures
+    (omega (arith, c.if-place-len.false, c.len.ensures, inside.nodes.ok.0)) c.remove.ensures.value c.remove.ensures.items c.put_back.ensures in
+    same_left g.D.Device.disk at c.stop-node.ensures.failures ∙ ap (λ v. v.failures) c.self.view_is

@@ -17,7 +17,7 @@ use Rattle.rp_model.specs.Tasks.{TaskInput, Take, asks, takes_reply, task_effect
 use Rattle.rp_model.specs.declared.effect.Dropped.TheVariants.{No}
 use Rattle.rp_agreement.specs.Answered.{AreItsCalls, named}
 use Rattle.rp_agreement.specs.Inputs.{WaitsForOwn}
-use Rattle.rp_replica.specs.Packets.{texts_of}
+use Rattle.rp_outbox.specs.Packets.{texts_of}
 use Rattle.rp_replica.specs.declared.sent.Sent.{Sent}
 use Rattle.rp_world.specs.Callers.{Caller}
 use Rattle.rp_boxes.specs.Parts.{Part, OfTask, task_of, part_after}

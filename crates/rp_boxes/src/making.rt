@@ -192,6 +192,7 @@ impl<M: Machine> Unseated<M> {
                     place,
                     board,
                     spares: Vec::new(alloc),
+                    ends: Vec::new(alloc),
                 })
             }
             Err((fault, _)) => Err(fault),

@@ -37,6 +37,8 @@ pub struct NodeSeat<M: Machine, D: Device> {
     pub(crate) board: Arc<Board<M>, Global>,
     /// Buffers for packets to come.
     pub(crate) spares: Vec<Vec<u8>>,
+    /// A buffer for where the packets of a step end.
+    pub(crate) ends: Vec<usize>,
 }
 
 impl<M: Machine, D: Device> Model for NodeSeat<M, D> {
@@ -88,7 +90,7 @@ impl<M: Machine, D: Device> NodeSeat<M, D> {
             return Err(Fault::Failed);
         }
         let buffer = spare_buffer(&mut self.spares, alloc);
-        match self.replica.turn_into(alloc, buffer, input) {
+        match self.replica.turn_with(alloc, buffer, &mut self.ends, input) {
             Ok(sent) => {
                 note_turn::<M, D, Brand>(
                     &self.board.shared,

@@ -1,5 +1,6 @@
 -- The seats of a run.
-use Rattle.std.specs.Prelude.{◌≡◌, ◌≢◌, ◌⊎◌, ◌≤◌, ◌<◌, ◌+◌, ℕ, zero, suc, min, Bool, None, IfSome, IsSome, List, [], length}
+use Rattle.std.specs.Prelude.{◌≡◌, ◌≢◌, ◌⊎◌, ◌≤◌, ◌<◌, ◌+◌, ℕ, zero, suc, min, Bool}
+use Rattle.std.specs.Prelude.{None, IfSome, IsSome, List, [], length}
 use Rattle.std.specs.Prelude.{slice_get}
 use Rattle.rp_base.specs.Action.{IsIndex, IsCount}
 use Rattle.rp_base.specs.declared.action.Action.{Action}

@@ -64,7 +64,7 @@ past_send Y = search (crosses, sendable)
 keeps : (T : RattleType) → IsSend T → (p : Parts (knot.frame T)) → ((j : deep.the_members) → IsSend (local.rows (knot.frame T) p j)) → (i : deep.the_members) → IsSend (local.rows (knot.frame T) (knot.step T p) i)
 keeps T s p all deep.member-History =
     let earlier = local.rows (knot.frame T) p deep.member-History in
-    record { owned = λ x vs x'. ((λ us. (tt, ((λ ws. (tt, either (Snapshot.the_row earlier) T (past_send earlier) s _ ws)), tt))), tt); leaving = λ k d w. tt }
+    record { owned = λ x vs x'. ((λ us. (tt, ((λ ws. (tt, either (Snapshot.the_row earlier) (Snapshot.the_row T) (past_send earlier) (past_send T) _ ws)), tt))), tt); leaving = λ k d w. tt }
 
 pub history_send : (T : RattleType) → IsSend T → IsSend (History.the_row T)
 history_send T s = tied_send (knot.frame T) (knot.step T) (knot.sizes T) (keeps T s) deep.member-History
@@ -140,7 +140,7 @@ node_inside M D P m d s t = recorded_send (node_seat.the_field M D P m d).row _ 
       search (crosses, sendable, place.the_send) depth 9,
       (
         search (crosses, sendable, shared.the_send, shared.the_sync, lease.the_send, lease.the_sync) depth 25,
-        (search (crosses, sendable), tt),
+        (search (crosses, sendable), (search (crosses, sendable), tt)),
       ),
     ),
   ),

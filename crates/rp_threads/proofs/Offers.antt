@@ -10,9 +10,9 @@ use Rattle.rp_base.proofs.Members.{has_split}
 use Rattle.rp_codec.specs.Message.{Message, IsPacket}
 use Rattle.rp_codec.specs.Text.{text_of}
 use Rattle.rp_codec.specs.declared.packet.Party.{Party}
-use Rattle.rp_replica.specs.Packets.{Run, texts_of, run_of}
+use Rattle.rp_outbox.specs.Packets.{texts_of}
 use Rattle.rp_replica.specs.declared.sent.Sent.{Sent}
-use Rattle.rp_replica.proofs.Queueing.{packets_then}
+use Rattle.rp_outbox.proofs.Joined.{texts_append}
 use Rattle.rp_boxes.specs.Parts.{Part}
 use Rattle.rp_boxes.specs.Seats.{SeatState, IsSentText}
 use Rattle.rp_threads.specs.Turns.{AreGivenOut, AreOffered, AreOfferedInPart, AreSent, AreSentTexts, AreTextsOffered, AreTextsOfferedInPart, IsAllOffered, IsOffered, IsOfferedInPart}
@@ -103,7 +103,7 @@ module _ {S P : Type 0} (next : S → Action → S) (answers : S → Action → 
   part_puts first now bytes left lost so_far = offers_put next answers begin from so_far.packets first now lost so_far.offered
 
   joined : (ps qs : List Message) → texts_of ps ++ texts_of qs ≡ texts_of (ps ++ qs)
-  joined ps qs = ap (λ (r : Run). r.bytes) (packets_then (run_of []) ps qs)
+  joined ps qs = sym (texts_append ps qs)
 
   either_sent : (part : Part) (ps qs : List Message) → ((m : Message) → Has m ps → Has m part.sent) → ((m : Message) → Has m qs → Has m part.sent) → (m : Message) → Has m (ps ++ qs) → Has m part.sent
   either_sent part ps qs first following m has = elim (has_split m ps qs has) [ inl here ↦ first m here | inr there ↦ following m there ]

@@ -15,11 +15,11 @@ use Rattle.rp_codec.specs.declared.packet.Party.{Party}
 use Rattle.rp_model.specs.Effect.{Done, report_of}
 use Rattle.rp_model.specs.Parts.{TaskPart, fresh_task}
 use Rattle.rp_model.specs.Tasks.{Submit, asks, calls_if, may_call, next_call}
-use Rattle.rp_replica.specs.Packets.{texts_of}
+use Rattle.rp_outbox.specs.Packets.{texts_of}
 use Rattle.rp_replica.specs.declared.sent.Sent.{Sent}
 use Rattle.rp_boxes.specs.Making.{AreFirstSeats}
 use Rattle.rp_boxes.specs.Parts.{OfTask, fresh_part}
-use Rattle.rp_boxes.specs.Seats.{SeatState, IsPut, IsSentText, IsFetched, IsReport}
+use Rattle.rp_boxes.specs.Seats.{SeatState, IsSentText, IsFetched, IsReport}
 use Rattle.rp_boxes.specs.TaskSeats.{IsTaskTurn}
 use Rattle.rp_tasks.specs.Line.{Line}
 use Rattle.rp_threads.specs.Lines.{HoldsTextsOf}
@@ -46,10 +46,6 @@ pub sent_if : {P : Type 0} (old new : SeatState P) (node object : ℕ) (operatio
     → IfOk stated (λ sent. IsTaskTurn old (Submit node object operation arg) new sent) → IfOk stated (λ sent. IsSentText new.part sent.bytes.items)
 sent_if old new node object operation arg (Ok sent) turn = sent_text old new node object operation arg sent turn
 sent_if old new node object operation arg (Err fault) turn = tt
-
--- what was sent is so, whatever was put since
-pub still_sent : {P : Type 0} (bytes text : List ℕ) (old new : SeatState P) → IsPut bytes old new → IsSentText old.part text → IsSentText new.part text
-still_sent {P} bytes text old new put sent = subst (λ (c : SeatState P). IsSentText c.part text) (sym put.after) sent
 
 -- what was fetched is got
 pub fetched_is_got : {P : Type 0} (from to : Party) (bytes text : List ℕ) (old new : SeatState P) → IsFetched from to bytes old new → text ≡ bytes

@@ -1,5 +1,5 @@
 -- The chart of a cluster, and what a run reaches by what it says to a writer of which nothing is known.
-use Rattle.std.proofs.Common.{◌≡◌, ◌∙◌, ℕ, zero, suc, ◌+◌, ◌-◌, ◌≤◌, Option, Some, None, Result, Ok, Err, OnOk, List, [], ◌∷◌, ◌++◌, length, drop, arith, refl, sym, ap, subst, append_assoc}
+use Rattle.std.proofs.Common.{◌≡◌, ◌∙◌, ℕ, zero, suc, ◌-◌, Some, None, Result, Ok, Err, OnOk, List, [], ◌∷◌, ◌++◌, drop, arith, sym, ap, subst, append_assoc}
 use Rattle.std.specs.Prelude.{slice_get}
 use Rattle.rp_base.specs.declared.action.Action.{Action}
 use Rattle.rp_base.specs.declared.fault.Fault.{Fault}
@@ -9,7 +9,7 @@ use Rattle.rp_history.specs.Histories.{IsSketchOf}
 use Rattle.rp_history.specs.declared.chart.Chart.{Chart}
 use Rattle.rp_model.specs.Effect.{Setting}
 use Rattle.rp_model.specs.World.{World, part_at}
-use Rattle.rp_run.specs.Output.{Said, text_of}
+use Rattle.rp_run.specs.Output.{Said}
 use Rattle.rp_run.specs.Runs.{Follows, Says}
 use Rattle.rp_output.specs.Stream.{Writes}
 use Rattle.rp_run.specs.declared.settled.Settled.{Settled}

@@ -69,7 +69,8 @@ pub record RunsAs (args : Args) (given output output_after errors errors_after :
   pub reported : OnOk ending.reported (Appends errors errors_after (report_of ran))
 
 -- Wrong words were reported, and help or the version alone was printed.
-abbrev pub RefusesAs : ErrorKind → Option (List ℕ) → Option (List ℕ) → Option (List ℕ) → Option (List ℕ) → Ending → Type 0
+abbrev pub RefusesAs : ErrorKind → Option (List ℕ) → Option (List ℕ) → Option (List ℕ) → Option (List ℕ) → Ending
+    → Type 0
 RefusesAs kind = RefusesFor (no_run_of kind)
 
 -- one of the words is not UTF-8, or memory ran out for saying so

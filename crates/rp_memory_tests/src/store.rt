@@ -1,7 +1,7 @@
 ghost use Rattle.std.specs.Prelude.{IfOk};
 ghost use Rattle.rp_base.specs.Right.{IsRightRecord};
 
-use rp_base::{Action, Ballot, Fault, Operation, Position, Rec, TaskId};
+use rp_base::{Action, Ballot, Fault, Operation, Position, Rec, TaskId, WriteFault};
 use rp_store::*;
 use std::alloc::Global;
 use std::process::Abort;
@@ -105,8 +105,8 @@ fn puts<D: Device>(rt: &impl Abort, store: &mut Store<D>, rec: &Rec) -> Result<(
     requires { IsRightRecord rec.now }
 {
     if let Err(fault) = store.put(rec) {
-        assert_eq!(rt; fault, Fault::OutOfMemory);
-        store.put(rec)?;
+        assert_eq!(rt; fault, WriteFault::OutOfMemory);
+        store.put(rec).map_err(Fault::from)?;
     }
     Ok(())
 }
@@ -218,16 +218,16 @@ fn an_opening_syncs_once_whatever_the_device_holds(rt: HostRuntime) -> Result<()
     let cases: [&[u8]; 4] = [&[], &STARTED, &TORN, &WRONG];
     for bytes in &cases {
         let mut store = opened(&rt, rt.alloc(), failing(rt.alloc(), bytes, 2)?)?.store;
-        assert_eq!(rt; vote_fault(&mut store)?, Some(Fault::Device));
+        assert_eq!(rt; vote_fault(&mut store)?, Some(WriteFault::Device));
     }
     Ok(())
 }
 
 /// Why a put of the vote is refused, if it is. It is tried once more where memory was refused.
-fn vote_fault<D: Device>(store: &mut Store<D>) -> Result<Option<Fault>, Fail> {
+fn vote_fault<D: Device>(store: &mut Store<D>) -> Result<Option<WriteFault>, Fail> {
     let voted = voted()?;
     match store.put(&voted) {
-        Err(Fault::OutOfMemory) => Ok(store.put(&voted).err()),
+        Err(WriteFault::OutOfMemory) => Ok(store.put(&voted).err()),
         result => Ok(result.err()),
     }
 }
@@ -244,8 +244,8 @@ fn not_opened<D: Device>(alloc: Global, device: D) -> Result<D, Fail> {
 #[test]
 fn a_failed_sync_is_reported_and_the_store_writes_no_more(rt: HostRuntime) -> Result<(), Fail> {
     let mut store = opened(&rt, rt.alloc(), failing(rt.alloc(), &STARTED, 2)?)?.store;
-    assert_eq!(rt; vote_fault(&mut store)?, Some(Fault::Device));
-    assert_eq!(rt; vote_fault(&mut store)?, Some(Fault::Failed));
+    assert_eq!(rt; vote_fault(&mut store)?, Some(WriteFault::Device));
+    assert_eq!(rt; vote_fault(&mut store)?, Some(WriteFault::Failed));
     assert!(rt; store.has_failed());
     opens(&rt, rt.alloc(), store.close(), &[started()?, voted()?], 0)
 }

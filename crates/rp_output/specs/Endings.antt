@@ -1,4 +1,4 @@
--- The status that a program ends with, and what it reports where the words of its command line ask for no run.
+-- The status that a program ends with, and what it reports where its words ask for no run.
 use Rattle.std.specs.Prelude.{◌≡◌, ◌≢◌, ◌⊎◌, ℕ, Option, Result, Ok, Err, List, OnOk}
 use Rattle.std.specs.Io.KnownBytes.{Appends}
 use Rattle.rp_base.specs.declared.fault.Fault.{Fault}
@@ -29,8 +29,9 @@ abbrev pub ReportsFault : Fault → Option (List ℕ) → Option (List ℕ) → 
 ReportsFault fault errors errors_after ending =
     OnOk ending.reported (Appends errors errors_after (with_line_feed (fault_message_of fault)))
 
--- Wrong words were reported, and help or the version alone was printed. The status is the one of this kind of mistake;
--- where help or the version could not be printed it is that of `Io`, which is reported.
+-- Wrong words were reported, and help or the version alone was printed. The status is the one for
+-- why there is no run; where help or the version could not be printed it is that of `Io`, which is
+-- reported.
 pub record RefusesFor (why : NoRun) (output output_after errors errors_after : Option (List ℕ)) (ending : Ending)
     : Type 0 where
   pub status : (ending.status ≡ no_run_status why)

@@ -101,7 +101,9 @@ impl<M: Machine, D: CutDevice> Run<M, D> {
         }
     }
 
-    /// Takes a step, settles its messages and prints its effect; or prints that it was refused.
+    /// Takes a step, settles its messages and prints its effect; or prints that it was refused. It is
+    /// compiled into `drain` for deliveries alone.
+    #[inline(always)]
     fn step<W: Write>(
         &mut self,
         options: &RunOptions<'_>,
@@ -138,6 +140,7 @@ impl<M: Machine, D: CutDevice> Run<M, D> {
 
     /// Prints the result of an event: its packets, if they are printed, how a restart went, a
     /// pending item that was dropped, and the reply that a task takes.
+    #[inline(always)]
     fn print_effect<W: Write>(
         &self,
         options: &RunOptions<'_>,

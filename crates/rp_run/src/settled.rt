@@ -74,6 +74,7 @@ impl Settled {
     }
 
     /// The messages that an event settles are settled from now on.
+    #[inline(always)]
     pub fn settle_by(&mut self, event: &Event) -> Result<(), AllocError>
         requires { All (λ m. (1 ≤ m) × (m < 2 ^ 63)) (settled_by event.now) }
         ensures { OnOk result ((m : ℕ)

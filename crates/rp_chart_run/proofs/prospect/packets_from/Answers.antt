@@ -1,5 +1,5 @@
 -- One packet more, or the end.
-use Rattle.std.proofs.Common.{◌≡◌, ◌∙◌, ◌+◌, ◌-◌, ◌≤◌, ℕ, List, Option, Some, [], ◌∷◌, ◌++◌, length, drop, arith, refl, sym, ap, subst, append-nil}
+use Rattle.std.proofs.Common.{◌≡◌, ◌∙◌, ◌+◌, ◌-◌, ◌≤◌, ℕ, List, [], ◌∷◌, ◌++◌, length, drop, arith, sym, ap, append-nil}
 use Rattle.std.proofs.lemmas.List.{drop_all}
 use Rattle.rp_codec.specs.Message.{Message}
 use Rattle.rp_chart_run.proofs.Charting.{one_more}

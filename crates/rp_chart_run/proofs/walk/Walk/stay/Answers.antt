@@ -1,5 +1,5 @@
 -- Nothing happens in the moment.
-use Rattle.std.proofs.Common.{◌≡◌, ℕ, length, sym, subst}
+use Rattle.std.proofs.Common.{ℕ, sym, subst}
 use Rattle.rp_drawing.specs.Ways.{IsEndingWithin}
 use Rattle.rp_history.specs.Histories.{lost_of}
 use Rattle.rp_world.specs.Steps.{setting_of}

@@ -1,7 +1,6 @@
 -- By what the step of the cluster was.
-use Rattle.std.proofs.Common.{◌≡◌, ◌∙◌, ◌+◌, ◌-◌, ℕ, ◌≤◌, List, Option, None, Some, length, length-append, drop, true, arith, sym, ap, subst}
+use Rattle.std.proofs.Common.{◌≡◌, ◌∙◌, ◌-◌, ℕ, ◌≤◌, Option, None, length, length-append, drop, arith, sym, ap, subst}
 use Rattle.rp_base.specs.Fault.{code_of}
-use Rattle.rp_codec.specs.Message.{Message}
 use Rattle.rp_drawing.specs.Ways.{IsEndingWithin}
 use Rattle.rp_drawing.specs.declared.sketch.Ending.{Ending}
 use Rattle.rp_history.proofs.HistoryLemmas.{ending_within}
@@ -10,7 +9,7 @@ use Rattle.rp_model.specs.World.{World}
 use Rattle.rp_run.specs.Output.{event_said}
 use Rattle.rp_run.specs.Runs.{run_setting}
 use Rattle.rp_run.proofs.RunParts.{happened, was_refused}
-use Rattle.rp_run.proofs.Stepping.{always_ok, parts_stay, parts_left, refused_of}
+use Rattle.rp_run.proofs.Stepping.{always_ok, parts_stay, refused_of}
 use Rattle.rp_chart_run.proofs.Charting.{charted_by, follows_of, writes_none}
 use Rattle.rp_chart_run.proofs.walk.Walk.step.Goals as goal
 

@@ -5,7 +5,10 @@ use Rattle.std.proofs.lemmas.List.Elements.{All-nil, All-cons, All-head, All-tai
 use Rattle.std.specs.Int.{w32}
 use Rattle.std.proofs.lemmas.Bool.{eqb-true, eq-eqb}
 use Rattle.std.proofs.lemmas.Bool.Decides.{nat_tests}
-use Rattle.rp_base.specs.Number.{IsTask}
+use Rattle.rp_base.specs.Number.{IsTask, IsPosition}
+use Rattle.rp_base.specs.Ballot.{IsBallot}
+use Rattle.rp_base.specs.declared.record.Vote.{Vote}
+use Rattle.rp_base.specs.declared.placed.PlacedVote.{PlacedVote}
 use Rattle.rp_base.specs.Action.{IsIndex, IsRight, IsRightOperation}
 use Rattle.rp_base.specs.declared.action.Operation.{Operation}
 use Rattle.rp_base.specs.declared.action.Operation.TheVariants as operations
@@ -16,10 +19,10 @@ use Rattle.rp_codec.specs.declared.packet.Party.TheVariants.{Node, Task, Audit}
 use Rattle.rp_codec.specs.Message.{IsCallBy, IsCallOf}
 use Rattle.rp_codec.specs.declared.version.Version.{Version}
 use Rattle.rp_codec.specs.declared.version.Version.TheVariants.{V1, V2}
-use Rattle.rp_codec.specs.Text.{number_text, signed_text, entry_byte, operation_text_at, action_text_at, HasOperationText, HasActionText}
-use Rattle.rp_codec.specs.Reading.{is_entry_byte, entry_of, indexed_at, entry_at, operation_at, call_at, any_call_at, interrupt_at, tick_at, action_at, actions_at, is_task, own_call_at}
+use Rattle.rp_codec.specs.Text.{number_text, signed_text, position_text, ballot_text, entry_byte, operation_text_at, action_text_at, placed_text_at, HasOperationText, HasActionText}
+use Rattle.rp_codec.specs.Reading.{is_entry_byte, entry_of, indexed_at, entry_at, operation_at, call_at, any_call_at, interrupt_at, tick_at, action_at, vote_at, placed_vote_at, actions_at, is_task, own_call_at}
 use Rattle.rp_codec.proofs.Steps.{IsBytes, Yields, Took, then, when, guarded, weaker}
-use Rattle.rp_codec.proofs.FieldLaws.{TookByte, TookNumber32, TookSigned, TookIndex, TookCount, byte_took, number32_took, number32_again, signed_took, signed_again, index_took, index_again, count_took, count_again}
+use Rattle.rp_codec.proofs.FieldLaws.{TookByte, TookNumber32, TookSigned, TookIndex, TookCount, byte_took, number32_took, number32_again, signed_took, signed_again, index_took, index_again, count_took, count_again, IsLower, TookLower, lower_took, lower_again, TookPlace, place_took, place_again, regroup}
 
 -- ---- operations
 
@@ -150,6 +153,44 @@ action_again v (actions.Call task number object operation arg) rest right =
     ap (action_at v) (call_parts v task number object operation arg rest) ∙ rw (index_again task (number_text w32 number ++ (object ∷ (operation_text_at v operation ++ (signed_text arg ++ rest)))) right.0.0, call_again v task number object operation arg rest right) refl
 action_again v (actions.Interrupt source occurrence) rest right = rw (index_again source (number_text w32 occurrence ++ rest) right.0.0, count_again occurrence rest right.0.1) refl
 action_again v (actions.Tick now) rest right = rw (number32_again now rest right.0) refl
+
+-- ---- a vote in a ballot below another
+
+abbrev pub TookVote : Version → ℕ → List ℕ → Vote × List ℕ → Type 0
+TookVote v ballot bytes = Took (λ vote. ballot_text vote.ballot ++ action_text_at v vote.action) (λ vote. IsLower ballot vote.ballot × IsActionAt v vote.action) bytes
+
+pub vote_took : (v : Version) (ballot : ℕ) (bytes : List ℕ) → IsBytes bytes → Yields (TookVote v ballot bytes) (vote_at v ballot bytes)
+unfolding vote_at
+vote_took v ballot bytes h =
+    then (TookLower ballot bytes) (TookVote v ballot bytes) _ _ (lower_took ballot bytes h)
+    (λ lower l. then (TookAction v lower.1) (TookVote v ballot bytes) _ _ (action_took v lower.1 l.rest)
+    (λ action a. record { parts = rw (l.parts, a.parts) (simp append_assoc); rest = a.rest; right = (l.right, a.right) }))
+
+pub vote_again : (v : Version) (ballot : ℕ) (vote : Vote) (rest : List ℕ) → IsLower ballot vote.ballot → IsActionAt v vote.action
+    → vote_at v ballot ((ballot_text vote.ballot ++ action_text_at v vote.action) ++ rest) ≡ Ok (vote, rest)
+unfolding vote_at
+vote_again v ballot vote rest lower right =
+    ap (vote_at v ballot) (append_assoc (ballot_text vote.ballot) (action_text_at v vote.action) rest)
+    ∙ rw (lower_again ballot vote.ballot (action_text_at v vote.action ++ rest) lower, action_again v vote.action rest right) refl
+
+-- ---- a vote with its position
+
+abbrev pub TookPlacedVote : Version → List ℕ → PlacedVote × List ℕ → Type 0
+TookPlacedVote v bytes = Took (placed_text_at v) (λ placed. IsPosition placed.position × IsBallot placed.vote.ballot × IsActionAt v placed.vote.action) bytes
+
+pub placed_vote_took : (v : Version) (bytes : List ℕ) → IsBytes bytes → Yields (TookPlacedVote v bytes) (placed_vote_at v bytes)
+unfolding placed_vote_at
+placed_vote_took v bytes h =
+    then (TookPlace bytes) (TookPlacedVote v bytes) _ _ (place_took bytes h)
+    (λ place p. then (TookAction v place.1) (TookPlacedVote v bytes) _ _ (action_took v place.1 p.rest)
+    (λ action a. record { parts = rw (p.parts, a.parts) (simp append_assoc); rest = a.rest; right = (p.right.0, p.right.1, a.right) }))
+
+pub placed_vote_again : (v : Version) (position ballot : ℕ) (action : Action) (rest : List ℕ) → IsPosition position → IsBallot ballot → IsActionAt v action
+    → placed_vote_at v ((position_text position ++ ballot_text ballot ++ action_text_at v action) ++ rest) ≡ Ok (record { position = position; vote = record { ballot = ballot; action = action } }, rest)
+unfolding placed_vote_at
+placed_vote_again v position ballot action rest is_position is_ballot right =
+    ap (placed_vote_at v) (regroup (position_text position) (ballot_text ballot) (action_text_at v action) rest)
+    ∙ rw (place_again position ballot (action_text_at v action ++ rest) is_position is_ballot, action_again v action rest right) refl
 
 -- ---- a party's own call
 

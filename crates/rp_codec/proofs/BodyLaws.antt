@@ -13,14 +13,15 @@ use Rattle.rp_codec.specs.declared.packet.Body.TheVariants as bodies
 use Rattle.rp_codec.specs.declared.kind.Kind.{Kind}
 use Rattle.rp_codec.specs.declared.kind.Kind.TheVariants.{Call, Prepare, Promise, Accept, Accepted, Decided, Ask, Nack, Reply as Answer, Report, PrepareRange, PromiseRange}
 use Rattle.rp_base.specs.Right.{IsReply}
+use Rattle.rp_codec.specs.Kind.{Role, ANode, ATask, TheAudit, sender_role, receiver_role}
 use Rattle.rp_codec.specs.declared.version.Version.{Version}
 use Rattle.rp_codec.specs.Message.{IsBody, IsNodeParty, IsTaskParty, IsAudit, IsVoteBelow, MaySay, report_len}
 use Rattle.rp_codec.specs.Text.{number_text, position_text, ballot_text, action_text_at, reply_text, last_text_at, kind_number, body_text_at, HasActionText, HasBodyText, range_text, votes_text_at}
-use Rattle.rp_codec.specs.Reading.{value_at, truth_at, reply_at, vote_at, last_at, prepare_at, promise_at, accept_at, accepted_at, decided_at, ask_at, nack_at, answer_at, report_at, task_call_at, body_at, prepare_range_at, promise_range_at}
+use Rattle.rp_codec.specs.Reading.{value_at, truth_at, reply_at, last_vote_at, last_at, prepare_at, promise_at, accept_at, accepted_at, decided_at, ask_at, nack_at, answer_at, report_at, task_call_at, body_at, prepare_range_at, promise_range_at}
 use Rattle.rp_codec.proofs.Steps.{IsBytes, Yields, Took, then, when, guarded}
-use Rattle.rp_codec.proofs.FieldLaws.{TookByte, TookNumber16, number16_took, number16_again, TookSigned, TookCount, TookPosition, TookBallot, byte_took, signed_took, signed_again, count_took, count_again, position_took, position_again, ballot_took, ballot_again, TookLower, lower_took, lower_again, TookHigher, higher_took, higher_again, TookRange, range_took, range_again}
+use Rattle.rp_codec.proofs.FieldLaws.{TookByte, TookNumber16, number16_took, number16_again, TookSigned, TookCount, TookPosition, byte_took, signed_took, signed_again, count_took, count_again, position_took, position_again, TookHigher, higher_took, higher_again, TookPlace, place_took, place_again, TookRangePlace, range_place_took, range_place_again, regroup}
 use Rattle.rp_codec.proofs.VotesLaws.{TookReported, reported_took, reported_again}
-use Rattle.rp_codec.proofs.ActionLaws.{TookActions, each_text, actions_took, actions_again, TookAction, TookOwn, action_took, action_again, own_call_took, own_call_again}
+use Rattle.rp_codec.proofs.ActionLaws.{TookVote, vote_took, vote_again, TookPlacedVote, placed_vote_took, placed_vote_again, TookActions, each_text, actions_took, actions_again, TookAction, TookOwn, action_took, action_again, own_call_took, own_call_again}
 
 -- ---- replies
 
@@ -71,12 +72,11 @@ IsLast v ballot last = IfSome last (λ vote. IsBallot vote.ballot) × IfSome las
 abbrev TookLast : Version → ℕ → List ℕ → Option Vote × List ℕ → Type 0
 TookLast v ballot bytes = Took (last_text_at v) (IsLast v ballot) bytes
 
-vote_took : (v : Version) (ballot : ℕ) (bytes rest : List ℕ) → bytes ≡ 1 ∷ rest → IsBytes rest → Yields (TookLast v ballot bytes) (vote_at v ballot rest)
-unfolding vote_at
-vote_took v ballot bytes rest begins h =
-    then (TookLower ballot rest) (TookLast v ballot bytes) _ _ (lower_took ballot rest h)
-    (λ b t. then (TookAction v b.1) (TookLast v ballot bytes) _ _ (action_took v b.1 t.rest)
-    (λ action a. record { parts = begins ∙ rw (t.parts, a.parts) (simp append_assoc); rest = a.rest; right = (t.right.0, (t.right.1, a.right.0), a.right.1) }))
+last_vote_took : (v : Version) (ballot : ℕ) (bytes rest : List ℕ) → bytes ≡ 1 ∷ rest → IsBytes rest → Yields (TookLast v ballot bytes) (last_vote_at v ballot rest)
+unfolding last_vote_at
+last_vote_took v ballot bytes rest begins h =
+    then (TookVote v ballot rest) (TookLast v ballot bytes) _ _ (vote_took v ballot rest h)
+    (λ vote t. record { parts = begins ∙ ap (λ (r : List ℕ). 1 ∷ r) t.parts; rest = t.rest; right = (t.right.0.0, (t.right.0.1, t.right.1.0), t.right.1.1) })
 
 last_took : (v : Version) (ballot : ℕ) (bytes : List ℕ) → IsBytes bytes → Yields (TookLast v ballot bytes) (last_at v ballot bytes)
 unfolding last_at
@@ -85,18 +85,16 @@ last_took v ballot bytes h =
     (λ flag t.
     let begins : (k : ℕ) → eqb flag.0 k ≡ true → bytes ≡ k ∷ flag.1 = λ k e. t.parts ∙ ap (λ (b : ℕ). b ∷ flag.1) (eqb-true _ _ e) in
     when (TookLast v ballot bytes) (eqb flag.0 0) _ _ (λ e. record { parts = begins 0 e; rest = t.rest; right = (tt, tt, tt) })
-    (λ _. when (TookLast v ballot bytes) (eqb flag.0 1) _ _ (λ e. vote_took v ballot bytes flag.1 (begins 1 e) t.rest) (λ _. tt)))
+    (λ _. when (TookLast v ballot bytes) (eqb flag.0 1) _ _ (λ e. last_vote_took v ballot bytes flag.1 (begins 1 e) t.rest) (λ _. tt)))
 
 last_again : (v : Version) (ballot : ℕ) (last : Option Vote) (rest : List ℕ) → IsLast v ballot last → last_at v ballot (last_text_at v last ++ rest) ≡ Ok (last, rest)
-unfolding last_at vote_at
+unfolding last_at last_vote_at
 last_again v ballot None rest right = refl
-last_again v ballot (Some vote) rest right =
-    let parts : last_text_at v (Some vote) ++ rest ≡ 1 ∷ (ballot_text vote.ballot ++ (action_text_at v vote.action ++ rest)) = simp append_assoc in
-    ap (last_at v ballot) parts ∙ rw (lower_again ballot vote.ballot (action_text_at v vote.action ++ rest) (right.0, right.1.0), action_again v vote.action rest (right.1.1, right.2)) refl
+last_again v ballot (Some vote) rest right = rw (vote_again v ballot vote rest (right.0, right.1.0) (right.1.1, right.2)) refl
 
 -- ---- bodies
 
--- the number of a kind, and who may send and hear it
+-- the number of a kind
 abbrev pub number_of : Kind → ℕ
 number_of Call = 1
 number_of Prepare = 2
@@ -111,40 +109,19 @@ number_of Report = 10
 number_of PrepareRange = 12
 number_of PromiseRange = 13
 
-abbrev pub IsFrom : Kind → Party → Type 0
-IsFrom Call from = IsTaskParty from
-IsFrom Prepare from = IsNodeParty from
-IsFrom Promise from = IsNodeParty from
-IsFrom Accept from = IsNodeParty from
-IsFrom Accepted from = IsNodeParty from
-IsFrom Decided from = IsNodeParty from
-IsFrom Ask from = IsNodeParty from
-IsFrom Nack from = IsNodeParty from
-IsFrom Answer from = IsNodeParty from
-IsFrom Report from = IsNodeParty from
-IsFrom PrepareRange from = IsNodeParty from
-IsFrom PromiseRange from = IsNodeParty from
-
-abbrev pub IsTo : Kind → Party → Type 0
-IsTo Call to = IsNodeParty to
-IsTo Prepare to = IsNodeParty to
-IsTo Promise to = IsNodeParty to
-IsTo Accept to = IsNodeParty to
-IsTo Accepted to = IsNodeParty to
-IsTo Decided to = IsNodeParty to
-IsTo Ask to = IsNodeParty to
-IsTo Nack to = IsNodeParty to
-IsTo Answer to = IsTaskParty to
-IsTo Report to = IsAudit to
-IsTo PrepareRange to = IsNodeParty to
-IsTo PromiseRange to = IsNodeParty to
+-- the party has this role
+abbrev pub HasRole : Role → Party → Type 0
+HasRole ANode party = IsNodeParty party
+HasRole ATask party = IsTaskParty party
+HasRole TheAudit party = IsAudit party
 
 -- what reading a body of this kind shows
 pub record IsSaid (v : Version) (kind : Kind) (from : Party) (body : Body) : Type 0 where
   pub number : number_of kind ≡ kind_number body
   pub ranges : IsBody body
   pub has : HasBodyText v body
-  pub rules : (to : Party) → IsFrom kind from → IsTo kind to → MaySay from to body
+  pub rules : (to : Party) → HasRole (sender_role kind) from → HasRole (receiver_role kind) to
+      → MaySay from to body
 
 abbrev pub TookBody : Version → Kind → Party → List ℕ → Body × List ℕ → Type 0
 TookBody v kind from bytes = Took (body_text_at v) (IsSaid v kind from) bytes
@@ -158,33 +135,27 @@ task_call_took v from bytes h =
 prepare_took : (v : Version) (from : Party) (bytes : List ℕ) → IsBytes bytes → Yields (TookBody v Prepare from bytes) (prepare_at bytes)
 unfolding prepare_at
 prepare_took v from bytes h =
-    then (TookPosition bytes) (TookBody v Prepare from bytes) _ _ (position_took bytes h)
-    (λ position p. then (TookBallot position.1) (TookBody v Prepare from bytes) _ _ (ballot_took position.1 p.rest)
-    (λ ballot b. record { parts = rw (p.parts, b.parts) (simp append_assoc); rest = b.rest; right = record { number = refl; ranges = (p.right, b.right); has = tt; rules = λ to f t. (f, t) } }))
+    then (TookPlace bytes) (TookBody v Prepare from bytes) _ _ (place_took bytes h)
+    (λ place p. record { parts = p.parts; rest = p.rest; right = record { number = refl; ranges = p.right; has = tt; rules = λ to f t. (f, t) } })
 
 promise_took : (v : Version) (from : Party) (bytes : List ℕ) → IsBytes bytes → Yields (TookBody v Promise from bytes) (promise_at v bytes)
 unfolding promise_at
 promise_took v from bytes h =
-    then (TookPosition bytes) (TookBody v Promise from bytes) _ _ (position_took bytes h)
-    (λ position p. then (TookBallot position.1) (TookBody v Promise from bytes) _ _ (ballot_took position.1 p.rest)
-    (λ ballot b. then (TookLast v ballot.0 ballot.1) (TookBody v Promise from bytes) _ _ (last_took v ballot.0 ballot.1 b.rest)
-    (λ last l. record { parts = rw (p.parts, b.parts, l.parts) (simp append_assoc); rest = l.rest; right = record { number = refl; ranges = (p.right, b.right, l.right.0); has = l.right.2; rules = λ to f t. ((f, t), l.right.1) } })))
+    then (TookPlace bytes) (TookBody v Promise from bytes) _ _ (place_took bytes h)
+    (λ place p. then (TookLast v place.0.1 place.1) (TookBody v Promise from bytes) _ _ (last_took v place.0.1 place.1 p.rest)
+    (λ last l. record { parts = rw (p.parts, l.parts) (simp append_assoc); rest = l.rest; right = record { number = refl; ranges = (p.right.0, p.right.1, l.right.0); has = l.right.2; rules = λ to f t. ((f, t), l.right.1) } }))
 
 accept_took : (v : Version) (from : Party) (bytes : List ℕ) → IsBytes bytes → Yields (TookBody v Accept from bytes) (accept_at v bytes)
 unfolding accept_at
 accept_took v from bytes h =
-    then (TookPosition bytes) (TookBody v Accept from bytes) _ _ (position_took bytes h)
-    (λ position p. then (TookBallot position.1) (TookBody v Accept from bytes) _ _ (ballot_took position.1 p.rest)
-    (λ ballot b. then (TookAction v ballot.1) (TookBody v Accept from bytes) _ _ (action_took v ballot.1 b.rest)
-    (λ action a. record { parts = rw (p.parts, b.parts, a.parts) (simp append_assoc); rest = a.rest; right = record { number = refl; ranges = (p.right, b.right); has = a.right.1; rules = λ to f t. ((f, t), a.right.0) } })))
+    then (TookPlacedVote v bytes) (TookBody v Accept from bytes) _ _ (placed_vote_took v bytes h)
+    (λ vote p. record { parts = p.parts; rest = p.rest; right = record { number = refl; ranges = (p.right.0, p.right.1); has = p.right.2.1; rules = λ to f t. ((f, t), p.right.2.0) } })
 
 accepted_took : (v : Version) (from : Party) (bytes : List ℕ) → IsBytes bytes → Yields (TookBody v Accepted from bytes) (accepted_at v bytes)
 unfolding accepted_at
 accepted_took v from bytes h =
-    then (TookPosition bytes) (TookBody v Accepted from bytes) _ _ (position_took bytes h)
-    (λ position p. then (TookBallot position.1) (TookBody v Accepted from bytes) _ _ (ballot_took position.1 p.rest)
-    (λ ballot b. then (TookAction v ballot.1) (TookBody v Accepted from bytes) _ _ (action_took v ballot.1 b.rest)
-    (λ action a. record { parts = rw (p.parts, b.parts, a.parts) (simp append_assoc); rest = a.rest; right = record { number = refl; ranges = (p.right, b.right); has = a.right.1; rules = λ to f t. ((f, t), a.right.0) } })))
+    then (TookPlacedVote v bytes) (TookBody v Accepted from bytes) _ _ (placed_vote_took v bytes h)
+    (λ vote p. record { parts = p.parts; rest = p.rest; right = record { number = refl; ranges = (p.right.0, p.right.1); has = p.right.2.1; rules = λ to f t. ((f, t), p.right.2.0) } })
 
 decided_took : (v : Version) (from : Party) (bytes : List ℕ) → IsBytes bytes → Yields (TookBody v Decided from bytes) (decided_at v bytes)
 unfolding decided_at
@@ -202,10 +173,9 @@ ask_took v from bytes h =
 nack_took : (v : Version) (from : Party) (bytes : List ℕ) → IsBytes bytes → Yields (TookBody v Nack from bytes) (nack_at bytes)
 unfolding nack_at
 nack_took v from bytes h =
-    then (TookPosition bytes) (TookBody v Nack from bytes) _ _ (position_took bytes h)
-    (λ position p. then (TookBallot position.1) (TookBody v Nack from bytes) _ _ (ballot_took position.1 p.rest)
-    (λ ballot b. then (TookHigher ballot.0 ballot.1) (TookBody v Nack from bytes) _ _ (higher_took ballot.0 ballot.1 b.rest)
-    (λ bound u. record { parts = rw (p.parts, b.parts, u.parts) (simp append_assoc); rest = u.rest; right = record { number = refl; ranges = (p.right, b.right, u.right.0); has = tt; rules = λ to f t. ((f, t), u.right.1) } })))
+    then (TookPlace bytes) (TookBody v Nack from bytes) _ _ (place_took bytes h)
+    (λ place p. then (TookHigher place.0.1 place.1) (TookBody v Nack from bytes) _ _ (higher_took place.0.1 place.1 p.rest)
+    (λ bound u. record { parts = rw (p.parts, u.parts) (simp append_assoc); rest = u.rest; right = record { number = refl; ranges = (p.right.0, p.right.1, u.right.0); has = tt; rules = λ to f t. ((f, t), u.right.1) } }))
 
 answer_took : (v : Version) (from : Party) (bytes : List ℕ) → IsBytes bytes → Yields (TookBody v Answer from bytes) (answer_at bytes)
 unfolding answer_at
@@ -238,26 +208,24 @@ report_took v from bytes h =
 prepare_range_took : (v : Version) (from : Party) (bytes : List ℕ) → IsBytes bytes → Yields (TookBody v PrepareRange from bytes) (prepare_range_at bytes)
 unfolding prepare_range_at
 prepare_range_took v from bytes h =
-    then (TookRange bytes) (TookBody v PrepareRange from bytes) _ _ (range_took bytes h)
-    (λ range r. then (TookBallot range.1) (TookBody v PrepareRange from bytes) _ _ (ballot_took range.1 r.rest)
-    (λ ballot b. record { parts = rw (r.parts, b.parts) (simp append_assoc); rest = b.rest; right = record { number = refl; ranges = (r.right, b.right); has = tt; rules = λ to f t. (f, t) } }))
+    then (TookRangePlace bytes) (TookBody v PrepareRange from bytes) _ _ (range_place_took bytes h)
+    (λ place p. record { parts = p.parts; rest = p.rest; right = record { number = refl; ranges = p.right; has = tt; rules = λ to f t. (f, t) } })
 
 promise_range_took : (v : Version) (from : Party) (bytes : List ℕ) → IsBytes bytes → Yields (TookBody v PromiseRange from bytes) (promise_range_at v bytes)
 unfolding promise_range_at
 promise_range_took v from bytes h =
-    then (TookRange bytes) (TookBody v PromiseRange from bytes) _ _ (range_took bytes h)
-    (λ range r. then (TookBallot range.1) (TookBody v PromiseRange from bytes) _ _ (ballot_took range.1 r.rest)
-    (λ ballot b. then (TookReported v range.0 ballot.0 ballot.1) (TookBody v PromiseRange from bytes) _ _ (reported_took v range.0 ballot.0 ballot.1 b.rest)
+    then (TookRangePlace bytes) (TookBody v PromiseRange from bytes) _ _ (range_place_took bytes h)
+    (λ place p. then (TookReported v place.0.0 place.0.1 place.1) (TookBody v PromiseRange from bytes) _ _ (reported_took v place.0.0 place.0.1 place.1 p.rest)
     (λ votes t. record {
-      parts = rw (r.parts, b.parts, t.parts) (simp append_assoc);
+      parts = rw (p.parts, t.parts) (simp append_assoc);
       rest = t.rest;
       right = record {
         number = refl;
-        ranges = (r.right, b.right, t.right.ballots);
+        ranges = (p.right.0, p.right.1, t.right.ballots);
         has = t.right.has;
         rules = λ to f u. ((f, u), record { rising = t.right.rising; below = t.right.below; right = t.right.right });
       };
-    })))
+    }))
 
 pub body_took : (v : Version) (kind : Kind) (from : Party) (bytes : List ℕ) → IsBytes bytes → Yields (TookBody v kind from bytes) (body_at v kind from bytes)
 unfolding body_at
@@ -289,40 +257,32 @@ kind_of_body (bodies.Report first applied actions) = Report
 kind_of_body (bodies.PrepareRange range ballot) = PrepareRange
 kind_of_body (bodies.PromiseRange range ballot votes) = PromiseRange
 
--- three fields, one after the other
-regroup : (x y z rest : List ℕ) → (x ++ y ++ z) ++ rest ≡ x ++ (y ++ (z ++ rest))
-regroup x y z rest = simp append_assoc
-
 pub body_again : (v : Version) (from to : Party) (body : Body) (rest : List ℕ) → IsBody body → MaySay from to body → HasBodyText v body → body_at v (kind_of_body body) from (body_text_at v body ++ rest) ≡ Ok (body, rest)
 unfolding body_at task_call_at prepare_at promise_at accept_at accepted_at decided_at ask_at nack_at answer_at report_at prepare_range_at promise_range_at
 body_again v from to (bodies.Call action) rest ranges rules has = rw (own_call_again v from action rest rules.2 (rules.3, has)) refl
-body_again v from to (bodies.Prepare position ballot) rest ranges rules has =
-    ap prepare_at (append_assoc (position_text position) (ballot_text ballot) rest) ∙ rw (position_again position (ballot_text ballot ++ rest) ranges.0, ballot_again ballot rest ranges.1) refl
+body_again v from to (bodies.Prepare position ballot) rest ranges rules has = rw (place_again position ballot rest ranges.0 ranges.1) refl
 body_again v from to (bodies.Promise position ballot last) rest ranges rules has =
-    ap (promise_at v) (regroup (position_text position) (ballot_text ballot) (last_text_at v last) rest) ∙ rw (position_again position (ballot_text ballot ++ (last_text_at v last ++ rest)) ranges.0, ballot_again ballot (last_text_at v last ++ rest) ranges.1, last_again v ballot last rest (ranges.2, rules.1, has)) refl
-body_again v from to (bodies.Accept position ballot action) rest ranges rules has =
-    ap (accept_at v) (regroup (position_text position) (ballot_text ballot) (action_text_at v action) rest) ∙ rw (position_again position (ballot_text ballot ++ (action_text_at v action ++ rest)) ranges.0, ballot_again ballot (action_text_at v action ++ rest) ranges.1, action_again v action rest (rules.1, has)) refl
-body_again v from to (bodies.Accepted position ballot action) rest ranges rules has =
-    ap (accepted_at v) (regroup (position_text position) (ballot_text ballot) (action_text_at v action) rest) ∙ rw (position_again position (ballot_text ballot ++ (action_text_at v action ++ rest)) ranges.0, ballot_again ballot (action_text_at v action ++ rest) ranges.1, action_again v action rest (rules.1, has)) refl
+    ap (promise_at v) (regroup (position_text position) (ballot_text ballot) (last_text_at v last) rest)
+    ∙ rw (place_again position ballot (last_text_at v last ++ rest) ranges.0 ranges.1, last_again v ballot last rest (ranges.2, rules.1, has)) refl
+body_again v from to (bodies.Accept position ballot action) rest ranges rules has = rw (placed_vote_again v position ballot action rest ranges.0 ranges.1 (rules.1, has)) refl
+body_again v from to (bodies.Accepted position ballot action) rest ranges rules has = rw (placed_vote_again v position ballot action rest ranges.0 ranges.1 (rules.1, has)) refl
 body_again v from to (bodies.Decided position action) rest ranges rules has =
     ap (decided_at v) (append_assoc (position_text position) (action_text_at v action) rest) ∙ rw (position_again position (action_text_at v action ++ rest) ranges, action_again v action rest (rules.1, has)) refl
 body_again v from to (bodies.Ask position) rest ranges rules has = rw (position_again position rest ranges) refl
 body_again v from to (bodies.Nack position ballot bound) rest ranges rules has =
-    ap nack_at (regroup (position_text position) (ballot_text ballot) (ballot_text bound) rest) ∙ rw (position_again position (ballot_text ballot ++ (ballot_text bound ++ rest)) ranges.0, ballot_again ballot (ballot_text bound ++ rest) ranges.1, higher_again ballot bound rest (ranges.2, rules.1)) refl
+    ap nack_at (regroup (position_text position) (ballot_text ballot) (ballot_text bound) rest)
+    ∙ rw (place_again position ballot (ballot_text bound ++ rest) ranges.0 ranges.1, higher_again ballot bound rest (ranges.2, rules.1)) refl
 body_again v from to (bodies.Reply number reply) rest ranges rules has =
     ap answer_at (append_assoc (number_text w32 number) (reply_text reply) rest) ∙ rw (count_again number (reply_text reply ++ rest) rules.2, reply_again reply rest ranges) refl
 body_again v from to (bodies.Report first applied actions) rest ranges rules has =
     let stated = rules.2 in
     let parts : body_text_at v (bodies.Report first applied actions) ++ rest ≡ position_text first ++ (number_text w16 applied ++ (length actions ∷ (each_text v actions ++ rest))) = simp append_assoc in
     ap (report_at v) parts ∙ rw (position_again first (number_text w16 applied ++ (length actions ∷ (each_text v actions ++ rest))) ranges.0, number16_again applied (length actions ∷ (each_text v actions ++ rest)) ranges.1, eq-eqb _ _ stated.len, actions_again v actions rest stated.right has) refl
-body_again v from to (bodies.PrepareRange range ballot) rest ranges rules has =
-    ap prepare_range_at (append_assoc (range_text range) (ballot_text ballot) rest) ∙ rw (range_again range (ballot_text ballot ++ rest) ranges.0, ballot_again ballot rest ranges.1) refl
+body_again v from to (bodies.PrepareRange range ballot) rest ranges rules has = rw (range_place_again range ballot rest ranges.0 ranges.1) refl
 body_again v from to (bodies.PromiseRange range ballot votes) rest ranges rules has =
     let reported = rules.1 in
-    let following : List ℕ = votes_text_at v votes ++ rest in
     ap (promise_range_at v) (regroup (range_text range) (ballot_text ballot) (votes_text_at v votes) rest)
     ∙ rw (
-      range_again range (ballot_text ballot ++ following) ranges.0,
-      ballot_again ballot following ranges.1,
+      range_place_again range ballot (votes_text_at v votes ++ rest) ranges.0 ranges.1,
       reported_again v range ballot votes rest ranges.0 (record { len = refl; rising = reported.rising; ballots = ranges.2; below = reported.below; right = reported.right; has = has }),
     ) refl

@@ -13,7 +13,7 @@ use Rattle.rp_base.specs.Action.{IsIndex, IsCount}
 use Rattle.rp_base.specs.Ranges.{Range, IsRange}
 use Rattle.rp_base.specs.declared.fault.PacketReason.TheVariants.{Short}
 use Rattle.rp_codec.specs.Text.{number_text, signed_text, position_text, ballot_text, range_text}
-use Rattle.rp_codec.specs.Reading.{ruled, byte_at, number_at, signed_at, is_index, is_positive, is_ballot, index_at, count_at, position_at, ballot_at, lower_ballot_at, higher_ballot_at, is_range, range_at}
+use Rattle.rp_codec.specs.Reading.{ruled, byte_at, number_at, signed_at, is_index, is_positive, is_ballot, index_at, count_at, position_at, ballot_at, lower_ballot_at, higher_ballot_at, is_range, range_at, place_at, range_place_at}
 use Rattle.rp_codec.proofs.RuleTests.{is_ballot_decides}
 use Rattle.rp_codec.proofs.Steps.{IsBytes, Yields, Took, then, when, keeps, guarded}
 
@@ -260,3 +260,47 @@ pub range_again : (range : Range) (rest : List ℕ) → IsRange range → range_
 unfolding range_at
 range_again range rest right =
     ap range_at (append_assoc (position_text range.first) (range.count ∷ []) rest) ∙ rw (position_again range.first (range.count ∷ rest) right.first, range_is range right) refl
+
+-- ---- a position or a range, and a ballot
+
+abbrev pub place_text : ℕ × ℕ → List ℕ
+place_text place = position_text place.0 ++ ballot_text place.1
+
+abbrev pub TookPlace : List ℕ → (ℕ × ℕ) × List ℕ → Type 0
+TookPlace bytes = Took place_text (λ place. IsPosition place.0 × IsBallot place.1) bytes
+
+pub place_took : (bytes : List ℕ) → IsBytes bytes → Yields (TookPlace bytes) (place_at bytes)
+unfolding place_at
+place_took bytes h =
+    then (TookPosition bytes) (TookPlace bytes) _ _ (position_took bytes h)
+    (λ position p. then (TookBallot position.1) (TookPlace bytes) _ _ (ballot_took position.1 p.rest)
+    (λ ballot b. record { parts = rw (p.parts, b.parts) (simp append_assoc); rest = b.rest; right = (p.right, b.right) }))
+
+pub place_again : (position ballot : ℕ) (rest : List ℕ) → IsPosition position → IsBallot ballot
+    → place_at ((position_text position ++ ballot_text ballot) ++ rest) ≡ Ok ((position, ballot), rest)
+unfolding place_at
+place_again position ballot rest is_position is_ballot =
+    ap place_at (append_assoc (position_text position) (ballot_text ballot) rest) ∙ rw (position_again position (ballot_text ballot ++ rest) is_position, ballot_again ballot rest is_ballot) refl
+
+abbrev pub range_place_text : Range × ℕ → List ℕ
+range_place_text place = range_text place.0 ++ ballot_text place.1
+
+abbrev pub TookRangePlace : List ℕ → (Range × ℕ) × List ℕ → Type 0
+TookRangePlace bytes = Took range_place_text (λ place. IsRange place.0 × IsBallot place.1) bytes
+
+pub range_place_took : (bytes : List ℕ) → IsBytes bytes → Yields (TookRangePlace bytes) (range_place_at bytes)
+unfolding range_place_at
+range_place_took bytes h =
+    then (TookRange bytes) (TookRangePlace bytes) _ _ (range_took bytes h)
+    (λ range r. then (TookBallot range.1) (TookRangePlace bytes) _ _ (ballot_took range.1 r.rest)
+    (λ ballot b. record { parts = rw (r.parts, b.parts) (simp append_assoc); rest = b.rest; right = (r.right, b.right) }))
+
+pub range_place_again : (range : Range) (ballot : ℕ) (rest : List ℕ) → IsRange range → IsBallot ballot
+    → range_place_at ((range_text range ++ ballot_text ballot) ++ rest) ≡ Ok ((range, ballot), rest)
+unfolding range_place_at
+range_place_again range ballot rest is_range is_ballot =
+    ap range_place_at (append_assoc (range_text range) (ballot_text ballot) rest) ∙ rw (range_again range (ballot_text ballot ++ rest) is_range, ballot_again ballot rest is_ballot) refl
+
+-- three fields, of which the first two are read as one
+pub regroup : (x y z rest : List ℕ) → (x ++ y ++ z) ++ rest ≡ (x ++ y) ++ (z ++ rest)
+regroup x y z rest = simp append_assoc

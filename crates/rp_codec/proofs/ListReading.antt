@@ -1,13 +1,12 @@
 -- A list of actions that is read one after another.
-use Rattle.std.proofs.Common.{◌≡◌, ℕ, suc, ◌+◌, ◌-◌, ◌<◌, ◌≤◌, List, [], ◌∷◌, ◌++◌, length, get_or, take, Ok, Err, refl, sym, ap, ◌∙◌, append_assoc, arith}
-use Rattle.std.specs.Prelude.{IsOk, flat_map}
+use Rattle.std.proofs.Common.{◌≡◌, ℕ, suc, ◌+◌, ◌-◌, ◌<◌, ◌≤◌, List, [], ◌∷◌, ◌++◌, Ok, Err, refl, sym, ap, ◌∙◌, append_assoc, arith}
+use Rattle.std.specs.Prelude.{IsOk}
 use Rattle.std.specs.Int.{w16}
 use Rattle.std.proofs.lemmas.Bool.{eq-eqb}
-use Rattle.std.proofs.lemmas.List.{append-nil, flat_map_more, take_more, take_all}
+use Rattle.std.proofs.lemmas.List.{append-nil}
 use Rattle.rp_base.specs.declared.fault.PacketReason.{PacketReason}
 use Rattle.rp_base.specs.declared.action.Action.{Action}
 use Rattle.rp_codec.specs.declared.version.Version.{Version}
-use Rattle.rp_codec.specs.Text.{action_text}
 use Rattle.rp_codec.specs.Message.{report_len}
 use Rattle.rp_codec.specs.declared.packet.Body.TheVariants.{Report}
 use Rattle.rp_codec.specs.Reading.{◌>>=◌, Read, byte_at, number_at, position_at, action_at, actions_at, report_at}
@@ -88,16 +87,3 @@ pub report_found : (v : Version) (bytes after_first after_applied text stated af
 unfolding report_at
 report_found v bytes after_first after_applied text stated after first applied count actions e1 e2 e3 counted same e4 =
     (ap (actions_at v count) same ∙ e4, rw (e1, e2, e3, eq-eqb _ _ counted, e4) refl)
-
--- ---- and written
-
-pub one_more_written : (front : List ℕ) (actions : List Action) (i : ℕ) (action : Action) → i < length actions → action ≡ get_or actions i action
-    → (front ++ flat_map action_text (take i actions)) ++ action_text action ≡ front ++ flat_map action_text (take (i + 1) actions)
-one_more_written front actions i action within item =
-    flat_map_more action_text front (take i actions) action
-    ∙ ap (λ (l : List Action). front ++ flat_map action_text l) (ap (λ (a : Action). take i actions ++ a ∷ []) item ∙ sym (take_more actions i action within))
-
-pub all_written : (front : List ℕ) (actions : List Action) (i : ℕ) → length actions ≤ i
-    → (front ++ length actions ∷ []) ++ flat_map action_text (take i actions) ≡ front ++ (length actions ∷ flat_map action_text actions)
-all_written front actions i whole =
-    ap (λ (l : List Action). (front ++ length actions ∷ []) ++ flat_map action_text l) (take_all i actions whole) ∙ append_assoc front (length actions ∷ []) (flat_map action_text actions)

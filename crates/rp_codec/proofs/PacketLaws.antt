@@ -7,46 +7,33 @@ use Rattle.rp_codec.specs.declared.packet.Party.TheVariants.{Node, Task, Audit}
 use Rattle.rp_codec.specs.declared.packet.Body.{Body}
 use Rattle.rp_codec.specs.declared.packet.Body.TheVariants as bodies
 use Rattle.rp_codec.specs.declared.kind.Kind.{Kind}
-use Rattle.rp_codec.specs.declared.kind.Kind.TheVariants.{Call, Prepare, Promise, Accept, Accepted, Decided, Ask, Nack, Reply as Answer, Report, PrepareRange, PromiseRange}
-use Rattle.rp_codec.specs.Kind.{kind_of}
+use Rattle.rp_codec.specs.Kind.{kind_of, Role, ANode, ATask, TheAudit, sender_role, receiver_role}
 use Rattle.rp_codec.specs.declared.version.Version.{Version}
 use Rattle.rp_codec.specs.Message.{Message, IsParty, IsNodeParty, IsTaskParty, IsAudit, MaySay, IsPacket}
 use Rattle.rp_codec.specs.Text.{party_text, kind_number, body_text_at, text_at, HasText}
-use Rattle.rp_codec.specs.Reading.{is_node, node_at, task_at, audit_at, from_at, to_at, said_at, packet_at}
+use Rattle.rp_codec.specs.Reading.{is_node, node_at, task_at, audit_at, role_at, said_at, packet_at}
 use Rattle.rp_codec.proofs.RuleTests.{is_node_decides}
 use Rattle.rp_codec.proofs.Steps.{IsBytes, Yields, Took, then, guarded}
 use Rattle.rp_codec.proofs.FieldLaws.{TookByte, byte_took}
 use Rattle.rp_codec.proofs.VersionLaws.{version_of_number}
-use Rattle.rp_codec.proofs.BodyLaws.{number_of, IsFrom, IsTo, TookBody, body_took, kind_of_body, body_again}
+use Rattle.rp_codec.proofs.BodyLaws.{number_of, HasRole, TookBody, body_took, kind_of_body, body_again}
 
 -- ---- parties
 
-abbrev TookNode : List ℕ → Party × List ℕ → Type 0
-TookNode bytes = Took party_text (λ party. IsParty party × IsNodeParty party) bytes
+abbrev TookRole : Role → List ℕ → Party × List ℕ → Type 0
+TookRole role bytes = Took party_text (λ party. IsParty party × HasRole role party) bytes
 
-abbrev TookTask : List ℕ → Party × List ℕ → Type 0
-TookTask bytes = Took party_text (λ party. IsParty party × IsTaskParty party) bytes
-
-abbrev TookAudit : List ℕ → Party × List ℕ → Type 0
-TookAudit bytes = Took party_text (λ party. IsParty party × IsAudit party) bytes
-
-abbrev TookFrom : Kind → List ℕ → Party × List ℕ → Type 0
-TookFrom kind bytes = Took party_text (λ party. IsParty party × IsFrom kind party) bytes
-
-abbrev TookTo : Kind → List ℕ → Party × List ℕ → Type 0
-TookTo kind bytes = Took party_text (λ party. IsParty party × IsTo kind party) bytes
-
-node_took : (bytes : List ℕ) → IsBytes bytes → Yields (TookNode bytes) (node_at bytes)
+node_took : (bytes : List ℕ) → IsBytes bytes → Yields (TookRole ANode bytes) (node_at bytes)
 unfolding node_at
 node_took bytes h =
-    then (TookByte bytes) (TookNode bytes) _ _ (byte_took bytes h)
-    (λ n t. guarded (TookNode bytes) (is_node n.0) n _ (λ e. record { parts = t.parts; rest = t.rest; right = ((is_node_decides n.0).0 e, tt) }))
+    then (TookByte bytes) (TookRole ANode bytes) _ _ (byte_took bytes h)
+    (λ n t. guarded (TookRole ANode bytes) (is_node n.0) n _ (λ e. record { parts = t.parts; rest = t.rest; right = ((is_node_decides n.0).0 e, tt) }))
 
-task_took : (bytes : List ℕ) → IsBytes bytes → Yields (TookTask bytes) (task_at bytes)
+task_took : (bytes : List ℕ) → IsBytes bytes → Yields (TookRole ATask bytes) (task_at bytes)
 unfolding task_at
 task_took bytes h =
-    then (TookByte bytes) (TookTask bytes) _ _ (byte_took bytes h)
-    (λ n t. guarded (TookTask bytes) (leb 17 n.0 && leb n.0 24) n _
+    then (TookByte bytes) (TookRole ATask bytes) _ _ (byte_took bytes h)
+    (λ n t. guarded (TookRole ATask bytes) (leb 17 n.0 && leb n.0 24) n _
     (λ e.
     let ends = and_parts _ _ e in
     let low : 17 ≤ n.0 = leb-true _ _ ends.0 in
@@ -54,42 +41,18 @@ task_took bytes h =
     let back : n.0 ≡ 16 + (n.0 - 16) = omega arith in
     record { parts = t.parts ∙ ap (λ (b : ℕ). b ∷ n.1) back; rest = t.rest; right = ((omega arith, omega arith), tt) }))
 
-audit_took : (bytes : List ℕ) → IsBytes bytes → Yields (TookAudit bytes) (audit_at bytes)
+audit_took : (bytes : List ℕ) → IsBytes bytes → Yields (TookRole TheAudit bytes) (audit_at bytes)
 unfolding audit_at
 audit_took bytes h =
-    then (TookByte bytes) (TookAudit bytes) _ _ (byte_took bytes h)
-    (λ n t. guarded (TookAudit bytes) (eqb n.0 32) n _
+    then (TookByte bytes) (TookRole TheAudit bytes) _ _ (byte_took bytes h)
+    (λ n t. guarded (TookRole TheAudit bytes) (eqb n.0 32) n _
     (λ e. record { parts = t.parts ∙ ap (λ (b : ℕ). b ∷ n.1) (eqb-true _ _ e); rest = t.rest; right = (tt, tt) }))
 
-from_took : (kind : Kind) (bytes : List ℕ) → IsBytes bytes → Yields (TookFrom kind bytes) (from_at kind bytes)
-unfolding from_at
-from_took Call bytes h = task_took bytes h
-from_took Prepare bytes h = node_took bytes h
-from_took Promise bytes h = node_took bytes h
-from_took Accept bytes h = node_took bytes h
-from_took Accepted bytes h = node_took bytes h
-from_took Decided bytes h = node_took bytes h
-from_took Ask bytes h = node_took bytes h
-from_took Nack bytes h = node_took bytes h
-from_took Answer bytes h = node_took bytes h
-from_took Report bytes h = node_took bytes h
-from_took PrepareRange bytes h = node_took bytes h
-from_took PromiseRange bytes h = node_took bytes h
-
-to_took : (kind : Kind) (bytes : List ℕ) → IsBytes bytes → Yields (TookTo kind bytes) (to_at kind bytes)
-unfolding to_at
-to_took Call bytes h = node_took bytes h
-to_took Prepare bytes h = node_took bytes h
-to_took Promise bytes h = node_took bytes h
-to_took Accept bytes h = node_took bytes h
-to_took Accepted bytes h = node_took bytes h
-to_took Decided bytes h = node_took bytes h
-to_took Ask bytes h = node_took bytes h
-to_took Nack bytes h = node_took bytes h
-to_took Answer bytes h = task_took bytes h
-to_took Report bytes h = audit_took bytes h
-to_took PrepareRange bytes h = node_took bytes h
-to_took PromiseRange bytes h = node_took bytes h
+role_took : (role : Role) (bytes : List ℕ) → IsBytes bytes → Yields (TookRole role bytes) (role_at role bytes)
+unfolding role_at
+role_took ANode bytes h = node_took bytes h
+role_took ATask bytes h = task_took bytes h
+role_took TheAudit bytes h = audit_took bytes h
 
 node_again : (party : Party) (rest : List ℕ) → IsParty party → IsNodeParty party → node_at (party_text party ++ rest) ≡ Ok (party, rest)
 unfolding node_at
@@ -111,35 +74,11 @@ audit_again (Node n) rest audit = absurd audit
 audit_again (Task t) rest audit = absurd audit
 audit_again Audit rest audit = refl
 
-from_again : (kind : Kind) (party : Party) (rest : List ℕ) → IsParty party → IsFrom kind party → from_at kind (party_text party ++ rest) ≡ Ok (party, rest)
-unfolding from_at
-from_again Call party rest range from = task_again party rest range from
-from_again Prepare party rest range from = node_again party rest range from
-from_again Promise party rest range from = node_again party rest range from
-from_again Accept party rest range from = node_again party rest range from
-from_again Accepted party rest range from = node_again party rest range from
-from_again Decided party rest range from = node_again party rest range from
-from_again Ask party rest range from = node_again party rest range from
-from_again Nack party rest range from = node_again party rest range from
-from_again Answer party rest range from = node_again party rest range from
-from_again Report party rest range from = node_again party rest range from
-from_again PrepareRange party rest range from = node_again party rest range from
-from_again PromiseRange party rest range from = node_again party rest range from
-
-to_again : (kind : Kind) (party : Party) (rest : List ℕ) → IsParty party → IsTo kind party → to_at kind (party_text party ++ rest) ≡ Ok (party, rest)
-unfolding to_at
-to_again Call party rest range to = node_again party rest range to
-to_again Prepare party rest range to = node_again party rest range to
-to_again Promise party rest range to = node_again party rest range to
-to_again Accept party rest range to = node_again party rest range to
-to_again Accepted party rest range to = node_again party rest range to
-to_again Decided party rest range to = node_again party rest range to
-to_again Ask party rest range to = node_again party rest range to
-to_again Nack party rest range to = node_again party rest range to
-to_again Answer party rest range to = task_again party rest range to
-to_again Report party rest range to = audit_again party rest to
-to_again PrepareRange party rest range to = node_again party rest range to
-to_again PromiseRange party rest range to = node_again party rest range to
+role_again : (role : Role) (party : Party) (rest : List ℕ) → IsParty party → HasRole role party → role_at role (party_text party ++ rest) ≡ Ok (party, rest)
+unfolding role_at
+role_again ANode party rest range is = node_again party rest range is
+role_again ATask party rest range is = task_again party rest range is
+role_again TheAudit party rest range is = audit_again party rest is
 
 -- ---- what is after the kind
 
@@ -155,8 +94,8 @@ TookSaid v kind bytes = Took (said_text v) (IsPacketOf v kind) bytes
 pub said_took : (v : Version) (kind : Kind) (bytes : List ℕ) → IsBytes bytes → Yields (TookSaid v kind bytes) (said_at v kind bytes)
 unfolding said_at
 said_took v kind bytes h =
-    then (TookFrom kind bytes) (TookSaid v kind bytes) _ _ (from_took kind bytes h)
-    (λ from f. then (TookTo kind from.1) (TookSaid v kind bytes) _ _ (to_took kind from.1 f.rest)
+    then (TookRole (sender_role kind) bytes) (TookSaid v kind bytes) _ _ (role_took (sender_role kind) bytes h)
+    (λ from f. then (TookRole (receiver_role kind) from.1) (TookSaid v kind bytes) _ _ (role_took (receiver_role kind) from.1 f.rest)
     (λ to t. then (TookBody v kind from.0 to.1) (TookSaid v kind bytes) _ _ (body_took v kind from.0 to.1 t.rest)
     (λ body b. record {
       parts = rw (f.parts, t.parts, b.parts) (simp append_assoc);
@@ -171,45 +110,34 @@ said_took v kind bytes h =
       );
     })))
 
--- who may say it may send its kind, and who may hear it
-may_send : (from to : Party) (body : Body) → MaySay from to body → IsFrom (kind_of_body body) from × IsTo (kind_of_body body) to
-may_send from to (bodies.Call action) rules = (rules.0, rules.1)
-may_send from to (bodies.Prepare position ballot) rules = rules
-may_send from to (bodies.Promise position ballot last) rules = rules.0
-may_send from to (bodies.Accept position ballot action) rules = rules.0
-may_send from to (bodies.Accepted position ballot action) rules = rules.0
-may_send from to (bodies.Decided position action) rules = rules.0
-may_send from to (bodies.Ask position) rules = rules
-may_send from to (bodies.Nack position ballot bound) rules = rules.0
-may_send from to (bodies.Reply number reply) rules = (rules.0, rules.1)
-may_send from to (bodies.Report first applied actions) rules = (rules.0, rules.1)
-may_send from to (bodies.PrepareRange range ballot) rules = rules
-may_send from to (bodies.PromiseRange range ballot votes) rules = rules.0
+-- a body's number names its kind, who may say the body may send that kind, and who may hear it may receive it
+of_kind : (from to : Party) (body : Body) → MaySay from to body
+    → (kind_of (kind_number body) ≡ Some (kind_of_body body)) × HasRole (sender_role (kind_of_body body)) from × HasRole (receiver_role (kind_of_body body)) to
+of_kind from to (bodies.Call action) rules = (refl, rules.0, rules.1)
+of_kind from to (bodies.Prepare position ballot) rules = (refl, rules.0, rules.1)
+of_kind from to (bodies.Promise position ballot last) rules = (refl, rules.0.0, rules.0.1)
+of_kind from to (bodies.Accept position ballot action) rules = (refl, rules.0.0, rules.0.1)
+of_kind from to (bodies.Accepted position ballot action) rules = (refl, rules.0.0, rules.0.1)
+of_kind from to (bodies.Decided position action) rules = (refl, rules.0.0, rules.0.1)
+of_kind from to (bodies.Ask position) rules = (refl, rules.0, rules.1)
+of_kind from to (bodies.Nack position ballot bound) rules = (refl, rules.0.0, rules.0.1)
+of_kind from to (bodies.Reply number reply) rules = (refl, rules.0, rules.1)
+of_kind from to (bodies.Report first applied actions) rules = (refl, rules.0, rules.1)
+of_kind from to (bodies.PrepareRange range ballot) rules = (refl, rules.0, rules.1)
+of_kind from to (bodies.PromiseRange range ballot votes) rules = (refl, rules.0.0, rules.0.1)
 
 said_again : (v : Version) (m : Message) (rest : List ℕ) → IsPacket m → HasText v m → said_at v (kind_of_body m.body) (said_text v m ++ rest) ≡ Ok (m, rest)
 unfolding said_at
 said_again v m rest packet has =
     let kind : Kind = kind_of_body m.body in
-    let parties = may_send m.from m.to m.body packet.rules in
+    let parties = of_kind m.from m.to m.body packet.rules in
     let parts : said_text v m ++ rest ≡ party_text m.from ++ (party_text m.to ++ (body_text_at v m.body ++ rest)) = simp append_assoc in
-    ap (said_at v kind) parts ∙ rw (from_again kind m.from (party_text m.to ++ (body_text_at v m.body ++ rest)) packet.ranges.from parties.0, to_again kind m.to (body_text_at v m.body ++ rest) packet.ranges.to parties.1, body_again v m.from m.to m.body rest packet.ranges.body packet.rules has) refl
+    ap (said_at v kind) parts ∙ rw (role_again (sender_role kind) m.from (party_text m.to ++ (body_text_at v m.body ++ rest)) packet.ranges.from parties.1, role_again (receiver_role kind) m.to (body_text_at v m.body ++ rest) packet.ranges.to parties.2, body_again v m.from m.to m.body rest packet.ranges.body packet.rules has) refl
 
 -- ---- whole packets
 
-kind_of_number : (body : Body) → kind_of (kind_number body) ≡ Some (kind_of_body body)
-kind_of_number (bodies.Call action) = refl
-kind_of_number (bodies.Prepare position ballot) = refl
-kind_of_number (bodies.Promise position ballot last) = refl
-kind_of_number (bodies.Accept position ballot action) = refl
-kind_of_number (bodies.Accepted position ballot action) = refl
-kind_of_number (bodies.Decided position action) = refl
-kind_of_number (bodies.Ask position) = refl
-kind_of_number (bodies.Nack position ballot bound) = refl
-kind_of_number (bodies.Reply number reply) = refl
-kind_of_number (bodies.Report first applied actions) = refl
-kind_of_number (bodies.PrepareRange range ballot) = refl
-kind_of_number (bodies.PromiseRange range ballot votes) = refl
-
 pub packet_again : (v : Version) (m : Message) (rest : List ℕ) → IsPacket m → HasText v m → packet_at (text_at v m ++ rest) ≡ Ok (m, rest)
 unfolding packet_at
-packet_again v m rest packet has = rw (version_of_number v, kind_of_number m.body) (said_again v m rest packet has)
+packet_again v m rest packet has =
+    let of = of_kind m.from m.to m.body packet.rules in
+    rw (version_of_number v, of.0) (said_again v m rest packet has)

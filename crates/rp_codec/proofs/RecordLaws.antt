@@ -15,9 +15,9 @@ use Rattle.rp_codec.specs.Record.{record_text_at, record_text, HasRecordText, Is
 use Rattle.rp_codec.specs.Reading.{◌>>=◌, Read, known, byte_at}
 use Rattle.rp_codec.specs.RecordReading.{started_at, promised_at, voted_at, learned_at, record_of_kind, record_at, promised_range_at}
 use Rattle.rp_codec.proofs.Steps.{IsBytes, Yields, Took, then, when, weaker}
-use Rattle.rp_codec.proofs.FieldLaws.{TookByte, TookPosition, TookBallot, byte_took, position_took, position_again, ballot_took, ballot_again, TookRange, range_took, range_again}
+use Rattle.rp_codec.proofs.FieldLaws.{TookByte, TookPosition, TookBallot, byte_took, position_took, position_again, ballot_took, ballot_again, TookPlace, place_took, place_again, TookRangePlace, range_place_took, range_place_again}
 use Rattle.rp_codec.proofs.VersionLaws.{version_of_number, number_once, number_from_version, has_action, action_same}
-use Rattle.rp_codec.proofs.ActionLaws.{TookAction, action_took, action_again}
+use Rattle.rp_codec.proofs.ActionLaws.{TookAction, action_took, action_again, TookPlacedVote, placed_vote_took, placed_vote_again}
 
 abbrev TookRecordAt : Version → List ℕ → Rec × List ℕ → Type 0
 TookRecordAt v bytes = Took (record_text_at v) (λ r. IsRecord r × HasRecordText v r) bytes
@@ -38,17 +38,14 @@ started_took v bytes rest begins h =
 promised_took : (v : Version) (bytes rest : List ℕ) → Begins v 2 rest bytes → IsBytes rest → Yields (TookRecordAt v bytes) (promised_at rest)
 unfolding promised_at
 promised_took v bytes rest begins h =
-    then (TookPosition rest) (TookRecordAt v bytes) _ _ (position_took rest h)
-    (λ position p. then (TookBallot position.1) (TookRecordAt v bytes) _ _ (ballot_took position.1 p.rest)
-    (λ ballot b. record { parts = begins ∙ rw (p.parts, b.parts) (simp append_assoc); rest = b.rest; right = (record { ranges = (p.right, b.right); right = tt }, tt) }))
+    then (TookPlace rest) (TookRecordAt v bytes) _ _ (place_took rest h)
+    (λ place p. record { parts = begins ∙ rw p.parts refl; rest = p.rest; right = (record { ranges = p.right; right = tt }, tt) })
 
 voted_took : (v : Version) (bytes rest : List ℕ) → Begins v 3 rest bytes → IsBytes rest → Yields (TookRecordAt v bytes) (voted_at v rest)
 unfolding voted_at
 voted_took v bytes rest begins h =
-    then (TookPosition rest) (TookRecordAt v bytes) _ _ (position_took rest h)
-    (λ position p. then (TookBallot position.1) (TookRecordAt v bytes) _ _ (ballot_took position.1 p.rest)
-    (λ ballot b. then (TookAction v ballot.1) (TookRecordAt v bytes) _ _ (action_took v ballot.1 b.rest)
-    (λ action a. record { parts = begins ∙ rw (p.parts, b.parts, a.parts) (simp append_assoc); rest = a.rest; right = (record { ranges = (p.right, b.right); right = a.right.0 }, a.right.1) })))
+    then (TookPlacedVote v rest) (TookRecordAt v bytes) _ _ (placed_vote_took v rest h)
+    (λ vote p. record { parts = begins ∙ rw p.parts refl; rest = p.rest; right = (record { ranges = (p.right.0, p.right.1); right = p.right.2.0 }, p.right.2.1) })
 
 learned_took : (v : Version) (bytes rest : List ℕ) → Begins v 4 rest bytes → IsBytes rest → Yields (TookRecordAt v bytes) (learned_at v rest)
 unfolding learned_at
@@ -60,9 +57,8 @@ learned_took v bytes rest begins h =
 promised_range_took : (v : Version) (bytes rest : List ℕ) → Begins v 5 rest bytes → IsBytes rest → Yields (TookRecordAt v bytes) (promised_range_at rest)
 unfolding promised_range_at
 promised_range_took v bytes rest begins h =
-    then (TookRange rest) (TookRecordAt v bytes) _ _ (range_took rest h)
-    (λ range r. then (TookBallot range.1) (TookRecordAt v bytes) _ _ (ballot_took range.1 r.rest)
-    (λ ballot b. record { parts = begins ∙ rw (r.parts, b.parts) (simp append_assoc); rest = b.rest; right = (record { ranges = (r.right, b.right); right = tt }, tt) }))
+    then (TookRangePlace rest) (TookRecordAt v bytes) _ _ (range_place_took rest h)
+    (λ place p. record { parts = begins ∙ rw p.parts refl; rest = p.rest; right = (record { ranges = p.right; right = tt }, tt) })
 
 kind_took : (v : Version) (bytes rest : List ℕ) → bytes ≡ version_number v ∷ rest → IsBytes rest
     → Yields (TookRecordAt v bytes) (byte_at rest >>= λ kind. record_of_kind v kind.0 kind.1)
@@ -97,15 +93,12 @@ started_again ballot rest is = rw (ballot_again ballot rest is.ranges) refl
 promised_again : (position ballot : ℕ) (rest : List ℕ) → IsRecord (Promised position ballot)
     → promised_at ((position_text position ++ ballot_text ballot) ++ rest) ≡ Ok (Promised position ballot, rest)
 unfolding promised_at
-promised_again position ballot rest is =
-    ap promised_at (append_assoc (position_text position) (ballot_text ballot) rest) ∙ rw (position_again position (ballot_text ballot ++ rest) is.ranges.0, ballot_again ballot rest is.ranges.1) refl
+promised_again position ballot rest is = rw (place_again position ballot rest is.ranges.0 is.ranges.1) refl
 
 voted_again : (v : Version) (position ballot : ℕ) (action : Action) (rest : List ℕ) → IsRecord (Voted position ballot action) → HasRecordText v (Voted position ballot action)
     → voted_at v ((position_text position ++ ballot_text ballot ++ action_text_at v action) ++ rest) ≡ Ok (Voted position ballot action, rest)
 unfolding voted_at
-voted_again v position ballot action rest is has =
-    let parts : (position_text position ++ ballot_text ballot ++ action_text_at v action) ++ rest ≡ position_text position ++ (ballot_text ballot ++ (action_text_at v action ++ rest)) = simp append_assoc in
-    ap (voted_at v) parts ∙ rw (position_again position (ballot_text ballot ++ (action_text_at v action ++ rest)) is.ranges.0, ballot_again ballot (action_text_at v action ++ rest) is.ranges.1, action_again v action rest (is.right, has)) refl
+voted_again v position ballot action rest is has = rw (placed_vote_again v position ballot action rest is.ranges.0 is.ranges.1 (is.right, has)) refl
 
 learned_again : (v : Version) (position : ℕ) (action : Action) (rest : List ℕ) → IsRecord (Learned position action) → HasRecordText v (Learned position action)
     → learned_at v ((position_text position ++ action_text_at v action) ++ rest) ≡ Ok (Learned position action, rest)
@@ -116,8 +109,7 @@ learned_again v position action rest is has =
 promised_range_again : (range : Range) (ballot : ℕ) (rest : List ℕ) → IsRecord (PromisedRange range ballot)
     → promised_range_at ((range_text range ++ ballot_text ballot) ++ rest) ≡ Ok (PromisedRange range ballot, rest)
 unfolding promised_range_at
-promised_range_again range ballot rest is =
-    ap promised_range_at (append_assoc (range_text range) (ballot_text ballot) rest) ∙ rw (range_again range (ballot_text ballot ++ rest) is.ranges.0, ballot_again ballot rest is.ranges.1) refl
+promised_range_again range ballot rest is = rw (range_place_again range ballot rest is.ranges.0 is.ranges.1) refl
 
 pub record_again : (v : Version) (r : Rec) (rest : List ℕ) → IsRecord r → HasRecordText v r → record_at (record_text_at v r ++ rest) ≡ Ok (r, rest)
 unfolding record_at

@@ -15,8 +15,8 @@ use Rattle.rp_codec.specs.Message.{Message, IsBody, MaySay, IsPacket}
 use Rattle.rp_codec.specs.Text.{position_text, ballot_text, action_text_at, placed_text_at, votes_text_at, HasPlacedText}
 use Rattle.rp_codec.specs.Reading.{reported_at, votes_at, reported_votes_at}
 use Rattle.rp_codec.proofs.Steps.{IsBytes, Yields, Took, then, guarded, weaker}
-use Rattle.rp_codec.proofs.FieldLaws.{TookByte, byte_took, TookPosition, position_took, position_again, IsLower, TookLower, lower_took, lower_again}
-use Rattle.rp_codec.proofs.ActionLaws.{IsActionAt, TookAction, action_took, action_again}
+use Rattle.rp_codec.proofs.FieldLaws.{TookByte, byte_took, TookPosition, position_took, position_again, IsLower}
+use Rattle.rp_codec.proofs.ActionLaws.{IsActionAt, TookVote, vote_took, vote_again}
 
 -- ---- one vote
 
@@ -33,21 +33,20 @@ unfolding reported_at
 placed_took v ballot end first bytes h =
     then (TookPosition bytes) (TookPlaced v ballot end first bytes) _ _ (position_took bytes h)
     (λ position p. guarded (TookPlaced v ballot end first bytes) (leb first position.0 && ltb position.0 end) position _
-    (λ e. then (TookLower ballot position.1) (TookPlaced v ballot end first bytes) _ _ (lower_took ballot position.1 p.rest)
-    (λ lower l. then (TookAction v lower.1) (TookPlaced v ballot end first bytes) _ _ (action_took v lower.1 l.rest)
-    (λ action a.
+    (λ e. then (TookVote v ballot position.1) (TookPlaced v ballot end first bytes) _ _ (vote_took v ballot position.1 p.rest)
+    (λ vote t.
     let ends = and_parts _ _ e in
-    record { parts = rw (p.parts, l.parts, a.parts) (simp append_assoc); rest = a.rest; right = (p.right, leb-true _ _ ends.0, ltb-true _ _ ends.1, l.right, a.right) }))))
+    record { parts = rw (p.parts, t.parts) (simp append_assoc); rest = t.rest; right = (p.right, leb-true _ _ ends.0, ltb-true _ _ ends.1, t.right.0, t.right.1) })))
 
 placed_again : (v : Version) (ballot end first : ℕ) (placed : PlacedVote) (rest : List ℕ) → IsPlaced v ballot end first placed
     → reported_at v ballot end first (placed_text_at v placed ++ rest) ≡ Ok (placed, rest)
 unfolding reported_at
 placed_again v ballot end first placed rest right =
-    let action : List ℕ = action_text_at v placed.vote.action ++ rest in
-    let parts : placed_text_at v placed ++ rest ≡ position_text placed.position ++ (ballot_text placed.vote.ballot ++ (action_text_at v placed.vote.action ++ rest)) = simp append_assoc in
+    let vote : List ℕ = ballot_text placed.vote.ballot ++ action_text_at v placed.vote.action in
+    let parts : placed_text_at v placed ++ rest ≡ position_text placed.position ++ (vote ++ rest) = simp append_assoc in
     let within : (leb first placed.position && ltb placed.position end) ≡ true = and_from _ _ (le-leb _ _ right.1) (lt-ltb _ _ right.2) in
     ap (reported_at v ballot end first) parts
-    ∙ rw (position_again placed.position (ballot_text placed.vote.ballot ++ action) right.0, within, lower_again ballot placed.vote.ballot action right.3, action_again v placed.vote.action rest right.4) refl
+    ∙ rw (position_again placed.position (vote ++ rest) right.0, within, vote_again v ballot placed.vote rest right.3 right.4) refl
 
 -- ---- the votes
 

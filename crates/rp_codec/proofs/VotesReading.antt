@@ -7,7 +7,7 @@ use Rattle.rp_base.specs.declared.placed.PlacedVote.{PlacedVote}
 use Rattle.rp_base.specs.Ranges.{Range, end_of}
 use Rattle.rp_codec.specs.declared.version.Version.{Version}
 use Rattle.rp_codec.specs.declared.packet.Body.TheVariants.{PromiseRange}
-use Rattle.rp_codec.specs.Reading.{◌>>=◌, Read, ruled, byte_at, ballot_at, range_at, reported_at, votes_at, reported_votes_at, promise_range_at}
+use Rattle.rp_codec.specs.Reading.{◌>>=◌, Read, ruled, byte_at, range_place_at, reported_at, votes_at, reported_votes_at, promise_range_at}
 use Rattle.rp_codec.proofs.ListReading.{prefixed, prefixed_nil, joined}
 
 -- n were read, the others are at positions from the next on, and are where the rest begins
@@ -95,9 +95,9 @@ no_votes_fault v range ballot end bytes text count reason e same fault ok =
     (subst (λ (r : Read ℕ). IsOk (r >>= λ n. ruled (leb n.0 range.count) n >>= λ count. votes_at v ballot (end_of range) range.first count.0 count.1)) e ok)
 
 -- a promise for a range, field by field
-pub promise_range_found : (v : Version) (bytes after_range text stated after : List ℕ) (range : Range) (ballot : ℕ) (votes : List PlacedVote)
-    → range_at bytes ≡ Ok (range, after_range) → ballot_at after_range ≡ Ok (ballot, text) → stated ≡ text → reported_votes_at v range ballot text ≡ Ok (votes, after)
+pub promise_range_found : (v : Version) (bytes text stated after : List ℕ) (range : Range) (ballot : ℕ) (votes : List PlacedVote)
+    → range_place_at bytes ≡ Ok ((range, ballot), text) → stated ≡ text → reported_votes_at v range ballot text ≡ Ok (votes, after)
     → (reported_votes_at v range ballot stated ≡ Ok (votes, after)) × (promise_range_at v bytes ≡ Ok (PromiseRange range ballot votes, after))
 unfolding promise_range_at
-promise_range_found v bytes after_range text stated after range ballot votes e1 e2 same e3 =
-    (ap (reported_votes_at v range ballot) same ∙ e3, rw (e1, e2, e3) refl)
+promise_range_found v bytes text stated after range ballot votes e1 same e2 =
+    (ap (reported_votes_at v range ballot) same ∙ e2, rw (e1, e2) refl)

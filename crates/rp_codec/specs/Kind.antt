@@ -28,3 +28,20 @@ kind_in bytes = option_and_then kind_of (slice_get bytes 1)
 -- the numbers of the kinds
 abbrev pub IsKind : ℕ → Type 0
 IsKind n = IsSome (kind_of n)
+
+-- who sends or receives a packet: a node, a task or the audit
+pub data Role : Type 0 where
+  ANode : Role
+  ATask : Role
+  TheAudit : Role
+
+-- calls come from tasks, and all else from nodes
+abbrev pub sender_role : Kind → Role
+sender_role Call = ATask
+sender_role _ = ANode
+
+-- replies go to tasks, reports to the audit, and all else to nodes
+abbrev pub receiver_role : Kind → Role
+receiver_role Reply = ATask
+receiver_role Report = TheAudit
+receiver_role _ = ANode

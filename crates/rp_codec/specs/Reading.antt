@@ -22,7 +22,7 @@ use Rattle.rp_codec.specs.declared.packet.Body.TheVariants as bodies
 use Rattle.rp_codec.specs.declared.kind.Kind.{Kind}
 use Rattle.rp_codec.specs.declared.kind.Kind.TheVariants.{Call, Prepare, Promise, Accept, Accepted, Decided, Ask, Nack}
 use Rattle.rp_codec.specs.declared.kind.Kind.TheVariants.{Reply as Answer, Report, PrepareRange, PromiseRange}
-use Rattle.rp_codec.specs.Kind.{kind_of}
+use Rattle.rp_codec.specs.Kind.{kind_of, Role, ANode, ATask, TheAudit, sender_role, receiver_role}
 use Rattle.rp_codec.specs.declared.version.Version.{Version}
 use Rattle.rp_codec.specs.declared.version.Version.TheVariants.{V1, V2}
 use Rattle.rp_codec.specs.Version.{version_of}
@@ -104,6 +104,20 @@ range_at bytes = do
   n ← byte_at first.1
   count ← ruled (is_range first.0 n.0) n
   Ok (record { first = first.0; count = count.0 }, count.1)
+
+-- a position and a ballot
+unfoldable pub place_at : List ℕ → Read (ℕ × ℕ)
+place_at bytes = do
+  position ← position_at bytes
+  ballot ← ballot_at position.1
+  Ok ((position.0, ballot.0), ballot.1)
+
+-- a range and a ballot
+unfoldable pub range_place_at : List ℕ → Read (Range × ℕ)
+range_place_at bytes = do
+  range ← range_at bytes
+  ballot ← ballot_at range.1
+  Ok ((range.0, ballot.0), ballot.1)
 
 -- ---- actions
 
@@ -201,6 +215,13 @@ actions_at version (suc more) bytes = do
   others ← actions_at version more action.1
   Ok (action.0 ∷ others.0, others.1)
 
+-- a vote with its position
+unfoldable pub placed_vote_at : Version → List ℕ → Read PlacedVote
+placed_vote_at version bytes = do
+  place ← place_at bytes
+  action ← action_at version place.1
+  Ok (record { position = place.0.0; vote = record { ballot = place.0.1; action = action.0 } }, action.1)
+
 -- ---- replies
 
 unfoldable pub value_at : List ℕ → Read Reply
@@ -248,16 +269,21 @@ higher_ballot_at ballot bytes = do
   ruled (nat_lt ballot higher.0) higher
 
 -- a vote in a ballot below this one
-unfoldable pub vote_at : Version → ℕ → List ℕ → Read (Option Vote)
+unfoldable pub vote_at : Version → ℕ → List ℕ → Read Vote
 vote_at version ballot bytes = do
   voted ← lower_ballot_at ballot bytes
   action ← action_at version voted.1
-  Ok (Some (record { ballot = voted.0; action = action.0 }), action.1)
+  Ok (record { ballot = voted.0; action = action.0 }, action.1)
+
+unfoldable pub last_vote_at : Version → ℕ → List ℕ → Read (Option Vote)
+last_vote_at version ballot bytes = do
+  vote ← vote_at version ballot bytes
+  Ok (Some vote.0, vote.1)
 
 abbrev pub last_of_flag : Version → ℕ → ℕ → List ℕ → Read (Option Vote)
 last_of_flag version ballot flag bytes =
     if flag == 0 then Ok (None, bytes) else
-    if flag == 1 then vote_at version ballot bytes else
+    if flag == 1 then last_vote_at version ballot bytes else
     Err Field
 
 unfoldable pub last_at : Version → ℕ → List ℕ → Read (Option Vote)
@@ -267,30 +293,24 @@ last_at version ballot bytes = do
 
 unfoldable pub prepare_at : List ℕ → Read Body
 prepare_at bytes = do
-  position ← position_at bytes
-  ballot ← ballot_at position.1
-  Ok (bodies.Prepare position.0 ballot.0, ballot.1)
+  place ← place_at bytes
+  Ok (bodies.Prepare place.0.0 place.0.1, place.1)
 
 unfoldable pub promise_at : Version → List ℕ → Read Body
 promise_at version bytes = do
-  position ← position_at bytes
-  ballot ← ballot_at position.1
-  last ← last_at version ballot.0 ballot.1
-  Ok (bodies.Promise position.0 ballot.0 last.0, last.1)
+  place ← place_at bytes
+  last ← last_at version place.0.1 place.1
+  Ok (bodies.Promise place.0.0 place.0.1 last.0, last.1)
 
 unfoldable pub accept_at : Version → List ℕ → Read Body
 accept_at version bytes = do
-  position ← position_at bytes
-  ballot ← ballot_at position.1
-  action ← action_at version ballot.1
-  Ok (bodies.Accept position.0 ballot.0 action.0, action.1)
+  vote ← placed_vote_at version bytes
+  Ok (bodies.Accept vote.0.position vote.0.vote.ballot vote.0.vote.action, vote.1)
 
 unfoldable pub accepted_at : Version → List ℕ → Read Body
 accepted_at version bytes = do
-  position ← position_at bytes
-  ballot ← ballot_at position.1
-  action ← action_at version ballot.1
-  Ok (bodies.Accepted position.0 ballot.0 action.0, action.1)
+  vote ← placed_vote_at version bytes
+  Ok (bodies.Accepted vote.0.position vote.0.vote.ballot vote.0.vote.action, vote.1)
 
 unfoldable pub decided_at : Version → List ℕ → Read Body
 decided_at version bytes = do
@@ -305,10 +325,9 @@ ask_at bytes = do
 
 unfoldable pub nack_at : List ℕ → Read Body
 nack_at bytes = do
-  position ← position_at bytes
-  ballot ← ballot_at position.1
-  bound ← higher_ballot_at ballot.0 ballot.1
-  Ok (bodies.Nack position.0 ballot.0 bound.0, bound.1)
+  place ← place_at bytes
+  bound ← higher_ballot_at place.0.1 place.1
+  Ok (bodies.Nack place.0.0 place.0.1 bound.0, bound.1)
 
 unfoldable pub answer_at : List ℕ → Read Body
 answer_at bytes = do
@@ -333,18 +352,16 @@ report_at version bytes = do
 
 unfoldable pub prepare_range_at : List ℕ → Read Body
 prepare_range_at bytes = do
-  range ← range_at bytes
-  ballot ← ballot_at range.1
-  Ok (bodies.PrepareRange range.0 ballot.0, ballot.1)
+  place ← range_place_at bytes
+  Ok (bodies.PrepareRange place.0.0 place.0.1, place.1)
 
 -- a vote in a ballot below this one, at a position that is the first or a later one, and below the end
 unfoldable pub reported_at : Version → ℕ → ℕ → ℕ → List ℕ → Read PlacedVote
 reported_at version ballot end first bytes = do
   n ← position_at bytes
   position ← ruled (nat_le first n.0 && nat_lt n.0 end) n
-  lower ← lower_ballot_at ballot position.1
-  action ← action_at version lower.1
-  Ok (record { position = position.0; vote = record { ballot = lower.0; action = action.0 } }, action.1)
+  vote ← vote_at version ballot position.1
+  Ok (record { position = position.0; vote = vote.0 }, vote.1)
 
 -- n such votes, each at a position above the one before
 unfoldable pub votes_at : Version → ℕ → ℕ → ℕ → ℕ → List ℕ → Read (List PlacedVote)
@@ -363,10 +380,9 @@ reported_votes_at version range ballot bytes = do
 
 unfoldable pub promise_range_at : Version → List ℕ → Read Body
 promise_range_at version bytes = do
-  range ← range_at bytes
-  ballot ← ballot_at range.1
-  votes ← reported_votes_at version range.0 ballot.0 ballot.1
-  Ok (bodies.PromiseRange range.0 ballot.0 votes.0, votes.1)
+  place ← range_place_at bytes
+  votes ← reported_votes_at version place.0.0 place.0.1 place.1
+  Ok (bodies.PromiseRange place.0.0 place.0.1 votes.0, votes.1)
 
 unfoldable pub body_at : Version → Kind → Party → List ℕ → Read Body
 body_at version Call from bytes = task_call_at version from bytes
@@ -404,40 +420,17 @@ audit_at bytes = do
   audit ← ruled (n.0 == 32) n
   Ok (Audit, audit.1)
 
--- who may send a kind, and to whom
-unfoldable pub from_at : Kind → List ℕ → Read Party
-from_at Call bytes = task_at bytes
-from_at Prepare bytes = node_at bytes
-from_at Promise bytes = node_at bytes
-from_at Accept bytes = node_at bytes
-from_at Accepted bytes = node_at bytes
-from_at Decided bytes = node_at bytes
-from_at Ask bytes = node_at bytes
-from_at Nack bytes = node_at bytes
-from_at Answer bytes = node_at bytes
-from_at Report bytes = node_at bytes
-from_at PrepareRange bytes = node_at bytes
-from_at PromiseRange bytes = node_at bytes
-
-unfoldable pub to_at : Kind → List ℕ → Read Party
-to_at Call bytes = node_at bytes
-to_at Prepare bytes = node_at bytes
-to_at Promise bytes = node_at bytes
-to_at Accept bytes = node_at bytes
-to_at Accepted bytes = node_at bytes
-to_at Decided bytes = node_at bytes
-to_at Ask bytes = node_at bytes
-to_at Nack bytes = node_at bytes
-to_at Answer bytes = task_at bytes
-to_at Report bytes = audit_at bytes
-to_at PrepareRange bytes = node_at bytes
-to_at PromiseRange bytes = node_at bytes
+-- a party that has this role
+unfoldable pub role_at : Role → List ℕ → Read Party
+role_at ANode bytes = node_at bytes
+role_at ATask bytes = task_at bytes
+role_at TheAudit bytes = audit_at bytes
 
 -- what is after the kind
 unfoldable pub said_at : Version → Kind → List ℕ → Read Message
 said_at version kind bytes = do
-  from ← from_at kind bytes
-  to ← to_at kind from.1
+  from ← role_at (sender_role kind) bytes
+  to ← role_at (receiver_role kind) from.1
   body ← body_at version kind from.0 to.1
   Ok (record { from = from.0; to = to.0; body = body.0 }, body.1)
 

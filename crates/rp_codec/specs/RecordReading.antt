@@ -5,7 +5,8 @@ use Rattle.rp_base.specs.declared.record.Rec.{Rec}
 use Rattle.rp_base.specs.declared.record.Rec.TheVariants.{Started, Promised, Voted, Learned, PromisedRange}
 use Rattle.rp_codec.specs.declared.version.Version.{Version}
 use Rattle.rp_codec.specs.Version.{version_of}
-use Rattle.rp_codec.specs.Reading.{◌>>=◌, Read, known, byte_at, position_at, ballot_at, range_at, action_at}
+use Rattle.rp_codec.specs.Reading.{◌>>=◌, Read, known, byte_at, position_at, ballot_at}
+use Rattle.rp_codec.specs.Reading.{place_at, range_place_at, action_at, placed_vote_at}
 
 unfoldable pub started_at : List ℕ → Read Rec
 started_at bytes = do
@@ -14,16 +15,13 @@ started_at bytes = do
 
 unfoldable pub promised_at : List ℕ → Read Rec
 promised_at bytes = do
-  position ← position_at bytes
-  ballot ← ballot_at position.1
-  Ok (Promised position.0 ballot.0, ballot.1)
+  place ← place_at bytes
+  Ok (Promised place.0.0 place.0.1, place.1)
 
 unfoldable pub voted_at : Version → List ℕ → Read Rec
 voted_at version bytes = do
-  position ← position_at bytes
-  ballot ← ballot_at position.1
-  action ← action_at version ballot.1
-  Ok (Voted position.0 ballot.0 action.0, action.1)
+  vote ← placed_vote_at version bytes
+  Ok (Voted vote.0.position vote.0.vote.ballot vote.0.vote.action, vote.1)
 
 unfoldable pub learned_at : Version → List ℕ → Read Rec
 learned_at version bytes = do
@@ -33,9 +31,8 @@ learned_at version bytes = do
 
 unfoldable pub promised_range_at : List ℕ → Read Rec
 promised_range_at bytes = do
-  range ← range_at bytes
-  ballot ← ballot_at range.1
-  Ok (PromisedRange range.0 ballot.0, ballot.1)
+  place ← range_place_at bytes
+  Ok (PromisedRange place.0.0 place.0.1, place.1)
 
 abbrev pub record_of_kind : Version → ℕ → List ℕ → Read Rec
 record_of_kind version kind bytes =

@@ -118,13 +118,9 @@ party_number Audit = 32
 abbrev pub party_text : Party → List ℕ
 party_text party = party_number party ∷ []
 
--- a report's actions after what is before them
-abbrev pub listed_text : List ℕ → List Action → List ℕ
-listed_text front actions = front ++ actions_text actions
-
--- the votes of a promise for a range after what is before them
-abbrev pub reported_text : List ℕ → List PlacedVote → List ℕ
-reported_text front votes = front ++ votes_text votes
+-- a list after what is before it: how many items there are, and each
+abbrev pub list_text : {T : Type 0} → (T → List ℕ) → List ℕ → List T → List ℕ
+list_text item_text front items = front ++ length items ∷ flat_map item_text items
 
 -- the number of a packet's kind
 abbrev pub kind_number : Body → ℕ

@@ -3,15 +3,16 @@
 //! `SetTimer`, 5 `CancelTimer`. The index follows, in version 1 0 for an entry.
 
 ghost use Rattle.std.specs.Prelude.{◌≡◌, ◌+◌, ◌≤◌, ◌++◌, length};
-ghost use Rattle.rp_codec.specs.Text.{operation_text, action_text};
-ghost use Rattle.rp_codec.specs.Reading.{Gives, is_task, entry_at, operation_at, index_at, call_at, any_call_at, interrupt_at, tick_at, action_at, own_call_at};
+ghost use Rattle.rp_codec.specs.Text.{operation_text, action_text, vote_text};
+ghost use Rattle.rp_codec.specs.Reading.{Gives, is_task, entry_at, operation_at, index_at, call_at, any_call_at, interrupt_at, tick_at, action_at, placed_vote_at, own_call_at};
 
-use crate::fields::{put_i64, put_u32, read_count, read_i64, read_index};
+use crate::fields::{put_i64, put_place, put_u32, read_count, read_i64, read_index, read_place};
+use crate::list_text::Item;
 use crate::packet::Party;
 use crate::reader::Reader;
 use crate::short_text::ShortText;
 use crate::version::Version;
-use rp_base::{Action, Operation, PacketReason, TaskId};
+use rp_base::{Action, Ballot, Operation, PacketReason, PlacedVote, Position, TaskId, Vote};
 
 /// The greatest index of an entry.
 pub(crate) const MOST_ENTRIES: u8 = 4;
@@ -133,6 +134,21 @@ pub(crate) fn read_action(reader: &mut Reader, version: Version) -> Result<Actio
     }
 }
 
+/// A vote with its position, in a text of the version.
+#[inline(always)]
+#[tactic(auto, unfolding(crate::specs::Reading::placed_vote_at))]
+pub(crate) fn read_placed_vote(
+    reader: &mut Reader,
+    version: Version,
+) -> Result<PlacedVote, PacketReason>
+    ensures { Gives result reader.new (placed_vote_at version reader.old) }
+{
+    let (position, ballot) = read_place(reader)?;
+    let action = read_action(reader, version)?;
+    let vote = Vote { ballot, action };
+    Ok(PlacedVote { position, vote })
+}
+
 #[inline(always)]
 fn is_own(party: &Party, task: TaskId) -> bool
     ensures { result ≡ is_task party.now task }
@@ -209,5 +225,24 @@ pub(crate) fn put_action(text: &mut ShortText, action: &Action)
             text.put(&[3]);
             put_u32(text, now);
         }
+    }
+}
+
+#[inline(always)]
+pub(crate) fn put_vote(text: &mut ShortText, position: Position, ballot: Ballot, action: &Action)
+    requires { length text.old + 27 ≤ 40 }
+    ensures { text.new ≡ text.old ++ vote_text position ballot action.now }
+{
+    put_place(text, position, ballot);
+    put_action(text, action);
+}
+
+impl Item for Action {
+    ghost use Rattle.rp_codec.specs.Text.{action_text};
+
+    ghost item_text = { action_text };
+
+    fn put(&self, text: &mut ShortText) {
+        put_action(text, self);
     }
 }

@@ -1,15 +1,15 @@
 //! Bodies as bytes.
 
 ghost use Rattle.std.specs.Prelude.{◌≡◌, ◌+◌, ◌≤◌, ◌++◌, length};
-ghost use Rattle.rp_codec.specs.Text.{position_text, ballot_text, action_text, last_text, vote_text, short_body_text};
+ghost use Rattle.rp_codec.specs.Text.{last_text, short_body_text};
 ghost use Rattle.rp_codec.specs.Found.{Finds};
 ghost use Rattle.rp_codec.specs.Reading.{Gives, lower_ballot_at, higher_ballot_at, vote_at, last_at, prepare_at, promise_at, accept_at, accepted_at, decided_at, ask_at, nack_at, answer_at, task_call_at, prepare_range_at, body_at};
 
-use crate::action_text::{put_action, read_action, read_own_call};
+use crate::action_text::{put_action, put_vote, read_action, read_own_call, read_placed_vote};
 use crate::content::Content;
 use crate::fields::{
-    put_ballot, put_position, put_range, put_u16, put_u32, read_ballot, read_count, read_position,
-    read_range,
+    put_ballot, put_place, put_position, put_range, put_u16, put_u32, read_ballot, read_count,
+    read_place, read_position, read_range_place,
 };
 use crate::kind::Kind;
 use crate::packet::{Body, Party};
@@ -19,11 +19,11 @@ use crate::report_text::read_report;
 use crate::short_text::ShortText;
 use crate::version::Version;
 use crate::votes_text::read_promise_range;
-use rp_base::{Action, Ballot, PacketReason, Position, Vote};
+use rp_base::{Ballot, PacketReason, Vote};
 
 #[inline(always)]
 #[tactic(auto, unfolding(crate::specs::Reading::lower_ballot_at))]
-pub(crate) fn read_lower_ballot(reader: &mut Reader, ballot: Ballot) -> Result<Ballot, PacketReason>
+fn read_lower_ballot(reader: &mut Reader, ballot: Ballot) -> Result<Ballot, PacketReason>
     ensures { Gives result reader.new (lower_ballot_at ballot reader.old) }
 {
     let lower = read_ballot(reader)?;
@@ -47,20 +47,20 @@ fn read_higher_ballot(reader: &mut Reader, ballot: Ballot) -> Result<Ballot, Pac
 
 #[inline(always)]
 #[tactic(auto, unfolding(crate::specs::Reading::vote_at))]
-fn read_vote(
+pub(crate) fn read_vote(
     reader: &mut Reader,
     version: Version,
     below: Ballot,
-) -> Result<Option<Vote>, PacketReason>
+) -> Result<Vote, PacketReason>
     ensures { Gives result reader.new (vote_at version below reader.old) }
 {
     let ballot = read_lower_ballot(reader, below)?;
     let action = read_action(reader, version)?;
-    Ok(Some(Vote { ballot, action }))
+    Ok(Vote { ballot, action })
 }
 
 #[inline(always)]
-#[tactic(auto, unfolding(crate::specs::Reading::last_at))]
+#[tactic(auto, unfolding(crate::specs::Reading::last_at, crate::specs::Reading::last_vote_at))]
 fn read_last(
     reader: &mut Reader,
     version: Version,
@@ -71,7 +71,10 @@ fn read_last(
     let flag = reader.byte()?;
     match flag {
         0 => Ok(None),
-        1 => read_vote(reader, version, below),
+        1 => {
+            let vote = read_vote(reader, version, below)?;
+            Ok(Some(vote))
+        }
         _ => Err(PacketReason::Field),
     }
 }
@@ -81,8 +84,7 @@ fn read_last(
 fn read_prepare(reader: &mut Reader) -> Result<Body, PacketReason>
     ensures { Gives result reader.new (prepare_at reader.old) }
 {
-    let position = read_position(reader)?;
-    let ballot = read_ballot(reader)?;
+    let (position, ballot) = read_place(reader)?;
     Ok(Body::Prepare { position, ballot })
 }
 
@@ -91,8 +93,7 @@ fn read_prepare(reader: &mut Reader) -> Result<Body, PacketReason>
 fn read_promise(reader: &mut Reader, version: Version) -> Result<Body, PacketReason>
     ensures { Gives result reader.new (promise_at version reader.old) }
 {
-    let position = read_position(reader)?;
-    let ballot = read_ballot(reader)?;
+    let (position, ballot) = read_place(reader)?;
     let last = read_last(reader, version, ballot)?;
     let body = Body::Promise {
         position,
@@ -107,15 +108,12 @@ fn read_promise(reader: &mut Reader, version: Version) -> Result<Body, PacketRea
 fn read_accept(reader: &mut Reader, version: Version) -> Result<Body, PacketReason>
     ensures { Gives result reader.new (accept_at version reader.old) }
 {
-    let position = read_position(reader)?;
-    let ballot = read_ballot(reader)?;
-    let action = read_action(reader, version)?;
-    let body = Body::Accept {
-        position,
-        ballot,
-        action,
-    };
-    Ok(body)
+    let placed = read_placed_vote(reader, version)?;
+    Ok(Body::Accept {
+        position: placed.position,
+        ballot: placed.vote.ballot,
+        action: placed.vote.action,
+    })
 }
 
 #[inline(always)]
@@ -123,15 +121,12 @@ fn read_accept(reader: &mut Reader, version: Version) -> Result<Body, PacketReas
 fn read_accepted(reader: &mut Reader, version: Version) -> Result<Body, PacketReason>
     ensures { Gives result reader.new (accepted_at version reader.old) }
 {
-    let position = read_position(reader)?;
-    let ballot = read_ballot(reader)?;
-    let action = read_action(reader, version)?;
-    let body = Body::Accepted {
-        position,
-        ballot,
-        action,
-    };
-    Ok(body)
+    let placed = read_placed_vote(reader, version)?;
+    Ok(Body::Accepted {
+        position: placed.position,
+        ballot: placed.vote.ballot,
+        action: placed.vote.action,
+    })
 }
 
 #[inline(always)]
@@ -149,8 +144,7 @@ fn read_decided(reader: &mut Reader, version: Version) -> Result<Body, PacketRea
 fn read_nack(reader: &mut Reader) -> Result<Body, PacketReason>
     ensures { Gives result reader.new (nack_at reader.old) }
 {
-    let position = read_position(reader)?;
-    let ballot = read_ballot(reader)?;
+    let (position, ballot) = read_place(reader)?;
     let bound = read_higher_ballot(reader, ballot)?;
     let body = Body::Nack {
         position,
@@ -193,8 +187,7 @@ fn read_ask(reader: &mut Reader) -> Result<Body, PacketReason>
 fn read_prepare_range(reader: &mut Reader) -> Result<Body, PacketReason>
     ensures { Gives result reader.new (prepare_range_at reader.old) }
 {
-    let range = read_range(reader)?;
-    let ballot = read_ballot(reader)?;
+    let (range, ballot) = read_range_place(reader)?;
     Ok(Body::PrepareRange { range, ballot })
 }
 
@@ -239,25 +232,6 @@ fn put_last(text: &mut ShortText, last: &Option<Vote>)
             put_action(text, &vote.action);
         }
     }
-}
-
-#[inline(always)]
-fn put_place(text: &mut ShortText, position: Position, ballot: Ballot)
-    requires { length text.old + 10 ≤ 40 }
-    ensures text { text.new ≡ text.old ++ (position_text position ++ ballot_text ballot) }
-    ensures len { length text.new ≡ length text.old + 10 }
-{
-    put_position(text, position);
-    put_ballot(text, ballot);
-}
-
-#[inline(always)]
-fn put_vote(text: &mut ShortText, position: Position, ballot: Ballot, action: &Action)
-    requires { length text.old + 27 ≤ 40 }
-    ensures { text.new ≡ text.old ++ vote_text position ballot action.now }
-{
-    put_place(text, position, ballot);
-    put_action(text, action);
 }
 
 /// Adds a body's text, at most 36 bytes, of a report all but its actions, and of a promise for a

@@ -1,11 +1,12 @@
 //! Bytes to packets.
 
 ghost use Rattle.std.specs.Prelude.{◌≡◌, ◌↔◌, ℕ, List, length, Some, Ok, IsSome, IfSome, IfOk, OnErr};
+ghost use Rattle.rp_codec.specs.Kind.{sender_role, receiver_role};
 ghost use Rattle.rp_codec.specs.Message.{Message, IsPacket, MaySay};
 ghost use Rattle.rp_codec.specs.declared.packet.Party.TheVariants.{Node};
 ghost use Rattle.rp_codec.specs.Text.{text_of, IsTextBefore};
 ghost use Rattle.rp_codec.specs.Usual.{between};
-ghost use Rattle.rp_codec.specs.Reading.{Gives, node_at, task_at, audit_at, from_at, to_at, version_at, kind_at, packet_at, all_of};
+ghost use Rattle.rp_codec.specs.Reading.{Gives, node_at, task_at, audit_at, role_at, version_at, kind_at, packet_at, all_of};
 ghost use Rattle.rp_codec.specs.Found.{Skips, FindsPacket, FindsWhole, KeepsRulesAt, IsListed, IsList};
 ghost use Rattle.rp_codec.specs.Decoding.{IsDecoded, IsLongText, BeginsWithPacket};
 
@@ -63,44 +64,25 @@ fn read_audit(reader: &mut Reader) -> Result<Party, PacketReason>
 }
 
 #[inline(always)]
-#[tactic(auto, unfolding(crate::specs::Reading::from_at))]
+#[tactic(auto, unfolding(crate::specs::Reading::role_at))]
 fn read_from(reader: &mut Reader, kind: Kind) -> Result<Party, PacketReason>
-    ensures { Gives result reader.new (from_at kind reader.old) }
+    ensures { Gives result reader.new (role_at (sender_role kind) reader.old) }
 {
     match kind {
         Kind::Call => read_task(reader),
-        Kind::Prepare
-        | Kind::Promise
-        | Kind::Accept
-        | Kind::Accepted
-        | Kind::Decided
-        | Kind::Ask
-        | Kind::Nack
-        | Kind::Reply
-        | Kind::Report
-        | Kind::PrepareRange
-        | Kind::PromiseRange => read_node(reader),
+        _ => read_node(reader),
     }
 }
 
 #[inline(always)]
-#[tactic(auto, unfolding(crate::specs::Reading::to_at))]
+#[tactic(auto, unfolding(crate::specs::Reading::role_at))]
 fn read_to(reader: &mut Reader, kind: Kind) -> Result<Party, PacketReason>
-    ensures { Gives result reader.new (to_at kind reader.old) }
+    ensures { Gives result reader.new (role_at (receiver_role kind) reader.old) }
 {
     match kind {
         Kind::Reply => read_task(reader),
         Kind::Report => read_audit(reader),
-        Kind::Call
-        | Kind::Prepare
-        | Kind::Promise
-        | Kind::Accept
-        | Kind::Accepted
-        | Kind::Decided
-        | Kind::Ask
-        | Kind::Nack
-        | Kind::PrepareRange
-        | Kind::PromiseRange => read_node(reader),
+        _ => read_node(reader),
     }
 }
 

@@ -8,10 +8,9 @@ ghost use Rattle.rp_codec.specs.Text.{kind_number, party_number, head_text, text
 
 use crate::body_text::put_body;
 use crate::fields::{AUDIT, TASK_BASE, VERSION};
+use crate::list_text::put_list;
 use crate::packet::{Body, Packet, Party};
-use crate::report_text::put_report;
 use crate::short_text::{LONGEST, ShortText};
-use crate::votes_text::put_promise_range;
 use std::alloc::{AllocError, Global};
 
 #[inline(always)]
@@ -85,8 +84,8 @@ pub fn encode_onto(packet: &Packet, out: &mut Vec<u8>) -> Result<(), AllocError>
     let mut front = ShortText::starting_with(&head_of(packet));
     put_body(&mut front, packet.body());
     match packet.body() {
-        Body::Report { actions, .. } => put_report(out, &front, actions.as_slice()),
-        Body::PromiseRange { votes, .. } => put_promise_range(out, &front, votes.as_slice()),
+        Body::Report { actions, .. } => put_list(out, &front, actions.as_slice()),
+        Body::PromiseRange { votes, .. } => put_list(out, &front, votes.as_slice()),
         Body::Call { .. }
         | Body::Prepare { .. }
         | Body::Promise { .. }

@@ -4,7 +4,7 @@
 ghost use Rattle.std.specs.Prelude.{◌≡◌, ◌+◌, ◌≤◌, ◌++◌, length};
 ghost use Rattle.std.specs.Int.{w16, w32, w64};
 ghost use Rattle.rp_codec.specs.Text.{number_text, signed_text, position_text, ballot_text, range_text};
-ghost use Rattle.rp_codec.specs.Reading.{Gives, byte_at, number_at, signed_at, index_at, count_at, position_at, ballot_at, range_at};
+ghost use Rattle.rp_codec.specs.Reading.{Gives, byte_at, number_at, signed_at, index_at, count_at, position_at, ballot_at, range_at, place_at, range_place_at};
 
 use crate::reader::Reader;
 use crate::short_text::ShortText;
@@ -93,6 +93,28 @@ pub(crate) fn read_range(reader: &mut Reader) -> Result<PositionRange, PacketRea
     }
 }
 
+/// A position and a ballot.
+#[inline(always)]
+#[tactic(auto, unfolding(crate::specs::Reading::place_at))]
+pub(crate) fn read_place(reader: &mut Reader) -> Result<(Position, Ballot), PacketReason>
+    ensures { Gives result reader.new (place_at reader.old) }
+{
+    let position = read_position(reader)?;
+    let ballot = read_ballot(reader)?;
+    Ok((position, ballot))
+}
+
+/// A range and a ballot.
+#[inline(always)]
+#[tactic(auto, unfolding(crate::specs::Reading::range_place_at))]
+pub(crate) fn read_range_place(reader: &mut Reader) -> Result<(PositionRange, Ballot), PacketReason>
+    ensures { Gives result reader.new (range_place_at reader.old) }
+{
+    let range = read_range(reader)?;
+    let ballot = read_ballot(reader)?;
+    Ok((range, ballot))
+}
+
 #[inline(always)]
 #[tactic(auto, unfolding(crate::specs::Text::number_text))]
 pub(crate) fn put_u16(text: &mut ShortText, number: u16)
@@ -158,4 +180,14 @@ pub(crate) fn put_range(text: &mut ShortText, range: PositionRange)
 {
     put_position(text, range.first());
     text.put(&[range.count()]);
+}
+
+#[inline(always)]
+pub(crate) fn put_place(text: &mut ShortText, position: Position, ballot: Ballot)
+    requires { length text.old + 10 ≤ 40 }
+    ensures text { text.new ≡ text.old ++ (position_text position ++ ballot_text ballot) }
+    ensures len { length text.new ≡ length text.old + 10 }
+{
+    put_position(text, position);
+    put_ballot(text, ballot);
 }

@@ -3,8 +3,7 @@
 //!
 //! In reading order:
 //! - `packet`: what nodes and tasks say to one another
-//! - `actions`: the actions of a report
-//! - `votes`: the votes of a promise for a range
+//! - `items`: lists that a packet carries: actions, and votes for a range
 //! - `rules`: who may say what to whom
 //! - `kind`: the kinds of packets
 //! - `version`: the versions of texts
@@ -12,6 +11,7 @@
 //! - `fields`: the fields that are in more than one text: numbers, positions and ballots
 //! - `action_text`: actions as bytes
 //! - `reply_text`: replies as bytes
+//! - `list_text`: lists in texts
 //! - `report_text`: reports as bytes
 //! - `votes_text`: promises for a range as bytes
 //! - `body_text`: bodies as bytes
@@ -26,14 +26,15 @@
 #![tactic(auto)]
 
 mod action_text;
-mod actions;
 mod body_text;
 mod content;
 mod decoding;
 mod encoding;
 mod fields;
+mod items;
 mod kind;
 mod lengths;
+mod list_text;
 mod packet;
 mod reader;
 mod record_text;
@@ -44,12 +45,11 @@ mod short_text;
 mod usual_encoding;
 mod usual_texts;
 mod version;
-mod votes;
 mod votes_text;
 
-pub use actions::Actions;
 pub use decoding::{decode, decode_fields, packet_len};
 pub use encoding::{encode, encode_onto, one_text, text_of_packet, two_texts};
+pub use items::{Actions, Items, Votes};
 pub use kind::Kind;
 pub use lengths::text_len;
 pub use packet::{Body, Packet, Party};
@@ -67,4 +67,3 @@ pub use usual_texts::{
     usual_decided, usual_prepare, usual_promise, usual_reply,
 };
 pub use version::Version;
-pub use votes::Votes;

@@ -2,9 +2,8 @@
 
 ghost use Rattle.std.specs.Prelude.{◌≡◌, ◌↔◌, IsSome, IfSome};
 
-use crate::actions::Actions;
+use crate::items::{Actions, Votes};
 use crate::rules;
-use crate::votes::Votes;
 use rp_base::{Action, Ballot, NodeId, Position, PositionRange, TaskId, Vote};
 use std::alloc::AllocError;
 use std::marker::Model;

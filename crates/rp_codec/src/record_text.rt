@@ -8,9 +8,10 @@ ghost use Rattle.rp_codec.specs.Record.{record_text_at, record_text, HasRecordTe
 ghost use Rattle.rp_codec.specs.Reading.{Gives};
 ghost use Rattle.rp_codec.specs.RecordReading.{started_at, promised_at, voted_at, learned_at, promised_range_at, record_at};
 
-use crate::action_text::{put_action, read_action};
+use crate::action_text::{put_action, put_vote, read_action, read_placed_vote};
 use crate::fields::{
-    VERSION, put_ballot, put_position, put_range, read_ballot, read_position, read_range,
+    VERSION, put_ballot, put_place, put_position, put_range, read_ballot, read_place,
+    read_position, read_range_place,
 };
 use crate::reader::Reader;
 use crate::short_text::ShortText;
@@ -30,8 +31,7 @@ fn read_started(reader: &mut Reader) -> Result<Rec, PacketReason>
 fn read_promised(reader: &mut Reader) -> Result<Rec, PacketReason>
     ensures { Gives result reader.new (promised_at reader.old) }
 {
-    let position = read_position(reader)?;
-    let ballot = read_ballot(reader)?;
+    let (position, ballot) = read_place(reader)?;
     Ok(Rec::Promised(position, ballot))
 }
 
@@ -39,10 +39,9 @@ fn read_promised(reader: &mut Reader) -> Result<Rec, PacketReason>
 fn read_voted(reader: &mut Reader, version: Version) -> Result<Rec, PacketReason>
     ensures { Gives result reader.new (voted_at version reader.old) }
 {
-    let position = read_position(reader)?;
-    let ballot = read_ballot(reader)?;
-    let action = read_action(reader, version)?;
-    Ok(Rec::Voted(position, ballot, action))
+    let placed = read_placed_vote(reader, version)?;
+    let vote = placed.vote;
+    Ok(Rec::Voted(placed.position, vote.ballot, vote.action))
 }
 
 #[tactic(auto, unfolding(crate::specs::RecordReading::learned_at))]
@@ -58,8 +57,7 @@ fn read_learned(reader: &mut Reader, version: Version) -> Result<Rec, PacketReas
 fn read_promised_range(reader: &mut Reader) -> Result<Rec, PacketReason>
     ensures { Gives result reader.new (promised_range_at reader.old) }
 {
-    let range = read_range(reader)?;
-    let ballot = read_ballot(reader)?;
+    let (range, ballot) = read_range_place(reader)?;
     Ok(Rec::PromisedRange(range, ballot))
 }
 
@@ -95,15 +93,12 @@ pub fn text_of_record(rec: &Rec) -> ShortText
         }
         Rec::Promised(position, ballot) => {
             let mut text = ShortText::starting_with(&[VERSION, 2]);
-            put_position(&mut text, *position);
-            put_ballot(&mut text, *ballot);
+            put_place(&mut text, *position, *ballot);
             text
         }
         Rec::Voted(position, ballot, action) => {
             let mut text = ShortText::starting_with(&[VERSION, 3]);
-            put_position(&mut text, *position);
-            put_ballot(&mut text, *ballot);
-            put_action(&mut text, action);
+            put_vote(&mut text, *position, *ballot, action);
             text
         }
         Rec::Learned(position, action) => {

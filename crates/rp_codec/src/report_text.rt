@@ -1,20 +1,18 @@
 //! Reports as bytes: the first position, how many actions are applied, how many are reported, and
 //! each of those.
 
-ghost use Rattle.std.specs.Prelude.{◌≡◌, ◌<◌, ◌++◌, length, take, IsOk, IfOk, OnOk, OnErr};
-ghost use Rattle.rp_codec.specs.Text.{listed_text};
+ghost use Rattle.std.specs.Prelude.{IsOk, IfOk};
 ghost use Rattle.rp_codec.specs.Reading.{actions_at, report_at};
 ghost use Rattle.rp_codec.specs.Found.{Skips, Finds, AreFirst};
 
-use crate::action_text::{put_action, read_action};
-use crate::actions::Actions;
+use crate::action_text::read_action;
 use crate::content::Content;
 use crate::fields::read_position;
+use crate::items::Actions;
 use crate::reader::Reader;
 use crate::rules::report_len;
-use crate::short_text::ShortText;
 use crate::version::Version;
-use rp_base::{Action, PacketReason};
+use rp_base::PacketReason;
 use std::alloc::{AllocError, Global};
 
 /// Reads n actions, and keeps none.
@@ -70,42 +68,4 @@ pub(crate) fn list_actions(
         }
     }
     Ok(Actions::from_vec(actions))
-}
-
-/// Where memory is refused, some of the text may be after the bytes.
-fn put_actions(out: &mut Vec<u8>, front: &ShortText, actions: &[Action]) -> Result<(), AllocError>
-    requires { length actions.now < 256 }
-    ensures ok { OnOk result (out.new.items ≡ out.old.items ++ listed_text front.now actions.now) }
-    ensures err { OnErr result (take (length out.old.items) out.new.items ≡ out.old.items) }
-{
-    out.extend_from_slice(front.as_slice())?;
-    out.push(actions.len() as u8)?;
-    for action in actions {
-        let mut text = ShortText::new();
-        put_action(&mut text, action);
-        out.extend_from_slice(text.as_slice())?;
-    }
-    Ok(())
-}
-
-/// Puts a report's text after the bytes: its front, and then its actions. Where memory is refused,
-/// the bytes stay.
-#[inline(never)]
-pub(crate) fn put_report(
-    out: &mut Vec<u8>,
-    front: &ShortText,
-    actions: &[Action],
-) -> Result<(), AllocError>
-    requires { length actions.now < 256 }
-    ensures ok { OnOk result (out.new.items ≡ out.old.items ++ listed_text front.now actions.now) }
-    ensures err { OnErr result (out.new.items ≡ out.old.items) }
-{
-    let start = out.len();
-    match put_actions(out, front, actions) {
-        Ok(()) => Ok(()),
-        Err(refused) => {
-            out.truncate(start);
-            Err(refused)
-        }
-    }
 }

@@ -1,20 +1,20 @@
 //! Promises for a range as bytes: the range, the ballot, how many votes are reported, and each of
 //! those with its position.
 
-ghost use Rattle.std.specs.Prelude.{◌≡◌, ◌≤◌, ◌<◌, ◌+◌, ◌++◌, length, take, IsOk, IfOk, OnOk, OnErr};
+ghost use Rattle.std.specs.Prelude.{IsOk, IfOk};
 ghost use Rattle.rp_base.specs.Ranges.{end_of};
-ghost use Rattle.rp_codec.specs.Text.{placed_text, reported_text};
 ghost use Rattle.rp_codec.specs.Reading.{reported_at, votes_at, reported_votes_at, promise_range_at};
 ghost use Rattle.rp_codec.specs.Found.{Skips, GivesVote, Finds, AreFirstVotes};
 
-use crate::action_text::{put_action, read_action};
-use crate::body_text::read_lower_ballot;
+use crate::action_text::put_vote;
+use crate::body_text::read_vote;
 use crate::content::Content;
-use crate::fields::{put_ballot, put_position, read_ballot, read_position, read_range};
+use crate::fields::{read_position, read_range_place};
+use crate::items::Votes;
+use crate::list_text::Item;
 use crate::reader::Reader;
 use crate::short_text::ShortText;
 use crate::version::Version;
-use crate::votes::Votes;
 use rp_base::{Action, Ballot, PacketReason, PlacedVote, Position, PositionRange, Vote};
 use std::alloc::{AllocError, Global};
 
@@ -35,9 +35,8 @@ fn read_reported(
     if number < first || number >= end {
         return Err(PacketReason::Field);
     }
-    let lower = read_lower_ballot(reader, ballot)?;
-    let action = read_action(reader, version)?;
-    Ok((position, lower, action))
+    let vote = read_vote(reader, version, ballot)?;
+    Ok((position, vote.ballot, vote.action))
 }
 
 /// Reads n votes, and keeps none.
@@ -84,8 +83,7 @@ pub(crate) fn read_promise_range<'a>(
 ) -> Result<Content<'a>, PacketReason>
     ensures { Finds result reader.new (promise_range_at version reader.old) }
 {
-    let range = read_range(reader)?;
-    let ballot = read_ballot(reader)?;
+    let (range, ballot) = read_range_place(reader)?;
     let votes = reader.again();
     skip_votes(reader, version, range, ballot)?;
     let content = Content::Voted {
@@ -128,50 +126,12 @@ pub(crate) fn list_votes(
     Ok(Votes::from_vec(votes))
 }
 
-/// Adds a vote's text with its position, at most 27 bytes.
-fn put_placed(text: &mut ShortText, placed: &PlacedVote)
-    requires { length text.old + 27 ≤ 40 }
-    ensures { text.new ≡ text.old ++ placed_text placed.now }
-{
-    put_position(text, placed.position);
-    put_ballot(text, placed.vote.ballot);
-    put_action(text, &placed.vote.action);
-}
+impl Item for PlacedVote {
+    ghost use Rattle.rp_codec.specs.Text.{placed_text};
 
-/// Where memory is refused, some of the text may be after the bytes.
-fn put_votes(out: &mut Vec<u8>, front: &ShortText, votes: &[PlacedVote]) -> Result<(), AllocError>
-    requires { length votes.now < 256 }
-    ensures ok { OnOk result (out.new.items ≡ out.old.items ++ reported_text front.now votes.now) }
-    ensures err { OnErr result (take (length out.old.items) out.new.items ≡ out.old.items) }
-{
-    out.extend_from_slice(front.as_slice())?;
-    out.push(votes.len() as u8)?;
-    for placed in votes {
-        let mut text = ShortText::new();
-        put_placed(&mut text, placed);
-        out.extend_from_slice(text.as_slice())?;
-    }
-    Ok(())
-}
+    ghost item_text = { placed_text };
 
-/// Puts a promise's text after the bytes: its front, and then its votes. Where memory is refused,
-/// the bytes stay.
-#[inline(never)]
-pub(crate) fn put_promise_range(
-    out: &mut Vec<u8>,
-    front: &ShortText,
-    votes: &[PlacedVote],
-) -> Result<(), AllocError>
-    requires { length votes.now < 256 }
-    ensures ok { OnOk result (out.new.items ≡ out.old.items ++ reported_text front.now votes.now) }
-    ensures err { OnErr result (out.new.items ≡ out.old.items) }
-{
-    let start = out.len();
-    match put_votes(out, front, votes) {
-        Ok(()) => Ok(()),
-        Err(refused) => {
-            out.truncate(start);
-            Err(refused)
-        }
+    fn put(&self, text: &mut ShortText) {
+        put_vote(text, self.position, self.vote.ballot, &self.vote.action);
     }
 }

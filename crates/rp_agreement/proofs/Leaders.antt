@@ -39,7 +39,7 @@ use Rattle.rp_agreement.proofs.Lists.{some_same, found_has}
 use Rattle.rp_agreement.proofs.RecordGrowth.{started_below}
 use Rattle.rp_agreement.proofs.Turns.{IsSoundTurn, said_plain, plain, quiet, either, runs_written}
 use Rattle.rp_agreement.proofs.Proposing.{member_or_new, proposal_or_new}
-use Rattle.rp_base.proofs.Apart.{positions_of, with_apart, passing_apart, positions_stay, promised_there}
+use Rattle.rp_base.proofs.Apart.{with_apart, passing_apart, positions_stay, promised_there}
 use Rattle.rp_agreement.proofs.Offering.{noop_asked, offer_is_asked, founds}
 
 -- a node that puts a proposal in its place knows what it knew

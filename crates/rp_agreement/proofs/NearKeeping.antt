@@ -42,33 +42,15 @@ pub record IsNodeNear (w : World) (a i : ℕ) : Type 0 where
 
 -- an offer is near for the node that sent it, and a vote for the node that it was sent to
 abbrev SentNear : World → Party → Party → Body → Type 0
-SentNear w from to (bodies.Call action) = Unit {0}
-SentNear w from to (bodies.Prepare i b) = Unit {0}
-SentNear w from to (bodies.Promise i b last) = Unit {0}
 SentNear w from to (bodies.Accept i b v) = (a : ℕ) × (from ≡ Node a) × IsNodeNear w a i
 SentNear w from to (bodies.Accepted i b v) = (a : ℕ) × (to ≡ Node a) × IsNodeNear w a i
-SentNear w from to (bodies.Decided i v) = Unit {0}
-SentNear w from to (bodies.Ask i) = Unit {0}
-SentNear w from to (bodies.Nack i b bound) = Unit {0}
-SentNear w from to (bodies.Reply number reply) = Unit {0}
-SentNear w from to (bodies.Report first applied stated) = Unit {0}
-SentNear w from to (bodies.PrepareRange range b) = Unit {0}
-SentNear w from to (bodies.PromiseRange range b votes) = Unit {0}
+SentNear w from to _ = Unit {0}
 
 -- a packet that is neither
 abbrev IsPlain : Body → Type 0
 IsPlain (bodies.Accept i b v) = ⊥
 IsPlain (bodies.Accepted i b v) = ⊥
-IsPlain (bodies.Call action) = Unit {0}
-IsPlain (bodies.Prepare i b) = Unit {0}
-IsPlain (bodies.Promise i b last) = Unit {0}
-IsPlain (bodies.Decided i v) = Unit {0}
-IsPlain (bodies.Ask i) = Unit {0}
-IsPlain (bodies.Nack i b bound) = Unit {0}
-IsPlain (bodies.Reply number reply) = Unit {0}
-IsPlain (bodies.Report first applied stated) = Unit {0}
-IsPlain (bodies.PrepareRange range b) = Unit {0}
-IsPlain (bodies.PromiseRange range b votes) = Unit {0}
+IsPlain _ = Unit {0}
 
 pub record IsNearWorld (w : World) : Type 0 where
   pub parts : (me : ℕ) (part : NodePart) (running : Running) → part_at w.nodes me ≡ Some part → part.running ≡ Some running → AreNear part.records running.proposals
@@ -82,6 +64,12 @@ near_more records more i near =
 
 some_is : {A : Type 0} (x y : A) → Some x ≡ Some y → x ≡ y
 some_is x y e = ap (λ (o : Option _). unwrap_or o x) e
+
+-- what was sent is near as long as what is near for a node stays so
+sent_still : (w next : World) → ((a i : ℕ) → IsNodeNear w a i → IsNodeNear next a i) → (from to : Party) (body : Body) → SentNear w from to body → SentNear next from to body
+sent_still w next stays from to (bodies.Accept i b v) is = (is.0, is.1, stays is.0 i is.2)
+sent_still w next stays from to (bodies.Accepted i b v) is = (is.0, is.1, stays is.0 i is.2)
+sent_still w next stays from to _ is = tt
 
 -- ---- from one world to the next
 
@@ -105,33 +93,10 @@ module _ (w : World) (me : ℕ) (part after : NodePart) (here : part_at w.nodes 
         | inr other ↦ record { part = is.part; here = put_beside w.nodes me a after other ∙ is.here; near = is.near }
       ]
 
-  sent_stays : (from to : Party) (body : Body) → SentNear w from to body → SentNear next_world from to body
-  sent_stays from to (bodies.Call action) is = tt
-  sent_stays from to (bodies.Prepare i b) is = tt
-  sent_stays from to (bodies.Promise i b last) is = tt
-  sent_stays from to (bodies.Accept i b v) is = (is.0, is.1, node_stays is.0 i is.2)
-  sent_stays from to (bodies.Accepted i b v) is = (is.0, is.1, node_stays is.0 i is.2)
-  sent_stays from to (bodies.Decided i v) is = tt
-  sent_stays from to (bodies.Ask i) is = tt
-  sent_stays from to (bodies.Nack i b bound) is = tt
-  sent_stays from to (bodies.Reply number reply) is = tt
-  sent_stays from to (bodies.Report first applied stated) is = tt
-  sent_stays from to (bodies.PrepareRange range b) is = tt
-  sent_stays from to (bodies.PromiseRange range b votes) is = tt
-
   newly_sent : (from to : Party) (body : Body) → SaysNear me part.records (IsNodeNear w) from to body → SentNear next_world from to body
-  newly_sent from to (bodies.Call action) is = tt
-  newly_sent from to (bodies.Prepare i b) is = tt
-  newly_sent from to (bodies.Promise i b last) is = tt
   newly_sent from to (bodies.Accept i b v) is = (me, is.0, mine_near i is.1)
   newly_sent from to (bodies.Accepted i b v) is = (is.0, is.1, node_stays is.0 i is.2)
-  newly_sent from to (bodies.Decided i v) is = tt
-  newly_sent from to (bodies.Ask i) is = tt
-  newly_sent from to (bodies.Nack i b bound) is = tt
-  newly_sent from to (bodies.Reply number reply) is = tt
-  newly_sent from to (bodies.Report first applied stated) is = tt
-  newly_sent from to (bodies.PrepareRange range b) is = tt
-  newly_sent from to (bodies.PromiseRange range b votes) is = tt
+  newly_sent from to _ is = tt
 
   near_next : IsNearWorld w → ((running : Running) → after.running ≡ Some running → AreNear after.records running.proposals)
       → ((m : Message) → Has m sends → SaysNear me part.records (IsNodeNear w) m.from m.to m.body) → IsNearWorld next_world
@@ -143,7 +108,7 @@ module _ (w : World) (me : ℕ) (part after : NodePart) (here : part_at w.nodes 
       | inr other ↦ all.parts a p running (sym (put_beside w.nodes me a after other) ∙ at) is
     ];
     sent = λ m h. elim (has_split m w.sent sends h) [
-      | inl old ↦ sent_stays m.from m.to m.body (all.sent m old)
+      | inl old ↦ sent_still w next_world node_stays m.from m.to m.body (all.sent m old)
       | inr new ↦ newly_sent m.from m.to m.body (says m new)
     ];
   }
@@ -152,18 +117,8 @@ module _ (w : World) (me : ℕ) (part after : NodePart) (here : part_at w.nodes 
 
 -- who offered may have a vote
 may_vote : (w : World) (from to : Party) (body : Body) → SentNear w from to body → MayVote (IsNodeNear w) (party_number from) body
-may_vote w from to (bodies.Call action) is = tt
-may_vote w from to (bodies.Prepare i b) is = tt
-may_vote w from to (bodies.Promise i b last) is = tt
 may_vote w from to (bodies.Accept i b v) is = subst (λ (p : Party). IsNodeNear w (party_number p) i) (sym is.1) is.2
-may_vote w from to (bodies.Accepted i b v) is = tt
-may_vote w from to (bodies.Decided i v) is = tt
-may_vote w from to (bodies.Ask i) is = tt
-may_vote w from to (bodies.Nack i b bound) is = tt
-may_vote w from to (bodies.Reply number reply) is = tt
-may_vote w from to (bodies.Report first applied stated) is = tt
-may_vote w from to (bodies.PrepareRange range b) is = tt
-may_vote w from to (bodies.PromiseRange range b votes) is = tt
+may_vote w from to _ is = tt
 
 may_vote_for : (w : World) (input : NodeInput) → IsNearWorld w → IsInput w.sent input → MayVoteFor (IsNodeNear w) input
 may_vote_for w (Receive message) all is = may_vote w message.from message.to message.body (all.sent message is)
@@ -248,39 +203,16 @@ module _ (w : World) (t : ℕ) (after : TaskPart) (sends : List Message) where
   near_still : (a i : ℕ) → IsNodeNear w a i → IsNodeNear later a i
   near_still a i is = record { part = is.part; here = is.here; near = is.near }
 
-  stays : (from to : Party) (body : Body) → SentNear w from to body → SentNear later from to body
-  stays from to (bodies.Call action) is = tt
-  stays from to (bodies.Prepare i b) is = tt
-  stays from to (bodies.Promise i b last) is = tt
-  stays from to (bodies.Accept i b v) is = (is.0, is.1, near_still is.0 i is.2)
-  stays from to (bodies.Accepted i b v) is = (is.0, is.1, near_still is.0 i is.2)
-  stays from to (bodies.Decided i v) is = tt
-  stays from to (bodies.Ask i) is = tt
-  stays from to (bodies.Nack i b bound) is = tt
-  stays from to (bodies.Reply number reply) is = tt
-  stays from to (bodies.Report first applied stated) is = tt
-  stays from to (bodies.PrepareRange range b) is = tt
-  stays from to (bodies.PromiseRange range b votes) is = tt
-
   is_plain : (from to : Party) (body : Body) → IsPlain body → SentNear later from to body
-  is_plain from to (bodies.Call action) is = tt
-  is_plain from to (bodies.Prepare i b) is = tt
-  is_plain from to (bodies.Promise i b last) is = tt
   is_plain from to (bodies.Accept i b v) is = absurd is
   is_plain from to (bodies.Accepted i b v) is = absurd is
-  is_plain from to (bodies.Decided i v) is = tt
-  is_plain from to (bodies.Ask i) is = tt
-  is_plain from to (bodies.Nack i b bound) is = tt
-  is_plain from to (bodies.Reply number reply) is = tt
-  is_plain from to (bodies.Report first applied stated) is = tt
-  is_plain from to (bodies.PrepareRange range b) is = tt
-  is_plain from to (bodies.PromiseRange range b votes) is = tt
+  is_plain from to _ is = tt
 
   task_sends : IsNearWorld w → ((m : Message) → Has m sends → IsPlain m.body) → IsNearWorld later
   task_sends all plain = record {
     parts = all.parts;
     sent = λ m h. elim (has_split m w.sent sends h) [
-      | inl old ↦ stays m.from m.to m.body (all.sent m old)
+      | inl old ↦ sent_still w later near_still m.from m.to m.body (all.sent m old)
       | inr new ↦ is_plain m.from m.to m.body (plain m new)
     ];
   }
@@ -313,18 +245,8 @@ taken t number part reply =
     ]
 
 hears : (t : ℕ) (part : TaskPart) (body : Body) → SendsPlain (task_hears t part body)
-hears t part (bodies.Call action) = λ m h. absurd h
-hears t part (bodies.Prepare i b) = λ m h. absurd h
-hears t part (bodies.Promise i b last) = λ m h. absurd h
-hears t part (bodies.Accept i b v) = λ m h. absurd h
-hears t part (bodies.Accepted i b v) = λ m h. absurd h
-hears t part (bodies.Decided i v) = λ m h. absurd h
-hears t part (bodies.Ask i) = λ m h. absurd h
-hears t part (bodies.Nack i b bound) = λ m h. absurd h
 hears t part (bodies.Reply number reply) = taken t number part reply
-hears t part (bodies.Report first applied stated) = λ m h. absurd h
-hears t part (bodies.PrepareRange range b) = λ m h. absurd h
-hears t part (bodies.PromiseRange range b votes) = λ m h. absurd h
+hears t part _ = λ m h. absurd h
 
 plain_either : (b : Bool) (one other : Result (Done TaskPart) Fault) → SendsPlainIf one → SendsPlainIf other → SendsPlainIf (if b then one else other)
 plain_either true one other left right = left

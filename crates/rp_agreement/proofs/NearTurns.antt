@@ -54,33 +54,14 @@ AreNear records proposals = (p : Proposal) → Has p proposals → IsNear record
 
 -- an offer comes from this node and is near; a vote goes to a node that may have it
 abbrev pub SaysNear : ℕ → List Rec → (ℕ → ℕ → Type 0) → Party → Party → Body → Type 0
-SaysNear me records Votes from to (bodies.Call action) = Unit {0}
-SaysNear me records Votes from to (bodies.Prepare i b) = Unit {0}
-SaysNear me records Votes from to (bodies.Promise i b last) = Unit {0}
 SaysNear me records Votes from to (bodies.Accept i b v) = (from ≡ Node me) × IsNear records i
 SaysNear me records Votes from to (bodies.Accepted i b v) = (a : ℕ) × (to ≡ Node a) × Votes a i
-SaysNear me records Votes from to (bodies.Decided i v) = Unit {0}
-SaysNear me records Votes from to (bodies.Ask i) = Unit {0}
-SaysNear me records Votes from to (bodies.Nack i b bound) = Unit {0}
-SaysNear me records Votes from to (bodies.Reply number reply) = Unit {0}
-SaysNear me records Votes from to (bodies.Report first applied stated) = Unit {0}
-SaysNear me records Votes from to (bodies.PrepareRange range b) = Unit {0}
-SaysNear me records Votes from to (bodies.PromiseRange range b votes) = Unit {0}
+SaysNear me records Votes from to _ = Unit {0}
 
 -- who offered may have a vote
 abbrev pub MayVote : (ℕ → ℕ → Type 0) → ℕ → Body → Type 0
-MayVote Votes from (bodies.Call action) = Unit {0}
-MayVote Votes from (bodies.Prepare i b) = Unit {0}
-MayVote Votes from (bodies.Promise i b last) = Unit {0}
 MayVote Votes from (bodies.Accept i b v) = Votes from i
-MayVote Votes from (bodies.Accepted i b v) = Unit {0}
-MayVote Votes from (bodies.Decided i v) = Unit {0}
-MayVote Votes from (bodies.Ask i) = Unit {0}
-MayVote Votes from (bodies.Nack i b bound) = Unit {0}
-MayVote Votes from (bodies.Reply number reply) = Unit {0}
-MayVote Votes from (bodies.Report first applied stated) = Unit {0}
-MayVote Votes from (bodies.PrepareRange range b) = Unit {0}
-MayVote Votes from (bodies.PromiseRange range b votes) = Unit {0}
+MayVote Votes from _ = Unit {0}
 
 module _ (me : ℕ) (records : List Rec) (Votes : ℕ → ℕ → Type 0) where
   abbrev pub AllNear : List Message → Type 0

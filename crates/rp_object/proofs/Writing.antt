@@ -18,54 +18,41 @@ use Rattle.rp_object.specs.Image.{ints_text, bools_text, truth_text, call_text, 
 abbrev one_text : List ℕ → List ℕ → List ℕ
 one_text name value = 32 ∷ (name ++ 61 ∷ value)
 
-ints_push : (store : Store) (place : ℕ) (xs : List (String Global)) (y : String Global) → ints_text store place (xs ++ y ∷ []) ≡ ints_text store place xs ++ one_text (string_bytes y) (signed_decimal (int_value store (place + length xs)))
-ints_push store place [] y =
-    let same : place ≡ place + 0 = omega arith in
-    ap (λ (l : List ℕ). one_text (string_bytes y) l) (append-nil (signed_decimal (int_value store place))) ∙ ap (λ n. one_text (string_bytes y) (signed_decimal (int_value store n))) same
-ints_push store place (x ∷ xs) y =
-    let same : suc place + length xs ≡ place + suc (length xs) = omega arith in
-    let value = signed_decimal (int_value store place) in
-    let rest = ints_text store (suc place) xs in
-    let last = one_text (string_bytes y) (signed_decimal (int_value store (place + suc (length xs)))) in
-    ap (λ (l : List ℕ). one_text (string_bytes x) (value ++ l)) (ints_push store (suc place) xs y ∙ ap (λ n. rest ++ one_text (string_bytes y) (signed_decimal (int_value store n))) same)
-    ∙ ap (λ (l : List ℕ). one_text (string_bytes x) l) (sym (append_assoc value rest last))
-    ∙ ap (λ (l : List ℕ). 32 ∷ l) (sym (append_assoc (string_bytes x) (61 ∷ (value ++ rest)) last))
+-- a text for each name, with what its place has
+module _ (text : ℕ → List (String Global) → List ℕ) (value : ℕ → List ℕ) (none : (place : ℕ) → text place [] ≡ [])
+    (one : (place : ℕ) (x : String Global) (xs : List (String Global)) → text place (x ∷ xs) ≡ one_text (string_bytes x) (value place ++ text (suc place) xs)) where
+  names_push : (place : ℕ) (xs : List (String Global)) (y : String Global) → text place (xs ++ y ∷ []) ≡ text place xs ++ one_text (string_bytes y) (value (place + length xs))
+  names_push place [] y =
+      let same : place ≡ place + 0 = omega arith in
+      one place y [] ∙ ap (λ (l : List ℕ). one_text (string_bytes y) (value place ++ l)) (none (suc place)) ∙ ap (λ (l : List ℕ). one_text (string_bytes y) l) (append-nil (value place))
+      ∙ ap (λ n. one_text (string_bytes y) (value n)) same ∙ ap (λ (l : List ℕ). l ++ one_text (string_bytes y) (value (place + 0))) (sym (none place))
+  names_push place (x ∷ xs) y =
+      let same : suc place + length xs ≡ place + suc (length xs) = omega arith in
+      let rest = text (suc place) xs in
+      let last = one_text (string_bytes y) (value (place + suc (length xs))) in
+      one place x (xs ++ y ∷ []) ∙ ap (λ (l : List ℕ). one_text (string_bytes x) (value place ++ l)) (names_push (suc place) xs y ∙ ap (λ n. rest ++ one_text (string_bytes y) (value n)) same)
+      ∙ ap (λ (l : List ℕ). one_text (string_bytes x) l) (sym (append_assoc (value place) rest last))
+      ∙ ap (λ (l : List ℕ). 32 ∷ l) (sym (append_assoc (string_bytes x) (61 ∷ (value place ++ rest)) last))
+      ∙ ap (λ (l : List ℕ). l ++ last) (sym (one place x xs))
 
-bools_push : (store : Store) (place : ℕ) (xs : List (String Global)) (y : String Global) → bools_text store place (xs ++ y ∷ []) ≡ bools_text store place xs ++ one_text (string_bytes y) (truth_text (bool_value store (place + length xs)))
-bools_push store place [] y =
-    let same : place ≡ place + 0 = omega arith in
-    ap (λ (l : List ℕ). one_text (string_bytes y) l) (append-nil (truth_text (bool_value store place))) ∙ ap (λ n. one_text (string_bytes y) (truth_text (bool_value store n))) same
-bools_push store place (x ∷ xs) y =
-    let same : suc place + length xs ≡ place + suc (length xs) = omega arith in
-    let value = truth_text (bool_value store place) in
-    let rest = bools_text store (suc place) xs in
-    let last = one_text (string_bytes y) (truth_text (bool_value store (place + suc (length xs)))) in
-    ap (λ (l : List ℕ). one_text (string_bytes x) (value ++ l)) (bools_push store (suc place) xs y ∙ ap (λ n. rest ++ one_text (string_bytes y) (truth_text (bool_value store n))) same)
-    ∙ ap (λ (l : List ℕ). one_text (string_bytes x) l) (sym (append_assoc value rest last))
-    ∙ ap (λ (l : List ℕ). 32 ∷ l) (sym (append_assoc (string_bytes x) (61 ∷ (value ++ rest)) last))
+  names_more : (names : List (String Global)) (i : ℕ) (name : String Global) → i < length names → name ≡ get_or names i name → (before so_far new : List ℕ)
+      → so_far ≡ before ++ text 0 (take i names) → new ≡ so_far ++ one_text (string_bytes name) (value i) → new ≡ before ++ text 0 (take (i + 1) names)
+  names_more names i name below read before so_far new has printed =
+      let more : take (i + 1) names ≡ take i names ++ name ∷ [] = take_more names i name below ∙ ap (λ (y : String Global). take i names ++ y ∷ []) (sym read) in
+      let long : 0 + length (take i names) ≡ i = omega (arith, length-take-le i names (omega (arith, below))) in
+      printed ∙ ap (λ (l : List ℕ). l ++ one_text (string_bytes name) (value i)) has ∙ append_assoc before (text 0 (take i names)) (one_text (string_bytes name) (value i))
+      ∙ ap (λ (l : List ℕ). before ++ l) (ap (λ n. text 0 (take i names) ++ one_text (string_bytes name) (value n)) (sym long) ∙ sym (ap (text 0) more ∙ names_push 0 (take i names) name))
 
 module _ (store : Store) (names : List (String Global)) (i : ℕ) (name : String Global) (below : i < length names) (read : name ≡ get_or names i name) where
-  more : take (i + 1) names ≡ take i names ++ name ∷ []
-  more = take_more names i name below ∙ ap (λ (y : String Global). take i names ++ y ∷ []) (sym read)
-
-  long : 0 + length (take i names) ≡ i
-  long = omega (arith, length-take-le i names (omega (arith, below)))
-
   -- the whole numbers
   pub ints_more : (before text new : List ℕ) → text ≡ before ++ ints_text store 0 (take i names) → new ≡ text ++ one_text (string_bytes name) (signed_decimal (int_value store i))
       → new ≡ before ++ ints_text store 0 (take (i + 1) names)
-  ints_more before text new so_far printed =
-      let last = one_text (string_bytes name) (signed_decimal (int_value store i)) in
-      printed ∙ ap (λ (l : List ℕ). l ++ last) so_far ∙ append_assoc before (ints_text store 0 (take i names)) last
-      ∙ ap (λ (l : List ℕ). before ++ l) (ap (λ n. ints_text store 0 (take i names) ++ one_text (string_bytes name) (signed_decimal (int_value store n))) (sym long) ∙ sym (ap (ints_text store 0) more ∙ ints_push store 0 (take i names) name))
+  ints_more = names_more (ints_text store) (λ n. signed_decimal (int_value store n)) (λ place. refl) (λ place x xs. refl) names i name below read
 
   -- the Booleans
   pub bools_more : (before text new : List ℕ) → text ≡ before ++ bools_text store 0 (take i names) → new ≡ text ++ one_text (string_bytes name) (truth_text (bool_value store i))
       → new ≡ before ++ bools_text store 0 (take (i + 1) names)
-  bools_more before text new so_far printed =
-      let last = one_text (string_bytes name) (truth_text (bool_value store i)) in
-      printed ∙ ap (λ (l : List ℕ). l ++ last) so_far ∙ append_assoc before (bools_text store 0 (take i names)) last
-      ∙ ap (λ (l : List ℕ). before ++ l) (ap (λ n. bools_text store 0 (take i names) ++ one_text (string_bytes name) (truth_text (bool_value store n))) (sym long) ∙ sym (ap (bools_text store 0) more ∙ bools_push store 0 (take i names) name))
+  bools_more = names_more (bools_text store) (λ n. truth_text (bool_value store n)) (λ place. refl) (λ place x xs. refl) names i name below read
 
 -- ---- queues
 

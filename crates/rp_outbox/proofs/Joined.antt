@@ -2,7 +2,7 @@
 use Rattle.std.proofs.Common.{◌≡◌, ℕ, zero, suc, ◌+◌, ◌*◌, ◌≤◌, ◌<◌, Option, Some, option_map, Bor, get_or, List, [], ◌∷◌, ◌++◌, length, take, drop, ◌-◌, refl, sym, ap, subst, ◌∙◌, arith}
 use Rattle.std.specs.List.{AllByRecursion}
 use Rattle.std.specs.Prelude.{slice_get, option_copied}
-use Rattle.std.proofs.lemmas.List.{append_assoc, append-nil, length-append, length-drop, drop-drop, take-append-drop}
+use Rattle.std.proofs.lemmas.List.{append_assoc, append-nil, length-append, take-append-drop}
 use Rattle.std.proofs.Math.Seq.{drop-append_seam, drop-nil, take-append_seam}
 use Rattle.rp_codec.specs.Message.{Message, IsPacket}
 use Rattle.rp_codec.specs.Reading.{Read, packet_at}
@@ -90,7 +90,10 @@ one_end_more : (ends ends' : List ℕ) (end : ℕ) → ends' ≡ ends ++ end ∷
 one_end_more ends ends' end added = ap length added ∙ length-append ends (end ∷ [])
 
 module _ (bytes ends : List ℕ) (run : IsRun bytes ends) (text : List ℕ) (m : Message) (is : IsTextOf text m) (bytes' ends' : List ℕ) (joined : bytes' ≡ bytes ++ text)
-    (added : ends' ≡ ends ++ length bytes' ∷ []) where
+    (len : ℕ) (end_is : len ≡ length bytes') (ended : ends' ≡ ends ++ len ∷ []) where
+  added : ends' ≡ ends ++ length bytes' ∷ []
+  added = ended ∙ ap (λ (n : ℕ). ends ++ n ∷ []) end_is
+
   pub sent_more : packets_in (length ends') bytes' ≡ packets_in (length ends) bytes ++ m ∷ []
   sent_more =
       ap (λ (n : ℕ). packets_in n bytes') (one_end_more ends ends' (length bytes') added) ∙ ap (packets_in (length ends + 1)) joined

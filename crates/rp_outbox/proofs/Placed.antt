@@ -1,9 +1,9 @@
 -- Packets of the usual kinds are packets.
-use Rattle.std.proofs.Common.{◌≡◌, ℕ}
+use Rattle.std.proofs.Common.{ℕ}
 use Rattle.rp_base.specs.Action.{IsRight}
 use Rattle.rp_base.specs.Number.{IsNode, IsPosition}
 use Rattle.rp_base.specs.declared.action.Action.{Action}
-use Rattle.rp_codec.specs.Message.{Message, IsPacket}
+use Rattle.rp_codec.specs.Message.{IsPacket}
 use Rattle.rp_codec.specs.declared.packet.Body.TheVariants as bodies
 use Rattle.rp_codec.specs.declared.usual_texts.Place.{Place}
 use Rattle.rp_codec.specs.Usual.{IsPlace, prepare_at, promise_at, accept_at, accepted_at}

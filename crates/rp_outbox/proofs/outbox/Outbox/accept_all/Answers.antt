@@ -1,4 +1,4 @@
-use Rattle.std.proofs.Common.{◌≡◌, ℕ, subst}
+use Rattle.std.proofs.Common.{ℕ, subst}
 use Rattle.rp_codec.specs.declared.packet.Body.TheVariants.{Accept}
 use Rattle.rp_model.specs.Says.{says}
 use Rattle.rp_outbox.specs.Packets.{IsTextOf}

@@ -1,5 +1,4 @@
-use Rattle.std.proofs.Common.{◌≡◌, ℕ, subst, ap, ◌∙◌}
-use Rattle.rp_codec.specs.Text.{text_of}
+use Rattle.std.proofs.Common.{ℕ, subst}
 use Rattle.rp_codec.specs.declared.packet.Body.TheVariants.{Prepare}
 use Rattle.rp_model.specs.Says.{says}
 use Rattle.rp_outbox.specs.Packets.{IsTextOf}

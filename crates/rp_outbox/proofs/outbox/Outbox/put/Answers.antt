@@ -1,4 +1,4 @@
-use Rattle.std.proofs.Common.{◌≡◌, ◌∙◌}
+use Rattle.std.proofs.Common.{◌∙◌}
 use Rattle.rp_outbox.proofs.outbox.Outbox.put.Goals as goal
 
 pub put_short-requires-clause-packet : goal.put_short-requires-clause-packet

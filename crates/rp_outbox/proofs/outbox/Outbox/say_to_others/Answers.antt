@@ -1,4 +1,4 @@
-use Rattle.std.proofs.Common.{◌≡◌, ap, subst, ◌∙◌}
+use Rattle.std.proofs.Common.{ap, subst, ◌∙◌}
 use Rattle.rp_codec.specs.Message.{IsPacket}
 use Rattle.rp_codec.specs.Text.{text_of}
 use Rattle.rp_outbox.proofs.outbox.Outbox.say_to_others.Goals as goal

@@ -193,7 +193,7 @@ module _ {S D : Type 0} (disk : D → Disk) (me : ℕ) (config : Config) (begin 
     failed = store.failed;
   }
 
-  pub stops_by : (fault : Fault) (rec : Rec) (old new : Stored D) (records after : List Rec) → IsOnDisk config.max_positions (disk old.device) old.failed records → MayWrite config.max_positions (Some rec)
+  stops_by : (fault : Fault) (rec : Rec) (old new : Stored D) (records after : List Rec) → IsOnDisk config.max_positions (disk old.device) old.failed records → MayWrite config.max_positions (Some rec)
       → after ≡ records → IsNotPut disk (record_text rec) old fault new → Stops (Some rec) (replica_with old records) (replica_with new after) fault
   stops_by OutOfMemory rec old new records after on_device may same not =
       (λ i. record { me = me; config = config; begin = begin; records = same i; running = running; disk = not.0.disk_same i; failed = not.0.failed i }, not.1)
@@ -217,6 +217,16 @@ module _ {S D : Type 0} (disk : D → Disk) (me : ℕ) (config : Config) (begin 
   write_stops (Err fault) rec old new records after on_device may same err = stops_by (fault_of fault) rec old new records after on_device may same err
 
 -- what is given on of a fault
-pub given_on : {S T : Type 0} (r : Result T WriteFault) (fault : WriteFault) (written : Option Rec) (old new : ReplicaState S) → IsErrAnd r (λ e. e ≡ fault) → Stops written old new (fault_of fault) → IfErr r (λ e. Stops written old new (fault_of e))
+given_on : {S T : Type 0} (r : Result T WriteFault) (fault : WriteFault) (written : Option Rec) (old new : ReplicaState S) → IsErrAnd r (λ e. e ≡ fault) → Stops written old new (fault_of fault) → IfErr r (λ e. Stops written old new (fault_of e))
 given_on (Ok x) fault written old new is stops = tt
 given_on (Err e) fault written old new is stops = subst (λ (f : WriteFault). Stops written old new (fault_of f)) (sym is) stops
+
+-- a write that failed, as its caller returns the fault
+module _ {S D T : Type 0} (disk : D → Disk) (me : ℕ) (config : Config) (begin : S) (running : Running) (old new : Stored D) (records after : List Rec) where
+  pub write_fails : (rec : Rec) (before : ReplicaState S) (r : Result T WriteFault) (fault : WriteFault) → replica_with disk me config begin running old records ≡ before → IsErrAnd r (λ e. e ≡ fault)
+      → IsOnDisk config.max_positions (disk old.device) old.failed records → MayWrite config.max_positions (Some rec) → after ≡ records → IsNotPut disk (record_text rec) old (fault_of fault) new
+      → IfErr r (λ e. Stops (Some rec) before (replica_with disk me config begin running new after) (fault_of e))
+  write_fails rec before r fault is err on_device may same not =
+      let left = replica_with disk me config begin running new after in
+      given_on r fault (Some rec) before left err
+      (subst (λ (k : ReplicaState S). Stops (Some rec) k left (fault_of fault)) is (stops_by disk me config begin running (fault_of fault) rec old new records after on_device may same not))

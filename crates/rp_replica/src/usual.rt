@@ -2,19 +2,20 @@
 //! rule for it is called with these. Each function says whether the bytes are such a packet's text; where
 //! they are not, it leaves the plan as it is.
 
-ghost use Rattle.std.specs.Prelude.{◌≡◌, ◌&&◌, not, nat_lt};
+ghost use Rattle.std.specs.Prelude.{◌≡◌, ◌&&◌, not, nat_lt, true};
 ghost use Rattle.rp_codec.specs.declared.packet.Body.TheVariants.{Prepare};
 ghost use Rattle.rp_codec.specs.declared.packet.Party.TheVariants.{Node};
 ghost use Rattle.rp_model.specs.Receiving.{is_for_node, is_node, is_no_node_above};
 ghost use Rattle.rp_model.specs.Says.{says};
+ghost use Rattle.rp_model.specs.declared.effect.Dropped.TheVariants.{Foreign};
+ghost use Rattle.rp_replica.specs.declared.plan.Plan.TheVariants.{Pass};
 ghost use Rattle.rp_replica.specs.Plans.{Decides};
 
 use crate::plan::{CountedPromise, Plan};
 use crate::replica::Replica;
-use rp_base::{Ballot, NodeId, Position};
+use rp_base::{NodeId, Position};
 use rp_codec::{
-    Place, SentCall, SentDecision, usual_accept, usual_accepted, usual_call, usual_decided,
-    usual_prepare, usual_promise,
+    Place, usual_accept, usual_accepted, usual_call, usual_decided, usual_prepare, usual_promise,
 };
 use rp_machine::Machine;
 use rp_model::Dropped;
@@ -36,11 +37,11 @@ impl<M: Machine, D: Device> Replica<M, D> {
 
     /// The same, for a packet in a ballot that its sender must own.
     #[inline(always)]
-    fn takes_from_owner(&self, from: NodeId, to: NodeId, position: Position, ballot: Ballot) -> bool
+    fn takes_from_owner(&self, place: &Place) -> bool
         ensures { result ≡ is_for_node self.now.config self.now.me
-            (says from (Prepare position ballot) to) }
+            (says place.now.from (Prepare place.now.position place.now.ballot) place.now.to) }
     {
-        self.takes(from, to, position) && ballot.owner() == from
+        self.takes(place.from, place.to, place.position) && place.ballot.owner() == place.from
     }
 
     /// A task's call comes.
@@ -51,12 +52,10 @@ impl<M: Machine, D: Device> Replica<M, D> {
         let Some(call) = usual_call(bytes) else {
             return false;
         };
-        let SentCall { to, action, .. } = call;
-        if to == self.me {
-            self.on_call(action, plan);
-            return true;
+        if call.to != self.me {
+            return drop_foreign(plan);
         }
-        *plan = Plan::Pass(Dropped::Foreign);
+        self.on_call(call.action, plan);
         true
     }
 
@@ -68,17 +67,10 @@ impl<M: Machine, D: Device> Replica<M, D> {
         let Some(place) = usual_prepare(bytes) else {
             return false;
         };
-        let Place {
-            from,
-            to,
-            position,
-            ballot,
-        } = place;
-        if self.takes_from_owner(from, to, position, ballot) {
-            *plan = self.on_prepare(from, position, ballot);
-            return true;
+        if !self.takes_from_owner(&place) {
+            return drop_foreign(plan);
         }
-        *plan = Plan::Pass(Dropped::Foreign);
+        *plan = self.on_prepare(place.from, place.position, place.ballot);
         true
     }
 
@@ -90,22 +82,15 @@ impl<M: Machine, D: Device> Replica<M, D> {
         let Some(place) = usual_promise(bytes) else {
             return false;
         };
-        let Place {
-            from,
-            to,
-            position,
-            ballot,
-        } = place;
-        if self.takes(from, to, position) {
-            *plan = self.on_promise(CountedPromise {
-                from,
-                position,
-                ballot,
-                last: None,
-            });
-            return true;
+        if !self.takes(place.from, place.to, place.position) {
+            return drop_foreign(plan);
         }
-        *plan = Plan::Pass(Dropped::Foreign);
+        *plan = self.on_promise(CountedPromise {
+            from: place.from,
+            position: place.position,
+            ballot: place.ballot,
+            last: None,
+        });
         true
     }
 
@@ -117,17 +102,10 @@ impl<M: Machine, D: Device> Replica<M, D> {
         let Some((place, action)) = usual_accept(bytes) else {
             return false;
         };
-        let Place {
-            from,
-            to,
-            position,
-            ballot,
-        } = place;
-        if self.takes_from_owner(from, to, position, ballot) {
-            *plan = self.on_accept(from, position, ballot, &action);
-            return true;
+        if !self.takes_from_owner(&place) {
+            return drop_foreign(plan);
         }
-        *plan = Plan::Pass(Dropped::Foreign);
+        *plan = self.on_accept(place.from, place.position, place.ballot, &action);
         true
     }
 
@@ -139,17 +117,10 @@ impl<M: Machine, D: Device> Replica<M, D> {
         let Some((place, action)) = usual_accepted(bytes) else {
             return false;
         };
-        let Place {
-            from,
-            to,
-            position,
-            ballot,
-        } = place;
-        if self.takes(from, to, position) {
-            *plan = self.on_accepted(from, position, ballot, &action);
-            return true;
+        if !self.takes(place.from, place.to, place.position) {
+            return drop_foreign(plan);
         }
-        *plan = Plan::Pass(Dropped::Foreign);
+        *plan = self.on_accepted(place.from, place.position, place.ballot, &action);
         true
     }
 
@@ -161,17 +132,20 @@ impl<M: Machine, D: Device> Replica<M, D> {
         let Some(decision) = usual_decided(bytes) else {
             return false;
         };
-        let SentDecision {
-            from,
-            to,
-            position,
-            action,
-        } = decision;
-        if self.takes(from, to, position) {
-            *plan = self.on_decided(from, position, &action);
-            return true;
+        if !self.takes(decision.from, decision.to, decision.position) {
+            return drop_foreign(plan);
         }
-        *plan = Plan::Pass(Dropped::Foreign);
+        *plan = self.on_decided(decision.from, decision.position, &decision.action);
         true
     }
+}
+
+/// Drops a packet that is not for this node or outside the configuration; it was read, so `true`.
+#[inline(always)]
+fn drop_foreign(plan: &mut Plan) -> bool
+    ensures plan { plan.new ≡ Pass Foreign }
+    ensures read { result ≡ true }
+{
+    *plan = Plan::Pass(Dropped::Foreign);
+    true
 }

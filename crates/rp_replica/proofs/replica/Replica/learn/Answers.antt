@@ -4,7 +4,7 @@ use Rattle.rp_base.specs.declared.record.Rec.{Rec}
 use Rattle.rp_base.specs.WriteFaults.{fault_of}
 use Rattle.rp_codec.specs.Record.{record_text}
 use Rattle.rp_model.specs.Parts.{Running}
-use Rattle.rp_replica.proofs.Cuts.{replica_with, stops_by, given_on}
+use Rattle.rp_replica.proofs.Cuts.{write_fails}
 use Rattle.rp_codec.specs.declared.packet.Body.TheVariants.{Decided}
 use Rattle.rp_model.specs.Says.{says_to_others}
 use Rattle.rp_replica.specs.Applying.{learns_alone, decided_packets}
@@ -109,14 +109,8 @@ returns-clause-replied g c =
 pub returns-in_err-write-clause-err : goal.returns-in_err-write-clause-err
 returns-in_err-write-clause-err g c =
     let r = c.self.inside in
-    let disk = g.D.Device.disk in
     let i = c.args.position in
-    let rec : Rec = Learned i c.args.action.now in
-    let fault = c.in_err-write.field-0.0 in
     let known : Running = record { proposals = r.proposer.proposals; heard = r.heard; pending = r.pending; refused = r.proposer.refused } in
-    let after : ReplicaState g.row.M.Denot = replica_with disk r.me r.config r.machine.begin known c.write.new.store c.write.new.acceptor.records in
     let within : i ≤ r.config.max_positions = subst (λ (h : ReplicaState g.row.M.Denot). i ≤ h.config.max_positions) (sym c.self.view_is) c.requires.place in
-    let may : MayWrite r.config.max_positions (Some rec) = (record { ranges = c.in_err-write.ensures.range; right = c.requires.right }, le-leb i r.config.max_positions within) in
-    given_on c.from_residual-in_err-write.result fault (Some rec) c.args.self.now after c.from_residual-in_err-write.ensures.1
-    (subst (λ (k : ReplicaState g.row.M.Denot). Stops (Some rec) k after (fault_of fault)) c.self.view_is
-    (stops_by disk r.me r.config r.machine.begin known (fault_of fault) rec r.store c.write.new.store r.acceptor.records c.write.new.acceptor.records c.self.invariant.on_device may c.in_err-write.ensures.unchanged c.in_err-write.ensures.err))
+    write_fails g.D.Device.disk r.me r.config r.machine.begin known r.store c.write.new.store r.acceptor.records c.write.new.acceptor.records (Learned i c.args.action.now) c.args.self.now c.from_residual-in_err-write.result c.in_err-write.field-0.0
+    c.self.view_is c.from_residual-in_err-write.ensures.1 c.self.invariant.on_device (record { ranges = c.in_err-write.ensures.range; right = c.requires.right }, le-leb i r.config.max_positions within) c.in_err-write.ensures.unchanged c.in_err-write.ensures.err

@@ -2,14 +2,10 @@ use Rattle.std.proofs.Common.{◌≡◌, suc, ◌+◌, ◌<◌, ◌≤◌, Some,
 use Rattle.rp_base.specs.Records.{learned_at, first_unlearned}
 use Rattle.rp_proposer.proofs.Windows.{window_has_room}
 use Rattle.rp_proposer.specs.Proposing.{begins}
-use Rattle.rp_base.specs.declared.record.Rec.{Rec}
-use Rattle.rp_base.specs.WriteFaults.{fault_of}
 use Rattle.rp_base.specs.declared.record.Rec.TheVariants.{Started}
 use Rattle.rp_model.specs.Parts.{Running}
-use Rattle.rp_replica.specs.Cutting.{MayWrite}
 use Rattle.rp_replica.specs.State.{ReplicaState}
-use Rattle.rp_replica.specs.Turning.{Stops}
-use Rattle.rp_replica.proofs.Cuts.{replica_with, stops_by, given_on}
+use Rattle.rp_replica.proofs.Cuts.{write_fails}
 use Rattle.rp_replica.proofs.Beginning.{in_reach, leads_started, replica_started}
 use Rattle.rp_replica.proofs.replica.Replica.start.Goals as goal
 
@@ -40,12 +36,6 @@ invariant_of-self-2 g c =
 pub returns-in_err-write-clause-err : goal.returns-in_err-write-clause-err
 returns-in_err-write-clause-err g c =
     let r = c.self.inside in
-    let disk = g.D.Device.disk in
-    let rec : Rec = Started c.args.ballot in
-    let fault = c.in_err-write.field-0.0 in
     let known : Running = record { proposals = r.proposer.proposals; heard = r.heard; pending = r.pending; refused = r.proposer.refused } in
-    let after : ReplicaState g.row.M.Denot = replica_with disk r.me r.config r.machine.begin known c.write.new.store c.write.new.acceptor.records in
-    let may : MayWrite r.config.max_positions (Some rec) = (record { ranges = c.requires.may.ballot.ballot; right = tt }, refl) in
-    given_on c.from_residual.result fault (Some rec) c.args.self.now after c.from_residual.ensures.1
-    (subst (λ (k : ReplicaState g.row.M.Denot). Stops (Some rec) k after (fault_of fault)) c.self.view_is
-    (stops_by disk r.me r.config r.machine.begin known (fault_of fault) rec r.store c.write.new.store r.acceptor.records c.write.new.acceptor.records c.self.invariant.on_device may c.in_err-write.ensures.unchanged c.in_err-write.ensures.err))
+    write_fails g.D.Device.disk r.me r.config r.machine.begin known r.store c.write.new.store r.acceptor.records c.write.new.acceptor.records (Started c.args.ballot) c.args.self.now c.from_residual.result c.in_err-write.field-0.0
+    c.self.view_is c.from_residual.ensures.1 c.self.invariant.on_device (record { ranges = c.requires.may.ballot.ballot; right = tt }, refl) c.in_err-write.ensures.unchanged c.in_err-write.ensures.err

@@ -1,5 +1,5 @@
 -- The result of a call of a cluster's parts (no public clause names it).
-use Rattle.std.specs.Prelude.{◌≡◌, ◌⊎◌, ℕ, Option, None, Some, Result, Ok, Err, List, length}
+use Rattle.std.specs.Prelude.{◌≡◌, ◌⊎◌, ℕ, Option, None, Some, Result, Ok, Err, List, length, IsSome}
 use Rattle.rp_base.specs.declared.reply.Reply.{Reply}
 use Rattle.rp_codec.specs.declared.packet.Body.{Body}
 use Rattle.rp_codec.specs.declared.packet.Body.TheVariants.{Call, Prepare, Promise, Accept, Accepted, Decided, Ask}
@@ -8,7 +8,8 @@ use Rattle.rp_base.specs.declared.fault.Fault.{Fault}
 use Rattle.rp_base.specs.declared.fault.Fault.TheVariants.{OutOfMemory, Device, NotRunning}
 use Rattle.rp_model.specs.Answers.{Describes, IsLeft}
 use Rattle.rp_model.specs.Events.{Restart}
-use Rattle.rp_model.specs.World.{World, Transition}
+use Rattle.rp_model.specs.Effect.{Setting}
+use Rattle.rp_model.specs.World.{World, Transition, part_at, delivers, delivery_is_cut, delivery_writes, receiver_of}
 use Rattle.rp_model.specs.declared.effect.Effect.{Effect}
 use Rattle.rp_world.specs.Failures.{RisesOnly}
 
@@ -56,6 +57,18 @@ abbrev pub Counts : {A : Type 0} → Type 0 → Option ℕ → List ℕ → List
 Counts why me old new (Ok stated) = new ≡ old
 Counts why me old new (Err Device) = why × RisesOnly me old new
 Counts why me old new (Err _) = new ≡ old
+
+-- what a delivery answers of the message of this number
+abbrev pub AnswersDelivery : {S : Type 0} → Setting S → World → ℕ → World → Result Effect Fault → Type 0
+AnswersDelivery setting w number new result =
+    let message = part_at w.sent number in
+    Answers w (delivers setting w message) (λ kept. delivery_is_cut setting w message kept) new result
+
+-- after it the counts of failures are as before, but where the device failed of its node, that writes a record then
+abbrev pub CountsDelivery : {S A : Type 0} → Setting S → World → ℕ → List ℕ → List ℕ → Result A Fault → Type 0
+CountsDelivery setting w number old new result =
+    let message = part_at w.sent number in
+    Counts (IsSome (delivery_writes setting w message)) (receiver_of message) old new result
 
 -- what a call answers that returns its effect in place
 abbrev pub stated : {A : Type 0} → Result A Fault → Effect → Result Effect Fault

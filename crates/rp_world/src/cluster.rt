@@ -153,13 +153,7 @@ impl<M: Machine, D: CutDevice> Cluster<M, D> {
                 return self.world.deliver(alloc, number, effect);
             }
         }
-        match self.world.step(alloc, event) {
-            Ok(made) => {
-                *effect = made;
-                Ok(())
-            }
-            Err(fault) => Err(fault),
-        }
+        self.world.step_into(alloc, event, effect)
     }
 
     /// The steps of these events one after another, up to the first that is refused. Whatever they

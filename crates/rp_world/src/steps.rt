@@ -12,11 +12,11 @@ ghost use Rattle.rp_model.specs.Parts.{NodePart};
 ghost use Rattle.rp_model.specs.Events as events;
 ghost use Rattle.rp_model.specs.Events.{IsEvent, event_of, step_of};
 ghost use Rattle.rp_model.specs.World as worlds;
-ghost use Rattle.rp_model.specs.World.{part_at, node_takes, node_is_cut, delivers, delivery_is_cut, step_effect, cut_step, stepping, step_writes, node_writes, delivery_writes, receiver_of};
+ghost use Rattle.rp_model.specs.World.{part_at, node_takes, node_is_cut, step_effect, cut_step, stepping, step_writes, node_writes};
 ghost use Rattle.rp_agreement.specs.Ranges.{IsRangedWorld};
 ghost use Rattle.rp_replica.specs.Inputs.{IsRightInput, given_by};
 ghost use Rattle.rp_world.specs.Choosing.{AreNodesOf, Chosen, IsRefused};
-ghost use Rattle.rp_world.specs.Going.{Answers, Counts, reply_in, stated};
+ghost use Rattle.rp_world.specs.Going.{Answers, AnswersDelivery, Counts, CountsDelivery, reply_in, stated};
 ghost use Rattle.rp_world.specs.Steps.{IsStep, IsSameSetup, setting_of};
 
 use crate::effect::{no_effect, of_step, taken};
@@ -59,8 +59,30 @@ pub(crate) fn text_of_number(messages: &Outbox, number: u64) -> Option<&[u8]>
 }
 
 impl<M: Machine, D: CutDevice> World<M, D> {
-    /// The result of an event.
+    /// The result of an event, written where its caller holds it.
     #[inline(never)]
+    pub(crate) fn step_into(
+        &mut self,
+        alloc: Global,
+        event: &Event,
+        effect: &mut Effect,
+    ) -> Result<(), Fault>
+        requires config { IsRightConfig self.old.config }
+        requires ranged { IsRangedWorld self.old.config.nodes self.old.world }
+        requires event { IsEvent (event_of event.now) }
+        ensures step { IsStep M.next M.answers M.begin self.old event.now self.new
+            (stated result effect.new) }
+    {
+        match self.step(alloc, event) {
+            Ok(made) => {
+                *effect = made;
+                Ok(())
+            }
+            Err(fault) => Err(fault),
+        }
+    }
+
+    /// The result of an event.
     pub(crate) fn step(&mut self, alloc: Global, event: &Event) -> Result<Effect, Fault>
         requires config { IsRightConfig self.old.config }
         requires ranged { IsRangedWorld self.old.config.nodes self.old.world }
@@ -273,17 +295,11 @@ impl<M: Machine, D: CutDevice> World<M, D> {
     #[inline(never)]
     pub(crate) fn delivered(&mut self, alloc: Global, number: u64) -> Result<Effect, Fault>
         requires ranged { IsRangedWorld self.old.config.nodes self.old.world }
-        ensures answer { let setting = setting_of M.next M.answers M.begin self.old in
-            Answers self.old.world
-            (delivers setting self.old.world (part_at self.old.world.sent number))
-            (λ kept. delivery_is_cut setting self.old.world
-            (part_at self.old.world.sent number) kept)
-            self.new.world result }
+        ensures answer { AnswersDelivery (setting_of M.next M.answers M.begin self.old)
+            self.old.world number self.new.world result }
         ensures setup { IsSameSetup self.old self.new }
-        ensures failures { let setting = setting_of M.next M.answers M.begin self.old in
-            let message = part_at self.old.world.sent number in
-            Counts (IsSome (delivery_writes setting self.old.world message)) (receiver_of message)
-            self.old.failures self.new.failures result }
+        ensures failures { CountsDelivery (setting_of M.next M.answers M.begin self.old)
+            self.old.world number self.old.failures self.new.failures result }
     {
         let mut effect = no_effect(0);
         match self.deliver(alloc, number, &mut effect) {
@@ -301,30 +317,18 @@ impl<M: Machine, D: CutDevice> World<M, D> {
         effect: &mut Effect,
     ) -> Result<(), Fault>
         requires ranged { IsRangedWorld self.old.config.nodes self.old.world }
-        ensures answer { let setting = setting_of M.next M.answers M.begin self.old in
-            Answers self.old.world
-            (delivers setting self.old.world (part_at self.old.world.sent number))
-            (λ kept. delivery_is_cut setting self.old.world
-            (part_at self.old.world.sent number) kept)
-            self.new.world (stated result effect.new) }
+        ensures answer { AnswersDelivery (setting_of M.next M.answers M.begin self.old)
+            self.old.world number self.new.world (stated result effect.new) }
         ensures setup { IsSameSetup self.old self.new }
-        ensures failures { let setting = setting_of M.next M.answers M.begin self.old in
-            let message = part_at self.old.world.sent number in
-            Counts (IsSome (delivery_writes setting self.old.world message)) (receiver_of message)
-            self.old.failures self.new.failures result }
+        ensures failures { CountsDelivery (setting_of M.next M.answers M.begin self.old)
+            self.old.world number self.old.failures self.new.failures result }
     {
         let Some(receiver) = self.receiver_of(number) else {
             return Err(Fault::NoSuchMessage);
         };
         match receiver {
             Party::Node(node) => self.hears(alloc, number, node, effect),
-            Party::Task(task) => match self.give_to_task(alloc, number, task) {
-                Ok(taken) => {
-                    *effect = taken;
-                    Ok(())
-                }
-                Err(fault) => Err(fault),
-            },
+            Party::Task(task) => self.give_to_task(alloc, number, task, effect),
             Party::Audit => {
                 *effect = no_effect(self.messages() + 1);
                 Ok(())
@@ -343,17 +347,11 @@ impl<M: Machine, D: CutDevice> World<M, D> {
     ) -> Result<(), Fault>
         requires to { (m : Message) × (part_at self.old.world.sent number ≡ Some m)
             × (m.to ≡ Node node) }
-        ensures answer { let setting = setting_of M.next M.answers M.begin self.old in
-            Answers self.old.world
-            (delivers setting self.old.world (part_at self.old.world.sent number))
-            (λ kept. delivery_is_cut setting self.old.world
-            (part_at self.old.world.sent number) kept)
-            self.new.world (stated result effect.new) }
+        ensures answer { AnswersDelivery (setting_of M.next M.answers M.begin self.old)
+            self.old.world number self.new.world (stated result effect.new) }
         ensures setup { IsSameSetup self.old self.new }
-        ensures failures { let setting = setting_of M.next M.answers M.begin self.old in
-            let message = part_at self.old.world.sent number in
-            Counts (IsSome (delivery_writes setting self.old.world message)) (receiver_of message)
-            self.old.failures self.new.failures result }
+        ensures failures { CountsDelivery (setting_of M.next M.answers M.begin self.old)
+            self.old.world number self.old.failures self.new.failures result }
     {
         let first = self.messages() + 1;
         let Some(node) = self.nodes.get_mut(usize::from(node.get()) - 1) else {
@@ -372,16 +370,18 @@ impl<M: Machine, D: CutDevice> World<M, D> {
 
     /// A message arrives at its task, which takes a reply to the call that it waits for.
     #[inline(never)]
-    fn give_to_task(&mut self, alloc: Global, number: u64, task: TaskId) -> Result<Effect, Fault>
+    fn give_to_task(
+        &mut self,
+        alloc: Global,
+        number: u64,
+        task: TaskId,
+        effect: &mut Effect,
+    ) -> Result<(), Fault>
         requires ranged { IsRangedWorld self.old.config.nodes self.old.world }
         requires to { (m : Message) × (part_at self.old.world.sent number ≡ Some m)
             × (m.to ≡ Task task) }
-        ensures answer { let setting = setting_of M.next M.answers M.begin self.old in
-            Answers self.old.world
-            (delivers setting self.old.world (part_at self.old.world.sent number))
-            (λ kept. delivery_is_cut setting self.old.world
-            (part_at self.old.world.sent number) kept)
-            self.new.world result }
+        ensures answer { AnswersDelivery (setting_of M.next M.answers M.begin self.old)
+            self.old.world number self.new.world (stated result effect.new) }
         ensures setup { IsSameSetup self.old self.new }
         ensures failures { self.new.failures ≡ self.old.failures }
     {
@@ -391,10 +391,14 @@ impl<M: Machine, D: CutDevice> World<M, D> {
             return Err(Fault::OutOfMemory);
         };
         let Some((number, reply)) = reply else {
-            return Ok(no_effect(first));
+            *effect = no_effect(first);
+            return Ok(());
         };
         match self.tasks[usize::from(task.get()) - 1].take(number, reply) {
-            Ok(answer) => Ok(taken(first, answer)),
+            Ok(answer) => {
+                *effect = taken(first, answer);
+                Ok(())
+            }
             Err(_) => Err(Fault::OutOfMemory),
         }
     }

@@ -5,7 +5,7 @@ use Rattle.rp_codec.specs.Message.{IsParty}
 use Rattle.rp_model.specs.declared.effect.Effect.{Effect}
 use Rattle.rp_model.specs.Tasks.{takes_reply}
 use Rattle.rp_model.specs.World.{part_at, delivers, delivery_is_cut}
-use Rattle.rp_world.specs.Going.{Answers, reply_in}
+use Rattle.rp_world.specs.Going.{Answers, AnswersDelivery, reply_in, stated}
 use Rattle.rp_world.specs.Nodes.{member_of, setting_at}
 use Rattle.rp_world.specs.Shape.{world_of}
 use Rattle.rp_world.specs.Steps.{setting_of}
@@ -66,13 +66,13 @@ returns-clause-answer g c =
     let stated_is : reply_in message.body ≡ Some (c.in-Some.number, c.in-Some.reply) = sym (c.in-Ok.ensures message packet text) ∙ c.in-Some.is in
     let s = setting_at m.next m.answers (member_of c.args.task inside.config (m.begin inside.program)) in
     let sent : part_at inside.messages.sent c.args.number ≡ Some message = ap (λ v. part_at v.world.sent c.args.number) c.self.view_is ∙ c.requires.to.1 in
-    subst (λ v. Answers v.world (delivers (setting_of m.next m.answers m.begin v) v.world (part_at v.world.sent c.args.number)) (λ kept. delivery_is_cut (setting_of m.next m.answers m.begin v) v.world (part_at v.world.sent c.args.number) kept)
-    (world_of g.D.Device.disk inside.config.max_positions inside.nodes.items (slice_set inside.tasks.items (c.from.result - 1) new) inside.messages) c.match-take.result) c.self.view_is
+    let effect : Effect = c.match-take.effect in
+    subst (λ v. AnswersDelivery (setting_of m.next m.answers m.begin v) v.world c.args.number (world_of g.D.Device.disk inside.config.max_positions inside.nodes.items (slice_set inside.tasks.items (c.from.result - 1) new) inside.messages) (stated c.match-take.result effect)) c.self.view_is
     (elim c.match-take.branch [
       | in-Ok-take b ↦
           took_reply g.D.Device.disk inside.config (m.begin inside.program) inside.nodes.items inside.tasks.items inside.messages c.self.invariant found new s c.args.number message sent c.requires.to.2 c.in-Some.number c.in-Some.reply
-          c.take.result _ b.in-Ok-take.is b.result-is stated_is c.take.ensures.part c.take.ensures.taken (c.messages-first.ensures.value ∙ ap (λ v. length v.world.sent) (sym c.self.view_is)) b.taken.ensures
+          c.take.result _ b.in-Ok-take.is (ap (λ (r : Result Unit Fault). stated r effect) b.result-is ∙ ap Ok b.effect-is) stated_is c.take.ensures.part c.take.ensures.taken (c.messages-first.ensures.value ∙ ap (λ v. length v.world.sent) (sym c.self.view_is)) b.taken.ensures
       | in-Err b ↦
           not_taken g.D.Device.disk inside.config (m.begin inside.program) inside.nodes.items inside.tasks.items inside.messages c.self.invariant found new s c.args.number message sent c.requires.to.2 c.in-Some.number c.in-Some.reply
-          c.take.result _ b.in-Err.is b.result-is c.take.ensures.err
+          c.take.result _ b.in-Err.is (ap (λ (r : Result Unit Fault). stated r effect) b.result-is) c.take.ensures.err
     ])

@@ -6,7 +6,7 @@ use Rattle.rp_base.specs.declared.reply.Answer.{Answer}
 use Rattle.rp_model.specs.declared.effect.Effect.{Effect}
 use Rattle.rp_model.specs.Effect.{Receive}
 use Rattle.rp_model.specs.World.{World, part_at, delivers, delivery_is_cut, delivery_writes, receiver_of}
-use Rattle.rp_world.specs.Going.{Goes, Answers, Counts, stated}
+use Rattle.rp_world.specs.Going.{Goes, AnswersDelivery, CountsDelivery, stated}
 use Rattle.rp_world.specs.Nodes.{failures_in, member_of}
 use Rattle.rp_world.specs.Shape.{world_of}
 use Rattle.rp_world.specs.Steps.{Setup, setting_of}
@@ -23,11 +23,10 @@ module _ {S P : Type 0} (next : S → Action → S) (answers : S → Action → 
   WentOn later effect was = Goes was.world (delivers (setting_of next answers start was) was.world (part_at was.world.sent number)) later effect
 
   abbrev Answered : World → Result Effect Fault → Setup P → Type 0
-  Answered later answer was = let s = setting_of next answers start was in
-      Answers was.world (delivers s was.world (part_at was.world.sent number)) (λ kept. delivery_is_cut s was.world (part_at was.world.sent number) kept) later answer
+  Answered later answer was = AnswersDelivery (setting_of next answers start was) was.world number later answer
 
   abbrev Counted : List ℕ → Result Unit Fault → Setup P → Type 0
-  Counted after answer was = Counts (IsSome (delivery_writes (setting_of next answers start was) was.world (part_at was.world.sent number))) (receiver_of (part_at was.world.sent number)) was.failures after answer
+  Counted after answer was = CountsDelivery (setting_of next answers start was) was.world number was.failures after answer
 
 pub returns-in_default-clause-answer : goal.returns-in_default-clause-answer
 returns-in_default-clause-answer g c =

@@ -5,15 +5,16 @@ use mathlib.Core.Option.{some, none}
 use lib.ListN.{get_elem?}
 use prog.Atomic.{either}
 use Rattle.atomic_table.specs.Table.{State, Act, keeps, takes as takes_slot, gives, stepped, carried_after, Valid, Allows}
+use Rattle.atomic_table.specs.Seated.{TableId}
 use Rattle.atomic_table.proofs.Lists.{set_here, set_else, exchanged}
 use Rattle.rp_base.specs.Sets.{Has}
 use Rattle.rp_base.proofs.Members.{has_split}
 use Rattle.rp_codec.specs.Message.{Message}
 use Rattle.rp_model.specs.Effect.{Setting}
-use Rattle.rp_boxes.specs.Parts.{Part, View, actor_of, box_of, emptying, emptied, from_actor, to_actor}
+use Rattle.rp_boxes.specs.Parts.{Part, View, actor_of, box_of, emptying, emptied, from_actor, to_actor, part_in}
 use Rattle.rp_boxes.specs.Rule.{Slot, IsBox, IsCarried, IsCarriedOver, IsVacant, Ruled, all_sent}
-use Rattle.rp_boxes.specs.Plays.{alone, Took, Cleared}
-use Rattle.rp_boxes.specs.Moments.{IsMoment}
+use Rattle.rp_boxes.specs.Plays.{Sight, alone, Took, Cleared}
+use Rattle.rp_boxes.specs.Moments.{IsMoment, MayClaim}
 use Rattle.rp_boxes.proofs.Carrying.{carried_out, carried_still, from_other, inside_put}
 use Rattle.rp_boxes.proofs.Worlds.{from_each, sent_by}
 use Rattle.rp_boxes.proofs.BoxSteps.{IsBoxStep, boxed, was, now, part_now, still, held_alone, none_both, as_it_is}
@@ -80,9 +81,9 @@ module _ {S : Type 0} (s : Setting S) (slots id x y : ℕ) (p : Part) (less : x 
         emptying = (λ e. subst (λ (q : Part). Has b q.takes) (sym (part_now s t r id y p (emptying b m p) here)) (inl refl), λ h. refl);
       }
 
-  pub take_allows : p.takes ≡ [] → (says : Type 0) → ((t : State Slot View) → IsMoment s ((y, p) ∷ []) t → slice_index t.words b ≢ 2 → says)
+  take_alone : p.takes ≡ [] → (says : Type 0) → ((t : State Slot View) → IsMoment s ((y, p) ∷ []) t → slice_index t.words b ≢ 2 → says)
       → Allows (Ruled s) slots id (alone y p) b (λ n. either (eqb n 2) 3 n) (λ found me. Took b (alone y p) found me × (found ≢ 2 → says))
-  take_allows free says follows = λ t r size here fits.
+  take_alone free says follows = λ t r size here fits.
       exchanged (slice_index t.words b) 2 3
       (λ n. (w : View) × (a : Act Slot) × Valid t.homes [] a × Ruled s (stepped t b n id [] w a) × (Took b (alone y p) (slice_index t.words b) (w, carried_after [] a) × (slice_index t.words b ≢ 2 → says)))
       (λ hit. let full = (r.boxes x y less fewer).full hit in (
@@ -155,3 +156,9 @@ module _ {S : Type 0} (s : Setting S) (slots id x y : ℕ) (p : Part) (less : x 
   pub clear_allows : 256 ≤ slots → p.takes ≡ b ∷ [] → (slot : Slot) → IsVacant slot
       → Allows (Ruled s) slots id ((y, p) ∷ [], (b, slot) ∷ []) b (λ n. 0) (λ found me. Cleared ((y, p) ∷ [], (b, slot) ∷ []) me)
   clear_allows buffer holds slot vacant = λ t r size here fits. ((y, emptied p) ∷ [], gives, tt, cleared holds slot vacant t r (omega (arith, size, buffer)) here, refl)
+
+pub take_allows : {S : Type 0} (s : Setting S) (table mine : TableId) (id x y : ℕ) (me : Sight) (says : Part → Type 0) → MayClaim s table mine y x y me (λ part. part.takes) 2 says
+    → Allows (Ruled s) table.slots id me (box_of x y) (λ n. either (eqb n 2) 3 n) (λ found new. Took (box_of x y) me found new × (found ≢ 2 → says (part_in me.0)))
+take_allows s table mine id x y me says may =
+    subst (λ (sight : Sight). Allows (Ruled s) table.slots id sight (box_of x y) (λ n. either (eqb n 2) 3 n) (λ found new. Took (box_of x y) sight found new × (found ≢ 2 → says (part_in sight.0)))) (sym may.place)
+    (take_alone s table.slots id x y (part_in me.0) may.less.0 may.less.1 may.free (says (part_in me.0)) (λ t moment. may.follows t (subst (λ (sight : Sight). IsMoment s sight.0 t) (sym may.place) moment)))

@@ -5,15 +5,16 @@ use mathlib.Core.Option.{some, none}
 use lib.ListN.{get_elem?}
 use prog.Atomic.{either}
 use Rattle.atomic_table.specs.Table.{State, Act, keeps, takes as takes_slot, gives, stepped, carried_after, Valid, Allows}
+use Rattle.atomic_table.specs.Seated.{TableId}
 use Rattle.atomic_table.proofs.Lists.{set_here, set_else, exchanged}
 use Rattle.rp_base.specs.Sets.{Has}
 use Rattle.rp_base.proofs.Members.{has_split}
 use Rattle.rp_codec.specs.Message.{Message}
 use Rattle.rp_model.specs.Effect.{Setting}
-use Rattle.rp_boxes.specs.Parts.{Part, View, box_of, from_actor, filling, filled, to_actor}
+use Rattle.rp_boxes.specs.Parts.{Part, View, box_of, from_actor, filling, filled, to_actor, part_in}
 use Rattle.rp_boxes.specs.Rule.{Slot, IsBox, IsCarried, Ruled}
-use Rattle.rp_boxes.specs.Plays.{alone, holding, Claimed, IsPublished}
-use Rattle.rp_boxes.specs.Moments.{IsMoment}
+use Rattle.rp_boxes.specs.Plays.{Sight, alone, holding, Claimed, IsPublished}
+use Rattle.rp_boxes.specs.Moments.{IsMoment, MayClaim}
 use Rattle.rp_boxes.proofs.Carrying.{carried_in, carried_still, to_other}
 use Rattle.rp_boxes.proofs.Worlds.{at_below, from_each}
 use Rattle.rp_boxes.proofs.BoxSteps.{IsBoxStep, boxed, was, now, part_now, still, held_alone, none_both, as_it_is}
@@ -67,9 +68,9 @@ module _ {S : Type 0} (s : Setting S) (slots id x y : ℕ) (p : Part) (less : x 
         emptying = none_both (λ e. omega (arith, e)) (λ h. not_taken (subst (Has b) (same_takes y) h));
       }
 
-  pub claim_allows : p.fills ≡ [] → (says : Type 0) → ((t : State Slot View) → IsMoment s ((x, p) ∷ []) t → slice_index t.words b ≢ 0 → says)
+  claim_alone : p.fills ≡ [] → (says : Type 0) → ((t : State Slot View) → IsMoment s ((x, p) ∷ []) t → slice_index t.words b ≢ 0 → says)
       → Allows (Ruled s) slots id (alone x p) b (λ n. either (eqb n 0) 1 n) (λ found me. Claimed b (alone x p) found me × (found ≢ 0 → says))
-  claim_allows free says follows = λ t r size here fits.
+  claim_alone free says follows = λ t r size here fits.
       exchanged (slice_index t.words b) 0 1
       (λ n. (w : View) × (a : Act Slot) × Valid t.homes [] a × Ruled s (stepped t b n id [] w a) × (Claimed b (alone x p) (slice_index t.words b) (w, carried_after [] a) × (slice_index t.words b ≢ 0 → says)))
       (λ hit. let left = (r.boxes x y less fewer).empty hit in (
@@ -153,3 +154,9 @@ module _ {S : Type 0} (s : Setting S) (slots id x y : ℕ) (p : Part) (less : x 
       let slot : get_elem? (set t.homes b (some (Some text))) b ≡ some (some (Some text)) = set_here t.homes b (some (Some text)) (omega (arith, less, fewer, size, buffer)) in
       let sees = set_here t.views id ((x, filled m p) ∷ []) (at_below t.views id ((x, p) ∷ []) here) in
       ((x, filled m p) ∷ [], gives, tt, after, record { part = filled m p; is = refl; said = follows _ (record { rule = after; seat = id; sees = sees }) word slot })
+
+pub claim_allows : {S : Type 0} (s : Setting S) (table mine : TableId) (id x y : ℕ) (me : Sight) (says : Part → Type 0) → MayClaim s table mine x x y me (λ part. part.fills) 0 says
+    → Allows (Ruled s) table.slots id me (box_of x y) (λ n. either (eqb n 0) 1 n) (λ found new. Claimed (box_of x y) me found new × (found ≢ 0 → says (part_in me.0)))
+claim_allows s table mine id x y me says may =
+    subst (λ (sight : Sight). Allows (Ruled s) table.slots id sight (box_of x y) (λ n. either (eqb n 0) 1 n) (λ found new. Claimed (box_of x y) sight found new × (found ≢ 0 → says (part_in sight.0)))) (sym may.place)
+    (claim_alone s table.slots id x y (part_in me.0) may.less.0 may.less.1 may.free (says (part_in me.0)) (λ t moment. may.follows t (subst (λ (sight : Sight). IsMoment s sight.0 t) (sym may.place) moment)))

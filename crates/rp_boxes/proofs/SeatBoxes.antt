@@ -3,6 +3,7 @@ use Rattle.std.proofs.Common.{◌≡◌, ◌≢◌, ℕ, Option, Some, None, Vec
 use Rattle.std.specs.Prelude.{IfSome, IfNone}
 use Rattle.std.specs.declared.alloc.Global.{Global}
 use Rattle.atomic_table.specs.Seated.{TableId}
+use Rattle.atomic_table.specs.declared.owned.Table.{Table}
 use Rattle.rp_base.specs.Sets.{Has}
 use Rattle.rp_base.specs.declared.config.Config.{Config}
 use Rattle.rp_base.specs.declared.action.Action.{Action}
@@ -21,7 +22,20 @@ use Rattle.rp_boxes.specs.Parts.{Part, View, actor_of, box_of, part_in, with_got
 use Rattle.rp_boxes.specs.Plays.{IsPutBy, Sight, alone}
 use Rattle.rp_boxes.specs.Rule.{IsCarried, HasOwnPackets}
 use Rattle.rp_boxes.specs.Seats.{SeatState, IsAtTable, IsNodePlace, IsPut, IsSentText, IsFetched}
+use Rattle.rp_boxes.specs.declared.board.Known.{Known}
+use Rattle.rp_boxes.specs.declared.board.Law.{Law}
+use Rattle.rp_boxes.specs.declared.board.Setup.{Setup}
 use Rattle.rp_boxes.proofs.Worlds.{is_sent}
+
+-- ---- the table
+
+-- the table of the seats, as a call finds it
+abbrev pub Board : Type 0 → Type 0 → Type 0
+Board M P = Table (Option (Vec ℕ Global)) Known (Setup M P) (Law M) Global
+
+-- what all nodes at it share
+abbrev pub setting_of : {S M P : Type 0} → (S → Action → S) → (S → Action → List Answer) → (P → S) → Board M P → Setting S
+setting_of next answers begin board = setting_for next answers begin board.shared.key.config board.shared.key.program.value
 
 -- ---- parties
 
@@ -79,9 +93,9 @@ at_got table mine mine' x k me me' bytes m at same carried sees =
     subst (IsAtTable table mine' k) (sym sees) here
 
 -- it put a packet
-pub at_put : (table mine mine' : TableId) (k to : ℕ) (bytes : List ℕ) (me me' : Sight) → IsAtTable table mine k me → mine' ≡ mine → me' ≡ alone k (part_in me'.0)
-    → IsPutBy k to bytes (part_in me.0) (part_in me'.0) → IsAtTable table mine' k me'
-at_put table mine mine' k to bytes me me' at same sees put =
+pub at_put : (table mine mine' : TableId) (k j to : ℕ) (bytes : List ℕ) (me me' : Sight) → IsAtTable table mine k me → mine' ≡ mine → j ≡ k → me' ≡ alone j (part_in me'.0)
+    → IsPutBy j to bytes (part_in me.0) (part_in me'.0) → IsAtTable table mine' k me'
+at_put table mine mine' k j to bytes me me' at same actor sees put =
     let part = part_in me.0 in
     let m = put.packet in
     let here : IsAtTable table mine' k (alone k (with_put m part)) = record {
@@ -103,7 +117,7 @@ at_put table mine mine' k to bytes me me' at same sees put =
         got = at.own.got;
       };
     } in
-    subst (IsAtTable table mine' k) (sym (sees ∙ ap (alone k) put.is)) here
+    subst (IsAtTable table mine' k) (sym (sees ∙ (λ i. alone (actor i) (put.is i)))) here
 
 -- what was found in the box from x to k, or nothing
 abbrev pub Finds : ℕ → ℕ → Sight → Sight → Vec ℕ Global → Type 0
@@ -132,8 +146,8 @@ module _ {P : Type 0} (config : Config) (program : P) (number failures k : ℕ) 
   pub same_state : me' ≡ me → seat_state mine' (part_in me'.0) ≡ seat_state mine (part_in me.0)
   same_state sees = λ i. seat_state (same i) (part_in (sees i).0)
 
-  pub put_seat : (to : ℕ) (bytes : List ℕ) → IsPutBy k to bytes (part_in me.0) (part_in me'.0) → IsPut bytes (seat_state mine (part_in me.0)) (seat_state mine' (part_in me'.0))
-  put_seat to bytes put = record {
+  pub put_seat : (j to : ℕ) (bytes : List ℕ) → IsPutBy j to bytes (part_in me.0) (part_in me'.0) → IsPut bytes (seat_state mine (part_in me.0)) (seat_state mine' (part_in me'.0))
+  put_seat j to bytes put = record {
     packet = put.packet;
     right = put.carried.packet;
     text = put.carried.text;
@@ -161,64 +175,61 @@ module _ {P : Type 0} (config : Config) (program : P) (number failures k : ℕ) 
   unfetched_state None is = same_state is
   unfetched_state (Some text) is = tt
 
-  -- what it got was sent by the other party
-  module _ {S : Type 0} (next : S → Action → S) (answers : S → Action → List Answer) (begin : P → S) (from to : Party) (own : actor_of to ≡ k) where
-    -- a world of which the seat's view is a piece
-    abbrev pub Sees : Vec ℕ Global → Type 0
-    Sees text = (parts : ℕ → Part) × IsWorldOf (setting_for next answers begin config program) me'.0 parts
+  -- ---- what it sees there
 
-    was_sent : (text : Vec ℕ Global) → Finds (actor_of from) k me me' text → Sees text → WasSent next answers begin from to text.items (seat_state mine' (part_in me'.0))
-    was_sent text found seen =
-        let m = found.0 in
-        let part = part_in me'.0 in
-        let sees : me' ≡ alone k part = found.2 ∙ ap (alone k) (sym (ap (λ (z : Sight). part_in z.0) found.2)) in
-        let here = subst (λ (z : Sight). IsWorldOf (setting_for next answers begin config program) z.0 seen.0) sees seen.1 in
-        let known = here.knows k part (inl refl) in
-        let got : Has m part.got = subst (λ (z : Sight). Has m (part_in z.0).got) (sym found.2) (has_right m (part_in me.0).got (m ∷ []) (inl refl)) in
-        let all = (here.gets k known.1 m (subst (λ (p : Part). Has m p.got) (sym known.0) got)).1 in
-        let sender = is_sent seen.0 16 m all in
-        let is : sender.0 ≡ actor_of from = sym (here.sends sender.0 sender.1 m sender.2) ∙ found.1.from in
-        record {
-          parts = seen.0;
-          world = subst (λ (j : ℕ). IsWorldOf (setting_for next answers begin config program) ((j, part) ∷ []) seen.0) (sym own) here;
-          packet = m;
-          text = found.1.text;
-          sent = subst (λ (j : ℕ). Has m (seen.0 j).sent) is sender.2;
-        }
+  -- as the actor that the code names, it sees what the party of its seat knows
+  seen_by : (j : ℕ) → j ≡ k → me' ≡ alone j (part_in me'.0) → (party : Party) → actor_of party ≡ k → me'.0 ≡ (actor_of party, part_in me'.0) ∷ []
+  seen_by j actor sees party own = ap (λ (z : Sight). z.0) sees ∙ ap (λ (x : ℕ). (x, part_in me'.0) ∷ []) (actor ∙ sym own)
 
-    pub sent_state : (found : Option (Vec ℕ Global)) → IfSome found (Finds (actor_of from) k me me') → IfSome found Sees
-        → IfSome found (λ text. WasSent next answers begin from to text.items (seat_state mine' (part_in me'.0)))
-    sent_state None found seen = tt
-    sent_state (Some text) found seen = was_sent text found seen
+  module _ {S : Type 0} (next : S → Action → S) (answers : S → Action → List Answer) (begin : P → S) (here : Setting S) (shared : here ≡ setting_for next answers begin config program) (j : ℕ) (actor : j ≡ k) where
+    -- the box that it fills
+    module _ (sees : me' ≡ alone j (part_in me'.0)) (from : Party) (own : actor_of from ≡ k) (bytes : List ℕ) (m : Message) (text : bytes ≡ text_of m) (to : ℕ) (named : to ≡ actor_of m.to) where
+      abbrev Shown : Type 0
+      Shown = Setting S × View × ℕ
 
-  -- the boxes that it stepped on
-  module _ {S : Type 0} (next : S → Action → S) (answers : S → Action → List Answer) (begin : P → S) (sees : me' ≡ alone k (part_in me'.0)) where
-    abbrev pub s : Setting S
-    s = setting_for next answers begin config program
+      is_shown : ◌≡◌ {A = Shown} (here, me'.0, box_of j to) (setting_for next answers begin config program, (actor_of from, part_in me'.0) ∷ [], box_of (actor_of from) (actor_of m.to))
+      is_shown = λ i. (shared i, seen_by j actor sees from own i, box_of ((actor ∙ sym own) i) (named i))
 
-    -- what it sees is what the party of its seat knows
-    seen_by : (party : Party) → actor_of party ≡ k → me'.0 ≡ (actor_of party, part_in me'.0) ∷ []
-    seen_by party own = ap (λ (z : Sight). z.0) sees ∙ ap (λ (j : ℕ). (j, part_in me'.0) ∷ []) (sym own)
+      pub put_state : WasFull here me'.0 (box_of j to) bytes → WasPut next answers begin from bytes (seat_state mine' (part_in me'.0))
+      put_state full = record { packet = m; text = text; box = subst (λ (z : Shown). WasFull z.0 z.1 z.2 bytes) is_shown full }
 
-    module _ (from : Party) (own : actor_of from ≡ k) (bytes : List ℕ) (m : Message) (text : bytes ≡ text_of m) (to : ℕ) (named : to ≡ actor_of m.to) where
-      this_box : box_of k to ≡ box_of (actor_of from) (actor_of m.to)
-      this_box = λ i. box_of (sym own i) (named i)
+      pub used_state : WasWord here me'.0 (box_of j to) (λ word. word ≢ 0) → WasInUse next answers begin from bytes (seat_state mine' (part_in me'.0))
+      used_state used = record { packet = m; text = text; box = subst (λ (z : Shown). WasWord z.0 z.1 z.2 (λ word. word ≢ 0)) is_shown used }
 
-      pub put_state : WasFull s me'.0 (box_of k to) bytes → WasPut next answers begin from bytes (seat_state mine' (part_in me'.0))
-      put_state full = record { packet = m; text = text; box = subst (λ (z : View × ℕ). WasFull s z.0 z.1 bytes) (λ i. (seen_by from own i, this_box i)) full }
+    -- the box that it empties
+    module _ (from to : Party) (x : ℕ) (other : x ≡ actor_of from) (own : actor_of to ≡ k) where
+      -- a world of which the seat's view is a piece
+      abbrev pub Sees : Vec ℕ Global → Type 0
+      Sees text = (parts : ℕ → Part) × IsWorldOf here me'.0 parts
 
-      pub used_state : WasWord s me'.0 (box_of k to) (λ word. word ≢ 0) → WasInUse next answers begin from bytes (seat_state mine' (part_in me'.0))
-      used_state used = record { packet = m; text = text; box = subst (λ (z : View × ℕ). WasWord s z.0 z.1 (λ word. word ≢ 0)) (λ i. (seen_by from own i, this_box i)) used }
+      was_sent : (text : Vec ℕ Global) → Finds (actor_of from) k me me' text → Sees text → WasSent next answers begin from to text.items (seat_state mine' (part_in me'.0))
+      was_sent text found seen =
+          let m = found.0 in
+          let part = part_in me'.0 in
+          let sees : me' ≡ alone k part = found.2 ∙ ap (alone k) (sym (ap (λ (z : Sight). part_in z.0) found.2)) in
+          let at = subst (λ (z : Setting S × Sight). IsWorldOf z.0 z.1.0 seen.0) (λ i. (shared i, sees i)) seen.1 in
+          let known = at.knows k part (inl refl) in
+          let got : Has m part.got = subst (λ (z : Sight). Has m (part_in z.0).got) (sym found.2) (has_right m (part_in me.0).got (m ∷ []) (inl refl)) in
+          let all = (at.gets k known.1 m (subst (λ (p : Part). Has m p.got) (sym known.0) got)).1 in
+          let sender = is_sent seen.0 16 m all in
+          let is : sender.0 ≡ actor_of from = sym (at.sends sender.0 sender.1 m sender.2) ∙ found.1.from in
+          record {
+            parts = seen.0;
+            world = subst (λ (a : ℕ). IsWorldOf (setting_for next answers begin config program) ((a, part) ∷ []) seen.0) (sym own) at;
+            packet = m;
+            text = found.1.text;
+            sent = subst (λ (a : ℕ). Has m (seen.0 a).sent) is sender.2;
+          }
 
-  -- the box that was not full
-  module _ {S : Type 0} (next : S → Action → S) (answers : S → Action → List Answer) (begin : P → S) (at : me ≡ alone k (part_in me.0)) (from to : Party) (own : actor_of to ≡ k) where
-    -- in this use the word of the box to the seat was another
-    abbrev pub Misses : Type 0
-    Misses = WasWord (setting_for next answers begin config program) me'.0 (box_of (actor_of from) k) (λ word. word ≢ 2)
+      -- what it got was sent by the other party
+      pub sent_state : (found : Option (Vec ℕ Global)) → IfSome found (Finds x j me me') → IfSome found Sees → IfSome found (λ text. WasSent next answers begin from to text.items (seat_state mine' (part_in me'.0)))
+      sent_state None found seen = tt
+      sent_state (Some text) found seen = was_sent text (subst (λ (z : ℕ × ℕ). Finds z.0 z.1 me me' text) (λ i. (other i, actor i)) found) seen
 
-    pub missed_state : (found : Option (Vec ℕ Global)) → IfNone found (me' ≡ me) → IfNone found Misses → IfNone found (WasNotFull next answers begin from to (seat_state mine' (part_in me'.0)))
-    missed_state None stays missed =
-        let sees : me' ≡ alone k (part_in me'.0) = subst (λ (z : Sight). z ≡ alone k (part_in z.0)) (sym stays) at in
-        subst (λ (z : View × ℕ). WasWord (setting_for next answers begin config program) z.0 z.1 (λ word. word ≢ 2))
-        (λ i. (seen_by next answers begin sees to own i, box_of (actor_of from) (sym own i))) missed
-    missed_state (Some text) stays missed = tt
+      -- the box was not full
+      pub missed_state : me ≡ alone k (part_in me.0) → (found : Option (Vec ℕ Global)) → IfNone found (me' ≡ me) → IfNone found (WasWord here me'.0 (box_of x j) (λ word. word ≢ 2))
+          → IfNone found (WasNotFull next answers begin from to (seat_state mine' (part_in me'.0)))
+      missed_state at None stays missed =
+          let sees : me' ≡ alone k (part_in me'.0) = subst (λ (z : Sight). z ≡ alone k (part_in z.0)) (sym stays) at in
+          subst (λ (z : Setting S × View × ℕ). WasWord z.0 z.1 z.2 (λ word. word ≢ 2)) (λ i. (shared i, seen_by k refl sees to own i, box_of (other i) ((actor ∙ sym own) i))) missed
+      missed_state at (Some text) stays missed = tt

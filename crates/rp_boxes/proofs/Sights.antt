@@ -1,12 +1,19 @@
 -- What a seat that knows one actor sees as it steps on a box.
-use Rattle.std.proofs.Common.{◌≡◌, ℕ, ◌<◌, Vec, Some, None, List, [], ◌∷◌, refl, sym, ap, subst, ◌∙◌}
+use Rattle.std.proofs.Common.{◌≡◌, ℕ, ◌<◌, Vec, Some, None, List, [], ◌∷◌, refl, sym, ap, subst, ◌∙◌, arith}
 use Rattle.std.specs.declared.alloc.Global.{Global}
 use Rattle.atomic_table.specs.Table.{rest}
+use Rattle.atomic_table.specs.Seated.{TableId}
 use Rattle.rp_codec.specs.Message.{Message}
+use Rattle.rp_model.specs.Effect.{Setting}
+use Rattle.rp_boxes.specs.Moments.{MayClaim}
 use Rattle.rp_boxes.specs.Parts.{Part, actor_in, box_of, on_first, filling, emptying, emptied, part_in, with_got}
 use Rattle.rp_boxes.specs.Rule.{Slot, IsCarried, IsVacant}
 use Rattle.rp_boxes.specs.Plays.{Sight, alone, holding, Claimed, Took, IsPublished, Cleared}
 use Rattle.rp_boxes.proofs.BoxSteps.{same_box}
+
+-- the table has a word for each box
+pub box_within : {S : Type 0} {s : Setting S} {table mine : TableId} {actor x y word : ℕ} {me : Sight} {holds : Part → List ℕ} {says : Part → Type 0} → MayClaim s table mine actor x y me holds word says → box_of x y < table.words
+box_within may = rw may.sized.0 (omega (arith, may.less.0, may.less.1))
 
 pub sees_claimed : (k b : ℕ) (p : Part) (old new : Sight) (found : ℕ) → old ≡ alone k p → Claimed b old found new → found ≡ 0
     → (slot : Slot) × IsVacant slot × (new ≡ holding k (filling b p) b slot)

@@ -1,6 +1,7 @@
 -- What an event of a task is for its seat.
 use Rattle.std.proofs.Common.{◌≡◌, ℕ, ◌+◌, ◌++◌, Bool, true, false, if◌then◌else◌, Option, Some, None, Result, Ok, Err, List, [], ◌∷◌, length, inl, inr, refl, sym, ap, subst, ◌∙◌}
 use Rattle.std.specs.Prelude.{ℤ, nat_lt, not, ◌||◌, IfErr, IsErrAnd}
+use Rattle.std.specs.Arc.{arc_value}
 use Rattle.atomic_table.specs.Seated.{TableId}
 use Rattle.rp_base.specs.Action.{is_right}
 use Rattle.rp_base.specs.Calls.{are_exhausted}
@@ -17,7 +18,7 @@ use Rattle.rp_codec.specs.Message.{Message}
 use Rattle.rp_codec.specs.Text.{text_of}
 use Rattle.rp_codec.specs.declared.packet.Body.{Body}
 use Rattle.rp_codec.specs.declared.packet.Body.TheVariants as bodies
-use Rattle.rp_model.specs.Effect.{Setting, Done, goes_on_as}
+use Rattle.rp_model.specs.Effect.{Done, goes_on_as}
 use Rattle.rp_model.specs.Parts.{TaskPart}
 use Rattle.rp_model.specs.Tasks as tasks
 use Rattle.rp_model.specs.Tasks.{TaskInput, asks, next_call, may_call, calls_if, asks_again, takes, takes_reply, task_hears, task_effect}
@@ -31,7 +32,9 @@ use Rattle.rp_boxes.specs.Parts.{Part, OfTask, part_in, part_after}
 use Rattle.rp_boxes.specs.Plays.{Sight, IsNoted, alone}
 use Rattle.rp_boxes.specs.Seats.{SeatState, IsAtTable}
 use Rattle.rp_boxes.specs.Steps.{IsEvent}
+use Rattle.rp_boxes.specs.declared.task_seat.TaskSeat.TheInside.{Inside}
 use Rattle.rp_boxes.specs.TaskSeats.{IsTaskSeat, asked_of, DescribesPackets, IsTaskTurn, IsNoTaskTurn, reply_effect, IsReplyTurn}
+use Rattle.rp_boxes.proofs.SeatBoxes.{Board, setting_of}
 
 -- ---- the result of an input
 
@@ -63,24 +66,29 @@ abbrev pub asking_done : ℕ → ℕ → TaskPart → Option Action → Done Tas
 asking_done number node part call = record (goes_on_as part) { sends = asked_of number node call }
 
 module _ (config : Config) (number : ℕ) (caller : Caller) (same : caller.task ≡ number) (node object : ℕ) (operation : Operation) (arg : ℤ) where
-  abbrev next : Action
-  next = next_call caller.task caller.part object operation arg
+  abbrev its_next : Action
+  its_next = next_call caller.task caller.part object operation arg
+
+  -- as its stub computes it
+  pub may_is : {mine : Config} {read : ℤ} {r : Result Action Fault} → mine ≡ config → read ≡ arg → r ≡ may_call mine node caller.part (next_call caller.task caller.part object operation read) caller.part.outstanding
+      → may_call config node caller.part its_next caller.part.outstanding ≡ r
+  may_is shared is found = sym (found ∙ (λ i. may_call (shared i) node caller.part (next_call caller.task caller.part object operation (is i)) caller.part.outstanding))
 
   abbrev submit : TaskInput
   submit = tasks.Submit node object operation arg
 
-  pub may_effect : (r : Result Action Fault) → may_call config node caller.part next caller.part.outstanding ≡ r
+  pub may_effect : (r : Result Action Fault) → may_call config node caller.part its_next caller.part.outstanding ≡ r
       → task_effect config number caller.part submit ≡ calls_if number node caller.part r
   may_effect r is =
       ap (calls_if number node caller.part) (subst (λ (k : ℕ). may_call config node caller.part (next_call k caller.part object operation arg) caller.part.outstanding ≡ r) same is)
 
-  module _ (call : Action) (is : may_call config node caller.part next caller.part.outstanding ≡ Ok call) where
+  module _ (call : Action) (is : may_call config node caller.part its_next caller.part.outstanding ≡ Ok call) where
     -- the task makes the call
     pub call_results : task_effect config number caller.part submit ≡ Ok (asking_done number node (waiting_for caller.part call) (Some call))
     call_results = may_effect (Ok call) is
 
-    pub call_is_next : call ≡ next
-    call_is_next = subst (IsMadeIf next) is (made config node caller.part next caller.part.outstanding)
+    pub call_is_next : call ≡ its_next
+    call_is_next = subst (IsMadeIf its_next) is (made config node caller.part its_next caller.part.outstanding)
 
 -- the task asks once more
 pub again_results : (config : Config) (number node : ℕ) (part : TaskPart) → nat_lt config.nodes node ≡ false
@@ -125,87 +133,115 @@ reply_quiet number part (Some stated) =
     let after : TaskPart = record { outstanding = None; replies = part.replies ++ answer ∷ [] } in
     elim (takes part stated.0) as (λ b. (if b then record (goes_on_as after) { taken = Some answer } else goes_on_as part).sends ≡ []) [ true ↦ refl | false ↦ refl ]
 
--- ---- the event
+-- ---- the seat and its events
 
 -- the part after an event by which the task became this and sent these packets
 abbrev pub BecomesPart : Part → TaskPart → List Message → Part → Type 0
 BecomesPart before task sends after = after ≡ part_after before (OfTask task) sends
 
-module _ {S : Type 0} (s : Setting S) (number : ℕ) (before : Part) (caller : Caller) (range : IsTask number) (is : before.role ≡ OfTask caller.part) (input : TaskInput) (given : IsTaskInput before.got number input)
-    (done : Done TaskPart) (results : task_effect s.config number caller.part input ≡ Ok done) where
-  -- it may be counted
-  pub task_event : (now : TaskPart) (sends : List Message) → now ≡ done.part → sends ≡ done.sends
-      → (after : Part) × IsEvent s (7 + number) before after × BecomesPart before now sends after
-  task_event now sends part packets = (
-    part_after before (OfTask done.part) done.sends,
-    inr (number, refl, record { task = range; part = caller.part; was = is; input = input; given = given; done = done; results = results; is = refl }),
-    λ i. part_after before (OfTask (sym part i)) (sym packets i),
-  )
+-- what is so of a task's seat
+abbrev pub IsSeated : {M P : Type 0} → Inside M P → Type 0
+IsSeated inside =
+    let shared = (arc_value inside.board).shared in
+    IsAtTable shared.table_id inside.place.table_id (7 + inside.number) inside.place.me
+    × IsTaskSeat inside.number shared.key.config inside.config inside.task (part_in inside.place.me.0)
 
--- ---- the seat once an event is counted
+-- what the seat is to a contract, with this place
+abbrev pub state_at : {M P : Type 0} → Inside M P → TableId → Sight → SeatState P
+state_at inside table me =
+    let key = (arc_value inside.board).shared.key in
+    record { table = table; config = key.config; program = key.program.value; number = inside.number; failures = 0; part = part_in me.0 }
 
-module _ {P : Type 0} (config mine : Config) (program : P) (number : ℕ) (table its its' : TableId) (me me' : Sight) (caller new : Caller)
-    (at : IsAtTable table its (7 + number) me) (sits : IsTaskSeat number config mine caller (part_in me.0)) (same : its' ≡ its)
-    (sends : List Message) (t : IsNoted (BecomesPart (part_in me.0) new.part sends) (7 + number) me') where
-  abbrev seat_state : TableId → Part → SeatState P
-  seat_state id part = record { table = id; config = config; program = program; number = number; failures = 0; part = part }
+module _ {M P : Type 0} (inside : Inside M P) (seated : IsSeated inside) where
+  abbrev known : Part
+  known = part_in inside.place.me.0
 
-  sees : part_in me'.0 ≡ part_after (part_in me.0) (OfTask new.part) sends
-  sees = ap (λ (seen : Sight). part_in seen.0) t.is ∙ t.said
+  -- the seat as it is
+  abbrev pub state : SeatState P
+  state = state_at inside inside.place.table_id inside.place.me
 
-  at_after : IsAtTable table its' (7 + number) me'
-  at_after =
-      let here : IsAtTable table its' (7 + number) (alone (7 + number) t.part) = record {
-        same = same ∙ at.same;
-        sized = at.sized;
-        small = at.small;
-        place = refl;
-        fills = ap (λ (p : Part). p.fills) t.said ∙ at.fills;
-        takes = ap (λ (p : Part). p.takes) t.said ∙ at.takes;
-        own = t.own;
-      } in
-      subst (IsAtTable table its' (7 + number)) (sym t.is) here
+  abbrev Results : TaskInput → Result (Done TaskPart) Fault → Type 0
+  Results input result = task_effect state.config inside.number inside.task.part input ≡ result
 
-  pub seat_after : new.task ≡ caller.task → WaitsForOwn number new.part
-      → IsAtTable table its' (7 + number) me' × IsTaskSeat number config mine new (part_in me'.0)
-  seat_after stays waits = (
-    at_after,
-    record {
-      place = record { task = subst IsTask (sym stays) sits.place.task; is = ap (λ (p : Part). p.role) sees };
-      named = stays ∙ sits.named;
-      shared = sits.shared;
-      waits = waits;
-    },
-  )
+  pub refused_state : (input : TaskInput) (fault : Fault) → Results input (Err fault) → IsNoTaskTurn state input state fault
+  refused_state input fault results = record { unchanged = refl; task = inside.task.part; was = seated.1.place.is; why = inr results }
 
-  module _ (done : Done TaskPart) (now : new.part ≡ done.part) (packets : sends ≡ done.sends) where
-    after_is : seat_state its' (part_in me'.0) ≡ seat_state its (part_after (part_in me.0) (OfTask done.part) done.sends)
-    after_is = (λ i. seat_state (same i) (sees i)) ∙ (λ i. seat_state its (part_after (part_in me.0) (OfTask (now i)) (packets i)))
+  pub no_memory_state : (input : TaskInput) (done : Done TaskPart) → Results input (Ok done) → IsNoTaskTurn state input state OutOfMemory
+  no_memory_state input done results = record { unchanged = refl; task = inside.task.part; was = seated.1.place.is; why = inl (refl, done, results) }
 
-    pub asked_state : (input : TaskInput) (sent : Sent) → task_effect config number caller.part input ≡ Ok done → DescribesPackets sent sends
-        → IsTaskTurn (seat_state its (part_in me.0)) input (seat_state its' (part_in me'.0)) sent
-    asked_state input sent results describes = record {
-      task = caller.part;
-      was = sits.place.is;
-      done = done;
-      results = results;
-      after = after_is;
-      describes = subst (DescribesPackets sent) packets describes;
-    }
+  module _ (input : TaskInput) (done : Done TaskPart) (results : Results input (Ok done)) (now : TaskPart) (sends : List Message) (part_is : now ≡ done.part) (sends_are : sends ≡ done.sends) where
+    -- the event may be counted, whatever the table's setup is called
+    pub task_event : {S : Type 0} (next : S → Action → S) (answers : S → Action → List Answer) (begin : P → S) (board : Board M P) → board ≡ arc_value inside.board → IsTaskInput known.got inside.number input
+        → (after : Part) × IsEvent (setting_of next answers begin board) (7 + inside.number) known after × BecomesPart known now sends after
+    task_event next answers begin board same given =
+        let range = subst IsTask seated.1.named seated.1.place.task in
+        subst (λ (b : Board M P). (after : Part) × IsEvent (setting_of next answers begin b) (7 + inside.number) known after × BecomesPart known now sends after) (sym same) (
+          part_after known (OfTask done.part) done.sends,
+          inr (inside.number, refl, record { task = range; part = inside.task.part; was = seated.1.place.is; input = input; given = given; done = done; results = results; is = refl }),
+          λ i. part_after known (OfTask (sym part_is i)) (sym sends_are i),
+        )
 
-    pub replied_state : (m : Message) (bytes : List ℕ) (taken : Option Answer) → Has m (part_in me.0).got → bytes ≡ text_of m → task_effect config number caller.part (tasks.Take m) ≡ Ok done → taken ≡ done.taken
-        → IsReplyTurn (seat_state its (part_in me.0)) bytes (seat_state its' (part_in me'.0)) taken
-    replied_state m bytes taken got text results stated = record {
-      packet = m;
-      got = got;
-      text = text;
-      task = caller.part;
-      was = sits.place.is;
-      done = done;
-      results = results;
-      after = after_is;
-      stated = stated;
-    }
+  -- ---- once an event is counted
+
+  module _ (table : TableId) (me : Sight) (same : table ≡ inside.place.table_id) (new : Caller) (sends : List Message) (t : IsNoted (BecomesPart known new.part sends) (7 + inside.number) me) where
+    sees : part_in me.0 ≡ part_after known (OfTask new.part) sends
+    sees = ap (λ (seen : Sight). part_in seen.0) t.is ∙ t.said
+
+    abbrev IsAt : Sight → Type 0
+    IsAt sight = IsAtTable (arc_value inside.board).shared.table_id table (7 + inside.number) sight
+
+    at_after : IsAt me
+    at_after =
+        let at = seated.0 in
+        let here : IsAt (alone (7 + inside.number) t.part) = record {
+          same = same ∙ at.same;
+          sized = at.sized;
+          small = at.small;
+          place = refl;
+          fills = ap (λ (p : Part). p.fills) t.said ∙ at.fills;
+          takes = ap (λ (p : Part). p.takes) t.said ∙ at.takes;
+          own = t.own;
+        } in
+        subst IsAt (sym t.is) here
+
+    pub seat_after : new.task ≡ inside.task.task → WaitsForOwn inside.number new.part → IsAt me × IsTaskSeat inside.number state.config inside.config new (part_in me.0)
+    seat_after stays waits = (
+      at_after,
+      record {
+        place = record { task = subst IsTask (sym stays) seated.1.place.task; is = ap (λ (p : Part). p.role) sees };
+        named = stays ∙ seated.1.named;
+        shared = seated.1.shared;
+        waits = waits;
+      },
+    )
+
+    module _ (done : Done TaskPart) (part_is : new.part ≡ done.part) (sends_are : sends ≡ done.sends) where
+      after_is : state_at inside table me ≡ record state { part = part_after known (OfTask done.part) done.sends }
+      after_is = λ i. record state { table = same i; part = (sees ∙ (λ j. part_after known (OfTask (part_is j)) (sends_are j))) i }
+
+      pub asked_state : (input : TaskInput) (sent : Sent) → Results input (Ok done) → DescribesPackets sent sends → IsTaskTurn state input (state_at inside table me) sent
+      asked_state input sent results describes = record {
+        task = inside.task.part;
+        was = seated.1.place.is;
+        done = done;
+        results = results;
+        after = after_is;
+        describes = subst (DescribesPackets sent) sends_are describes;
+      }
+
+      pub replied_state : (m : Message) (bytes : List ℕ) (taken : Option Answer) → Has m known.got → bytes ≡ text_of m → Results (tasks.Take m) (Ok done) → taken ≡ done.taken
+          → IsReplyTurn state bytes (state_at inside table me) taken
+      replied_state m bytes taken got text results stated = record {
+        packet = m;
+        got = got;
+        text = text;
+        task = inside.task.part;
+        was = seated.1.place.is;
+        done = done;
+        results = results;
+        after = after_is;
+        stated = stated;
+      }
 
 -- ---- the seat where nothing happened
 
@@ -213,13 +249,6 @@ module _ {P : Type 0} (config mine : Config) (program : P) (number : ℕ) (table
 pub at_fault : {A : Type 0} (Q : Fault → Type 0) (fault : Fault) (r : Result A Fault) → IsErrAnd r (λ e. e ≡ fault) → Q fault → IfErr r Q
 at_fault Q fault (Ok stated) is q = tt
 at_fault Q fault (Err other) is q = subst Q (sym is) q
-
-module _ {P : Type 0} (seat_state : SeatState P) (caller : Caller) (was : seat_state.part.role ≡ OfTask caller.part) (input : TaskInput) where
-  pub refused_state : (fault : Fault) → task_effect seat_state.config seat_state.number caller.part input ≡ Err fault → IsNoTaskTurn seat_state input seat_state fault
-  refused_state fault results = record { unchanged = refl; task = caller.part; was = was; why = inr results }
-
-  pub no_memory_state : (fault : Fault) (done : Done TaskPart) → fault ≡ OutOfMemory → task_effect seat_state.config seat_state.number caller.part input ≡ Ok done → IsNoTaskTurn seat_state input seat_state fault
-  no_memory_state fault done memory results = record { unchanged = refl; task = caller.part; was = was; why = inl (memory, done, results) }
 
 -- the seat where only a box was stepped on
 pub task_stays : (number : ℕ) (config mine : Config) (caller : Caller) (part part' : Part) → part'.role ≡ part.role

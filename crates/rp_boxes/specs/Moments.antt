@@ -1,16 +1,18 @@
 -- What a step at a box shows its seat of the table at that moment.
-use Rattle.std.specs.Prelude.{◌≡◌, ◌≢◌, ℕ, Vec, Some, List, [], ◌∷◌, slice_index}
+use Rattle.std.specs.Prelude.{◌≡◌, ◌≢◌, ℕ, ◌<◌, Vec, Some, List, [], ◌∷◌, slice_index}
 use Rattle.std.specs.declared.alloc.Global.{Global}
 use mathlib.Core.Option.{some}
 use lib.ListN.{get_elem?}
 use Rattle.atomic_table.specs.Table.{State}
+use Rattle.atomic_table.specs.Seated.{TableId}
 use Rattle.rp_base.specs.declared.action.Action.{Action}
 use Rattle.rp_base.specs.declared.reply.Answer.{Answer}
 use Rattle.rp_codec.specs.Message.{Message}
 use Rattle.rp_codec.specs.Text.{text_of}
 use Rattle.rp_codec.specs.declared.packet.Party.{Party}
 use Rattle.rp_model.specs.Effect.{Setting}
-use Rattle.rp_boxes.specs.Parts.{View, actor_of, box_of}
+use Rattle.rp_boxes.specs.Parts.{Part, View, actor_of, box_of, part_in}
+use Rattle.rp_boxes.specs.Plays.{Sight, IsSized, alone}
 use Rattle.rp_boxes.specs.Rule.{Slot, Ruled}
 use Rattle.rp_boxes.specs.Seats.{SeatState, setting_at}
 
@@ -19,6 +21,20 @@ pub record IsMoment {S : Type 0} (s : Setting S) (view : View) (table : State Sl
   pub rule : Ruled s table
   pub seat : ℕ
   pub sees : get_elem? table.views seat ≡ some view
+
+-- The seat of an actor may try a box that goes from one actor to another: it holds none of this kind, and where it finds
+-- another word there than this one, that is said of what it knows.
+pub record MayClaim {S : Type 0} (s : Setting S) (table mine : TableId) (actor from to : ℕ) (me : Sight)
+    (holds : Part → List ℕ)
+    (word : ℕ)
+    (says : Part → Type 0) : Type 0 where
+  pub same : mine ≡ table
+  pub sized : IsSized table
+  pub less : (from < 16) × (to < 16)
+  pub place : me ≡ alone actor (part_in me.0)
+  pub free : holds (part_in me.0) ≡ []
+  pub follows : (t : State Slot View) → IsMoment s me.0 t → slice_index t.words (box_of from to) ≢ word
+      → says (part_in me.0)
 
 -- At a moment when a seat knew this, the word of a box was such.
 pub record WasWord {S : Type 0} (s : Setting S) (view : View) (b : ℕ) (is : ℕ → Type 0) : Type 0 where

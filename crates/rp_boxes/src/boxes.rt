@@ -9,7 +9,7 @@ ghost use Rattle.rp_agreement.specs.Answered.{setting_for};
 ghost use Rattle.rp_base.specs.Sets.{Has};
 ghost use Rattle.rp_codec.specs.Message.{Message};
 ghost use Rattle.rp_boxes.specs.Looks.{IsWorldOf};
-ghost use Rattle.rp_boxes.specs.Moments.{IsMoment, WasFull, WasWord};
+ghost use Rattle.rp_boxes.specs.Moments.{IsMoment, MayClaim, WasFull, WasWord};
 ghost use Rattle.rp_boxes.specs.Parts.{Part, View, box_of, emptying, filled, filling, part_in, with_got};
 ghost use Rattle.rp_boxes.specs.Plays.{IsPutBy, IsSized, alone, holding};
 ghost use Rattle.rp_boxes.specs.Rule.{IsCarried, IsVacant, Slot};
@@ -87,16 +87,9 @@ fn claim_empty<M: Machine, J: Fact>(
     from: usize,
     to: usize,
 ) -> bool
-    requires table { place.old.table_id ≡ slots.now.table_id }
-    requires sized { IsSized slots.now.table_id }
-    requires from { from < 16 }
-    requires to { to < 16 }
-    requires place { place.old.me ≡ alone from (part_in place.old.me.0) }
-    requires free { (part_in place.old.me.0).fills ≡ [] }
-    requires follows { (table : State Slot View)
-        → IsMoment (setting_for M.next M.answers M.begin slots.now.key.config
-        slots.now.key.program.value) place.old.me.0 table
-        → slice_index table.words (box_of from to) ≢ 0 → J.says (part_in place.old.me.0) }
+    requires { MayClaim (setting_for M.next M.answers M.begin slots.now.key.config
+        slots.now.key.program.value) slots.now.table_id place.old.table_id from from to
+        place.old.me (λ part. part.fills) 0 J.says }
     ensures table { place.new.table_id ≡ place.old.table_id }
     ensures hit { result ≡ true → (slot : Slot) × IsVacant slot × (place.new.me ≡ holding from
         (filling (box_of from to) (part_in place.old.me.0)) (box_of from to) slot) }
@@ -187,16 +180,9 @@ fn claim_full<M: Machine, J: Fact>(
     from: usize,
     to: usize,
 ) -> bool
-    requires table { place.old.table_id ≡ slots.now.table_id }
-    requires sized { IsSized slots.now.table_id }
-    requires from { from < 16 }
-    requires to { to < 16 }
-    requires place { place.old.me ≡ alone to (part_in place.old.me.0) }
-    requires free { (part_in place.old.me.0).takes ≡ [] }
-    requires follows { (table : State Slot View)
-        → IsMoment (setting_for M.next M.answers M.begin slots.now.key.config
-        slots.now.key.program.value) place.old.me.0 table
-        → slice_index table.words (box_of from to) ≢ 2 → J.says (part_in place.old.me.0) }
+    requires { MayClaim (setting_for M.next M.answers M.begin slots.now.key.config
+        slots.now.key.program.value) slots.now.table_id place.old.table_id to from to
+        place.old.me (λ part. part.takes) 2 J.says }
     ensures table { place.new.table_id ≡ place.old.table_id }
     ensures hit { result ≡ true → (m : Message) × (text : Vec ℕ Global)
         × IsCarried from to text.items m × (place.new.me ≡ holding to

@@ -23,22 +23,41 @@ use rp_machine::Machine;
 use rp_store::Device;
 use std::marker::Brand;
 
-impl<M: Machine, D: Device> NodeSeat<M, D> {
-    /// The place of the seat, which ends.
+/// A seat that ends, and leaves the place of its actor.
+trait Leaves: Drop {
+    ghost use Rattle.std.specs.Prelude.{ℕ};
+    ghost use Rattle.atomic_table.specs.Seated.{TableId};
+    ghost use Rattle.rp_boxes.specs.Parts.{Part};
+
+    ghost at: { Self → TableId };
+
+    ghost known: { Self → ℕ × Part };
+
     fn into_place(self) -> Place
-        ensures table { result.table_id ≡ self.table }
-        ensures knows { result.me ≡ alone self.number self.part }
-    {
+        ensures table { result.table_id ≡ at self }
+        ensures knows { result.me ≡ alone (known self).0 (known self).1 };
+}
+
+impl<M: Machine, D: Device> Leaves for NodeSeat<M, D> {
+    ghost use Rattle.rp_boxes.specs.Together.{of_node};
+
+    ghost at = { λ seat. seat.table };
+
+    ghost known = { of_node };
+
+    fn into_place(self) -> Place {
         self.place
     }
 }
 
-impl<M: Machine> TaskSeat<M> {
-    /// The place of the seat, which ends.
-    fn into_place(self) -> Place
-        ensures table { result.table_id ≡ self.table }
-        ensures knows { result.me ≡ alone (7 + self.number) self.part }
-    {
+impl<M: Machine> Leaves for TaskSeat<M> {
+    ghost use Rattle.rp_boxes.specs.Together.{of_task};
+
+    ghost at = { λ seat. seat.table };
+
+    ghost known = { of_task };
+
+    fn into_place(self) -> Place {
         self.place
     }
 }
@@ -55,28 +74,15 @@ fn take_in<M: Machine>(slots: &Slots<M>, all: &mut Place, other: Place)
     slots.join_seat::<Both>(all, other);
 }
 
-/// A place takes in those of nodes.
-fn take_nodes<M: Machine, D: Device>(slots: &Slots<M>, all: &mut Place, nodes: Vec<NodeSeat<M, D>>)
+/// A place takes in those of seats that end.
+fn take_seats<M: Machine, S: Leaves>(slots: &Slots<M>, all: &mut Place, seats: Vec<S>)
     requires table { all.old.table_id ≡ slots.now.table_id }
     requires sized { IsSized slots.now.table_id }
-    requires nodes { All (λ seat. seat.table ≡ slots.now.table_id) nodes.items }
+    requires seats { All (λ seat. S.at seat ≡ slots.now.table_id) seats.items }
     ensures table { all.new.table_id ≡ all.old.table_id }
-    ensures all { all.new.me ≡ (all.old.me.0 ++ map of_node nodes.items, all.old.me.1) }
+    ensures all { all.new.me ≡ (all.old.me.0 ++ map S.known seats.items, all.old.me.1) }
 {
-    for seat in nodes {
-        take_in(slots, all, seat.into_place());
-    }
-}
-
-/// A place takes in those of tasks.
-fn take_tasks<M: Machine>(slots: &Slots<M>, all: &mut Place, tasks: Vec<TaskSeat<M>>)
-    requires table { all.old.table_id ≡ slots.now.table_id }
-    requires sized { IsSized slots.now.table_id }
-    requires tasks { All (λ seat. seat.table ≡ slots.now.table_id) tasks.items }
-    ensures table { all.new.table_id ≡ all.old.table_id }
-    ensures all { all.new.me ≡ (all.old.me.0 ++ map of_task tasks.items, all.old.me.1) }
-{
-    for seat in tasks {
+    for seat in seats {
         take_in(slots, all, seat.into_place());
     }
 }
@@ -98,8 +104,8 @@ fn look_as_one<M: Machine, D: Device>(
         ((place.me.0 ++ map of_node nodes.items) ++ map of_task tasks.items) parts }
 {
     let mut all = place;
-    take_nodes(slots, &mut all, nodes);
-    take_tasks(slots, &mut all, tasks);
+    take_seats(slots, &mut all, nodes);
+    take_seats(slots, &mut all, tasks);
     look::<M, Brand>(slots, &mut all);
 }
 

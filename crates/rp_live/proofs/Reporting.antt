@@ -40,7 +40,7 @@ module _ {S P : Type 0} (next : S → Action → S) (answers : S → Action → 
       → IfErr result (λ back. new ≡ old) → IfErr result (λ back. WasInUse next answers begin (Node new.number) text new)
       → (is_lost : Bool) × IsOffered next answers begin (Node old.number) text old new is_lost
   put_or_back (Ok x) text old new put full same used = (false, went_in next answers begin Node text old new put full)
-  put_or_back (Err e) text old new put full same used = (true, given_back next answers begin Node text old new same used)
+  put_or_back (Err e) text old new put full same used = (true, given_back next answers begin Node text old new new refl same used)
 
   module _ (first : ℕ) (old new : SeatState P) (r : Reports next answers begin first old new) where
     report_puts : HasOnlyPut r.stepped new

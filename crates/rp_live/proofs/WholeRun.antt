@@ -10,7 +10,7 @@ use Rattle.rp_machine.specs.Replay.{kept_of}
 use Rattle.rp_model.specs.declared.event.Event.{Event}
 use Rattle.rp_store.specs.Disk.{Memory}
 use Rattle.rp_tasks.specs.Line.{Line}
-use Rattle.rp_boxes.specs.Making.{AreSeats, first_seat}
+use Rattle.rp_boxes.specs.Making.{first_seat}
 use Rattle.rp_boxes.specs.Seats.{SeatState, HasApplied}
 use Rattle.rp_boxes.specs.Together.{IsTaskOf}
 use Rattle.rp_threads.specs.Loops.{IsSameSeat}
@@ -23,8 +23,7 @@ use Rattle.rp_threads.specs.declared.tasks.TaskCall.{TaskCall}
 use Rattle.rp_live.specs.Calls.{CountsCalls}
 use Rattle.rp_live.specs.Events.{call_by}
 use Rattle.rp_live.specs.Lines.{party_line}
-use Rattle.rp_live.specs.LiveOutcome.{IsLiveRun, IsAudited}
-use Rattle.rp_live.specs.Noted.{AreNoted}
+use Rattle.rp_live.specs.LiveOutcome.{HasRun, IsLiveRun, IsAudited}
 use Rattle.rp_live.specs.Pace.{paced, heard, heard_task}
 use Rattle.rp_live.specs.Seats.{AreNumbered, HasOnlyReported, IsEndOfRun, Runs, StillRuns}
 use Rattle.rp_live.specs.declared.run.LiveOutcome.{LiveOutcome}
@@ -34,10 +33,9 @@ use Rattle.rp_live.proofs.Noting.{all_noted}
 use Rattle.rp_live.proofs.Seating.{all_mapped, first_tables, some_then, zip_length}
 use Rattle.rp_live.proofs.Zips.{all_both, zip_all, zip_kinds, zip_places}
 
-module _ {S P : Type 0} (next : S → Action → S) (answers : S → Action → List Answer) (begin : P → S) (config : Config) (program : P) (events : List Event) (seed turns : ℕ)
-    (first_nodes first_tasks : List (SeatState P)) (audit : SeatState P) (failures : List ℕ) (seats : AreSeats config program failures first_nodes first_tasks audit)
-    (noted : List (SeatState P)) (notes : AreNoted next answers begin events (length events) first_nodes noted) (runs : All (λ seat. Runs seat.part) noted)
-    (nodes : List (NodeEnd S Memory P)) (tasks : List (TaskEnd S P)) where
+-- ---- the loops of a run
+
+module _ {S P : Type 0} (next : S → Action → S) (answers : S → Action → List Answer) (begin : P → S) (config : Config) (events : List Event) (seed turns : ℕ) where
   abbrev IsNodeLoop : SeatState P → NodeEnd S Memory P → Type 0
   IsNodeLoop seat end = IsLooped next answers begin paced heard config.nodes turns seat (party_line seed (Node seat.number)) end
 
@@ -48,17 +46,17 @@ module _ {S P : Type 0} (next : S → Action → S) (answers : S → Action → 
   IsTaskLoop seat end = IsTaskLooped next answers begin heard_task config.nodes turns (calls_at seat.number) seat (party_line seed (Task seat.number)) end
 
   -- the loops of what was ready to run
-  pub node_loops_by : {A : Type 0} (f : A → SeatState P) (g : A → Line) (starts : List A) (count : ℕ) → map f starts ≡ noted → All (λ s. g s ≡ party_line seed (Node (f s).number)) starts
+  pub node_loops_by : {A : Type 0} (noted : List (SeatState P)) (nodes : List (NodeEnd S Memory P)) (f : A → SeatState P) (g : A → Line) (starts : List A) (count : ℕ) → map f starts ≡ noted → All (λ s. g s ≡ party_line seed (Node (f s).number)) starts
       → count ≡ config.nodes → AllZip (λ s end. IsLooped next answers begin paced heard count turns (f s) (g s) end) starts nodes → AllZip IsNodeLoop noted nodes
-  node_loops_by f g starts count is lines same zip =
+  node_loops_by noted nodes f g starts count is lines same zip =
       subst (λ (l : List (SeatState P)). AllZip IsNodeLoop l nodes) is
       (zip_kinds f g (λ seat. party_line seed (Node seat.number)) (λ seat line end. IsLooped next answers begin paced heard config.nodes turns seat line end) starts nodes lines
       (subst (λ (n : ℕ). AllZip (λ s end. IsLooped next answers begin paced heard n turns (f s) (g s) end) starts nodes) same zip))
 
-  pub task_loops_by : {A : Type 0} (f : A → SeatState P) (h : A → List TaskCall) (g : A → Line) (starts : List A) (count : ℕ) → map f starts ≡ first_tasks
+  pub task_loops_by : {A : Type 0} (first_tasks : List (SeatState P)) (tasks : List (TaskEnd S P)) (f : A → SeatState P) (h : A → List TaskCall) (g : A → Line) (starts : List A) (count : ℕ) → map f starts ≡ first_tasks
       → All (λ s. h s ≡ calls_at (f s).number) starts → All (λ s. g s ≡ party_line seed (Task (f s).number)) starts → count ≡ config.nodes
       → AllZip (λ s end. IsTaskLooped next answers begin heard_task count turns (h s) (f s) (g s) end) starts tasks → AllZip IsTaskLoop first_tasks tasks
-  task_loops_by {A} f h g starts count is calls lines same zip =
+  task_loops_by {A} first_tasks tasks f h g starts count is calls lines same zip =
       let kind : A → List TaskCall × Line = λ s. (h s, g s) in
       let by : SeatState P → List TaskCall × Line = λ seat. (calls_at seat.number, party_line seed (Task seat.number)) in
       let both = all_both (λ s. h s ≡ calls_at (f s).number) (λ s. g s ≡ party_line seed (Task (f s).number)) (λ s. kind s ≡ by (f s)) (λ s c l. λ i. (c i, l i)) starts calls lines in
@@ -66,77 +64,77 @@ module _ {S P : Type 0} (next : S → Action → S) (answers : S → Action → 
       (zip_kinds f kind by (λ seat k end. IsTaskLooped next answers begin heard_task config.nodes turns k.0 seat k.1 end) starts tasks both
       (subst (λ (n : ℕ). AllZip (λ s end. IsTaskLooped next answers begin heard_task n turns (h s) (f s) (g s) end) starts tasks) same zip))
 
-  module _ (node_loops : AllZip IsNodeLoop noted nodes) (task_loops : AllZip IsTaskLoop first_tasks tasks) where
-    abbrev IsHere : SeatState P → Type 0
-    IsHere seat = seat.table ≡ audit.table
+-- ---- the run
 
-    pub nodes_here : All (λ end. end.seat.table ≡ audit.table) nodes
-    nodes_here =
-        let before = zip_all IsHere IsSameSeat IsHere (λ old new here same. same.table ∙ here) first_nodes noted (first_tables audit.table config program 1 failures first_nodes seats.nodes_are)
-        (all_noted next answers begin events (length events) first_nodes noted notes) in
-        zip_all IsHere IsNodeLoop (λ end. end.seat.table ≡ audit.table) (λ seat end here ran. ran.same.table ∙ here) noted nodes before node_loops
+module _ {S P : Type 0} (next : S → Action → S) (answers : S → Action → List Answer) (begin : P → S) (config : Config) (program : P) (events : List Event) (seed turns : ℕ)
+    (audit : SeatState P) (nodes : List (NodeEnd S Memory P)) (tasks : List (TaskEnd S P)) where
+  -- it has run, and the nodes ran once the events were noted
+  abbrev pub HasRunOn : Type 0
+  HasRunOn = (ran : HasRun next answers begin config program events seed turns audit nodes tasks) × All (λ seat. Runs seat.part) ran.noted
 
-    pub tasks_here : All (λ end. end.seat.table ≡ audit.table) tasks
-    tasks_here =
-        zip_all IsHere IsTaskLoop (λ end. end.seat.table ≡ audit.table) (λ seat end here ran. ran.same.table ∙ here) first_tasks tasks
-        (first_tables audit.table config program 8 [] first_tasks seats.tasks_are) task_loops
+module _ {S P : Type 0} {next : S → Action → S} {answers : S → Action → List Answer} {begin : P → S} {config : Config} {program : P} {events : List Event} {seed turns : ℕ}
+    {audit : SeatState P} {nodes : List (NodeEnd S Memory P)} {tasks : List (TaskEnd S P)} (whole : HasRunOn next answers begin config program events seed turns audit nodes tasks) where
+  abbrev IsHere : SeatState P → Type 0
+  IsHere seat = seat.table ≡ audit.table
 
-    abbrev IsOfNumber : ℕ → SeatState P → Type 0
-    IsOfNumber place seat = seat.number ≡ 0 + place + 1
+  pub nodes_here : All (λ end. end.seat.table ≡ audit.table) nodes
+  nodes_here =
+      let before = zip_all IsHere IsSameSeat IsHere (λ old new here same. same.table ∙ here) whole.0.first_nodes whole.0.noted (first_tables audit.table config program 1 whole.0.failures whole.0.first_nodes whole.0.seats.nodes_are)
+      (all_noted next answers begin events (length events) whole.0.first_nodes whole.0.noted whole.0.notes) in
+      zip_all IsHere (IsNodeLoop next answers begin config events seed turns) (λ end. end.seat.table ≡ audit.table) (λ seat end here ran. ran.same.table ∙ here) whole.0.noted nodes before whole.0.node_loops
 
-    pub nodes_numbered : AreNumbered 0 nodes
-    nodes_numbered =
-        let first : (place : ℕ) → IfSome (slice_get first_nodes place) (IsOfNumber place) = λ place.
-        some_then (λ seat. seat ≡ first_seat audit.table config program (suc place) (1 + place) (slice_index failures place)) (IsOfNumber place)
-        (λ seat is. let e : seat.number ≡ suc place = ap (λ (c : SeatState P). c.number) is in omega (arith, e)) (slice_get first_nodes place) (seats.nodes_are place) in
-        let before = zip_places IsOfNumber IsSameSeat IsOfNumber (λ place old new here same. same.number ∙ here) first_nodes noted first
-        (all_noted next answers begin events (length events) first_nodes noted notes) in
-        zip_places IsOfNumber IsNodeLoop (λ place end. IsOfNumber place end.seat) (λ place seat end here ran. ran.same.number ∙ here) noted nodes before node_loops
+  pub tasks_here : All (λ end. end.seat.table ≡ audit.table) tasks
+  tasks_here =
+      zip_all IsHere (IsTaskLoop next answers begin config events seed turns) (λ end. end.seat.table ≡ audit.table) (λ seat end here ran. ran.same.table ∙ here) whole.0.first_tasks tasks
+      (first_tables audit.table config program 8 [] whole.0.first_tasks whole.0.seats.tasks_are) whole.0.task_loops
 
-    pub nodes_ended : All IsEndOfRun nodes
-    nodes_ended = zip_all (λ seat. Runs seat.part) IsNodeLoop IsEndOfRun
-        (λ seat end run ran. (seat, (run, some_then _ (IsNodeFault seat end.seat) (λ fault ended. subst (λ (c : SeatState P). IsNodeFault seat c fault) (sym (ap (λ (e : NodeEnd S Memory P). e.seat) ended.1)) ended.2.cause) end.fault ran.fault))) noted nodes runs node_loops
+  abbrev IsOfNumber : ℕ → SeatState P → Type 0
+  IsOfNumber place seat = seat.number ≡ 0 + place + 1
 
-    pub nodes_still : All StillRuns nodes
-    nodes_still = zip_all (λ seat. Runs seat.part) IsNodeLoop StillRuns
-        (λ seat end run ran none. let t = ran.turned none in
-        subst (λ (c : SeatState P). Runs c.part) (sym (ap (λ (e : NodeEnd S Memory P). e.seat) t.1))
-        (turns_run next answers begin paced heard config.nodes (before_turns seat (party_line seed (Node seat.number))) turns t.0 t.2 run)) noted nodes runs node_loops
+  pub nodes_numbered : AreNumbered 0 nodes
+  nodes_numbered =
+      let first : (place : ℕ) → IfSome (slice_get whole.0.first_nodes place) (IsOfNumber place) = λ place.
+      some_then (λ seat. seat ≡ first_seat audit.table config program (suc place) (1 + place) (slice_index whole.0.failures place)) (IsOfNumber place)
+      (λ seat is. let e : seat.number ≡ suc place = ap (λ (c : SeatState P). c.number) is in omega (arith, e)) (slice_get whole.0.first_nodes place) (whole.0.seats.nodes_are place) in
+      let before = zip_places IsOfNumber IsSameSeat IsOfNumber (λ place old new here same. same.number ∙ here) whole.0.first_nodes whole.0.noted first
+      (all_noted next answers begin events (length events) whole.0.first_nodes whole.0.noted whole.0.notes) in
+      zip_places IsOfNumber (IsNodeLoop next answers begin config events seed turns) (λ place end. IsOfNumber place end.seat) (λ place seat end here ran. ran.same.number ∙ here) whole.0.noted nodes before whole.0.node_loops
 
-    -- each task made calls among the events
-    abbrev HasCalls : TaskEnd S P → Type 0
-    HasCalls end = (waits : Bool) × HasMade (calls_at end.seat.number) end.seat end.made waits
+  pub nodes_ended : All IsEndOfRun nodes
+  nodes_ended = zip_all (λ seat. Runs seat.part) (IsNodeLoop next answers begin config events seed turns) IsEndOfRun
+      (λ seat end run ran. (seat, (run, some_then _ (IsNodeFault seat end.seat) (λ fault ended. subst (λ (c : SeatState P). IsNodeFault seat c fault) (sym (ap (λ (e : NodeEnd S Memory P). e.seat) ended.1)) ended.2.cause) end.fault ran.fault))) whole.0.noted nodes whole.1 whole.0.node_loops
 
-    tasks_made : All HasCalls tasks
-    tasks_made = zip_all IsHere IsTaskLoop HasCalls
-        (λ seat end here ran. (ran.made.0, subst (λ (n : ℕ). HasMade (calls_at n) end.seat end.made ran.made.0) (sym ran.same.number) ran.made.1)) first_tasks tasks
-        (first_tables audit.table config program 8 [] first_tasks seats.tasks_are) task_loops
+  pub nodes_still : All StillRuns nodes
+  nodes_still = zip_all (λ seat. Runs seat.part) (IsNodeLoop next answers begin config events seed turns) StillRuns
+      (λ seat end run ran none. let t = ran.turned none in
+      subst (λ (c : SeatState P). Runs c.part) (sym (ap (λ (e : NodeEnd S Memory P). e.seat) t.1))
+      (turns_run next answers begin paced heard config.nodes (before_turns seat (party_line seed (Node seat.number))) turns t.0 t.2 run)) whole.0.noted nodes whole.1 whole.0.node_loops
 
-    pub outcome : (resulted : LiveOutcome) → IsAudited next answers begin audit nodes tasks resulted → IsLiveRun next answers begin config program events seed turns resulted
-    outcome resulted stated =
-        let order = stated.together.order in
-        let same : stated.known.seat.program ≡ program = stated.same.program ∙ ap (λ (c : SeatState P). c.program) seats.audit_is in
-        let are = all_mapped (IsTaskOf next answers (begin stated.known.seat.program) order) (λ (end : TaskEnd S P). end.seat) tasks stated.together.tasks_are in
-        record {
-          audit = audit;
-          nodes = nodes;
-          tasks = tasks;
-          ran = record {
-            first_nodes = first_nodes;
-            first_tasks = first_tasks;
-            failures = failures;
-            seats = seats;
-            noted = noted;
-            notes = notes;
-            node_loops = node_loops;
-            task_loops = task_loops;
-          };
-          stated = stated;
-          size = zip_length (λ seat count. HasApplied seat.part count) stated.last resulted.applied.items stated.applied
-              ∙ zip_length (λ end seat. HasOnlyReported end.seat seat) nodes stated.last stated.reported ∙ zip_length IsNodeLoop noted nodes node_loops
-              ∙ zip_length IsSameSeat first_nodes noted (all_noted next answers begin events (length events) first_nodes noted notes) ∙ seats.size;
-          calls = all_both HasCalls (λ end. IsTaskOf next answers (begin stated.known.seat.program) order end.seat)
-              (λ end. CountsCalls end.seat.number (calls_at end.seat.number) end.made (kept_of next answers (begin program) order))
-              (λ end has is. subst (λ (p : P). CountsCalls end.seat.number (calls_at end.seat.number) end.made (kept_of next answers (begin p) order)) same
-              (counts_calls (calls_at end.seat.number) end.seat end.made has.0 has.1 (kept_of next answers (begin stated.known.seat.program) order) is.calls)) tasks tasks_made are;
-        }
+  -- each task made calls among the events
+  abbrev HasCalls : TaskEnd S P → Type 0
+  HasCalls end = (waits : Bool) × HasMade (calls_at next answers begin config events seed turns end.seat.number) end.seat end.made waits
+
+  tasks_made : All HasCalls tasks
+  tasks_made = zip_all IsHere (IsTaskLoop next answers begin config events seed turns) HasCalls
+      (λ seat end here ran. (ran.made.0, subst (λ (n : ℕ). HasMade (calls_at next answers begin config events seed turns n) end.seat end.made ran.made.0) (sym ran.same.number) ran.made.1)) whole.0.first_tasks tasks
+      (first_tables audit.table config program 8 [] whole.0.first_tasks whole.0.seats.tasks_are) whole.0.task_loops
+
+  pub outcome : (resulted : LiveOutcome) → IsAudited next answers begin audit nodes tasks resulted → IsLiveRun next answers begin config program events seed turns resulted
+  outcome resulted stated =
+      let order = stated.together.order in
+      let same : stated.known.seat.program ≡ program = stated.same.program ∙ ap (λ (c : SeatState P). c.program) whole.0.seats.audit_is in
+      let are = all_mapped (IsTaskOf next answers (begin stated.known.seat.program) order) (λ (end : TaskEnd S P). end.seat) tasks stated.together.tasks_are in
+      record {
+        audit = audit;
+        nodes = nodes;
+        tasks = tasks;
+        ran = whole.0;
+        stated = stated;
+        size = zip_length (λ seat count. HasApplied seat.part count) stated.last resulted.applied.items stated.applied
+            ∙ zip_length (λ end seat. HasOnlyReported end.seat seat) nodes stated.last stated.reported ∙ zip_length (IsNodeLoop next answers begin config events seed turns) whole.0.noted nodes whole.0.node_loops
+            ∙ zip_length IsSameSeat whole.0.first_nodes whole.0.noted (all_noted next answers begin events (length events) whole.0.first_nodes whole.0.noted whole.0.notes) ∙ whole.0.seats.size;
+        calls = all_both HasCalls (λ end. IsTaskOf next answers (begin stated.known.seat.program) order end.seat)
+            (λ end. CountsCalls end.seat.number (calls_at next answers begin config events seed turns end.seat.number) end.made (kept_of next answers (begin program) order))
+            (λ end has is. subst (λ (p : P). CountsCalls end.seat.number (calls_at next answers begin config events seed turns end.seat.number) end.made (kept_of next answers (begin p) order)) same
+            (counts_calls (calls_at next answers begin config events seed turns end.seat.number) end.seat end.made has.0 has.1 (kept_of next answers (begin stated.known.seat.program) order) is.calls)) tasks tasks_made are;
+      }

@@ -1,5 +1,5 @@
 -- What is offered changes at the seat what its actor put, and nothing else.
-use Rattle.std.proofs.Common.{◌≡◌, ℕ, Bool, true, false, List, [], ◌∷◌, ◌++◌, ap, subst, ◌∙◌}
+use Rattle.std.proofs.Common.{◌≡◌, ℕ, Bool, true, false, List, [], ◌∷◌, ◌++◌, sym, ap, subst, ◌∙◌}
 use Rattle.rp_base.specs.declared.action.Action.{Action}
 use Rattle.rp_base.specs.declared.reply.Answer.{Answer}
 use Rattle.rp_codec.specs.Message.{Message}
@@ -27,9 +27,11 @@ module _ {S P : Type 0} (next : S → Action → S) (answers : S → Action → 
   went_in put full =
       (put, subst (λ (n : ℕ). WasPut next answers begin (party n) text new) (ap (λ (s : SeatState P). s.number) put.after) full)
 
-  -- or it was given back
-  pub given_back : new ≡ old → WasInUse next answers begin (party new.number) text new → IsOffered next answers begin (party old.number) text old new true
-  given_back same used = (same, subst (λ (n : ℕ). WasInUse next answers begin (party n) text new) (ap (λ (s : SeatState P). s.number) same) used)
+  -- or it was given back, and its buffer lent to the seat
+  pub given_back : (lent : SeatState P) → lent ≡ new → new ≡ old → WasInUse next answers begin (party new.number) text new → IsOffered next answers begin (party old.number) text old lent true
+  given_back lent is same used =
+      subst (λ (s : SeatState P). IsOffered next answers begin (party old.number) text old s true) (sym is)
+      (same, subst (λ (n : ℕ). WasInUse next answers begin (party n) text new) (ap (λ (s : SeatState P). s.number) same) used)
 
 module _ {S P : Type 0} (next : S → Action → S) (answers : S → Action → List Answer) (begin : P → S) (from : Party) where
   pub offer_puts : (text : List ℕ) (old new : SeatState P) (is_lost : Bool) → IsOffered next answers begin from text old new is_lost → HasOnlyPut old new

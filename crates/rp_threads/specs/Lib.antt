@@ -5,4 +5,5 @@ pub mod Rounds
 pub mod Tasks
 pub mod TaskRounds
 pub mod Threads
+pub mod Runs
 pub mod Patience

@@ -4,6 +4,7 @@ ghost use Rattle.std.specs.Prelude.{◌≡◌, ◌≤◌, [], All, IfOk, length}
 ghost use Rattle.std.specs.List.{AllZip};
 ghost use Rattle.rp_boxes.specs.Parts.{fresh_part, OfTask};
 ghost use Rattle.rp_model.specs.Parts.{fresh_task};
+ghost use Rattle.rp_threads.specs.Runs.{MayRun, HaveRun};
 ghost use Rattle.rp_threads.specs.Threads.{IsLooped, IsTaskLooped};
 
 use crate::gate::Gate;
@@ -102,16 +103,9 @@ fn run_within<'s, E, R: Threads, M: Machine + Send + 's, D: Device + Send + 's, 
 ) -> Result<(Vec<NodeEnd<M, D>>, Vec<TaskEnd<M>>), AllocError>
 where
     M::Program: Send,
-    requires count { (1 ≤ length nodes.items) × (length nodes.items ≤ 7) }
-    requires node_lines { All (λ start. start.line.held ≡ []) nodes.items }
-    requires task_lines { All (λ start. start.line.held ≡ []) tasks.items }
-    requires fresh { All (λ start. start.seat.part ≡ fresh_part (OfTask fresh_task)) tasks.items }
-    ensures nodes { IfOk result (λ ends. AllZip (λ start end.
-        IsLooped M.next M.answers M.begin G.lets G.heard (length nodes.items) options.entry.turns
-        start.seat start.line end) nodes.items ends.0.items) }
-    ensures tasks { IfOk result (λ ends. AllZip (λ start end.
-        IsTaskLooped M.next M.answers M.begin G.heard_task (length nodes.items) options.entry.turns
-        start.calls.items start.seat start.line end) tasks.items ends.1.items) }
+    requires { MayRun nodes.items tasks.items }
+    ensures { IfOk result (λ ends. HaveRun M.next M.answers M.begin G.lets G.heard G.heard_task
+        options.entry.turns nodes.items tasks.items ends.0.items ends.1.items) }
 {
     let count = nodes.len() as u8;
     let nodes = start_nodes(scope, nodes, count, options)?;
@@ -151,18 +145,10 @@ where
         thread::scope_env(),
         rt,
         |scope| -> Result<(Vec<NodeEnd<M, D>>, Vec<TaskEnd<M>>), AllocError>
-            requires count { (1 ≤ length nodes.items) × (length nodes.items ≤ 7) }
-            requires node_lines { All (λ start. start.line.held ≡ []) nodes.items }
-            requires task_lines { All (λ start. start.line.held ≡ []) tasks.items }
-            requires fresh { All (λ start.
-                start.seat.part ≡ fresh_part (OfTask fresh_task)) tasks.items }
-            ensures nodes { IfOk result (λ ends. AllZip (λ start end.
-                IsLooped M.next M.answers M.begin G.lets G.heard (length nodes.items)
-                options.entry.turns start.seat start.line end) nodes.items ends.0.items) }
-            ensures tasks { IfOk result (λ ends. AllZip (λ start end.
-                IsTaskLooped M.next M.answers M.begin G.heard_task (length nodes.items)
-                options.entry.turns start.calls.items start.seat start.line end)
-                tasks.items ends.1.items) }
+            requires { MayRun nodes.items tasks.items }
+            ensures { IfOk result (λ ends. HaveRun M.next M.answers M.begin G.lets G.heard
+                G.heard_task options.entry.turns nodes.items tasks.items ends.0.items
+                ends.1.items) }
         { run_within(scope, rt, nodes, tasks, options) },
     )
 }

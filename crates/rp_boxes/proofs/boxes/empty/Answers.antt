@@ -9,8 +9,15 @@ use Rattle.rp_boxes.proofs.Emptying.{clear_allows}
 use Rattle.rp_boxes.proofs.Sights.{sees_written, out_with}
 use Rattle.rp_boxes.proofs.boxes.empty.Goals as goal
 
-pub claim_full-requires-clause-follows : goal.claim_full-requires-clause-follows
-claim_full-requires-clause-follows g c = λ table moment word. record { table = table; moment = moment; word = word }
+pub claim_full-requires : goal.claim_full-requires
+claim_full-requires g c = record {
+  same = c.requires.table;
+  sized = c.requires.sized;
+  less = (c.requires.from, c.requires.to);
+  place = c.requires.place;
+  free = c.requires.free;
+  follows = λ table moment word. record { table = table; moment = moment; word = word };
+}
 
 pub exchange-packet-requires : goal.exchange-packet-requires
 exchange-packet-requires g c =

@@ -7,8 +7,15 @@ use Rattle.rp_boxes.specs.Parts.{Part, box_of, part_in}
 use Rattle.rp_boxes.specs.Plays.{IsPutBy, Sight}
 use Rattle.rp_boxes.proofs.boxes.fill.Goals as goal
 
-pub claim_empty-requires-clause-follows : goal.claim_empty-requires-clause-follows
-claim_empty-requires-clause-follows g c = λ table moment word. record { table = table; moment = moment; word = word }
+pub claim_empty-requires : goal.claim_empty-requires
+claim_empty-requires g c = record {
+  same = c.requires.table;
+  sized = c.requires.sized;
+  less = (c.requires.from, c.requires.to);
+  place = c.requires.place;
+  free = c.requires.free;
+  follows = λ table moment word. record { table = table; moment = moment; word = word };
+}
 
 pub deliver-requires-clause-packet : goal.deliver-requires-clause-packet
 deliver-requires-clause-packet g c =

@@ -15,5 +15,5 @@ returns g c =
     let m = g.M.Machine in
     let key = c.args.slots.now.key in
     let s = setting_for m.next m.answers m.begin key.config key.program.value in
-    let all = c.take_tasks.ensures.all ∙ ap (λ (me : Sight). (me.0 ++ map of_task c.args.tasks.items, me.1)) c.take_nodes.ensures.all in
+    let all = c.take_seats-2.ensures.all ∙ ap (λ (me : Sight). (me.0 ++ map of_task c.args.tasks.items, me.1)) c.take_seats.ensures.all in
     subst (λ (me : Sight). (parts : ℕ → Part) × IsWorldOf s me.0 parts) all c.look.ensures.said

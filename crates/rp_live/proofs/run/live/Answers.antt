@@ -7,9 +7,38 @@ use Rattle.rp_boxes.specs.Seats.{SeatState}
 use Rattle.rp_threads.specs.Threads.{IsLooped}
 use Rattle.rp_live.specs.Events.{IsLive}
 use Rattle.rp_live.specs.Pace.{paced, heard}
-use Rattle.rp_live.proofs.WholeRun.{outcome, node_loops_by, nodes_ended, nodes_still, nodes_here, nodes_numbered, task_loops_by, tasks_here}
+use Rattle.rp_live.proofs.WholeRun.{HasRunOn, outcome, node_loops_by, nodes_ended, nodes_still, nodes_here, nodes_numbered, task_loops_by, tasks_here}
 use Rattle.rp_live.proofs.Seating.{all_mapped, mapped_length, nodes_run, tasks_fresh, zip_length}
+use Rattle.rp_live.proofs.run.live.Given as given
 use Rattle.rp_live.proofs.run.live.Goals as goal
+use Rattle.rp_live.proofs.run.live.Goals.{In_ok-nodes-3}
+
+-- how the run went, once the loops have ended
+whole : (g : given.Over) (c : In_ok-nodes-3 g) → let m = g.M.Machine in
+    HasRunOn m.next m.answers m.begin c.args.options.config c.args.program.now c.args.events.now c.args.options.seed c.args.options.turns c.in_ok-nodes.field-0.audit c.in_ok-nodes-3.nodes.items c.in_ok-nodes-3.tasks.items
+whole g c =
+    let m = g.M.Machine in
+    let a = c.args in
+    let all = c.in_ok-nodes.field-0 in
+    let seats = c.in_ok-nodes.ensures.seats in
+    let noted = c.note_all.new.seats.items in
+    let starts = c.in_ok-nodes-2.nodes.items in
+    let ready = mapped_length (λ s. s.seat) starts noted c.in_ok-nodes-2.ensures.seats in
+    let count : length starts ≡ a.options.config.nodes = omega (arith, ready, c.note_all.ensures.size, seats.1.size) in (
+      record {
+        first_nodes = all.nodes.items;
+        first_tasks = all.tasks.items;
+        failures = seats.0;
+        seats = seats.1;
+        noted = noted;
+        notes = c.in_ok-note_all.ensures.ok;
+        node_loops = node_loops_by m.next m.answers m.begin a.options.config a.events.now a.options.seed a.options.turns noted c.in_ok-nodes-3.nodes.items (λ s. s.seat) (λ s. s.line) starts (length starts)
+            c.in_ok-nodes-2.ensures.seats c.in_ok-nodes-2.ensures.lines count c.in_ok-nodes-3.ensures.nodes;
+        task_loops = task_loops_by m.next m.answers m.begin a.options.config a.events.now a.options.seed a.options.turns all.tasks.items c.in_ok-nodes-3.tasks.items (λ s. s.seat) (λ s. s.calls.items) (λ s. s.line)
+            c.in_ok-tasks.tasks.items (length starts) c.in_ok-tasks.ensures.seats c.in_ok-tasks.ensures.calls c.in_ok-tasks.ensures.lines count c.in_ok-nodes-3.ensures.tasks;
+      },
+      c.in_ok-note_all.ensures.run,
+    )
 
 pub note_all-requires-clause-live : goal.note_all-requires-clause-live
 note_all-requires-clause-live g c = subst (λ (n : ℕ). All (IsLive n) c.args.events.now) (sym c.in_ok-nodes.ensures.seats.1.size) c.requires.events
@@ -46,121 +75,19 @@ audited-requires-clause-few g c =
     omega (arith, ran, ready, c.note_all.ensures.size, c.in_ok-nodes.ensures.seats.1.size, c.requires.config.nodes.1)
 
 pub audited-requires-clause-ended : goal.audited-requires-clause-ended
-audited-requires-clause-ended g c =
-    let m = g.M.Machine in
-    let a = c.args in
-    let all = c.in_ok-nodes.field-0 in
-    let seats = c.in_ok-nodes.ensures.seats in
-    let noted = c.note_all.new.seats.items in
-    let starts = c.in_ok-nodes-2.nodes.items in
-    let ready = mapped_length (λ s. s.seat) starts noted c.in_ok-nodes-2.ensures.seats in
-    let count : length starts ≡ a.options.config.nodes = omega (arith, ready, c.note_all.ensures.size, seats.1.size) in
-    let nodes = c.in_ok-nodes-3.nodes.items in
-    let tasks = c.in_ok-nodes-3.tasks.items in
-    let node_loops = node_loops_by m.next m.answers m.begin a.options.config a.program.now a.events.now a.options.seed a.options.turns all.nodes.items all.tasks.items all.audit seats.0 seats.1 noted c.in_ok-note_all.ensures.ok
-    c.in_ok-note_all.ensures.run nodes tasks (λ s. s.seat) (λ s. s.line) starts (length starts) c.in_ok-nodes-2.ensures.seats c.in_ok-nodes-2.ensures.lines count c.in_ok-nodes-3.ensures.nodes in
-    let task_loops = task_loops_by m.next m.answers m.begin a.options.config a.program.now a.events.now a.options.seed a.options.turns all.nodes.items all.tasks.items all.audit seats.0 seats.1 noted c.in_ok-note_all.ensures.ok
-    c.in_ok-note_all.ensures.run nodes tasks (λ s. s.seat) (λ s. s.calls.items) (λ s. s.line) c.in_ok-tasks.tasks.items (length starts) c.in_ok-tasks.ensures.seats c.in_ok-tasks.ensures.calls
-    c.in_ok-tasks.ensures.lines count c.in_ok-nodes-3.ensures.tasks in
-    nodes_ended m.next m.answers m.begin a.options.config a.program.now a.events.now a.options.seed a.options.turns all.nodes.items all.tasks.items all.audit seats.0 seats.1 noted c.in_ok-note_all.ensures.ok
-    c.in_ok-note_all.ensures.run nodes tasks node_loops task_loops
+audited-requires-clause-ended g c = nodes_ended (whole g (goal.at.audited-requires-clause-ended g c).In_ok-nodes-3)
 
 pub audited-requires-clause-still : goal.audited-requires-clause-still
-audited-requires-clause-still g c =
-    let m = g.M.Machine in
-    let a = c.args in
-    let all = c.in_ok-nodes.field-0 in
-    let seats = c.in_ok-nodes.ensures.seats in
-    let noted = c.note_all.new.seats.items in
-    let starts = c.in_ok-nodes-2.nodes.items in
-    let ready = mapped_length (λ s. s.seat) starts noted c.in_ok-nodes-2.ensures.seats in
-    let count : length starts ≡ a.options.config.nodes = omega (arith, ready, c.note_all.ensures.size, seats.1.size) in
-    let nodes = c.in_ok-nodes-3.nodes.items in
-    let tasks = c.in_ok-nodes-3.tasks.items in
-    let node_loops = node_loops_by m.next m.answers m.begin a.options.config a.program.now a.events.now a.options.seed a.options.turns all.nodes.items all.tasks.items all.audit seats.0 seats.1 noted c.in_ok-note_all.ensures.ok
-    c.in_ok-note_all.ensures.run nodes tasks (λ s. s.seat) (λ s. s.line) starts (length starts) c.in_ok-nodes-2.ensures.seats c.in_ok-nodes-2.ensures.lines count c.in_ok-nodes-3.ensures.nodes in
-    let task_loops = task_loops_by m.next m.answers m.begin a.options.config a.program.now a.events.now a.options.seed a.options.turns all.nodes.items all.tasks.items all.audit seats.0 seats.1 noted c.in_ok-note_all.ensures.ok
-    c.in_ok-note_all.ensures.run nodes tasks (λ s. s.seat) (λ s. s.calls.items) (λ s. s.line) c.in_ok-tasks.tasks.items (length starts) c.in_ok-tasks.ensures.seats c.in_ok-tasks.ensures.calls
-    c.in_ok-tasks.ensures.lines count c.in_ok-nodes-3.ensures.tasks in
-    nodes_still m.next m.answers m.begin a.options.config a.program.now a.events.now a.options.seed a.options.turns all.nodes.items all.tasks.items all.audit seats.0 seats.1 noted c.in_ok-note_all.ensures.ok
-    c.in_ok-note_all.ensures.run nodes tasks node_loops task_loops
+audited-requires-clause-still g c = nodes_still (whole g (goal.at.audited-requires-clause-still g c).In_ok-nodes-3)
 
 pub audited-requires-clause-nodes : goal.audited-requires-clause-nodes
-audited-requires-clause-nodes g c =
-    let m = g.M.Machine in
-    let a = c.args in
-    let all = c.in_ok-nodes.field-0 in
-    let seats = c.in_ok-nodes.ensures.seats in
-    let noted = c.note_all.new.seats.items in
-    let starts = c.in_ok-nodes-2.nodes.items in
-    let ready = mapped_length (λ s. s.seat) starts noted c.in_ok-nodes-2.ensures.seats in
-    let count : length starts ≡ a.options.config.nodes = omega (arith, ready, c.note_all.ensures.size, seats.1.size) in
-    let nodes = c.in_ok-nodes-3.nodes.items in
-    let tasks = c.in_ok-nodes-3.tasks.items in
-    let node_loops = node_loops_by m.next m.answers m.begin a.options.config a.program.now a.events.now a.options.seed a.options.turns all.nodes.items all.tasks.items all.audit seats.0 seats.1 noted c.in_ok-note_all.ensures.ok
-    c.in_ok-note_all.ensures.run nodes tasks (λ s. s.seat) (λ s. s.line) starts (length starts) c.in_ok-nodes-2.ensures.seats c.in_ok-nodes-2.ensures.lines count c.in_ok-nodes-3.ensures.nodes in
-    let task_loops = task_loops_by m.next m.answers m.begin a.options.config a.program.now a.events.now a.options.seed a.options.turns all.nodes.items all.tasks.items all.audit seats.0 seats.1 noted c.in_ok-note_all.ensures.ok
-    c.in_ok-note_all.ensures.run nodes tasks (λ s. s.seat) (λ s. s.calls.items) (λ s. s.line) c.in_ok-tasks.tasks.items (length starts) c.in_ok-tasks.ensures.seats c.in_ok-tasks.ensures.calls
-    c.in_ok-tasks.ensures.lines count c.in_ok-nodes-3.ensures.tasks in
-    nodes_here m.next m.answers m.begin a.options.config a.program.now a.events.now a.options.seed a.options.turns all.nodes.items all.tasks.items all.audit seats.0 seats.1 noted c.in_ok-note_all.ensures.ok
-    c.in_ok-note_all.ensures.run nodes tasks node_loops task_loops
+audited-requires-clause-nodes g c = nodes_here (whole g (goal.at.audited-requires-clause-nodes g c).In_ok-nodes-3)
 
 pub audited-requires-clause-numbers : goal.audited-requires-clause-numbers
-audited-requires-clause-numbers g c =
-    let m = g.M.Machine in
-    let a = c.args in
-    let all = c.in_ok-nodes.field-0 in
-    let seats = c.in_ok-nodes.ensures.seats in
-    let noted = c.note_all.new.seats.items in
-    let starts = c.in_ok-nodes-2.nodes.items in
-    let ready = mapped_length (λ s. s.seat) starts noted c.in_ok-nodes-2.ensures.seats in
-    let count : length starts ≡ a.options.config.nodes = omega (arith, ready, c.note_all.ensures.size, seats.1.size) in
-    let nodes = c.in_ok-nodes-3.nodes.items in
-    let tasks = c.in_ok-nodes-3.tasks.items in
-    let node_loops = node_loops_by m.next m.answers m.begin a.options.config a.program.now a.events.now a.options.seed a.options.turns all.nodes.items all.tasks.items all.audit seats.0 seats.1 noted c.in_ok-note_all.ensures.ok
-    c.in_ok-note_all.ensures.run nodes tasks (λ s. s.seat) (λ s. s.line) starts (length starts) c.in_ok-nodes-2.ensures.seats c.in_ok-nodes-2.ensures.lines count c.in_ok-nodes-3.ensures.nodes in
-    let task_loops = task_loops_by m.next m.answers m.begin a.options.config a.program.now a.events.now a.options.seed a.options.turns all.nodes.items all.tasks.items all.audit seats.0 seats.1 noted c.in_ok-note_all.ensures.ok
-    c.in_ok-note_all.ensures.run nodes tasks (λ s. s.seat) (λ s. s.calls.items) (λ s. s.line) c.in_ok-tasks.tasks.items (length starts) c.in_ok-tasks.ensures.seats c.in_ok-tasks.ensures.calls
-    c.in_ok-tasks.ensures.lines count c.in_ok-nodes-3.ensures.tasks in
-    nodes_numbered m.next m.answers m.begin a.options.config a.program.now a.events.now a.options.seed a.options.turns all.nodes.items all.tasks.items all.audit seats.0 seats.1 noted c.in_ok-note_all.ensures.ok
-    c.in_ok-note_all.ensures.run nodes tasks node_loops task_loops
+audited-requires-clause-numbers g c = nodes_numbered (whole g (goal.at.audited-requires-clause-numbers g c).In_ok-nodes-3)
 
 pub audited-requires-clause-tasks : goal.audited-requires-clause-tasks
-audited-requires-clause-tasks g c =
-    let m = g.M.Machine in
-    let a = c.args in
-    let all = c.in_ok-nodes.field-0 in
-    let seats = c.in_ok-nodes.ensures.seats in
-    let noted = c.note_all.new.seats.items in
-    let starts = c.in_ok-nodes-2.nodes.items in
-    let ready = mapped_length (λ s. s.seat) starts noted c.in_ok-nodes-2.ensures.seats in
-    let count : length starts ≡ a.options.config.nodes = omega (arith, ready, c.note_all.ensures.size, seats.1.size) in
-    let nodes = c.in_ok-nodes-3.nodes.items in
-    let tasks = c.in_ok-nodes-3.tasks.items in
-    let node_loops = node_loops_by m.next m.answers m.begin a.options.config a.program.now a.events.now a.options.seed a.options.turns all.nodes.items all.tasks.items all.audit seats.0 seats.1 noted c.in_ok-note_all.ensures.ok
-    c.in_ok-note_all.ensures.run nodes tasks (λ s. s.seat) (λ s. s.line) starts (length starts) c.in_ok-nodes-2.ensures.seats c.in_ok-nodes-2.ensures.lines count c.in_ok-nodes-3.ensures.nodes in
-    let task_loops = task_loops_by m.next m.answers m.begin a.options.config a.program.now a.events.now a.options.seed a.options.turns all.nodes.items all.tasks.items all.audit seats.0 seats.1 noted c.in_ok-note_all.ensures.ok
-    c.in_ok-note_all.ensures.run nodes tasks (λ s. s.seat) (λ s. s.calls.items) (λ s. s.line) c.in_ok-tasks.tasks.items (length starts) c.in_ok-tasks.ensures.seats c.in_ok-tasks.ensures.calls
-    c.in_ok-tasks.ensures.lines count c.in_ok-nodes-3.ensures.tasks in
-    tasks_here m.next m.answers m.begin a.options.config a.program.now a.events.now a.options.seed a.options.turns all.nodes.items all.tasks.items all.audit seats.0 seats.1 noted c.in_ok-note_all.ensures.ok
-    c.in_ok-note_all.ensures.run nodes tasks node_loops task_loops
+audited-requires-clause-tasks g c = tasks_here (whole g (goal.at.audited-requires-clause-tasks g c).In_ok-nodes-3)
 
 pub returns-clause-outcome : goal.returns-clause-outcome
-returns-clause-outcome g c =
-    let m = g.M.Machine in
-    let a = c.args in
-    let all = c.in_ok-nodes.field-0 in
-    let seats = c.in_ok-nodes.ensures.seats in
-    let noted = c.note_all.new.seats.items in
-    let starts = c.in_ok-nodes-2.nodes.items in
-    let ready = mapped_length (λ s. s.seat) starts noted c.in_ok-nodes-2.ensures.seats in
-    let count : length starts ≡ a.options.config.nodes = omega (arith, ready, c.note_all.ensures.size, seats.1.size) in
-    let nodes = c.in_ok-nodes-3.nodes.items in
-    let tasks = c.in_ok-nodes-3.tasks.items in
-    let node_loops = node_loops_by m.next m.answers m.begin a.options.config a.program.now a.events.now a.options.seed a.options.turns all.nodes.items all.tasks.items all.audit seats.0 seats.1 noted c.in_ok-note_all.ensures.ok
-    c.in_ok-note_all.ensures.run nodes tasks (λ s. s.seat) (λ s. s.line) starts (length starts) c.in_ok-nodes-2.ensures.seats c.in_ok-nodes-2.ensures.lines count c.in_ok-nodes-3.ensures.nodes in
-    let task_loops = task_loops_by m.next m.answers m.begin a.options.config a.program.now a.events.now a.options.seed a.options.turns all.nodes.items all.tasks.items all.audit seats.0 seats.1 noted c.in_ok-note_all.ensures.ok
-    c.in_ok-note_all.ensures.run nodes tasks (λ s. s.seat) (λ s. s.calls.items) (λ s. s.line) c.in_ok-tasks.tasks.items (length starts) c.in_ok-tasks.ensures.seats c.in_ok-tasks.ensures.calls
-    c.in_ok-tasks.ensures.lines count c.in_ok-nodes-3.ensures.tasks in
-    IfOk-weaker c.audited.result _ _ (outcome m.next m.answers m.begin a.options.config a.program.now a.events.now a.options.seed a.options.turns all.nodes.items all.tasks.items all.audit seats.0 seats.1 noted c.in_ok-note_all.ensures.ok
-    c.in_ok-note_all.ensures.run nodes tasks node_loops task_loops) c.audited.ensures.stated
+returns-clause-outcome g c = IfOk-weaker c.audited.result _ _ (outcome (whole g (goal.at.returns-clause-outcome g c).In_ok-nodes-3)) c.audited.ensures.stated

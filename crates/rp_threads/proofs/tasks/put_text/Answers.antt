@@ -1,20 +1,10 @@
 -- The packet is put, or given back.
-use Rattle.std.proofs.Common.{true, sym, subst}
-use Rattle.rp_boxes.specs.Seats.{SeatState}
 use Rattle.rp_codec.specs.declared.packet.Party.TheVariants.{Task}
-use Rattle.rp_threads.specs.Turns.{IsOffered}
 use Rattle.rp_threads.proofs.Puts.{given_back, went_in}
 use Rattle.rp_threads.proofs.tasks.put_text.Goals as goal
 
 pub returns-in-Ok : goal.returns-in-Ok
-returns-in-Ok g c =
-    let m = g.M.Machine in
-    went_in m.next m.answers m.begin Task c.args.packet.items c.args.seat.now c.put.new.self c.in-Ok.ensures.put c.in-Ok.ensures.full
+returns-in-Ok g c = let m = g.M.Machine in went_in m.next m.answers m.begin Task c.args.packet.items c.args.seat.now c.put.new.self c.in-Ok.ensures.put c.in-Ok.ensures.full
 
 pub returns-in-Err : goal.returns-in-Err
-returns-in-Err g c =
-    let m = g.M.Machine in
-    let old = c.args.seat.now in
-    let text = c.args.packet.items in
-    subst (λ (s : SeatState g.row.M-Program.Denot). IsOffered m.next m.answers m.begin (Task old.number) text old s true) (sym c.lend.ensures)
-    (given_back m.next m.answers m.begin Task text old c.put.new.self c.in-Err.ensures.unchanged c.in-Err.ensures.used)
+returns-in-Err g c = let m = g.M.Machine in given_back m.next m.answers m.begin Task c.args.packet.items c.args.seat.now c.put.new.self _ c.lend.ensures c.in-Err.ensures.unchanged c.in-Err.ensures.used

@@ -1,13 +1,8 @@
 -- The audit gets the packet that was in the box, or stays as it is.
-use Rattle.std.proofs.Common.{◌≢◌, ℕ, refl, subst, ◌∙◌}
-use Rattle.std.specs.Prelude.{IfSome, IfNone}
+use Rattle.std.proofs.Common.{ap, refl, ◌∙◌}
 use Rattle.std.specs.Arc.{arc_value}
 use Rattle.rp_codec.specs.declared.packet.Party.TheVariants.{Audit}
-use Rattle.rp_agreement.specs.Answered.{setting_for}
-use Rattle.rp_boxes.specs.Looks.{IsWorldOf}
-use Rattle.rp_boxes.specs.Moments.{WasWord}
-use Rattle.rp_boxes.specs.Parts.{Part, box_of}
-use Rattle.rp_boxes.proofs.SeatBoxes.{Finds, at_fetched, same_role, sent_state, missed_state}
+use Rattle.rp_boxes.proofs.SeatBoxes.{setting_of, at_fetched, same_role, sent_state, missed_state}
 use Rattle.rp_boxes.proofs.audit_seat.AuditSeat.fetch.Goals as goal
 
 pub invariant_of-self : goal.invariant_of-self
@@ -26,12 +21,8 @@ returns-clause-sent g c =
     let key = (arc_value c.self.inside.board).shared.key in
     let place = c.self.inside.place in
     let new = c.empty.new.place in
-    let found = c.empty.result in
-    let finds = subst (λ (x : ℕ). IfSome found (Finds x 0 place.me new.me)) c.actor_of.ensures.actor c.empty.ensures.some in
-    let seen = subst (λ b. IfSome found (λ text. (parts : ℕ → Part) × IsWorldOf (setting_for m.next m.answers m.begin b.shared.key.config b.shared.key.program.value) new.me.0 parts))
-    c.deref.ensures c.empty.ensures.world in
-    sent_state key.config key.program.value 0 0 0 place.table_id new.table_id place.me new.me c.empty.ensures.table
-    m.next m.answers m.begin c.args.from Audit refl found finds seen
+    sent_state key.config key.program.value 0 0 0 place.table_id new.table_id place.me new.me c.empty.ensures.table m.next m.answers m.begin
+    _ (ap (setting_of m.next m.answers m.begin) c.deref.ensures) _ refl c.args.from Audit _ c.actor_of.ensures.actor refl c.empty.result c.empty.ensures.some c.empty.ensures.world
 
 pub returns-clause-missed : goal.returns-clause-missed
 returns-clause-missed g c =
@@ -39,8 +30,5 @@ returns-clause-missed g c =
     let key = (arc_value c.self.inside.board).shared.key in
     let place = c.self.inside.place in
     let new = c.empty.new.place in
-    let found = c.empty.result in
-    let here = subst (λ b. IfNone found (WasWord (setting_for m.next m.answers m.begin b.shared.key.config b.shared.key.program.value) new.me.0 (box_of c.actor_of.result 0) (λ word. word ≢ 2))) c.deref.ensures c.empty.ensures.missed in
-    let is = subst (λ (z : ℕ × ℕ). IfNone found (WasWord (setting_for m.next m.answers m.begin key.config key.program.value) new.me.0 (box_of z.0 z.1) (λ word. word ≢ 2))) (λ i. (c.actor_of.ensures.actor i, 0)) here in
-    missed_state key.config key.program.value 0 0 0 place.table_id new.table_id place.me new.me c.empty.ensures.table
-    m.next m.answers m.begin c.self.invariant.0.place c.args.from Audit refl found c.empty.ensures.none is
+    missed_state key.config key.program.value 0 0 0 place.table_id new.table_id place.me new.me c.empty.ensures.table m.next m.answers m.begin
+    _ (ap (setting_of m.next m.answers m.begin) c.deref.ensures) _ refl c.args.from Audit _ c.actor_of.ensures.actor refl c.self.invariant.0.place c.empty.result c.empty.ensures.none c.empty.ensures.missed

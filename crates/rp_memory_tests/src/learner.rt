@@ -1,4 +1,4 @@
-ghost use Rattle.std.specs.Prelude.{◌≡◌, ◌≤◌, IfOk, OnOk};
+ghost use Rattle.std.specs.Prelude.{◌≡◌, ◌≤◌};
 ghost use Rattle.rp_learner.specs.Status.{SameSizes, fresh};
 
 use crate::compare::expect_eq;
@@ -8,96 +8,120 @@ use std::alloc::Global;
 use std::process::Abort;
 use std::test::Fail;
 
-/// Notes the votes in turn, each of a node in a ballot for Noop at position 1, and compares what
-/// holds once each is counted. A note that is refused for memory leaves that, and succeeds again.
-fn note_all(
+/// A node by its number, and one of the learner's.
+pub(crate) fn node_of(rt: &impl Abort, number: u8, nodes: u8) -> NodeId
+    ensures { result ≤ nodes }
+{
+    let node = NodeId::new(number).expect(rt, "a node");
+    if node.get() > nodes {
+        panic!(rt; "a node of the learner");
+    }
+    node
+}
+
+fn ballot(rt: &impl Abort, number: u64) -> Ballot {
+    Ballot::new(number).expect(rt, "a ballot")
+}
+
+/// A node's vote for Noop at position 1 in the ballot would have this status once it is counted.
+fn expect_noop(rt: &impl Abort, learner: &Learner, from: NodeId, ballot: Ballot, status: VoteStatus)
+    requires { from ≤ learner.now.nodes }
+{
+    let found = learner.vote(from, Position::first(), ballot, &Action::Noop);
+    expect_eq(rt, found, status);
+}
+
+/// Notes a vote of a node in a ballot for Noop at position 1, and compares what holds once it is
+/// counted. A note that is refused for memory leaves that, and succeeds again.
+fn note_noop(
     rt: &impl Abort,
     learner: &mut Learner,
     alloc: Global,
-    nodes: u8,
-    votes: &[(u8, u64, VoteStatus)],
-) -> Result<(), Fail>
-    requires { (learner.old.nodes ≡ nodes) × (1 ≤ learner.old.max_positions) }
+    from: NodeId,
+    vote: (u64, VoteStatus),
+)
+    requires { from ≤ learner.old.nodes }
+    ensures { SameSizes learner.new learner.old }
 {
-    let position = Position::first();
-    for (from, ballot, status) in votes.iter().copied() {
-        let from = NodeId::new(from).ok_or("a node")?;
-        if from.get() > nodes {
-            return Err("a node of the learner".into());
-        }
-        let ballot = Ballot::new(ballot).ok_or("a ballot")?;
-        let found = learner.vote(from, position, ballot, &Action::Noop);
-        assert_eq!(rt; found, status);
-        if learner
-            .note_vote(alloc, from, position, ballot, &Action::Noop)
-            .is_err()
-        {
-            let found = learner.vote(from, position, ballot, &Action::Noop);
-            assert_eq!(rt; found, status, "nothing changed");
-            learner.note_vote(alloc, from, position, ballot, &Action::Noop)?;
-        }
+    let (number, status) = vote;
+    let ballot = ballot(rt, number);
+    let first = Position::first();
+    expect_noop(rt, learner, from, ballot, status);
+    if learner
+        .note_vote(alloc, from, first, ballot, &Action::Noop)
+        .is_err()
+    {
+        expect_noop(rt, learner, from, ballot, status);
+        let noted = learner.note_vote(alloc, from, first, ballot, &Action::Noop);
+        noted.expect(rt, "memory for the vote");
     }
-    Ok(())
+}
+
+/// A learner of this many nodes notes the votes in turn.
+fn note_all(
+    rt: &impl Abort,
+    alloc: Global,
+    nodes: u8,
+    max_positions: u16,
+    votes: &[(u8, u64, VoteStatus)],
+)
+    requires { (3 ≤ nodes) × (nodes ≤ 7) × (1 ≤ max_positions) }
+{
+    let mut learner = new_learner(rt, alloc, nodes, max_positions);
+    for (from, ballot, status) in votes.iter().copied() {
+        let from = node_of(rt, from, nodes);
+        note_noop(rt, &mut learner, alloc, from, (ballot, status));
+    }
 }
 
 /// A learner, made again where memory was refused once.
-fn new_learner(alloc: Global, nodes: u8, max_positions: u16) -> Result<Learner, Fail>
+fn new_learner(rt: &impl Abort, alloc: Global, nodes: u8, max_positions: u16) -> Learner
     requires { (3 ≤ nodes) × (nodes ≤ 7) }
-    ensures { IfOk result (λ l. l ≡ fresh nodes max_positions) }
+    ensures { result ≡ fresh nodes max_positions }
 {
-    if let Ok(learner) = Learner::new(alloc, nodes, max_positions) {
-        return Ok(learner);
+    match Learner::new(alloc, nodes, max_positions) {
+        Ok(learner) => learner,
+        Err(_) => Learner::new(alloc, nodes, max_positions).expect(rt, "memory for the learner"),
     }
-    Ok(Learner::new(alloc, nodes, max_positions)?)
 }
+
+/// Votes of four nodes, of whom three are a majority, and the statuses that they then have.
+const OF_FOUR: [(u8, u64, VoteStatus); 6] = [
+    (1, 9, VoteStatus::Counting),
+    (2, 9, VoteStatus::Counting),
+    (2, 9, VoteStatus::Counting),
+    (3, 18, VoteStatus::Counting),
+    (3, 9, VoteStatus::Learned),
+    (4, 9, VoteStatus::Known),
+];
+
+/// Votes of seven nodes, of whom four are a majority.
+const OF_SEVEN: [(u8, u64, VoteStatus); 7] = [
+    (1, 9, VoteStatus::Counting),
+    (2, 9, VoteStatus::Counting),
+    (2, 9, VoteStatus::Counting),
+    (3, 18, VoteStatus::Counting),
+    (3, 9, VoteStatus::Counting),
+    (4, 9, VoteStatus::Learned),
+    (5, 9, VoteStatus::Known),
+];
 
 #[test]
 fn a_majority_is_of_one_ballot_and_of_different_nodes(rt: HostRuntime) -> Result<(), Fail> {
-    let four = [
-        (1, 9, VoteStatus::Counting),
-        (2, 9, VoteStatus::Counting),
-        (2, 9, VoteStatus::Counting),
-        (3, 18, VoteStatus::Counting),
-        (3, 9, VoteStatus::Learned),
-        (4, 9, VoteStatus::Known),
-    ];
-    let mut learner = new_learner(rt.alloc(), 4, 1)?;
-    note_all(&rt, &mut learner, rt.alloc(), 4, &four)?;
-    let seven = [
-        (1, 9, VoteStatus::Counting),
-        (2, 9, VoteStatus::Counting),
-        (2, 9, VoteStatus::Counting),
-        (3, 18, VoteStatus::Counting),
-        (3, 9, VoteStatus::Counting),
-        (4, 9, VoteStatus::Learned),
-        (5, 9, VoteStatus::Known),
-    ];
-    let mut learner = new_learner(rt.alloc(), 7, 65_535)?;
-    note_all(&rt, &mut learner, rt.alloc(), 7, &seven)
-}
-
-/// One of three nodes.
-fn node(rt: &impl Abort, number: u8) -> NodeId
-    ensures { result ≤ 3 }
-{
-    let node = NodeId::new(number).expect(rt, "a node");
-    assert!(rt; node.get() <= 3, "one of three");
-    node
+    note_all(&rt, rt.alloc(), 4, 1, &OF_FOUR);
+    note_all(&rt, rt.alloc(), 7, 65_535, &OF_SEVEN);
+    Ok(())
 }
 
 fn position(rt: &impl Abort, number: u16) -> Position {
     Position::new(number).expect(rt, "a position")
 }
 
-fn nine(rt: &impl Abort) -> Ballot {
-    Ballot::new(9).expect(rt, "ballot 9")
-}
-
 /// A learner of three nodes whose window begins at position 1.
-fn learner_of_three(alloc: Global, max_positions: u16) -> Result<Learner, Fail>
-    ensures { IfOk result (λ l. (l.nodes ≡ 3) × (l.first ≡ 1)) }
+fn learner_of_three(rt: &impl Abort, alloc: Global, max_positions: u16) -> Learner
+    ensures { (result.nodes ≡ 3) × (result.first ≡ 1) }
 {
-    new_learner(alloc, 3, max_positions)
+    new_learner(rt, alloc, 3, max_positions)
 }
 
 /// A vote of a node in ballot 9 would have this status once it is counted.
@@ -111,39 +135,38 @@ fn expect_status(
     requires { learner.now.nodes ≡ 3 }
 {
     let (from, at) = cast;
-    let found = learner.vote(node(rt, from), position(rt, at), nine(rt), action);
+    let found = learner.vote(
+        node_of(rt, from, 3),
+        position(rt, at),
+        ballot(rt, 9),
+        action,
+    );
     expect_eq(rt, found, status);
 }
 
 /// Notes a vote of a node in ballot 9, and again where memory was refused once.
-fn note(
-    rt: &impl Abort,
-    learner: &mut Learner,
-    alloc: Global,
-    cast: (u8, u16),
-    action: &Action,
-) -> Result<(), Fail>
+fn note(rt: &impl Abort, learner: &mut Learner, alloc: Global, cast: (u8, u16), action: &Action)
     requires { learner.old.nodes ≡ 3 }
-    ensures { OnOk result (SameSizes learner.new learner.old) }
+    ensures { SameSizes learner.new learner.old }
 {
     let (from, at) = cast;
-    let from = node(rt, from);
+    let from = node_of(rt, from, 3);
     let at = position(rt, at);
     if learner
-        .note_vote(alloc, from, at, nine(rt), action)
+        .note_vote(alloc, from, at, ballot(rt, 9), action)
         .is_err()
     {
-        learner.note_vote(alloc, from, at, nine(rt), action)?;
+        let noted = learner.note_vote(alloc, from, at, ballot(rt, 9), action);
+        noted.expect(rt, "memory for the vote");
     }
-    Ok(())
 }
 
 #[test]
 fn a_majority_is_for_one_action(rt: HostRuntime) -> Result<(), Fail> {
-    let mut learner = learner_of_three(rt.alloc(), 2)?;
+    let mut learner = learner_of_three(&rt, rt.alloc(), 2);
     let tick = Action::Tick { now: 5 };
-    note(&rt, &mut learner, rt.alloc(), (1, 2), &tick)?;
-    note(&rt, &mut learner, rt.alloc(), (2, 2), &Action::Noop)?;
+    note(&rt, &mut learner, rt.alloc(), (1, 2), &tick);
+    note(&rt, &mut learner, rt.alloc(), (2, 2), &Action::Noop);
     expect_status(&rt, &learner, (2, 2), &Action::Noop, VoteStatus::Counting);
     expect_status(&rt, &learner, (2, 1), &tick, VoteStatus::Counting);
     expect_status(&rt, &learner, (2, 2), &tick, VoteStatus::Learned);
@@ -159,7 +182,7 @@ fn expect_decided(rt: &impl Abort, learner: &Learner, at: u16, decision: Decisio
 fn a_settled_position_is_known_and_no_other(rt: HostRuntime) -> Result<(), Fail> {
     same_learners_answer_alike();
     let noop = Action::Noop;
-    let mut learner = learner_of_three(rt.alloc(), 2)?;
+    let mut learner = learner_of_three(&rt, rt.alloc(), 2);
     learner.settled(Position::first());
     learner.settled(Position::first());
     expect_decided(&rt, &learner, 1, Decision::Known);
@@ -172,23 +195,18 @@ fn a_settled_position_is_known_and_no_other(rt: HostRuntime) -> Result<(), Fail>
 }
 
 /// Node 1 votes at positions 64 and 65, of which the window has the first alone.
-fn vote_at_the_window_s_end(
-    rt: &impl Abort,
-    learner: &mut Learner,
-    alloc: Global,
-) -> Result<(), Fail>
+fn vote_at_the_window_s_end(rt: &impl Abort, learner: &mut Learner, alloc: Global)
     requires { learner.old.nodes ≡ 3 }
-    ensures { OnOk result (SameSizes learner.new learner.old) }
+    ensures { SameSizes learner.new learner.old }
 {
     let noop = Action::Noop;
     expect_status(rt, learner, (1, 64), &noop, VoteStatus::Counting);
-    note(rt, learner, alloc, (1, 64), &noop)?;
+    note(rt, learner, alloc, (1, 64), &noop);
     expect_status(rt, learner, (1, 65), &noop, VoteStatus::Beyond);
-    note(rt, learner, alloc, (1, 65), &noop)?;
+    note(rt, learner, alloc, (1, 65), &noop);
     expect_decided(rt, learner, 65, Decision::Beyond);
     learner.settled(position(rt, 65));
     learner.settled(Position::first());
-    Ok(())
 }
 
 /// What holds once the window begins at position 2: the vote at 64 still counts.
@@ -209,8 +227,8 @@ fn expect_moved_by_one(rt: &impl Abort, learner: &Learner)
 #[test]
 fn votes_are_counted_in_a_window_that_moves_on(rt: HostRuntime) -> Result<(), Fail> {
     let noop = Action::Noop;
-    let mut learner = learner_of_three(rt.alloc(), 1000)?;
-    vote_at_the_window_s_end(&rt, &mut learner, rt.alloc())?;
+    let mut learner = learner_of_three(&rt, rt.alloc(), 1000);
+    vote_at_the_window_s_end(&rt, &mut learner, rt.alloc());
     learner.advance(2, 0);
     expect_moved_by_one(&rt, &learner);
     learner.advance(3, 1 << 63);

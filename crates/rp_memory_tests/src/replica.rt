@@ -1,13 +1,16 @@
 ghost use Rattle.std.specs.Prelude.{◌≡◌, true};
 ghost use Rattle.rp_replica.specs.Inputs.{IsRightInput};
 
+use crate::compare::{expect_at, expect_eq, expect_text};
 use crate::failing::{Call, FailingDevice};
-use rp_base::{Config, Fault, NodeId, Position};
+use crate::learner::node_of;
+use rp_base::{Config, Fault, Position};
 use rp_machine::{Machine, Tally, TallyProgram};
 use rp_replica::*;
 use rp_store::{CutDevice, Device, MemDevice};
 use std::alloc::Global;
-use std::test::*;
+use std::process::Abort;
+use std::test::Fail;
 
 /// What a node is given, how many packets it then sends, and how many bytes its device then holds.
 type Case = (&'static str, Input<'static>, usize, u64);
@@ -105,29 +108,50 @@ const CASES: [Case; 15] = [
     ("a tick", Input::Tick { now: 7 }, 0, 89),
 ];
 
-/// A node of three over the device, opened once more where memory was refused.
-fn opened<M: Machine, D: Device>(
+/// A node of three over the device, opened once.
+fn opened_once<M: Machine, D: Device>(
+    rt: &impl Abort,
     alloc: Global,
-    node: u8,
+    number: u8,
     program: &M::Program,
     device: D,
-) -> Result<Replica<M, D>, (Fault, Option<D>)> {
+) -> Result<Replica<M, D>, (Fault, D)> {
     let config = Config {
         nodes: 3,
         max_positions: 9,
     };
-    let node = match NodeId::new(node) {
-        Some(node) if node.get() <= 3 => node,
-        _ => return Err((Fault::BadConfig, None)),
-    };
-    let again = match Replica::open(alloc, node, config, program, device) {
-        Err((Fault::OutOfMemory, device)) => { Replica::open(alloc, node, config, program, device) }
-        answer => answer,
-    };
-    match again {
+    let node = node_of(rt, number, 3);
+    match Replica::open(alloc, node, config, program, device) {
         Ok(opening) => Ok(opening.replica),
-        Err((fault, device)) => Err((fault, Some(device))),
+        Err(refused) => Err(refused),
     }
+}
+
+/// A node of three over the device, opened once more where memory was refused.
+fn opened<M: Machine, D: Device>(
+    rt: &impl Abort,
+    alloc: Global,
+    number: u8,
+    program: &M::Program,
+    device: D,
+) -> Result<Replica<M, D>, (Fault, D)> {
+    match opened_once::<M, D>(rt, alloc, number, program, device) {
+        Err((Fault::OutOfMemory, device)) => {
+            opened_once::<M, D>(rt, alloc, number, program, device)
+        }
+        answer => answer,
+    }
+}
+
+/// Node 1 of three over the device, which does not fail.
+fn first_node<M: Machine, D: Device>(
+    rt: &impl Abort,
+    alloc: Global,
+    program: &M::Program,
+    device: D,
+) -> Replica<M, D> {
+    let opened = opened::<M, D>(rt, alloc, 1, program, device);
+    opened.ok().expect(rt, "it opens")
 }
 
 /// Whether an interrupt has its source and its occurrence.
@@ -142,12 +166,13 @@ fn is_right(input: &Input) -> bool
 
 /// A step, taken once more where memory was refused and nothing has changed.
 fn step<M: Machine, D: Device>(
+    rt: &impl Abort,
     alloc: Global,
     node: &mut Replica<M, D>,
     input: &Input,
 ) -> Result<Sent, Fault> {
     if !is_right(input) {
-        return Err(Fault::BadConfig);
+        panic!(rt; "an interrupt of a source that there is not");
     }
     let stored = node.stored();
     match node.turn(alloc, input) {
@@ -156,73 +181,70 @@ fn step<M: Machine, D: Device>(
     }
 }
 
-/// The first of the cases that comes out otherwise, each tried once more where memory was refused.
-fn first_wrong<M: Machine, D: Device>(
+/// The node sends this many packets at an input, and its device then holds this many bytes.
+fn expect_step<M: Machine, D: Device>(
+    rt: &impl Abort,
+    alloc: Global,
+    node: &mut Replica<M, D>,
+    case: &Case,
+) {
+    let (name, input, packets, stored) = case;
+    let sent = step(rt, alloc, node, input).expect(rt, name);
+    expect_at(rt, name, (sent.packets, node.stored()), (*packets, *stored));
+}
+
+/// Node 1 does at each of the cases what it says, and then reports in one packet.
+fn expect_steps<M: Machine, D: Device>(
+    rt: &impl Abort,
     alloc: Global,
     program: &M::Program,
     device: D,
     cases: &[Case],
-) -> Result<Option<&'static str>, Fault> {
-    let mut node = match opened::<M, D>(alloc, 1, program, device) {
-        Ok(node) => node,
-        Err((fault, _)) => return Err(fault),
-    };
-    for (name, input, packets, stored) in cases {
-        let sent = step(alloc, &mut node, input)?;
-        if sent.packets != *packets || node.stored() != *stored {
-            return Ok(Some(*name));
-        }
+) {
+    let mut node = first_node::<M, D>(rt, alloc, program, device);
+    for case in cases {
+        expect_step(rt, alloc, &mut node, case);
     }
-    let report = step(alloc, &mut node, &Input::Report(Position::first()))?;
-    if report.packets != 1 {
-        return Ok(Some("the wish for a report"));
-    }
-    Ok(None)
+    let stored = node.stored();
+    let report = Input::Report(Position::first());
+    let case = ("the wish for a report", report, 1, stored);
+    expect_step(rt, alloc, &mut node, &case);
+}
+
+fn program(rt: &impl Abort) -> TallyProgram {
+    TallyProgram::new(1).expect(rt, "one object")
 }
 
 #[test]
 fn a_step_that_memory_refused_has_the_same_result_later(rt: HostRuntime) -> Result<(), Fail> {
-    let alloc = rt.alloc();
-    let program = TallyProgram::new(1).ok_or("one object")?;
-    let device = MemDevice::new(alloc);
-    let wrong = first_wrong::<Tally, MemDevice>(alloc, &program, device, &CASES)?;
-    assert_eq!(rt; wrong, None);
+    let device = MemDevice::new(rt.alloc());
+    expect_steps::<Tally, MemDevice>(&rt, rt.alloc(), &program(&rt), device, &CASES);
     Ok(())
 }
 
 /// How many bytes are left where a node stops within its first step, once more where memory was refused.
 fn left_by_a_cut<M: Machine, D: CutDevice>(
+    rt: &impl Abort,
     alloc: Global,
     program: &M::Program,
     device: D,
-    input: &Input,
     kept: u64,
-) -> Result<u64, Fault> {
-    if !is_right(input) {
-        return Err(Fault::BadConfig);
-    }
-    let node = match opened::<M, D>(alloc, 1, program, device) {
-        Ok(node) => node,
-        Err((fault, _)) => return Err(fault),
-    };
-    let again = match node.torn(alloc, input, kept) {
-        Err(NotCut::Refused(Fault::OutOfMemory, node)) => node.torn(alloc, input, kept),
+) -> u64 {
+    let node = first_node::<M, D>(rt, alloc, program, device);
+    let answer = match node.torn(alloc, &Input::Lead(None), kept) {
+        Err(NotCut::Refused(Fault::OutOfMemory, node)) => {
+            node.torn(alloc, &Input::Lead(None), kept)
+        }
         answer => answer,
     };
-    match again {
-        Ok(device) => Ok(device.len()),
-        Err(NotCut::Refused(fault, _)) => Err(fault),
-        Err(NotCut::Failed(_)) => Err(Fault::Device),
-    }
+    answer.ok().expect(rt, "it is cut").len()
 }
 
 #[test]
 fn a_cut_that_memory_refused_gives_the_node_back(rt: HostRuntime) -> Result<(), Fail> {
-    let alloc = rt.alloc();
-    let program = TallyProgram::new(1).ok_or("one object")?;
-    let device = MemDevice::new(alloc);
-    let left = left_by_a_cut::<Tally, MemDevice>(alloc, &program, device, &Input::Lead(None), 9)?;
-    assert_eq!(rt; left, 9);
+    let device = MemDevice::new(rt.alloc());
+    let left = left_by_a_cut::<Tally, MemDevice>(&rt, rt.alloc(), &program(&rt), device, 9);
+    expect_eq(&rt, left, 9);
     Ok(())
 }
 
@@ -249,103 +271,142 @@ struct Heard {
 
 /// The node opens, a few times where its device fails.
 fn opens_at_last<M: Machine, D: Device>(
+    rt: &impl Abort,
     alloc: Global,
     program: &M::Program,
     device: D,
     openings: &mut u32,
-) -> Result<Replica<M, D>, Fault> {
+) -> Replica<M, D> {
     let mut device = device;
     for _ in 0..9 {
         *openings = openings.saturating_add(1);
-        match opened::<M, D>(alloc, 3, program, device) {
-            Ok(node) => return Ok(node),
-            Err((Fault::Device, Some(again))) => device = again,
-            Err((fault, _)) => return Err(fault),
+        match opened::<M, D>(rt, alloc, 3, program, device) {
+            Ok(node) => return node,
+            Err((fault, again)) => {
+                expect_eq(rt, fault, Fault::Device);
+                device = again;
+            }
         }
     }
-    Err(Fault::Device)
+    panic!(rt; "it does not open")
 }
 
-/// Node 3 hears the packets. Where its device fails it is silent until it is opened anew, and then hears
-/// the same again.
+/// The node whose device failed is silent until it is opened anew.
+fn opens_anew<M: Machine, D: Device>(
+    rt: &impl Abort,
+    alloc: Global,
+    program: &M::Program,
+    mut node: Replica<M, D>,
+    heard: (&Input, &mut u32),
+) -> Replica<M, D> {
+    let (input, openings) = heard;
+    let silent = step(rt, alloc, &mut node, input);
+    expect_eq(rt, silent.err(), Some(Fault::Failed));
+    opens_at_last::<M, D>(rt, alloc, program, node.close(), openings)
+}
+
+/// Node 3 hears a packet. Where its device fails it is opened anew, and then hears the same again.
+fn hears<M: Machine, D: Device>(
+    rt: &impl Abort,
+    alloc: Global,
+    program: &M::Program,
+    mut node: Replica<M, D>,
+    heard: (&[u8], &mut Heard),
+) -> Replica<M, D> {
+    let (text, heard) = heard;
+    let input = Input::Receive(text);
+    match step(rt, alloc, &mut node, &input) {
+        Err(Fault::Device) => {
+            let openings = (&input, &mut heard.openings);
+            let mut node = opens_anew::<M, D>(rt, alloc, program, node, openings);
+            let answer = step(rt, alloc, &mut node, &input);
+            extends(rt, &mut heard.sent, answer);
+            node
+        }
+        answer => {
+            extends(rt, &mut heard.sent, answer);
+            node
+        }
+    }
+}
+
+/// Node 3 hears the packets.
 fn hears_all<M: Machine, D: Device>(
+    rt: &impl Abort,
     alloc: Global,
     program: &M::Program,
     device: D,
     texts: &[&[u8]],
-) -> Result<Heard, Fault> {
-    let mut openings = 0;
-    let mut sent = Vec::new(alloc);
-    let mut node = opens_at_last::<M, D>(alloc, program, device, &mut openings)?;
+) -> Heard {
+    let mut heard = Heard {
+        sent: Vec::new(alloc),
+        openings: 0,
+        stored: 0,
+        image: Vec::new(alloc),
+    };
+    let mut node = opens_at_last::<M, D>(rt, alloc, program, device, &mut heard.openings);
     for text in texts {
-        let input = Input::Receive(text);
-        let mut answer = step(alloc, &mut node, &input);
-        if let Err(Fault::Device) = answer {
-            if !matches!(step(alloc, &mut node, &input), Err(Fault::Failed)) {
-                return Err(Fault::BadConfig);
-            }
-            node = opens_at_last::<M, D>(alloc, program, node.close(), &mut openings)?;
-            answer = step(alloc, &mut node, &input);
-        }
-        let bytes = answer?.bytes;
-        extends(&mut sent, &bytes)?;
+        node = hears::<M, D>(rt, alloc, program, node, (text, &mut heard));
     }
-    let image = image_of(alloc, &node)?;
-    Ok(Heard {
-        sent,
-        openings,
-        stored: node.stored(),
-        image,
-    })
+    heard.stored = node.stored();
+    heard.image = image_of(rt, alloc, &node);
+    heard
 }
 
-/// The bytes are after the others, tried once more where memory was refused.
-fn extends(all: &mut Vec<u8>, bytes: &[u8]) -> Result<(), Fault> {
-    match all.extend_from_slice(bytes) {
-        Ok(()) => Ok(()),
-        Err(_) => Ok(all.extend_from_slice(bytes)?),
+/// The texts of a step are after the others, tried once more where memory was refused.
+fn extends(rt: &impl Abort, all: &mut Vec<u8>, answer: Result<Sent, Fault>) {
+    let sent = answer.expect(rt, "the step");
+    if all.extend_from_slice(&sent.bytes).is_err() {
+        let again = all.extend_from_slice(&sent.bytes);
+        expect_eq(rt, again.is_ok(), true);
     }
 }
 
 /// The node's image, asked for once more where memory was refused.
-fn image_of<M: Machine, D: Device>(alloc: Global, node: &Replica<M, D>) -> Result<Vec<u8>, Fault> {
+fn image_of<M: Machine, D: Device>(
+    rt: &impl Abort,
+    alloc: Global,
+    node: &Replica<M, D>,
+) -> Vec<u8> {
     match node.image(alloc) {
-        Ok(image) => Ok(image),
-        Err(_) => node.image(alloc),
+        Ok(image) => image,
+        Err(_) => node.image(alloc).expect(rt, "the image"),
     }
+}
+
+/// The call that fails and the bytes that the device holds then; how often the node is opened; and how
+/// many bytes of its answers are never sent.
+type Failure = (Option<(Call, u64)>, u32, usize);
+
+/// A promise that was written and not sent is not sent later.
+const FAILURES: [Failure; 9] = [
+    (Some((Call::Read, 0)), 2, 0),
+    (Some((Call::Sync, 0)), 2, 0),
+    (Some((Call::Append, 0)), 2, 0),
+    (Some((Call::Sync, 12)), 2, 15),
+    (Some((Call::Append, 12)), 2, 0),
+    (Some((Call::Sync, 41)), 2, 0),
+    (Some((Call::Append, 41)), 2, 0),
+    (Some((Call::Sync, 62)), 2, 0),
+    (None, 1, 0),
+];
+
+/// A node whose device fails so answers and stores all the same.
+fn expect_heard(rt: &impl Abort, heard: &Heard, failure: &Failure) {
+    let (_, openings, unsent) = *failure;
+    expect_at(rt, failure, (heard.openings, heard.stored), (openings, 62));
+    let answers = ANSWERS.get(unsent..).expect(rt, "an answer's start");
+    expect_text(rt, &heard.sent, answers);
+    expect_text(rt, &heard.image, b"tally o1=5\n");
 }
 
 #[test]
 fn a_device_that_fails_once_loses_no_vote(rt: HostRuntime) -> Result<(), Fail> {
-    let alloc = rt.alloc();
-    let program = TallyProgram::new(1).ok_or("one object")?;
-    // A promise that was written and not sent is not sent later.
-    let cases = [
-        (Some((Call::Read, 0)), 2, 0),
-        (Some((Call::Sync, 0)), 2, 0),
-        (Some((Call::Append, 0)), 2, 0),
-        (Some((Call::Sync, 12)), 2, 15),
-        (Some((Call::Append, 12)), 2, 0),
-        (Some((Call::Sync, 41)), 2, 0),
-        (Some((Call::Append, 41)), 2, 0),
-        (Some((Call::Sync, 62)), 2, 0),
-        (None, 1, 0),
-    ];
-    for (fails, openings, untold) in cases {
-        let device = FailingDevice::new(alloc, fails);
-        let heard = hears_all::<Tally, FailingDevice>(alloc, &program, device, &HEARD)?;
-        assert_eq!(rt; heard.openings, openings, "{fails:?}");
-        assert_eq!(rt;
-            Some(heard.sent.as_slice()),
-            ANSWERS.get(untold..),
-            "{fails:?}"
-        );
-        assert_eq!(rt; heard.stored, 62, "{fails:?}");
-        assert_eq!(rt;
-            heard.image.as_slice(),
-            b"tally o1=5\n".as_slice(),
-            "{fails:?}"
-        );
+    let program = program(&rt);
+    for failure in FAILURES {
+        let device = FailingDevice::new(rt.alloc(), failure.0);
+        let heard = hears_all::<Tally, FailingDevice>(&rt, rt.alloc(), &program, device, &HEARD);
+        expect_heard(&rt, &heard, &failure);
     }
     Ok(())
 }

@@ -1,9 +1,11 @@
+use crate::compare::expect_eq;
 use rp_base::{Config, Fault, NodeId, Operation, Position, Reply, TaskId};
 use rp_machine::{Machine, Tally, TallyProgram};
 use rp_model::{Event, Step};
 use rp_store::{CutDevice, MemDevice};
 use rp_world::*;
 use std::alloc::Global;
+use std::process::Abort;
 use std::test::Fail;
 
 /// A line of a script, as in a deck: nodes and tasks by their numbers.
@@ -38,20 +40,17 @@ type Settled = [bool; 64];
 
 /// A step, taken once more if memory was refused and no message was sent.
 fn step<M: Machine, D: CutDevice>(
+    rt: &impl Abort,
     cluster: &mut Cluster<M, D>,
     alloc: Global,
     event: &Event,
-) -> Result<(), Fault> {
+) {
     let messages = cluster.messages();
-    match cluster.step(alloc, event) {
-        Err(Fault::OutOfMemory) if cluster.messages() == messages => {
-            cluster.step(alloc, event)?;
-        }
-        answer => {
-            answer?;
-        }
-    }
-    Ok(())
+    let answer = match cluster.step(alloc, event) {
+        Err(Fault::OutOfMemory) if cluster.messages() == messages => cluster.step(alloc, event),
+        answer => answer,
+    };
+    expect_eq(rt, answer.err(), None);
 }
 
 /// Notes that a message was delivered or lost.
@@ -63,50 +62,50 @@ fn settle(settled: &mut Settled, number: u64) {
 
 /// Delivers each message that was neither delivered nor lost, in order.
 fn drain<M: Machine, D: CutDevice>(
+    rt: &impl Abort,
     cluster: &mut Cluster<M, D>,
     alloc: Global,
     settled: &mut Settled,
-) -> Result<(), Fault> {
+) {
     for number in 1..64 {
         if number > cluster.messages() {
             break;
         }
         if !settled[number as usize] {
             settle(settled, number);
-            step(cluster, alloc, &Event::Node(Step::Deliver(number)))?;
+            step(rt, cluster, alloc, &Event::Node(Step::Deliver(number)));
         }
     }
-    Ok(())
 }
 
-fn node(number: u8) -> Result<NodeId, Fault> {
-    NodeId::new(number).ok_or(Fault::BadConfig)
+fn node(rt: &impl Abort, number: u8) -> NodeId {
+    NodeId::new(number).expect(rt, "a node")
 }
 
-fn task(number: u8) -> Result<TaskId, Fault> {
-    TaskId::new(number).ok_or(Fault::BadConfig)
+fn task(rt: &impl Abort, number: u8) -> TaskId {
+    TaskId::new(number).expect(rt, "a task")
 }
 
 /// The event that a line asks for, if it is one.
-fn event_of(line: Line) -> Result<Option<Event>, Fault> {
+fn event_of(rt: &impl Abort, line: Line) -> Option<Event> {
     let event = match line {
         Line::Call(caller, number, arg) => Event::Submit {
-            task: task(caller)?,
-            node: node(number)?,
+            task: task(rt, caller),
+            node: node(rt, number),
             object: 1,
             operation: Operation::Procedure(1),
             arg,
         },
         Line::Again(caller, number) => Event::Again {
-            task: task(caller)?,
-            node: node(number)?,
+            task: task(rt, caller),
+            node: node(rt, number),
         },
         Line::Lead(number) => Event::Node(Step::Lead {
-            node: node(number)?,
+            node: node(rt, number),
             position: None,
         }),
         Line::Range(number, count) => Event::Node(Step::LeadRange {
-            node: node(number)?,
+            node: node(rt, number),
             first: Position::first(),
             count,
         }),
@@ -115,15 +114,61 @@ fn event_of(line: Line) -> Result<Option<Event>, Fault> {
             step: Step::Deliver(number),
             kept,
         },
-        Line::Stop(number) => Event::Stop(node(number)?),
-        Line::Restart(number) => Event::Restart(node(number)?),
-        Line::Lose(_) | Line::Drain => return Ok(None),
+        Line::Stop(number) => Event::Stop(node(rt, number)),
+        Line::Restart(number) => Event::Restart(node(rt, number)),
+        Line::Lose(_) | Line::Drain => return None,
     };
-    Ok(Some(event))
+    Some(event)
+}
+
+/// Does what a line says.
+fn follow<M: Machine, D: CutDevice>(
+    rt: &impl Abort,
+    cluster: &mut Cluster<M, D>,
+    alloc: Global,
+    settled: &mut Settled,
+    line: Line,
+) {
+    if let Some(event) = event_of(rt, line) {
+        step(rt, cluster, alloc, &event);
+    }
+    match line {
+        Line::Deliver(number) | Line::Cut(_, number) | Line::Lose(number) => {
+            settle(settled, number);
+        }
+        Line::Drain => drain(rt, cluster, alloc, settled),
+        _ => {}
+    }
+}
+
+/// How many actions a node has applied.
+fn applied<M: Machine, D: CutDevice>(rt: &impl Abort, cluster: &Cluster<M, D>, number: u8) -> u16 {
+    cluster.applied(node(rt, number)).expect(rt, "a node")
+}
+
+/// The last reply of a task.
+fn last<M: Machine, D: CutDevice>(
+    rt: &impl Abort,
+    cluster: &Cluster<M, D>,
+    number: u8,
+) -> Option<Reply> {
+    let answer = cluster.replies(task(rt, number)).last()?;
+    Some(answer.reply)
+}
+
+/// How a run has ended.
+fn end_of<M: Machine, D: CutDevice>(rt: &impl Abort, cluster: &Cluster<M, D>) -> End {
+    let first = applied(rt, cluster, 1);
+    let second = applied(rt, cluster, 2);
+    let third = applied(rt, cluster, 3);
+    let nodes = [first, second, third];
+    let replies = (last(rt, cluster, 1), last(rt, cluster, 2));
+    (cluster.messages(), nodes, replies.0, replies.1)
 }
 
 /// Runs a script on three nodes. It gives the end, or why the cluster does not open.
 fn run<M: Machine, D: CutDevice>(
+    rt: &impl Abort,
     alloc: Global,
     program: M::Program,
     devices: Vec<D>,
@@ -136,111 +181,92 @@ fn run<M: Machine, D: CutDevice>(
     let mut cluster: Cluster<M, D> = Cluster::new(alloc, config, program, devices)?;
     let mut settled = [false; 64];
     for line in script {
-        if let Some(event) = event_of(*line)? {
-            step(&mut cluster, alloc, &event)?;
-        }
-        match *line {
-            Line::Deliver(number) | Line::Cut(_, number) | Line::Lose(number) => {
-                settle(&mut settled, number);
-            }
-            Line::Drain => drain(&mut cluster, alloc, &mut settled)?,
-            _ => {}
-        }
+        follow(rt, &mut cluster, alloc, &mut settled, *line);
     }
-    let mut applied = [0; 3];
-    for (place, number) in applied.iter_mut().zip(1..4) {
-        *place = cluster.applied(node(number)?)?;
-    }
-    let last = |number| -> Result<Option<Reply>, Fault> {
-        let replies = cluster.replies(task(number)?);
-        Ok(replies.last().map(|answer| answer.reply))
-    };
-    Ok((cluster.messages(), applied, last(1)?, last(2)?))
+    Ok(end_of(rt, &cluster))
 }
 
 /// Three devices that hold nothing, made once more if memory was refused.
-fn devices(alloc: Global) -> Result<Vec<MemDevice>, Fail> {
+fn devices(rt: &impl Abort, alloc: Global) -> Vec<MemDevice> {
     let mut devices = Vec::new(alloc);
     for _ in 0..3 {
         if devices.push(MemDevice::new(alloc)).is_err() {
-            devices.push(MemDevice::new(alloc))?;
+            let pushed = devices.push(MemDevice::new(alloc));
+            expect_eq(rt, pushed.is_ok(), true);
         }
     }
-    Ok(devices)
+    devices
 }
 
-/// Runs a script on a tally, once more if memory was refused before the cluster was there.
-fn run_tally(alloc: Global, script: &[Line]) -> Result<End, Fail> {
-    let program = TallyProgram::new(1).ok_or("one object")?;
-    let end = match run::<Tally, MemDevice>(alloc, program, devices(alloc)?, script) {
-        Err(Fault::OutOfMemory) => run::<Tally, MemDevice>(alloc, program, devices(alloc)?, script),
-        end => end,
+/// Runs a script on a tally.
+fn run_once(rt: &impl Abort, alloc: Global, script: &[Line]) -> Result<End, Fault> {
+    let program = TallyProgram::new(1).expect(rt, "one object");
+    run::<Tally, MemDevice>(rt, alloc, program, devices(rt, alloc), script)
+}
+
+/// A script on a tally ends so. It is run once more if memory was refused before the cluster was
+/// there.
+fn expect_end(rt: &impl Abort, alloc: Global, script: &[Line], end: End) {
+    let found = match run_once(rt, alloc, script) {
+        Err(Fault::OutOfMemory) => run_once(rt, alloc, script),
+        found => found,
     };
-    Ok(end?)
+    expect_eq(rt, found, Ok(end));
 }
 
-/// A script, and how it ends.
-#[derive(Clone, Copy)]
-struct Row<'a> {
-    script: &'a [Line],
-    end: End,
-}
+/// One call, and a restart.
+const ONE_CALL: [Line; 6] = [Call(1, 1, 5), Drain, Lead(1), Stop(2), Restart(2), Drain];
+
+/// A caller that asks again, also another node.
+const ASKING_AGAIN: [Line; 12] = [
+    Call(1, 1, 5),
+    Again(1, 1),
+    Again(1, 1),
+    Drain,
+    Lead(1),
+    Drain,
+    Call(1, 2, 5),
+    Drain,
+    Again(1, 3),
+    Again(1, 2),
+    Lead(2),
+    Drain,
+];
+
+/// Two calls after a range.
+const RANGE: [Line; 10] = [
+    Range(1, 4),
+    Drain,
+    Call(1, 1, 5),
+    Drain,
+    Lead(1),
+    Drain,
+    Call(2, 1, 2),
+    Drain,
+    Lead(1),
+    Drain,
+];
 
 #[test]
 fn each_script_ends_the_same(rt: HostRuntime) -> Result<(), Fail> {
-    let alloc = rt.alloc();
     let five = Some(Reply::Value(5));
-    let table = [
-        // one call, and a restart
-        Row {
-            script: &[Call(1, 1, 5), Drain, Lead(1), Stop(2), Restart(2), Drain],
-            end: (16, [1; 3], five, None),
-        },
-        // a caller that asks again, also another node
-        Row {
-            script: &[
-                Call(1, 1, 5),
-                Again(1, 1),
-                Again(1, 1),
-                Drain,
-                Lead(1),
-                Drain,
-                Call(1, 2, 5),
-                Drain,
-                Again(1, 3),
-                Again(1, 2),
-                Lead(2),
-                Drain,
-            ],
-            end: (37, [2; 3], Some(Reply::Value(10)), None),
-        },
-        // two calls after a range
-        Row {
-            script: &[
-                Range(1, 4),
-                Drain,
-                Call(1, 1, 5),
-                Drain,
-                Lead(1),
-                Drain,
-                Call(2, 1, 2),
-                Drain,
-                Lead(1),
-                Drain,
-            ],
-            end: (26, [2; 3], five, Some(Reply::Value(7))),
-        },
+    let ten = Some(Reply::Value(10));
+    let seven = Some(Reply::Value(7));
+    let table: [(&[Line], End); 3] = [
+        (&ONE_CALL, (16, [1; 3], five, None)),
+        (&ASKING_AGAIN, (37, [2; 3], ten, None)),
+        (&RANGE, (26, [2; 3], five, seven)),
     ];
-    for row in table.iter() {
-        assert_eq!(rt; run_tally(alloc, row.script)?, row.end);
+    for (script, end) in table {
+        expect_end(&rt, rt.alloc(), script, end);
     }
     Ok(())
 }
 
 /// Two callers, of whom the leader's has the vote of node 3 alone; then node 2 leads, and a packet is
 /// lost.
-fn late_vote(alloc: Global, lost: u64) -> Result<End, Fail> {
-    let script = [
+fn late_vote(lost: u64) -> [Line; 16] {
+    [
         Call(1, 1, 5),
         Call(2, 2, 2),
         Drain,
@@ -257,41 +283,41 @@ fn late_vote(alloc: Global, lost: u64) -> Result<End, Fail> {
         Lead(2),
         Lose(lost),
         Drain,
-    ];
-    run_tally(alloc, &script)
+    ]
 }
 
 #[test]
 fn two_leaders_and_a_late_vote_end_the_same(rt: HostRuntime) -> Result<(), Fail> {
-    let alloc = rt.alloc();
     let heard_of = (25, [1; 3], Some(Reply::Value(5)), None);
-    assert_eq!(rt; late_vote(alloc, 12)?, heard_of);
+    expect_end(&rt, rt.alloc(), &late_vote(12), heard_of);
     let not_heard_of = (25, [1; 3], None, Some(Reply::Value(2)));
-    assert_eq!(rt; late_vote(alloc, 14)?, not_heard_of);
+    expect_end(&rt, rt.alloc(), &late_vote(14), not_heard_of);
     Ok(())
 }
 
+/// The vote of node 3 is cut, and its reply is not sent: node 2 is then decided for.
+const CUT_VOTE: [Line; 16] = [
+    Call(1, 1, 5),
+    Call(2, 2, 2),
+    Drain,
+    Lead(1),
+    Deliver(3),
+    Deliver(4),
+    Deliver(6),
+    Deliver(7),
+    Cut(28, 10),
+    Restart(3),
+    Lose(5),
+    Lose(8),
+    Lose(9),
+    Lead(2),
+    Lose(11),
+    Drain,
+];
+
 #[test]
 fn a_stop_within_a_vote_ends_the_same(rt: HostRuntime) -> Result<(), Fail> {
-    let script = [
-        Call(1, 1, 5),
-        Call(2, 2, 2),
-        Drain,
-        Lead(1),
-        Deliver(3),
-        Deliver(4),
-        Deliver(6),
-        Deliver(7),
-        Cut(28, 10),
-        Restart(3),
-        Lose(5),
-        Lose(8),
-        Lose(9),
-        Lead(2),
-        Lose(11),
-        Drain,
-    ];
-    let end = run_tally(rt.alloc(), &script)?;
-    assert_eq!(rt; end, (24, [1; 3], None, Some(Reply::Value(2))));
+    let end = (24, [1; 3], None, Some(Reply::Value(2)));
+    expect_end(&rt, rt.alloc(), &CUT_VOTE, end);
     Ok(())
 }

@@ -1,11 +1,12 @@
-use crate::replica::hears;
+use crate::compare::{expect_at, expect_eq};
+use crate::replica::{hears, holding};
+use crate::world::program;
 use rp_base::{Fault, Rec};
 use rp_codec::decode;
-use rp_machine::{Tally, TallyProgram};
+use rp_machine::{Machine, Tally, TallyProgram};
 use rp_store::*;
 use std::alloc::Global;
 use std::process::Abort;
-use std::test::*;
 
 /// A `Started`, a `Promised`, a `Voted` and a `Learned` of the call of one task, as a device holds them.
 const RECORDS: [u8; 72] = [
@@ -28,58 +29,65 @@ fn end_of(records: usize) -> usize {
 }
 
 /// What opening finds on a device that holds these bytes, and how many of them it truncates.
-fn found(alloc: Global, bytes: &[u8]) -> Result<(Vec<Rec>, u64), Fail> {
-    let mut device = MemDevice::new(alloc);
-    device.append(bytes)?;
-    device.sync()?;
-    let opened = Store::open(alloc, device).ok().ok_or("it opens")?;
-    Ok((opened.records, opened.cut_bytes))
+fn found<D: Device>(rt: &impl Abort, alloc: Global, device: D, bytes: &[u8]) -> (Vec<Rec>, u64) {
+    let device = holding(rt, device, bytes);
+    let opened = Store::open(alloc, device).ok().expect(rt, "it opens");
+    (opened.records, opened.cut_bytes)
 }
 
-/// The device opens with this many of the records at least, and they are as they were.
-fn keeps(
-    rt: &impl Abort,
-    alloc: Global,
-    bytes: &[u8],
-    all: &[Rec],
-    least: usize,
-) -> Result<u64, Fail> {
-    let (records, cut_bytes) = found(alloc, bytes)?;
-    assert!(rt; least <= records.len(), "{least} records at least");
-    let same = records
-        .iter()
-        .zip(all)
-        .take_while(|(one, other)| one == other)
-        .count();
-    assert!(rt; least <= same, "the first {least} records are as they were");
-    Ok(cut_bytes)
+/// How many of the first records are the same.
+fn same_front(found: &[Rec], all: &[Rec]) -> usize {
+    let mut same = 0usize;
+    for (one, other) in found.iter().zip(all) {
+        if one != other {
+            break;
+        }
+        same = same.saturating_add(1);
+    }
+    same
+}
+
+/// A device with these bytes opens with this many of the records at least, and they are as they were.
+fn expect_kept(rt: &impl Abort, alloc: Global, bytes: &[u8], all: &[Rec], least: usize) -> u64 {
+    let (records, cut_bytes) = found(rt, alloc, MemDevice::new(alloc), bytes);
+    let same = same_front(&records, all);
+    expect_at(rt, &least, least <= same, true);
+    cut_bytes
+}
+
+/// The front of the records up to a byte leaves the whole records within it, and the rest is truncated.
+fn expect_front_kept(rt: &impl Abort, alloc: Global, all: &[Rec], end: usize) {
+    let front = RECORDS.get(..end).expect(rt, "a front");
+    let whole = records_before(end);
+    let cut_bytes = expect_kept(rt, alloc, front, all, whole);
+    expect_eq(rt, cut_bytes, end.saturating_sub(end_of(whole)) as u64);
+}
+
+/// The records with the byte of this place set to each other value leave the records before it.
+fn expect_rest_kept(rt: &impl Abort, alloc: Global, all: &[Rec], place: usize) {
+    let mut changed = RECORDS;
+    for value in 0..=255u8 {
+        if let Some(byte) = changed.get_mut(place) {
+            *byte = value;
+        }
+        expect_kept(rt, alloc, &changed, all, records_before(place));
+    }
+}
+
+/// The records themselves.
+fn all_records(rt: &impl Abort, alloc: Global) -> Vec<Rec> {
+    let (all, cut_bytes) = found(rt, alloc, MemDevice::new(alloc), &RECORDS);
+    expect_eq(rt, (all.len(), cut_bytes), (4, 0));
+    all
 }
 
 #[test]
-fn each_damaged_byte_leaves_the_records_before_it(rt: HostRuntime) -> Result<(), Fail> {
-    let alloc = rt.alloc();
-    let (all, cut_bytes) = found(alloc, &RECORDS)?;
-    assert_eq!(rt; (all.len(), cut_bytes), (4, 0));
-    for end in 0..RECORDS.len() {
-        let whole = records_before(end);
-        let cut_bytes = keeps(&rt, alloc, &RECORDS[..end], all.as_slice(), whole)?;
-        assert_eq!(rt; cut_bytes, end.saturating_sub(end_of(whole)) as u64);
-    }
-    let mut changed = Vec::from_slice(alloc, &RECORDS)?;
+fn each_damaged_byte_leaves_the_records_before_it(rt: HostRuntime) {
+    let all = all_records(&rt, rt.alloc());
     for place in 0..RECORDS.len() {
-        for value in 0..=255u8 {
-            changed[place] = value;
-            keeps(
-                &rt,
-                alloc,
-                changed.as_slice(),
-                all.as_slice(),
-                records_before(place),
-            )?;
-        }
-        changed[place] = RECORDS[place];
+        expect_front_kept(&rt, rt.alloc(), &all, place);
+        expect_rest_kept(&rt, rt.alloc(), &all, place);
     }
-    Ok(())
 }
 
 /// A packet of each kind for node 1 of three.
@@ -97,33 +105,43 @@ const PACKETS: [&[u8]; 11] = [
     b"\x02\x0a\x02\x20\0\x01\0\x01\x01\x01\x01\0\0\0\x01\x01\x02\x01\0\0\0\0\0\0\0\x05",
 ];
 
-/// A node hears the packet with each of its bytes set to each other value: it refuses what no packet has
-/// as its text, for the reason of its text, and nothing else.
+/// A node refuses what no packet has as its text, for the reason of its text, and nothing else.
+fn expect_heard<M: Machine, D: Device>(
+    rt: &impl Abort,
+    alloc: Global,
+    program: &M::Program,
+    device: D,
+    text: &[u8],
+) {
+    let heard = hears::<M, D>(rt, alloc, (1, 9), (program, text), device);
+    let decoded = decode(alloc, text).expect(rt, "memory for the packet");
+    let reason = decoded.err();
+    expect_eq(rt, heard.err(), reason.map(Fault::BadPacket));
+}
+
+/// A node hears the packet with the byte of this place set to each other value.
 fn hears_damaged(
     rt: &impl Abort,
     alloc: Global,
     program: &TallyProgram,
     text: &[u8],
-) -> Result<(), Fail> {
-    let mut changed = Vec::from_slice(alloc, text)?;
-    for place in 0..text.len() {
-        for value in 0..=255u8 {
-            changed[place] = value;
-            let device = MemDevice::new(alloc);
-            let heard = hears::<Tally, MemDevice>(alloc, (1, 9), program, device, &changed);
-            let reason = decode(alloc, &changed)?.err();
-            assert_eq!(rt; heard.err(), reason.map(Fault::BadPacket));
+    place: usize,
+) {
+    let mut changed = Vec::from_slice(alloc, text).expect(rt, "memory for the text");
+    for value in 0..=255u8 {
+        if let Some(byte) = changed.get_mut(place) {
+            *byte = value;
         }
-        changed[place] = text[place];
+        expect_heard::<Tally, MemDevice>(rt, alloc, program, MemDevice::new(alloc), &changed);
     }
-    Ok(())
 }
 
 #[test]
-fn a_damaged_packet_is_refused_for_the_reason_of_its_text(rt: HostRuntime) -> Result<(), Fail> {
-    let program = TallyProgram::new(1).ok_or("one object")?;
+fn a_damaged_packet_is_refused_for_the_reason_of_its_text(rt: HostRuntime) {
+    let program = program(&rt);
     for text in PACKETS {
-        hears_damaged(&rt, rt.alloc(), &program, text)?;
+        for place in 0..text.len() {
+            hears_damaged(&rt, rt.alloc(), &program, text, place);
+        }
     }
-    Ok(())
 }

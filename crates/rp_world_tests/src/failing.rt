@@ -1,6 +1,6 @@
-use crate::compare::expect_eq;
-use crate::world::program;
-use rp_base::{Config, Fault, NodeId, Operation, Reply, TaskId};
+use crate::compare::{expect_at, expect_eq};
+use crate::world::{call, lead, node, program};
+use rp_base::{Config, Fault, Reply, TaskId};
 use rp_machine::{Machine, Tally};
 use rp_model::{Event, Step};
 use rp_store::{CutDevice, DeviceCall, FailDevice, MemDevice};
@@ -47,82 +47,83 @@ impl<M: Machine, D: CutDevice> Run<M, D> {
     }
 
     /// A step. A device that fails is counted, and the run goes on.
-    fn makes(&mut self, alloc: Global, event: &Event) -> Result<(), Fault> {
+    fn makes(&mut self, rt: &impl Abort, alloc: Global, event: &Event) {
         match self.cluster.step(alloc, event) {
             Ok(effect) => self.outcome.opened = effect.opened.or(self.outcome.opened),
-            Err(Fault::Device) => self.outcome.failures = self.outcome.failures.saturating_add(1),
-            Err(fault) => return Err(fault),
+            Err(fault) => {
+                expect_eq(rt, fault, Fault::Device);
+                self.outcome.failures = self.outcome.failures.saturating_add(1);
+            }
         }
-        Ok(())
     }
 
     /// Delivers each message that was not delivered, in order.
-    fn delivers_all(&mut self, alloc: Global) -> Result<(), Fault> {
+    fn delivers_all(&mut self, rt: &impl Abort, alloc: Global) {
         for _ in 0..100 {
             if self.delivered >= self.cluster.messages() {
                 break;
             }
             self.delivered = self.delivered.saturating_add(1);
-            self.makes(alloc, &Event::Node(Step::Deliver(self.delivered)))?;
+            self.makes(rt, alloc, &Event::Node(Step::Deliver(self.delivered)));
         }
-        Ok(())
     }
 
-    /// The step of an event, and all deliveries that follow from it.
-    fn goes(&mut self, alloc: Global, event: &Event) -> Result<(), Fault> {
-        self.makes(alloc, event)?;
-        self.delivers_all(alloc)
+    /// How many actions a node has applied.
+    fn applied(&self, rt: &impl Abort, number: u8) -> u16 {
+        let applied = self.cluster.applied(node(rt, number));
+        applied.expect(rt, "a node that runs")
     }
 
-    fn ends(self, nodes: [NodeId; 3]) -> Result<Outcome, Fault> {
+    fn outcome(&self, rt: &impl Abort) -> Outcome {
         let mut outcome = self.outcome;
         let replies = self.cluster.replies(TaskId::first());
-        outcome.reply = replies.first().map(|answer| answer.reply);
-        let [first, second, third] = nodes;
-        outcome.applied = [
-            self.cluster.applied(first)?,
-            self.cluster.applied(second)?,
-            self.cluster.applied(third)?,
-        ];
-        Ok(outcome)
+        if let Some(answer) = replies.first() {
+            outcome.reply = Some(answer.reply);
+        }
+        let first = self.applied(rt, 1);
+        let second = self.applied(rt, 2);
+        let third = self.applied(rt, 3);
+        outcome.applied = [first, second, third];
+        outcome
     }
 }
 
-/// Task 1 calls node 1, which leads. Then a node is started again, once more where its device fails
-/// at that; the task asks again, and node 1 leads again.
+/// Task 1 calls node 1, which leads. Then the node of this place is started again, once more where its
+/// device fails at that; the task asks again, and node 1 leads again. Each event with whether all
+/// deliveries follow it.
+fn events(rt: &impl Abort, place: usize) -> [(Event, bool); 6] {
+    let restarted = [1, 2, 3].get(place).copied().expect(rt, "one of three");
+    let restarted = node(rt, restarted);
+    let again = Event::Again {
+        task: TaskId::first(),
+        node: node(rt, 1),
+    };
+    [
+        (call(rt, 1, 1, 5), true),
+        (lead(rt, 1), true),
+        (Event::Restart(restarted), false),
+        (Event::Restart(restarted), true),
+        (again, true),
+        (lead(rt, 1), true),
+    ]
+}
+
+/// The result of these events, or why the cluster does not open.
 fn one_call<M: Machine, D: CutDevice>(
+    rt: &impl Abort,
     alloc: Global,
     program: M::Program,
     devices: Vec<D>,
-    again: usize,
+    events: &[(Event, bool)],
 ) -> Result<Outcome, Fault> {
-    let nodes = [node(1)?, node(2)?, node(3)?];
-    let restarted = *nodes.get(again).ok_or(Fault::BadConfig)?;
-    let (task, node) = (TaskId::first(), nodes[0]);
-    let call = Event::Submit {
-        task,
-        node,
-        object: 1,
-        operation: Operation::Procedure(1),
-        arg: 5,
-    };
-    let lead = Event::Node(Step::Lead {
-        node,
-        position: None,
-    });
     let mut run: Run<M, D> = Run::new(alloc, program, devices)?;
-    run.goes(alloc, &call)?;
-    run.goes(alloc, &lead)?;
-    run.makes(alloc, &Event::Restart(restarted))?;
-    run.goes(alloc, &Event::Restart(restarted))?;
-    run.makes(alloc, &Event::Again { task, node })?;
-    run.delivers_all(alloc)?;
-    run.goes(alloc, &lead)?;
-    run.ends(nodes)
-}
-
-fn node(number: u8) -> Result<NodeId, Fault> {
-    NodeId::new(number).ok_or(Fault::BadConfig)
+    for (event, delivered) in events {
+        run.makes(rt, alloc, event);
+        if *delivered {
+            run.delivers_all(rt, alloc);
+        }
+    }
+    Ok(run.outcome(rt))
 }
 
 /// The call of a device that fails: its kind, its number from 1, and how many bytes of an append stay.
@@ -171,17 +172,21 @@ fn outcome_of(
     second: Failing,
 ) -> Result<Outcome, Fault> {
     let devices = devices(rt, alloc, at, first, second);
-    one_call::<Tally, Device>(alloc, program(rt), devices, at)
+    one_call::<Tally, Device>(rt, alloc, program(rt), devices, &events(rt, at))
 }
 
 /// The call is answered though one call of a device fails, and all nodes have applied as much.
 fn expect_answered(rt: &impl Abort, alloc: Global, at: usize, fails: Failing) {
     let outcome = outcome_of(rt, alloc, at, fails, NONE).expect(rt, "the run");
-    assert_eq!(rt; outcome.failures, 1, "{at} {fails:?}");
-    assert_eq!(rt; outcome.reply, Some(Reply::Value(5)), "{at} {fails:?}");
     let [first, ..] = outcome.applied;
-    assert_eq!(rt; outcome.applied, [first; 3], "{at} {fails:?}");
-    assert!(rt; first == 1 || first == 2, "{at} {fails:?}");
+    let expected = Outcome {
+        failures: 1,
+        opened: outcome.opened,
+        reply: Some(Reply::Value(5)),
+        applied: [first; 3],
+    };
+    expect_at(rt, &(at, fails), outcome, expected);
+    expect_at(rt, &(at, fails), first == 1 || first == 2, true);
 }
 
 #[test]

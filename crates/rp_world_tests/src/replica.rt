@@ -1,6 +1,6 @@
-ghost use Rattle.std.specs.Prelude.{◌≤◌};
+ghost use Rattle.std.specs.Prelude.{◌≡◌, ◌≤◌};
 
-use crate::compare::{expect_eq, expect_text};
+use crate::compare::{expect_at, expect_eq, expect_text};
 use crate::world::{devices, program};
 use rp_base::{Config, Fault, NodeId, PacketReason, Position};
 use rp_codec::{decode_front, packet_len};
@@ -31,58 +31,114 @@ const VOTES: [u8; 30] = [
     2, 3, 0, 1, 0, 0, 0, 0, 0, 0, 0, 9, 0, 2, 3, 0, 1, 0, 0, 0, 0, 0, 0, 0, 9, 3, 0, 0, 0, 7,
 ];
 
-/// A node of three over a device that holds these bytes.
-fn opened<M: Machine, D: Device>(
-    alloc: Global,
-    node: u8,
-    max_positions: u16,
-    program: &M::Program,
-    mut device: D,
-    bytes: &[u8],
-) -> Result<Opening<M, D>, Fault>
-    requires positions { 1 ≤ max_positions }
+/// The device with these bytes, all of them stable.
+pub(crate) fn holding<D: Device>(rt: &impl Abort, device: D, bytes: &[u8]) -> D {
+    let mut device = device;
+    device.append(bytes).expect(rt, "memory for the bytes");
+    device.sync().expect(rt, "a sync");
+    device
+}
+
+/// One of three nodes.
+fn node(rt: &impl Abort, number: u8) -> NodeId
+    ensures { result ≤ 3 }
 {
-    device.append(bytes)?;
-    device.sync()?;
-    let node = NodeId::new(node).ok_or(Fault::BadConfig)?;
+    let node = NodeId::new(number).expect(rt, "a node");
     if node.get() > 3 {
-        return Err(Fault::BadConfig);
+        panic!(rt; "one of three");
     }
-    let config = Config {
+    node
+}
+
+/// Three nodes with a log of this many positions.
+fn config(rt: &impl Abort, max_positions: u16) -> Config
+    ensures { (result.nodes ≡ 3) × (1 ≤ result.max_positions) }
+{
+    if max_positions == 0 {
+        panic!(rt; "a log of no position");
+    }
+    Config {
         nodes: 3,
         max_positions,
-    };
-    match Replica::open(alloc, node, config, program, device) {
-        Ok(opening) => Ok(opening),
-        Err((fault, _)) => Err(fault),
+    }
+}
+
+/// A node of three with a log of n positions, over the device.
+fn opened<M: Machine, D: Device>(
+    rt: &impl Abort,
+    alloc: Global,
+    at: (u8, u16),
+    program: &M::Program,
+    device: D,
+) -> Opening<M, D> {
+    let (number, max_positions) = at;
+    let node = node(rt, number);
+    let config = config(rt, max_positions);
+    let opening = Replica::open(alloc, node, config, program, device);
+    opening.ok().expect(rt, "it opens")
+}
+
+/// The node alone.
+fn node_over<M: Machine, D: Device>(
+    rt: &impl Abort,
+    alloc: Global,
+    at: (u8, u16),
+    program: &M::Program,
+    device: D,
+) -> Replica<M, D> {
+    opened::<M, D>(rt, alloc, at, program, device).replica
+}
+
+/// Takes a step, which is not refused.
+fn turn<M: Machine, D: Device>(
+    rt: &impl Abort,
+    alloc: Global,
+    node: &mut Replica<M, D>,
+    text: &[u8],
+) -> Sent {
+    let sent = node.turn(alloc, &Input::Receive(text));
+    sent.expect(rt, "the step")
+}
+
+/// Puts a text after the others.
+fn push_text(rt: &impl Abort, alloc: Global, texts: &mut Vec<Vec<u8>>, text: &[u8]) {
+    let text = text.to_vec(alloc).expect(rt, "memory for a text");
+    if texts.push(text).is_err() {
+        panic!(rt; "memory is refused");
     }
 }
 
 /// Puts the texts of a step's packets after the others.
-fn take_texts(alloc: Global, sent: &Sent, texts: &mut Vec<Vec<u8>>) -> Result<(), Fault> {
+fn take_texts(rt: &impl Abort, alloc: Global, sent: &Sent, texts: &mut Vec<Vec<u8>>) {
     let mut rest = sent.bytes.as_slice();
     for _ in 0..sent.packets {
-        let len = packet_len(rest).ok_or(Fault::NoSuchMessage)?;
-        let text = rest.get(..len).ok_or(Fault::NoSuchMessage)?;
-        texts.push(text.to_vec(alloc)?)?;
-        rest = rest.get(len..).ok_or(Fault::NoSuchMessage)?;
+        let len = packet_len(rest).expect(rt, "a packet");
+        push_text(rt, alloc, texts, rest.get(..len).expect(rt, "its text"));
+        rest = rest.get(len..).expect(rt, "the rest");
     }
-    Ok(())
+}
+
+/// The first record of these bytes goes after the others as a text of version 1. It gives the bytes
+/// after it.
+fn push_old<'a>(rt: &impl Abort, old: &mut Vec<u8>, bytes: &'a [u8]) -> &'a [u8] {
+    let (_, len) = decode_front(bytes).expect(rt, "a record");
+    old.push(1).expect(rt, "memory for a byte");
+    let text = bytes.get(1..len).expect(rt, "its text");
+    old.extend_from_slice(text).expect(rt, "memory for it");
+    bytes.get(len..).expect(rt, "the rest")
 }
 
 /// The texts of the records that these bytes are, in version 1.
-fn in_version_1(alloc: Global, bytes: &[u8]) -> Result<Vec<u8>, Fault> {
+fn in_version_1(rt: &impl Abort, alloc: Global, bytes: &[u8]) -> Vec<u8> {
     let mut old = Vec::new(alloc);
     let mut rest = bytes;
     for _ in 0..100 {
-        let Some((_, len)) = decode_front(rest) else {
+        if rest.is_empty() {
             break;
-        };
-        old.push(1)?;
-        old.extend_from_slice(rest.get(1..len).ok_or(Fault::Device)?)?;
-        rest = rest.get(len..).ok_or(Fault::Device)?;
+        }
+        rest = push_old(rt, &mut old, rest);
     }
-    Ok(old)
+    old
 }
 
 /// Three nodes, and the texts of all packets that were sent.
@@ -93,114 +149,122 @@ struct Nodes<M: Machine, D: Device> {
     delivered: usize,
 }
 
+/// Opens a node and puts it after the others. Its log has 1000 positions.
+fn push_node<M: Machine, D: Device>(
+    rt: &impl Abort,
+    alloc: Global,
+    program: &M::Program,
+    nodes: &mut Vec<Replica<M, D>>,
+    device: D,
+) {
+    let number = u8::try_from(nodes.len().saturating_add(1));
+    let number = number.expect(rt, "the number of a node");
+    let node = node_over::<M, D>(rt, alloc, (number, 1000), program, device);
+    if nodes.push(node).is_err() {
+        panic!(rt; "memory is refused");
+    }
+}
+
+/// The device closed, and its records in version 1 on another one.
+fn onto_version_1<D: Device>(rt: &impl Abort, alloc: Global, device: D, other: D) -> D {
+    let mut device = device;
+    let bytes = device.read(alloc).expect(rt, "the bytes");
+    let old = in_version_1(rt, alloc, &bytes);
+    holding(rt, other, &old)
+}
+
 impl<M: Machine, D: Device> Nodes<M, D> {
-    fn new(alloc: Global, program: &M::Program, devices: Vec<D>) -> Result<Self, Fault> {
+    fn new(rt: &impl Abort, alloc: Global, program: &M::Program, devices: Vec<D>) -> Self {
         let mut nodes = Vec::new(alloc);
-        for (number, device) in (1..=3).zip(devices) {
-            let opening = opened(alloc, number, 1000, program, device, &[])?;
-            nodes.push(opening.replica)?;
+        for device in devices {
+            push_node(rt, alloc, program, &mut nodes, device);
         }
-        Ok(Nodes {
+        Nodes {
             nodes,
             texts: Vec::new(alloc),
             delivered: 0,
-        })
+        }
+    }
+
+    /// Gives a text to the node that it is for.
+    fn give(&mut self, rt: &impl Abort, alloc: Global, text: &[u8]) {
+        let to = usize::from(text.get(3).copied().unwrap_or(0));
+        if let Some(node) = self.nodes.get_mut(to.saturating_sub(1)) {
+            let sent = turn(rt, alloc, node, text);
+            take_texts(rt, alloc, &sent, &mut self.texts);
+        }
     }
 
     /// Gives each text that was not delivered to the node that it is for, in order, with all that
     /// results.
-    fn deliver(&mut self, alloc: Global) -> Result<(), Fault> {
+    fn deliver(&mut self, rt: &impl Abort, alloc: Global) {
         for _ in 0..100 {
-            if self.delivered >= self.texts.len() {
+            let Some(text) = self.texts.get(self.delivered) else {
                 break;
-            }
-            let text = self.texts[self.delivered].clone()?;
+            };
+            let text = text.clone().expect(rt, "memory for a text");
             self.delivered = self.delivered.saturating_add(1);
-            let to = usize::from(text.get(3).copied().unwrap_or(0));
-            if let Some(node) = self.nodes.get_mut(to.saturating_sub(1)) {
-                let sent = node.turn(alloc, &Input::Receive(&text))?;
-                take_texts(alloc, &sent, &mut self.texts)?;
-            }
+            self.give(rt, alloc, &text);
         }
-        Ok(())
+    }
+
+    /// Node 1 leads.
+    fn lead(&mut self, rt: &impl Abort, alloc: Global) {
+        let leader = self.nodes.first_mut().expect(rt, "node 1");
+        let sent = leader.turn(alloc, &Input::Lead(None));
+        let sent = sent.expect(rt, "the step");
+        take_texts(rt, alloc, &sent, &mut self.texts);
     }
 
     /// A call arrives at node 1, which then leads, and all is delivered.
-    fn decide(&mut self, alloc: Global, call: &[u8]) -> Result<(), Fault> {
-        self.texts.push(call.to_vec(alloc)?)?;
-        self.deliver(alloc)?;
-        let leader = self.nodes.first_mut().ok_or(Fault::BadConfig)?;
-        let sent = leader.turn(alloc, &Input::Lead(None))?;
-        take_texts(alloc, &sent, &mut self.texts)?;
-        self.deliver(alloc)
+    fn decide(&mut self, rt: &impl Abort, alloc: Global, call: &[u8]) {
+        push_text(rt, alloc, &mut self.texts, call);
+        self.deliver(rt, alloc);
+        self.lead(rt, alloc);
+        self.deliver(rt, alloc);
     }
 
-    /// What each node shows.
-    fn images(&self, alloc: Global) -> Result<Vec<Vec<u8>>, Fault> {
-        let mut images = Vec::new(alloc);
+    /// Each of three nodes shows this text.
+    fn expect_images(&self, rt: &impl Abort, alloc: Global, text: &[u8]) {
+        expect_eq(rt, self.nodes.len(), 3);
         for node in &self.nodes {
-            images.push(node.image(alloc)?)?;
+            let image = node.image(alloc).expect(rt, "an image");
+            expect_text(rt, &image, text);
         }
-        Ok(images)
+    }
+
+    /// Each of three nodes stored this many bytes, and has applied one action.
+    fn expect_stored(&self, rt: &impl Abort, stored: [u64; 3]) {
+        for (node, stored) in self.nodes.iter().zip(stored) {
+            expect_eq(rt, (node.stored(), node.applied()), (stored, 1));
+        }
+    }
+
+    /// The text of the report that node 2 sends.
+    fn report(&mut self, rt: &impl Abort, alloc: Global) -> Vec<u8> {
+        let second = self.nodes.get_mut(1).expect(rt, "node 2");
+        let report = second.report(alloc, Position::first());
+        report.expect(rt, "the report").bytes
     }
 
     /// The nodes closed, and opened over their records in version 1 on other devices.
-    fn reopened(self, alloc: Global, program: &M::Program, devices: Vec<D>) -> Result<Self, Fault> {
-        let Nodes { nodes, .. } = self;
+    fn reopened(
+        self,
+        rt: &impl Abort,
+        alloc: Global,
+        program: &M::Program,
+        others: Vec<D>,
+    ) -> Self {
         let mut again = Vec::new(alloc);
-        for (number, (node, device)) in (1..=3).zip(nodes.into_iter().zip(devices)) {
-            let bytes = node.close().read(alloc)?;
-            let old = in_version_1(alloc, &bytes)?;
-            again.push(opened(alloc, number, 1000, program, device, &old)?.replica)?;
+        for (node, other) in self.nodes.into_iter().zip(others) {
+            let device = onto_version_1(rt, alloc, node.close(), other);
+            push_node(rt, alloc, program, &mut again, device);
         }
-        Ok(Nodes {
+        Nodes {
             nodes: again,
             texts: Vec::new(alloc),
             delivered: 0,
-        })
-    }
-}
-
-/// What a run leaves: the packets, what each node stored, applied and shows, and the report of node 2.
-#[derive(Drop)]
-struct Left {
-    texts: Vec<Vec<u8>>,
-    stored: Vec<u64>,
-    applied: Vec<u32>,
-    images: Vec<Vec<u8>>,
-    report: Vec<u8>,
-}
-
-/// The call arrives at node 1, which then leads; all is delivered, and node 2 reports.
-fn one_call<M: Machine, D: Device>(
-    alloc: Global,
-    program: &M::Program,
-    devices: Vec<D>,
-) -> Result<Left, Fault> {
-    let mut run: Nodes<M, D> = Nodes::new(alloc, program, devices)?;
-    run.decide(alloc, &CALL)?;
-    let images = run.images(alloc)?;
-    let second = run.nodes.get_mut(1).ok_or(Fault::BadConfig)?;
-    let report = second.report(alloc, Position::first())?.bytes;
-    let mut left = Left {
-        texts: run.texts,
-        stored: Vec::new(alloc),
-        applied: Vec::new(alloc),
-        images,
-        report,
-    };
-    for node in &run.nodes {
-        left.stored.push(node.stored())?;
-        left.applied.push(node.applied())?;
-    }
-    Ok(left)
-}
-
-/// Each of three nodes shows this text.
-fn expect_images(rt: &impl Abort, images: &[Vec<u8>], text: &[u8]) {
-    expect_eq(rt, images.len(), 3);
-    for image in images {
-        expect_text(rt, image, text);
+        }
     }
 }
 
@@ -210,43 +274,60 @@ fn expect_texts(rt: &impl Abort, texts: &[Vec<u8>]) {
     let accept = texts.get(9).expect(rt, "ten packets");
     expect_text(rt, accept, &ACCEPT);
     let reply = texts.last().expect(rt, "sixteen packets");
-    expect_text(
-        rt,
-        reply,
-        b"\x02\x09\x01\x11\0\0\0\x01\x01\0\0\0\0\0\0\0\x05",
-    );
+    let expected = b"\x02\x09\x01\x11\0\0\0\x01\x01\0\0\0\0\0\0\0\x05";
+    expect_text(rt, reply, expected);
+}
+
+/// The call arrives at node 1, which then leads; all is delivered, and node 2 reports.
+fn expect_one_call<M: Machine, D: Device>(
+    rt: &impl Abort,
+    alloc: Global,
+    program: &M::Program,
+    devices: Vec<D>,
+    report: &[u8],
+) {
+    let mut run: Nodes<M, D> = Nodes::new(rt, alloc, program, devices);
+    run.decide(rt, alloc, &CALL);
+    expect_texts(rt, &run.texts);
+    run.expect_stored(rt, [72, 62, 62]);
+    run.expect_images(rt, alloc, b"tally o1=5\n");
+    expect_text(rt, &run.report(rt, alloc), report);
 }
 
 #[test]
 fn one_call_is_decided_by_three_replicas(rt: HostRuntime) {
     let alloc = rt.alloc();
-    let devices = devices(&rt, alloc);
-    let left = one_call::<Tally, MemDevice>(alloc, &program(&rt), devices);
-    let left = left.expect(&rt, "the run");
-    expect_texts(&rt, &left.texts);
-    assert_eq!(rt; left.stored.as_slice(), [72, 62, 62].as_slice());
-    assert_eq!(rt; left.applied.as_slice(), [1, 1, 1].as_slice());
-    expect_images(&rt, &left.images, b"tally o1=5\n");
     let report =
         b"\x02\x0a\x02\x20\0\x01\0\x01\x01\x01\x01\0\0\0\x01\x01\x02\x01\0\0\0\0\0\0\0\x05";
-    expect_text(&rt, &left.report, report);
+    let devices = devices(&rt, alloc);
+    expect_one_call::<Tally, MemDevice>(&rt, alloc, &program(&rt), devices, report);
 }
 
-/// What the nodes show once they are opened over their records in version 1, after the first call and
-/// after a second one.
-fn goes_on_from_version_1<M: Machine, D: Device>(
+/// The nodes after the first call, opened over their records in version 1.
+fn of_version_1<M: Machine, D: Device>(
+    rt: &impl Abort,
     alloc: Global,
     program: &M::Program,
     devices: Vec<D>,
     others: Vec<D>,
-) -> Result<[Vec<Vec<u8>>; 2], Fault> {
-    let mut run: Nodes<M, D> = Nodes::new(alloc, program, devices)?;
-    run.decide(alloc, &CALL)?;
-    let mut run = run.reopened(alloc, program, others)?;
-    let first = run.images(alloc)?;
-    run.decide(alloc, &OLD_CALL)?;
-    let second = run.images(alloc)?;
-    Ok([first, second])
+) -> Nodes<M, D> {
+    let mut run: Nodes<M, D> = Nodes::new(rt, alloc, program, devices);
+    run.decide(rt, alloc, &CALL);
+    run.reopened(rt, alloc, program, others)
+}
+
+/// The nodes go on over their records in version 1 with a second call, in a text of version 1.
+fn expect_going_on<M: Machine, D: Device>(
+    rt: &impl Abort,
+    alloc: Global,
+    program: &M::Program,
+    devices: Vec<D>,
+    others: Vec<D>,
+) {
+    let mut run: Nodes<M, D> = of_version_1(rt, alloc, program, devices, others);
+    run.expect_images(rt, alloc, b"tally o1=5\n");
+    run.decide(rt, alloc, &OLD_CALL);
+    run.expect_images(rt, alloc, b"tally o1=12\n");
 }
 
 #[test]
@@ -254,26 +335,20 @@ fn replicas_go_on_from_records_of_version_1(rt: HostRuntime) {
     let alloc = rt.alloc();
     let first = devices(&rt, alloc);
     let second = devices(&rt, alloc);
-    let images = goes_on_from_version_1::<Tally, MemDevice>(alloc, &program(&rt), first, second);
-    let [first, second] = images.expect(&rt, "the run");
-    expect_images(&rt, &first, b"tally o1=5\n");
-    expect_images(&rt, &second, b"tally o1=12\n");
+    expect_going_on::<Tally, MemDevice>(&rt, alloc, &program(&rt), first, second);
 }
 
 /// What a node of three with a log of n positions makes of a packet: what it drops, how many
 /// packets it sends, and how many bytes its device then holds.
 pub(crate) fn hears<M: Machine, D: Device>(
+    rt: &impl Abort,
     alloc: Global,
     at: (u8, u16),
-    program: &M::Program,
+    given: (&M::Program, &[u8]),
     device: D,
-    text: &[u8],
 ) -> Result<(Dropped, usize, u64), Fault> {
-    let (node, max_positions) = at;
-    if max_positions == 0 {
-        return Err(Fault::BadConfig);
-    }
-    let mut node = opened::<M, D>(alloc, node, max_positions, program, device, &[])?.replica;
+    let (program, text) = given;
+    let mut node = node_over::<M, D>(rt, alloc, at, program, device);
     let sent = node.receive(alloc, text)?;
     Ok((sent.dropped, sent.packets, node.stored()))
 }
@@ -344,124 +419,129 @@ fn heard_by(
     at: (u8, u16),
     text: &[u8],
 ) -> Result<(Dropped, usize, u64), Fault> {
-    hears::<Tally, MemDevice>(alloc, at, &program(rt), MemDevice::new(alloc), text)
-}
-
-/// A node drops a packet as foreign: it sends and stores nothing.
-fn expect_foreign(rt: &impl Abort, alloc: Global, name: &str, at: (u8, u16), text: &[u8]) {
-    let heard = heard_by(rt, alloc, at, text);
-    let (dropped, packets, stored) = heard.expect(rt, "the node hears");
-    assert!(rt; matches!(dropped, Dropped::Foreign), "{name}");
-    assert_eq!(rt; (packets, stored), (0, 0), "{name}");
+    hears::<Tally, MemDevice>(rt, alloc, at, (&program(rt), text), MemDevice::new(alloc))
 }
 
 #[test]
 fn what_is_foreign_changes_nothing(rt: HostRuntime) {
     let alloc = rt.alloc();
     for (name, node, max_positions, text) in FOREIGN {
-        expect_foreign(&rt, alloc, name, (node, max_positions), text);
+        let heard = heard_by(&rt, alloc, (node, max_positions), text);
+        expect_at(&rt, &name, heard, Ok((Dropped::Foreign, 0, 0)));
     }
     let unknown = heard_by(&rt, alloc, (3, 1), b"\x02\x0b");
     let kind = Fault::BadPacket(PacketReason::Kind);
-    expect_eq(&rt, unknown.err(), Some(kind));
+    expect_eq(&rt, unknown, Err(kind));
+}
+
+/// The node finds no place for a tick.
+fn drops_tick<M: Machine, D: Device>(
+    rt: &impl Abort,
+    alloc: Global,
+    node: &mut Replica<M, D>,
+    now: u32,
+) -> bool {
+    let sent = node.turn(alloc, &Input::Tick { now });
+    let sent = sent.expect(rt, "the step");
+    sent.dropped == Dropped::Full
 }
 
 /// The first tick, of those from 1 on, for which there is no place.
 fn first_full_tick<M: Machine, D: Device>(
+    rt: &impl Abort,
     alloc: Global,
     program: &M::Program,
     device: D,
-) -> Result<u32, Fault> {
-    let mut node = opened::<M, D>(alloc, 1, 1, program, device, &[])?.replica;
+) -> u32 {
+    let mut node = node_over::<M, D>(rt, alloc, (1, 1), program, device);
     for now in 1..=100 {
-        let sent = node.turn(alloc, &Input::Tick { now })?;
-        if matches!(sent.dropped, Dropped::Full) {
-            return Ok(now);
+        if drops_tick(rt, alloc, &mut node, now) {
+            return now;
         }
     }
-    Err(Fault::LogFull)
+    0
 }
 
 #[test]
 fn the_33rd_tick_finds_no_place(rt: HostRuntime) {
     let device = MemDevice::new(rt.alloc());
-    let full = first_full_tick::<Tally, MemDevice>(rt.alloc(), &program(&rt), device);
-    expect_eq(&rt, full, Ok(33));
+    let full = first_full_tick::<Tally, MemDevice>(&rt, rt.alloc(), &program(&rt), device);
+    expect_eq(&rt, full, 33);
 }
 
-/// How many records of these bytes count for node 3, and how many bytes it truncates.
+/// How many records of the device count for node 3, and how many bytes it truncates.
 fn found<M: Machine, D: Device>(
+    rt: &impl Abort,
     alloc: Global,
     program: &M::Program,
     device: D,
-    bytes: &[u8],
-) -> Result<(u64, u64), Fault> {
-    let opening = opened::<M, D>(alloc, 3, 1, program, device, bytes)?;
-    Ok((opening.records, opening.cut_bytes))
+) -> (u64, u64) {
+    let opening = opened::<M, D>(rt, alloc, (3, 1), program, device);
+    (opening.records, opening.cut_bytes)
 }
 
-/// Of these bytes node 3 finds records and a torn end, each this many.
-fn expect_found(rt: &impl Abort, alloc: Global, bytes: &[u8], counts: (u64, u64)) {
-    let device = MemDevice::new(alloc);
-    let found = found::<Tally, MemDevice>(alloc, &program(rt), device, bytes);
-    expect_eq(rt, found, Ok(counts));
+/// A device in memory with these bytes.
+fn memory(rt: &impl Abort, alloc: Global, bytes: &[u8]) -> MemDevice {
+    holding(rt, MemDevice::new(alloc), bytes)
 }
 
 #[test]
 fn a_replica_opens_over_what_its_device_holds(rt: HostRuntime) {
-    let alloc = rt.alloc();
     let torn_promise = b"\x02\x01\0\0\0\0\0\0\0\x09\x02\x02\0\x01";
-    expect_found(&rt, alloc, torn_promise, (1, 4));
     let above_the_log = b"\x02\x04\0\x02\x00\x02\x04\0\x01\x00";
-    expect_found(&rt, alloc, above_the_log, (2, 0));
-    let two_votes_in_a_ballot = &VOTES;
-    expect_found(&rt, alloc, two_votes_in_a_ballot, (2, 0));
+    let cases: [(&[u8], (u64, u64)); 3] = [
+        (torn_promise, (1, 4)),
+        (above_the_log, (2, 0)),
+        (&VOTES, (2, 0)),
+    ];
+    for (bytes, counts) in cases {
+        let device = memory(&rt, rt.alloc(), bytes);
+        let found = found::<Tally, MemDevice>(&rt, rt.alloc(), &program(&rt), device);
+        expect_eq(&rt, found, counts);
+    }
 }
 
-/// What node 3 answers to a packet, over these bytes.
-fn answer_over<M: Machine, D: Device>(
+/// What node 3 answers to a packet.
+fn answer<M: Machine, D: Device>(
+    rt: &impl Abort,
     alloc: Global,
     program: &M::Program,
     device: D,
-    bytes: &[u8],
     text: &[u8],
-) -> Result<Vec<u8>, Fault> {
-    let mut node = opened::<M, D>(alloc, 3, 1, program, device, bytes)?.replica;
-    Ok(node.receive(alloc, text)?.bytes)
+) -> Vec<u8> {
+    let mut node = node_over::<M, D>(rt, alloc, (3, 1), program, device);
+    let sent = node.receive(alloc, text);
+    sent.expect(rt, "the node hears").bytes
 }
 
 #[test]
 fn of_two_votes_in_a_ballot_the_first_is_reported(rt: HostRuntime) {
     let prepare = b"\x02\x02\x02\x03\0\x01\0\0\0\0\0\0\0\x0a";
     let promise = b"\x02\x03\x03\x02\0\x01\0\0\0\0\0\0\0\x0a\x01\0\0\0\0\0\0\0\x09\x00";
-    let alloc = rt.alloc();
-    let device = MemDevice::new(alloc);
-    let answer = answer_over::<Tally, MemDevice>(alloc, &program(&rt), device, &VOTES, prepare);
-    expect_text(&rt, &answer.expect(&rt, "the node answers"), promise);
+    let device = memory(&rt, rt.alloc(), &VOTES);
+    let answer = answer::<Tally, MemDevice>(&rt, rt.alloc(), &program(&rt), device, prepare);
+    expect_text(&rt, &answer, promise);
 }
 
-/// What node 3 finds where it stopped within the step of a packet.
-fn found_after_a_cut<M: Machine, D: CutDevice>(
+/// The device of node 3 that stopped within the step of hearing to vote.
+fn cut<M: Machine, D: CutDevice>(
+    rt: &impl Abort,
     alloc: Global,
     program: &M::Program,
     device: D,
-    text: &[u8],
     kept: u64,
-) -> Result<(u64, u64), Fault> {
-    let node = opened::<M, D>(alloc, 3, 1, program, device, &[])?.replica;
-    match node.torn(alloc, &Input::Receive(text), kept) {
-        Ok(device) => found::<M, D>(alloc, program, device, &[]),
-        Err(NotCut::Refused(fault, _)) => Err(fault),
-        Err(NotCut::Failed(_)) => Err(Fault::Device),
-    }
+) -> D {
+    let node = node_over::<M, D>(rt, alloc, (3, 1), program, device);
+    let cut = node.torn(alloc, &Input::Receive(&ACCEPT), kept);
+    cut.ok().expect(rt, "a cut")
 }
 
 /// A cut that keeps this many bytes of the vote leaves these counts of records and torn bytes.
 fn expect_kept(rt: &impl Abort, alloc: Global, kept: u64, counts: (u64, u64)) {
-    let device = MemDevice::new(alloc);
     let program = program(rt);
-    let found = found_after_a_cut::<Tally, MemDevice>(alloc, &program, device, &ACCEPT, kept);
-    expect_eq(rt, found, Ok(counts));
+    let device = cut::<Tally, MemDevice>(rt, alloc, &program, MemDevice::new(alloc), kept);
+    let found = found::<Tally, MemDevice>(rt, alloc, &program, device);
+    expect_eq(rt, found, counts);
 }
 
 #[test]
@@ -471,33 +551,25 @@ fn a_cut_keeps_n_bytes_of_the_vote(rt: HostRuntime) {
     }
 }
 
-/// The positions that node 1 leads one after another, over these bytes, until it is refused, and
-/// why.
-fn positions_led<M: Machine, D: Device>(
+/// Node 1 leads these positions one after another, and is then refused since its log is full.
+fn expect_led<M: Machine, D: Device>(
+    rt: &impl Abort,
     alloc: Global,
     program: &M::Program,
     device: D,
-    bytes: &[u8],
-) -> Result<(Vec<u8>, Fault), Fault> {
-    let mut node = opened::<M, D>(alloc, 1, 3, program, device, bytes)?.replica;
-    let mut positions = Vec::new(alloc);
-    for _ in 0..9 {
-        match node.lead(alloc, None) {
-            Ok(sent) => positions.push(sent.bytes.get(5).copied().unwrap_or(0))?,
-            Err(fault) => return Ok((positions, fault)),
-        }
+    positions: &[u8],
+) {
+    let mut node = node_over::<M, D>(rt, alloc, (1, 3), program, device);
+    for position in positions {
+        let sent = node.lead(alloc, None).expect(rt, "a position");
+        expect_eq(rt, sent.bytes.get(5), Some(position));
     }
-    Err(Fault::NumbersSpent)
+    expect_eq(rt, node.lead(alloc, None).err(), Some(Fault::LogFull));
 }
 
 #[test]
 fn the_least_free_position_is_led_until_the_log_is_full(rt: HostRuntime) {
-    let alloc = rt.alloc();
-    let device = MemDevice::new(alloc);
     // position 2 is learned
-    let learned = b"\x02\x04\0\x02\x00";
-    let led = positions_led::<Tally, MemDevice>(alloc, &program(&rt), device, learned);
-    let (positions, fault) = led.expect(&rt, "the node leads");
-    expect_text(&rt, &positions, &[1, 3]);
-    expect_eq(&rt, fault, Fault::LogFull);
+    let device = memory(&rt, rt.alloc(), b"\x02\x04\0\x02\x00");
+    expect_led::<Tally, MemDevice>(&rt, rt.alloc(), &program(&rt), device, &[1, 3]);
 }

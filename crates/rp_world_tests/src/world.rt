@@ -7,118 +7,186 @@ use rp_world::*;
 use std::alloc::Global;
 use std::process::Abort;
 
-/// Three nodes over these devices, with a log of one position.
-fn opened<M: Machine, D: CutDevice>(
+/// Three nodes over these devices.
+pub(crate) fn opened<M: Machine, D: CutDevice>(
+    rt: &impl Abort,
     alloc: Global,
     program: M::Program,
     devices: Vec<D>,
-) -> Result<Cluster<M, D>, Fault> {
+    max_positions: u16,
+) -> Cluster<M, D> {
     let config = Config {
         nodes: 3,
-        max_positions: 1,
+        max_positions,
     };
-    Cluster::new(alloc, config, program, devices)
+    Cluster::new(alloc, config, program, devices).expect(rt, "the cluster")
 }
 
-/// Task 1 calls the node: procedure 1 of object 1.
-fn call(node: NodeId, arg: i64) -> Event {
+pub(crate) fn node(rt: &impl Abort, number: u8) -> NodeId {
+    NodeId::new(number).expect(rt, "a node")
+}
+
+/// A task calls a node: procedure 1 of object 1.
+pub(crate) fn call(rt: &impl Abort, task: u8, to: u8, arg: i64) -> Event {
     Event::Submit {
-        task: TaskId::first(),
-        node,
+        task: TaskId::new(task).expect(rt, "a task"),
+        node: node(rt, to),
         object: 1,
         operation: Operation::Procedure(1),
         arg,
     }
 }
 
-pub(crate) fn lead(node: NodeId) -> Event {
+/// A node is to lead at its next position.
+pub(crate) fn lead(rt: &impl Abort, leader: u8) -> Event {
     Event::Node(Step::Lead {
-        node,
+        node: node(rt, leader),
         position: None,
     })
+}
+
+/// A step of the cluster, which is not refused.
+pub(crate) fn step<M: Machine, D: CutDevice>(
+    rt: &impl Abort,
+    cluster: &mut Cluster<M, D>,
+    alloc: Global,
+    event: &Event,
+) {
+    let answer = cluster.step(alloc, event);
+    expect_eq(rt, answer.err(), None);
+}
+
+/// Delivers a message.
+fn deliver<M: Machine, D: CutDevice>(
+    rt: &impl Abort,
+    cluster: &mut Cluster<M, D>,
+    alloc: Global,
+    number: u64,
+) {
+    step(rt, cluster, alloc, &Event::Node(Step::Deliver(number)));
+}
+
+/// Delivers the messages in order, from a number on, until none is left. It gives the number of the
+/// next one.
+pub(crate) fn deliver_from<M: Machine, D: CutDevice>(
+    rt: &impl Abort,
+    cluster: &mut Cluster<M, D>,
+    alloc: Global,
+    first: u64,
+) -> u64 {
+    let mut next = first;
+    for _ in 0..100 {
+        if next > cluster.messages() {
+            break;
+        }
+        deliver(rt, cluster, alloc, next);
+        next = next.saturating_add(1);
+    }
+    next
 }
 
 /// Delivers the messages above the one number, up to the other, from the highest down, each three
 /// times.
 fn deliver_thrice<M: Machine, D: CutDevice>(
+    rt: &impl Abort,
     cluster: &mut Cluster<M, D>,
     alloc: Global,
     above: u64,
     last: u64,
-) -> Result<(), Fault> {
+) {
     for number in (above.saturating_add(1)..=last).rev() {
         for _ in 0..3 {
-            cluster.step(alloc, &Event::Node(Step::Deliver(number)))?;
+            deliver(rt, cluster, alloc, number);
         }
     }
-    Ok(())
 }
 
 /// In rounds, delivers what was not delivered in an earlier round, until a round sends nothing.
 fn deliver_in_rounds<M: Machine, D: CutDevice>(
+    rt: &impl Abort,
     cluster: &mut Cluster<M, D>,
     alloc: Global,
     delivered: u64,
-) -> Result<u64, Fault> {
+) -> u64 {
     let mut above = delivered;
     for _ in 0..100 {
         let last = cluster.messages();
         if last <= above {
             break;
         }
-        deliver_thrice(cluster, alloc, above, last)?;
+        deliver_thrice(rt, cluster, alloc, above, last);
         above = last;
     }
-    Ok(above)
+    above
 }
 
-/// What a run leaves: how many messages there are, what each node stored, applied and shows, and the
-/// replies of task 1.
+/// What a run leaves: how many messages there are, how many bytes each node stored, how many actions
+/// each has applied, and what all of them show.
 #[derive(Drop)]
 pub(crate) struct Left {
     pub(crate) messages: u64,
-    pub(crate) stored: Vec<u64>,
-    pub(crate) applied: Vec<u16>,
-    pub(crate) images: Vec<Vec<u8>>,
-    pub(crate) replies: Vec<Reply>,
+    pub(crate) stored: [u64; 3],
+    pub(crate) applied: u16,
+    pub(crate) image: &'static [u8],
 }
 
-pub(crate) fn left_by<M: Machine, D: CutDevice>(
-    cluster: &Cluster<M, D>,
+/// A node stored this many bytes, has applied as many actions and shows as it is said.
+fn expect_node<M: Machine, D: CutDevice>(
+    rt: &impl Abort,
     alloc: Global,
-) -> Result<Left, Fault> {
-    let mut left = Left {
-        messages: cluster.messages(),
-        stored: Vec::new(alloc),
-        applied: Vec::new(alloc),
-        images: Vec::new(alloc),
-        replies: Vec::new(alloc),
-    };
-    for number in 1..=3 {
-        let node = NodeId::new(number).ok_or(Fault::BadConfig)?;
-        left.stored.push(cluster.stored(node)?)?;
-        left.applied.push(cluster.applied(node)?)?;
-        left.images.push(cluster.image(alloc, node)?)?;
-    }
-    for answer in cluster.replies(TaskId::first()) {
-        left.replies.push(answer.reply)?;
-    }
-    Ok(left)
+    cluster: &Cluster<M, D>,
+    at: (NodeId, u64),
+    left: &Left,
+) {
+    let (node, stored) = at;
+    expect_eq(rt, cluster.stored(node), Ok(stored));
+    expect_eq(rt, cluster.applied(node), Ok(left.applied));
+    let image = cluster.image(alloc, node).expect(rt, "an image");
+    expect_text(rt, &image, left.image);
 }
 
-/// Task 1 calls node 1 and node 1 leads, each followed by its rounds.
+/// The cluster is left so, and task 1 has the one reply 5.
+pub(crate) fn expect_left<M: Machine, D: CutDevice>(
+    rt: &impl Abort,
+    alloc: Global,
+    cluster: &Cluster<M, D>,
+    left: &Left,
+) {
+    expect_eq(rt, cluster.messages(), left.messages);
+    for (number, stored) in (1..=3).zip(left.stored) {
+        expect_node(rt, alloc, cluster, (node(rt, number), stored), left);
+    }
+    let replies = cluster.replies(TaskId::first());
+    expect_eq(rt, replies.len(), 1);
+    let reply = replies.first().expect(rt, "a reply").reply;
+    expect_eq(rt, reply, Reply::Value(5));
+}
+
+/// Task 1 called node 1 and node 1 led, each followed by its rounds.
 fn one_call_in_rounds<M: Machine, D: CutDevice>(
+    rt: &impl Abort,
     alloc: Global,
     program: M::Program,
     devices: Vec<D>,
-) -> Result<Left, Fault> {
-    let node = NodeId::new(1).ok_or(Fault::BadConfig)?;
-    let mut cluster: Cluster<M, D> = opened(alloc, program, devices)?;
-    cluster.step(alloc, &call(node, 5))?;
-    let delivered = deliver_in_rounds(&mut cluster, alloc, 0)?;
-    cluster.step(alloc, &lead(node))?;
-    deliver_in_rounds(&mut cluster, alloc, delivered)?;
-    left_by(&cluster, alloc)
+) -> Cluster<M, D> {
+    let mut cluster: Cluster<M, D> = opened(rt, alloc, program, devices, 1);
+    step(rt, &mut cluster, alloc, &call(rt, 1, 1, 5));
+    let delivered = deliver_in_rounds(rt, &mut cluster, alloc, 0);
+    step(rt, &mut cluster, alloc, &lead(rt, 1));
+    deliver_in_rounds(rt, &mut cluster, alloc, delivered);
+    cluster
+}
+
+/// One call in rounds leaves this.
+fn expect_left_in_rounds<M: Machine, D: CutDevice>(
+    rt: &impl Abort,
+    alloc: Global,
+    program: M::Program,
+    devices: Vec<D>,
+    left: &Left,
+) {
+    let cluster: Cluster<M, D> = one_call_in_rounds(rt, alloc, program, devices);
+    expect_left(rt, alloc, &cluster, left);
 }
 
 /// A program of one object.
@@ -137,68 +205,51 @@ pub(crate) fn devices(rt: &impl Abort, alloc: Global) -> Vec<MemDevice> {
     devices
 }
 
-/// A run left this many messages, and nodes that stored this many bytes and applied this many
-/// actions.
-pub(crate) fn expect_left(
-    rt: &impl Abort,
-    left: &Left,
-    messages: u64,
-    stored: &[u64],
-    applied: &[u16],
-) {
-    expect_eq(rt, left.messages, messages);
-    assert_eq!(rt; left.stored.as_slice(), stored);
-    assert_eq!(rt; left.applied.as_slice(), applied);
-}
-
-/// Each of three nodes shows this text, and task 1 has the one reply 5.
-pub(crate) fn expect_shown(rt: &impl Abort, left: &Left, text: &[u8]) {
-    expect_eq(rt, left.images.len(), 3);
-    for image in &left.images {
-        expect_text(rt, image, text);
-    }
-    assert_eq!(rt; left.replies.as_slice(), [Reply::Value(5)].as_slice());
-}
-
 #[test]
 fn packets_delivered_three_times_from_the_last_down_change_no_reply(rt: HostRuntime) {
     let alloc = rt.alloc();
     let devices = devices(&rt, alloc);
-    let left = one_call_in_rounds::<Tally, MemDevice>(alloc, program(&rt), devices);
-    let left = left.expect(&rt, "the run");
-    expect_left(&rt, &left, 22, &[72, 62, 62], &[1, 1, 1]);
-    expect_shown(&rt, &left, b"tally o1=5\n");
+    let left = Left {
+        messages: 22,
+        stored: [72, 62, 62],
+        applied: 1,
+        image: b"tally o1=5\n",
+    };
+    expect_left_in_rounds::<Tally, MemDevice>(&rt, alloc, program(&rt), devices, &left);
+}
+
+/// The last message that was sent.
+fn last_text<M: Machine, D: CutDevice>(
+    rt: &impl Abort,
+    alloc: Global,
+    cluster: &Cluster<M, D>,
+) -> Vec<u8> {
+    let text = cluster.message(alloc, cluster.messages());
+    text.expect(rt, "the last message")
 }
 
 /// The text of the report that node 2 sends after one call, of the actions from a position on.
 fn report_after_one_call<M: Machine, D: CutDevice>(
+    rt: &impl Abort,
     alloc: Global,
     program: M::Program,
     devices: Vec<D>,
-    first: Position,
-) -> Result<Vec<u8>, Fault> {
-    let node = NodeId::new(1).ok_or(Fault::BadConfig)?;
-    let second = NodeId::new(2).ok_or(Fault::BadConfig)?;
-    let mut cluster: Cluster<M, D> = opened(alloc, program, devices)?;
-    cluster.step(alloc, &call(node, 5))?;
-    let delivered = deliver_in_rounds(&mut cluster, alloc, 0)?;
-    cluster.step(alloc, &lead(node))?;
-    deliver_in_rounds(&mut cluster, alloc, delivered)?;
+    first: u16,
+) -> Vec<u8> {
     let report = Event::Node(Step::Report {
-        node: second,
-        first,
+        node: node(rt, 2),
+        first: Position::new(first).expect(rt, "a position"),
     });
-    cluster.step(alloc, &report)?;
-    let number = cluster.messages();
-    cluster.message(alloc, number)
+    let mut cluster: Cluster<M, D> = one_call_in_rounds(rt, alloc, program, devices);
+    step(rt, &mut cluster, alloc, &report);
+    last_text(rt, alloc, &cluster)
 }
 
 /// The report of the actions from a position on has this text.
 fn expect_report(rt: &impl Abort, alloc: Global, first: u16, text: &[u8]) {
-    let first = Position::new(first).expect(rt, "a position");
     let devices = devices(rt, alloc);
-    let report = report_after_one_call::<Tally, MemDevice>(alloc, program(rt), devices, first);
-    expect_text(rt, &report.expect(rt, "the run"), text);
+    let report = report_after_one_call::<Tally, MemDevice>(rt, alloc, program(rt), devices, first);
+    expect_text(rt, &report, text);
 }
 
 #[test]
@@ -208,31 +259,23 @@ fn a_report_has_the_actions_from_a_position_on(rt: HostRuntime) {
     expect_report(&rt, rt.alloc(), 2, b"\x02\x0a\x02\x20\0\x02\0\x01\0");
 }
 
-/// The texts of the messages of one call, all delivered in order.
-fn texts_of_one_call<M: Machine, D: CutDevice>(
+/// One call, all of whose messages are delivered in order.
+fn one_call<M: Machine, D: CutDevice>(
+    rt: &impl Abort,
     alloc: Global,
     program: M::Program,
     devices: Vec<D>,
-) -> Result<Vec<Vec<u8>>, Fault> {
-    let node = NodeId::new(1).ok_or(Fault::BadConfig)?;
-    let mut cluster: Cluster<M, D> = opened(alloc, program, devices)?;
-    cluster.step(alloc, &call(node, 5))?;
-    cluster.step(alloc, &Event::Node(Step::Deliver(1)))?;
-    cluster.step(alloc, &lead(node))?;
-    let mut texts = Vec::new(alloc);
-    texts.push(cluster.message(alloc, 1)?)?;
-    for number in 2..100 {
-        if number > cluster.messages() {
-            break;
-        }
-        cluster.step(alloc, &Event::Node(Step::Deliver(number)))?;
-        texts.push(cluster.message(alloc, number)?)?;
-    }
-    Ok(texts)
+) -> Cluster<M, D> {
+    let mut cluster: Cluster<M, D> = opened(rt, alloc, program, devices, 1);
+    step(rt, &mut cluster, alloc, &call(rt, 1, 1, 5));
+    let next = deliver_from(rt, &mut cluster, alloc, 1);
+    step(rt, &mut cluster, alloc, &lead(rt, 1));
+    deliver_from(rt, &mut cluster, alloc, next);
+    cluster
 }
 
-/// Some of these texts, by the numbers of the messages.
-const TEXTS: [(usize, &[u8]); 6] = [
+/// Some of the texts of these messages, by their numbers.
+const TEXTS: [(u64, &[u8]); 6] = [
     (2, b"\x02\x02\x01\x01\x00\x01\0\0\0\0\0\0\0\x09"),
     (6, b"\x02\x03\x02\x01\x00\x01\0\0\0\0\0\0\0\x09\x00"),
     (
@@ -250,12 +293,30 @@ const TEXTS: [(usize, &[u8]); 6] = [
     (16, b"\x02\x09\x01\x11\0\0\0\x01\x01\0\0\0\0\0\0\0\x05"),
 ];
 
-/// Of 16 messages each that is among these texts has it.
-fn expect_texts(rt: &impl Abort, texts: &[Vec<u8>], expected: &[(usize, &[u8])]) {
-    expect_eq(rt, texts.len(), 16);
+/// The message of this number has this text.
+fn expect_message<M: Machine, D: CutDevice>(
+    rt: &impl Abort,
+    alloc: Global,
+    cluster: &Cluster<M, D>,
+    number: u64,
+    text: &[u8],
+) {
+    let found = cluster.message(alloc, number).expect(rt, "a message");
+    expect_text(rt, &found, text);
+}
+
+/// Of 16 messages of one call each that is among these texts has it.
+fn expect_texts<M: Machine, D: CutDevice>(
+    rt: &impl Abort,
+    alloc: Global,
+    program: M::Program,
+    devices: Vec<D>,
+    expected: &[(u64, &[u8])],
+) {
+    let cluster: Cluster<M, D> = one_call(rt, alloc, program, devices);
+    expect_eq(rt, cluster.messages(), 16);
     for (number, text) in expected {
-        let found = texts.get(number.saturating_sub(1)).expect(rt, "a message");
-        assert_eq!(rt; found.as_slice(), *text, "message {number}");
+        expect_message(rt, alloc, &cluster, *number, text);
     }
 }
 
@@ -263,40 +324,36 @@ fn expect_texts(rt: &impl Abort, texts: &[Vec<u8>], expected: &[(usize, &[u8])])
 fn each_message_has_its_text(rt: HostRuntime) {
     let alloc = rt.alloc();
     let devices = devices(&rt, alloc);
-    let texts = texts_of_one_call::<Tally, MemDevice>(alloc, program(&rt), devices);
-    let texts = texts.expect(&rt, "the run");
-    expect_texts(&rt, texts.as_slice(), &TEXTS);
+    expect_texts::<Tally, MemDevice>(&rt, alloc, program(&rt), devices, &TEXTS);
 }
 
 /// Where a run of these events stops, and how many messages there are then.
 fn run_of<M: Machine, D: CutDevice>(
+    rt: &impl Abort,
     alloc: Global,
     program: M::Program,
     devices: Vec<D>,
     events: &[Event],
-) -> Result<(Option<Refused>, u64), Fault> {
-    let mut cluster: Cluster<M, D> = opened(alloc, program, devices)?;
+) -> (Option<Refused>, u64) {
+    let mut cluster: Cluster<M, D> = opened(rt, alloc, program, devices, 1);
     let stopped = cluster.run(alloc, events).err();
-    Ok((stopped, cluster.messages()))
+    (stopped, cluster.messages())
 }
 
 #[test]
 fn a_run_stops_at_the_first_refusal(rt: HostRuntime) {
     let alloc = rt.alloc();
-    let node = NodeId::new(1).expect(&rt, "node 1");
     let events = [
-        call(node, 5),
+        call(&rt, 1, 1, 5),
         Event::Node(Step::Deliver(1)),
-        call(node, 1),
-        lead(node),
+        call(&rt, 1, 1, 1),
+        lead(&rt, 1),
     ];
-    let devices = devices(&rt, alloc);
-    let stopped = run_of::<Tally, MemDevice>(alloc, program(&rt), devices, &events);
-    let (stopped, messages) = stopped.expect(&rt, "the run");
     let busy = Refused {
         place: 2,
         fault: Fault::TaskBusy,
     };
-    expect_eq(&rt, stopped, Some(busy));
-    expect_eq(&rt, messages, 1);
+    let devices = devices(&rt, alloc);
+    let stopped = run_of::<Tally, MemDevice>(&rt, alloc, program(&rt), devices, &events);
+    expect_eq(&rt, stopped, (Some(busy), 1));
 }

@@ -42,11 +42,6 @@ sent_text {P} old new node object operation arg sent turn =
     let text : sent.bytes.items ≡ text_of one.0 = turn.describes.bytes ∙ ap texts_of one.1 ∙ append-nil (text_of one.0) in
     (one.0, subst (Has one.0) (sym after) (has_right one.0 old.part.sent (one.0 ∷ []) (inl refl)), text)
 
-pub sent_if : {P : Type 0} (old new : SeatState P) (node object : ℕ) (operation : Operation) (arg : ℤ) (stated : Result Sent Fault)
-    → IfOk stated (λ sent. IsTaskTurn old (Submit node object operation arg) new sent) → IfOk stated (λ sent. IsSentText new.part sent.bytes.items)
-sent_if old new node object operation arg (Ok sent) turn = sent_text old new node object operation arg sent turn
-sent_if old new node object operation arg (Err fault) turn = tt
-
 -- what was fetched is got
 pub fetched_is_got : {P : Type 0} (from to : Party) (bytes text : List ℕ) (old new : SeatState P) → IsFetched from to bytes old new → text ≡ bytes
     → (m : Message) × Has m new.part.got × (text ≡ text_of m)
@@ -66,9 +61,3 @@ reported_is_sent {P} first text old new sent is same =
 -- a line that holds nothing holds no other text
 pub nothing_held : (packets : List Message) (line : Line) → line.held ≡ [] → HoldsTextsOf packets line
 nothing_held packets line none = record { each = λ text there. absurd (subst (λ (held : List (List ℕ)). Has text held) none there) }
-
--- the first task did nothing yet
-pub first_is_fresh : {P : Type 0} (table : TableId) (config : Config) (program : P) (tasks : List (SeatState P)) (seat : SeatState P) → length tasks ≡ 8
-    → AreFirstSeats table config program 8 [] tasks → seat ≡ slice_index_or tasks 0 seat → seat.part ≡ fresh_part (OfTask fresh_task)
-first_is_fresh table config program [] seat eight are is = absurd (omega (arith, eight))
-first_is_fresh {P} table config program (x ∷ xs) seat eight are is = ap (λ (c : SeatState P). c.part) (is ∙ are 0)

@@ -1,73 +1,76 @@
-ghost use Rattle.std.specs.Prelude.{IfOk, List, ℕ, OnOk};
+ghost use Rattle.std.specs.Prelude.{List, ℕ, OnOk};
 ghost use Rattle.rp_boxes.specs.Audits.{IsGotReport};
 
-use crate::setup::{CONFIG, devices, receive};
-use rp_base::{Action, Fault, NodeId, Position};
-use rp_boxes::{Added, AllSeats, Audit, NodeSeat, seats};
+use crate::compare::expect_eq;
+use crate::setup::{devices, go_round, lead, node, opened, program};
+use rp_base::{Action, Fault, Position};
+use rp_boxes::{Added, AllSeats, Audit, NodeSeat};
 use rp_codec::Party;
-use rp_machine::{Machine, Tally, TallyProgram};
+use rp_machine::{Machine, Tally};
 use rp_replica::Input;
 use rp_store::{Device, MemDevice};
 use rp_threads::node_step;
 use std::alloc::Global;
-use std::test::Fail;
+use std::process::Abort;
 
-/// The node receives what is in its boxes from the nodes, once each.
-fn receive_all<M: Machine, D: Device>(
+/// The node takes a tick and leads.
+fn tick_and_lead<M: Machine, D: Device>(
+    rt: &impl Abort,
     seat: &mut NodeSeat<M, D>,
     alloc: Global,
-) -> Result<(), Fault> {
-    for number in 1..4u8 {
-        let from = NodeId::new(number).ok_or(Fault::BadConfig)?;
-        receive(seat, alloc, Party::Node(from))?;
-    }
-    Ok(())
-}
-
-/// Each node receives what is in its boxes from the nodes, once each.
-fn go_round<M: Machine, D: Device>(
-    alloc: Global,
-    nodes: &mut [NodeSeat<M, D>],
-) -> Result<(), Fault> {
-    for seat in nodes.iter_mut() {
-        receive_all(seat, alloc)?;
-    }
-    Ok(())
+    now: u32,
+) {
+    let packets = node_step(seat, alloc, &Input::Tick { now });
+    expect_eq(rt, packets.is_ok(), true);
+    lead(rt, seat, alloc);
 }
 
 /// Node 1 takes a tick and leads, and all nodes receive what comes, until each has applied it.
 fn tick<M: Machine, D: Device>(
+    rt: &impl Abort,
     alloc: Global,
     nodes: &mut [NodeSeat<M, D>],
     now: u32,
-) -> Result<(), Fault> {
-    let leader = nodes.first_mut().ok_or(Fault::BadConfig)?;
-    node_step(leader, alloc, &Input::Tick { now })?;
-    node_step(leader, alloc, &Input::Lead(None))?;
-    for _ in 0..8 {
-        go_round(alloc, nodes)?;
+) {
+    tick_and_lead(rt, nodes.first_mut().expect(rt, "node 1"), alloc, now);
+    go_round(rt, alloc, nodes);
+}
+
+/// The node puts a report from a position on into its box.
+fn puts<M: Machine, D: Device>(
+    rt: &impl Abort,
+    seat: &mut NodeSeat<M, D>,
+    alloc: Global,
+    first: u16,
+) {
+    let first = Position::new(first).expect(rt, "a position");
+    match seat.report(alloc, first) {
+        Ok(report) => {
+            if seat.put(report.bytes).is_err() {
+                panic!(rt; "the box is in use");
+            }
+        }
+        Err(fault) => panic!(rt; "{fault:?}"),
     }
-    Ok(())
 }
 
 /// The audit gets a report of the first node from a position on, as its text.
 fn reported<M: Machine, D: Device>(
+    rt: &impl Abort,
     alloc: Global,
     nodes: &mut [NodeSeat<M, D>],
     audit: &mut Audit<M>,
     first: u16,
-) -> Result<Vec<u8>, Fault>
-    ensures got { IfOk result (λ text. IsGotReport audit.new.seat.part text.items) }
+) -> Vec<u8>
+    ensures got { IsGotReport audit.new.seat.part result.items }
     ensures kept { (text : List ℕ) → IsGotReport audit.old.seat.part text
         → IsGotReport audit.new.seat.part text }
 {
-    let first = Position::new(first).ok_or(Fault::BadConfig)?;
-    let node = nodes.first_mut().ok_or(Fault::BadConfig)?;
-    let report = node.report(alloc, first)?;
-    if node.put(report.bytes).is_err() {
-        return Err(Fault::Io);
+    puts(rt, nodes.first_mut().expect(rt, "node 1"), alloc, first);
+    match audit.fetch(Party::Node(node(rt, 1))) {
+        Some(text) => text,
+        None => panic!(rt; "there is no report"),
     }
-    audit.fetch(Party::Node(node.number())).ok_or(Fault::Io)
 }
 
 /// The audit adds a report, and what it got before it still has.
@@ -79,74 +82,87 @@ fn adds<M: Machine>(audit: &mut Audit<M>, alloc: Global, report: &[u8]) -> Resul
     audit.add(alloc, report)
 }
 
-/// The audit adds a report, and then another one that it got before.
+/// The audit adds a report, and then another one that it got before, with these results.
 fn add_both<M: Machine>(
+    rt: &impl Abort,
     audit: &mut Audit<M>,
     alloc: Global,
-    report: &[u8],
-    other: &[u8],
-) -> Result<[Added; 2], Fault>
-    requires report { IsGotReport audit.old.seat.part report.now }
-    requires other { IsGotReport audit.old.seat.part other.now }
+    reports: (&[u8], &[u8]),
+    added: (Added, Added),
+)
+    requires first { IsGotReport audit.old.seat.part reports.0.now }
+    requires second { IsGotReport audit.old.seat.part reports.1.now }
 {
-    Ok([adds(audit, alloc, report)?, adds(audit, alloc, other)?])
+    let (first, second) = reports;
+    let Ok(result) = adds(audit, alloc, first) else {
+        panic!(rt; "memory is refused");
+    };
+    expect_eq(rt, result, added.0);
+    expect_eq(rt, adds(audit, alloc, second), Ok(added.1));
 }
 
-/// The results of reports of the first node, and what is known of it then.
-#[derive(Drop)]
-struct Heard {
-    outcomes: [Added; 4],
-    known: Vec<Action>,
+/// The audit gets a report of node 1 from a position on and adds it, with this result.
+fn add_one<M: Machine, D: Device>(
+    rt: &impl Abort,
+    alloc: Global,
+    nodes: &mut [NodeSeat<M, D>],
+    audit: &mut Audit<M>,
+    report: (u16, Added),
+) {
+    let (first, added) = report;
+    let text = reported(rt, alloc, nodes, audit, first);
+    expect_eq(rt, adds(audit, alloc, text.as_slice()), Ok(added));
 }
 
-/// Node 1 reports before it has applied anything, and once it has applied one action, two and
-/// three. The report of one is added after that of two.
+/// Node 1 reports once it has applied one action and two. The report of one is added after that of
+/// two.
+fn add_late<M: Machine, D: Device>(
+    rt: &impl Abort,
+    alloc: Global,
+    nodes: &mut [NodeSeat<M, D>],
+    audit: &mut Audit<M>,
+    added: Added,
+) {
+    tick(rt, alloc, nodes, 1);
+    let one = reported(rt, alloc, nodes, audit, 1);
+    tick(rt, alloc, nodes, 2);
+    let two = reported(rt, alloc, nodes, audit, 1);
+    let newer = two.as_slice();
+    let older = one.as_slice();
+    add_both(rt, audit, alloc, (newer, older), (added, added));
+}
+
+/// Node 1 reports before it has applied anything, and once it has applied one action, two and three.
+/// The audit then knows these actions.
 fn hear<M: Machine, D: Device>(
+    rt: &impl Abort,
     alloc: Global,
     program: &M::Program,
     devices: Vec<D>,
-) -> Result<Heard, Fault> {
-    let all: AllSeats<M, D> = seats(alloc, CONFIG, program, devices)?;
+    known: &[Action],
+) {
+    let all: AllSeats<M, D> = opened(rt, alloc, program, devices);
     let mut nodes = all.nodes;
     let mut audit = Audit::new(alloc, all.audit);
-    let none = reported(alloc, nodes.as_mut_slice(), &mut audit, 3)?;
-    let gap = audit.add(alloc, none.as_slice())?;
-    tick(alloc, nodes.as_mut_slice(), 1)?;
-    let one = reported(alloc, nodes.as_mut_slice(), &mut audit, 1)?;
-    tick(alloc, nodes.as_mut_slice(), 2)?;
-    let two = reported(alloc, nodes.as_mut_slice(), &mut audit, 1)?;
-    let [second, following] = add_both(&mut audit, alloc, two.as_slice(), one.as_slice())?;
-    tick(alloc, nodes.as_mut_slice(), 3)?;
-    let three = reported(alloc, nodes.as_mut_slice(), &mut audit, 3)?;
-    let third = audit.add(alloc, three.as_slice())?;
-    let node = NodeId::new(1).ok_or(Fault::BadConfig)?;
-    let mut known = Vec::new(alloc);
-    known.extend_from_slice(audit.known(node))?;
-    Ok(Heard {
-        outcomes: [gap, second, following, third],
-        known,
-    })
+    let node = node(rt, 1);
+    let gap = Added::Gap { node, known: 0 };
+    add_one(rt, alloc, &mut nodes, &mut audit, (3, gap));
+    let second = Added::Added { node, known: 2 };
+    add_late(rt, alloc, &mut nodes, &mut audit, second);
+    tick(rt, alloc, &mut nodes, 3);
+    let third = Added::Added { node, known: 3 };
+    add_one(rt, alloc, &mut nodes, &mut audit, (3, third));
+    expect_eq(rt, audit.known(node), known);
 }
 
 #[test]
-fn an_audit_knows_what_was_reported_without_a_gap(rt: HostRuntime) -> Result<(), Fail> {
+fn an_audit_knows_what_was_reported_without_a_gap(rt: HostRuntime) {
     let alloc = rt.alloc();
-    let program = TallyProgram::new(1).ok_or("one object")?;
-    let devices = devices(alloc)?;
-    let heard = hear::<Tally, MemDevice>(alloc, &program, devices)?;
-    let node = NodeId::new(1).ok_or("node 1")?;
-    let outcomes = [
-        Added::Gap { node, known: 0 },
-        Added::Added { node, known: 2 },
-        Added::Added { node, known: 2 },
-        Added::Added { node, known: 3 },
-    ];
-    assert_eq!(rt; heard.outcomes.as_slice(), outcomes.as_slice());
+    let devices = devices(&rt, alloc);
     let ticks = [
         Action::Tick { now: 1 },
         Action::Tick { now: 2 },
         Action::Tick { now: 3 },
     ];
-    assert_eq!(rt; heard.known.as_slice(), ticks.as_slice());
-    Ok(())
+    hear::<Tally, MemDevice>(&rt, alloc, &program(&rt), devices, &ticks);
 }

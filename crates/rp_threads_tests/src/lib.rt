@@ -5,6 +5,8 @@
 #[cfg(test)]
 mod audit;
 #[cfg(test)]
+mod compare;
+#[cfg(test)]
 mod running;
 #[cfg(test)]
 mod seats;

@@ -4,21 +4,22 @@ ghost use Rattle.std.specs.Prelude.{◌≡◌, ◌<◌, [], All, IfOk, IfSome, l
 ghost use Rattle.rp_boxes.specs.Parts.{fresh_part, OfTask};
 ghost use Rattle.rp_model.specs.Parts.{fresh_task};
 
-use crate::setup::{CONFIG, devices};
+use crate::compare::expect_eq;
+use crate::setup::{devices, node, opened, program};
 use rp_base::{Fault, NodeId, Operation, Position, TaskId};
-use rp_boxes::{Added, AllSeats, Audit, NodeSeat, TaskSeat, seats};
+use rp_boxes::{Added, AllSeats, Audit, NodeSeat, TaskSeat};
 use rp_codec::{Body, Party, decode, packet_len};
-use rp_machine::{Machine, Tally, TallyProgram};
+use rp_machine::{Machine, Tally};
 use rp_replica::Input;
 use rp_store::{Device, MemDevice};
 use rp_tasks::FaultLine;
 use rp_threads::{
-    Gate, LoopOptions, NodeEnd, NodeStart, TaskCall, TaskStart, node_step, run_threads,
+    Gate, LoopOptions, NodeEnd, NodeStart, TaskCall, TaskEnd, TaskStart, node_step, run_threads,
 };
 use std::alloc::Global;
+use std::process::Abort;
 use std::sync::Wait;
 use std::sync::atomic::{AtomicU64, Ordering};
-use std::test::Fail;
 use std::thread::Threads;
 
 /// How many turns each node and each task makes.
@@ -168,94 +169,85 @@ fn hear<M: Machine>(audit: &mut Audit<M>, alloc: Global, node: NodeId) -> Result
     }
 }
 
-/// The ballot in which a node leads at a position, by the first packet of that step.
-fn led_in<M: Machine, D: Device>(
-    seat: &mut NodeSeat<M, D>,
-    alloc: Global,
-    position: u32,
-) -> Result<u64, Fault> {
-    let position = u16::try_from(position).map_err(|_| Fault::LogFull)?;
-    let sent = seat.turn(alloc, &Input::Lead(Position::new(position)))?;
-    let bytes = sent.bytes.as_slice();
-    let len = packet_len(bytes).ok_or(Fault::Io)?;
-    let first = bytes.get(..len).ok_or(Fault::Io)?;
-    let Ok(packet) = decode(alloc, first)? else {
-        return Err(Fault::Io);
-    };
+/// The ballot that the first of these packets, a Prepare, is in.
+fn ballot_in(rt: &impl Abort, alloc: Global, bytes: &[u8]) -> u64 {
+    let len = packet_len(bytes).expect(rt, "a packet");
+    let first = bytes.get(..len).expect(rt, "its text");
+    let decoded = decode(alloc, first).expect(rt, "memory for the packet");
+    let packet = decoded.expect(rt, "a packet");
     match packet.body() {
-        Body::Prepare { ballot, .. } => Ok(ballot.get()),
-        _ => Err(Fault::Io),
+        Body::Prepare { ballot, .. } => ballot.get(),
+        _ => panic!(rt; "a Prepare"),
     }
 }
 
-/// What a node reports after its turns, and how many of its actions are known of its report.
-#[derive(Clone, Copy)]
-struct NodeOutcome {
-    received: u64,
-    skipped: u64,
-    applied: u32,
-    known: u32,
+/// A node leads at its next position in a ballot above the first one.
+fn expect_later_ballot<M: Machine, D: Device>(
+    rt: &impl Abort,
+    seat: &mut NodeSeat<M, D>,
+    alloc: Global,
+) {
+    let applied = seat.applied().expect(rt, "a node that runs");
+    let position = u16::try_from(applied.wrapping_add(1)).expect(rt, "a position");
+    let sent = seat.turn(alloc, &Input::Lead(Position::new(position)));
+    let bytes = sent.expect(rt, "the step").bytes;
+    expect_eq(rt, ballot_in(rt, alloc, &bytes) > 9, true);
 }
 
-/// A node reports to the audit.
-fn outcome_at<M: Machine, D: Device>(
+/// A node received packets and skipped none. It reports to the audit, which knows all that it applied.
+fn expect_reported<M: Machine, D: Device>(
+    rt: &impl Abort,
     end: &mut NodeEnd<M, D>,
     audit: &mut Audit<M>,
     alloc: Global,
-) -> Result<NodeOutcome, Fault> {
-    if let Some(fault) = end.fault {
-        return Err(fault);
+) {
+    expect_eq(rt, (end.fault, end.skipped), (None, 0));
+    expect_eq(rt, end.received > 0, true);
+    let applied = end.seat.applied().expect(rt, "a node that runs");
+    let packets = node_step(&mut end.seat, alloc, &Input::Report(Position::first()));
+    expect_eq(rt, packets.is_ok(), true);
+    let known = hear(audit, alloc, end.seat.number()).expect(rt, "the report");
+    expect_eq(rt, known >= applied, true);
+}
+
+/// The actions known of one node begin those of the other, or are begun by them.
+fn expect_begun<M: Machine>(rt: &impl Abort, audit: &Audit<M>, one: u8, other: u8) {
+    let one = audit.known(node(rt, one));
+    let other = audit.known(node(rt, other));
+    for (mine, theirs) in one.iter().zip(other.iter()) {
+        expect_eq(rt, mine, theirs);
     }
-    let applied = end.seat.applied()?;
-    node_step(&mut end.seat, alloc, &Input::Report(Position::first()))?;
-    Ok(NodeOutcome {
-        received: end.received,
-        skipped: end.skipped,
-        applied,
-        known: hear(audit, alloc, end.seat.number())?,
-    })
 }
 
-/// Whether the actions known of one node begin those of the other.
-fn begin<M: Machine>(audit: &Audit<M>, one: u8, other: u8) -> Result<bool, Fault> {
-    let one = audit.known(NodeId::new(one).ok_or(Fault::BadConfig)?);
-    let other = audit.known(NodeId::new(other).ok_or(Fault::BadConfig)?);
-    let mut pairs = one.iter().zip(other.iter());
-    Ok(pairs.all(|(mine, theirs)| mine == theirs))
-}
-
-/// Whether the task has a reply, or waits for it still.
-fn asked<M: Machine>(task: &mut TaskSeat<M>, alloc: Global) -> Result<bool, Fault> {
-    if !task.replies().is_empty() {
-        return Ok(true);
+/// The task has a reply, or waits for it still.
+fn expect_asked<M: Machine>(rt: &impl Abort, task: &mut TaskSeat<M>, alloc: Global) {
+    if task.replies().is_empty() {
+        let further = task.call(alloc, node(rt, 1), 1, Operation::Procedure(1), 5);
+        expect_eq(rt, further.err(), Some(Fault::TaskBusy));
     }
-    let node = NodeId::new(1).ok_or(Fault::BadConfig)?;
-    let further = task.call(alloc, node, 1, Operation::Procedure(1), 5);
-    Ok(matches!(further, Err(Fault::TaskBusy)))
 }
 
-/// What is reported once all threads have ended.
+/// Three nodes and a task that ran in threads, and the audit.
 #[derive(Drop)]
-struct Outcome {
-    nodes: Vec<NodeOutcome>,
-    agree: bool,
-    made: usize,
-    asked: bool,
-    ballot: u64,
+struct Ends<M: Machine, D: Device> {
+    nodes: Vec<NodeEnd<M, D>>,
+    tasks: Vec<TaskEnd<M>>,
+    audit: Audit<M>,
 }
 
-/// Three nodes and the first task run in threads, and then report to the audit.
-fn run_three<R: Threads + Wait, M: Machine + Send, D: Device + Send, G: Gate + Sync>(
+/// Three nodes and the first task run in threads.
+fn run_three<R: Threads + Wait + Abort, M: Machine + Send, D: Device + Send, G: Gate + Sync>(
     rt: &R,
     alloc: Global,
     program: &M::Program,
     devices: Vec<D>,
     gate: &G,
-) -> Result<Outcome, Fault>
+) -> Result<Ends<M, D>, Fault>
 where
     M::Program: Send,
 {
-    let all: AllSeats<M, D> = seats(alloc, CONFIG, program, devices)?;
+    let all: AllSeats<M, D> = opened(rt, alloc, program, devices);
+    let audit = Audit::new(alloc, all.audit);
     let nodes = node_starts(alloc, all.nodes)?;
     let tasks = task_starts(alloc, all.tasks)?;
     let options = LoopOptions {
@@ -263,46 +255,62 @@ where
         gate,
         turns: TURNS,
     };
-    let (mut nodes, mut tasks) = run_threads(rt, nodes, tasks, options)?;
-    let mut audit = Audit::new(alloc, all.audit);
-    let mut stated = Vec::new(alloc);
-    for end in nodes.iter_mut() {
-        stated.push(outcome_at(end, &mut audit, alloc)?)?;
-    }
-    audit.look();
-    let agree = begin(&audit, 1, 2)? && begin(&audit, 2, 3)? && begin(&audit, 1, 3)?;
-    let leader = nodes.first_mut().ok_or(Fault::BadConfig)?;
-    let applied = leader.seat.applied()?;
-    let task = tasks.first_mut().ok_or(Fault::BadConfig)?;
-    if let Some(fault) = task.fault {
-        return Err(fault);
-    }
-    Ok(Outcome {
-        nodes: stated,
-        agree,
-        made: task.made,
-        asked: asked(&mut task.seat, alloc)?,
-        ballot: led_in(&mut leader.seat, alloc, applied.wrapping_add(1))?,
+    let (nodes, tasks) = run_threads(rt, nodes, tasks, options)?;
+    Ok(Ends {
+        nodes,
+        tasks,
+        audit,
     })
 }
 
-#[test]
-fn three_nodes_and_a_task_run_in_threads(rt: HostRuntime) -> Result<(), Fail> {
-    let alloc = rt.alloc();
-    let program = TallyProgram::new(1).ok_or("one object")?;
-    let devices = devices(alloc)?;
-    let gate = InStep::new();
-    let stated = run_three::<_, Tally, MemDevice, _>(&rt, alloc, &program, devices, &gate)?;
-    assert_eq!(rt; gate.late.load(Ordering::SeqCst), 0);
-    assert_eq!(rt; stated.nodes.len(), 3);
-    for node in &stated.nodes {
-        assert_eq!(rt; node.skipped, 0);
-        assert!(rt; node.received > 0);
-        assert!(rt; node.known >= node.applied);
+/// The nodes report to the audit once all threads have ended, and what is known of them is one order.
+fn expect_agreed<M: Machine, D: Device>(
+    rt: &impl Abort,
+    nodes: &mut [NodeEnd<M, D>],
+    audit: &mut Audit<M>,
+    alloc: Global,
+) {
+    expect_eq(rt, nodes.len(), 3);
+    for end in nodes.iter_mut() {
+        expect_reported(rt, end, audit, alloc);
     }
-    assert!(rt; stated.agree);
-    assert_eq!(rt; stated.made, 1);
-    assert!(rt; stated.asked);
-    assert!(rt; stated.ballot > 9);
-    Ok(())
+    audit.look();
+    for (one, other) in [(1, 2), (2, 3), (1, 3)] {
+        expect_begun(rt, audit, one, other);
+    }
+}
+
+/// What is reported once all threads have ended.
+fn expect_ends<M: Machine, D: Device>(rt: &impl Abort, ends: &mut Ends<M, D>, alloc: Global) {
+    expect_agreed(rt, &mut ends.nodes, &mut ends.audit, alloc);
+    let task = ends.tasks.first_mut().expect(rt, "a task");
+    expect_eq(rt, (task.fault, task.made), (None, 1));
+    expect_asked(rt, &mut task.seat, alloc);
+    let leader = ends.nodes.first_mut().expect(rt, "node 1");
+    expect_later_ballot(rt, &mut leader.seat, alloc);
+}
+
+/// Three nodes and the first task run in threads, and then report.
+fn expect_run<R: Threads + Wait + Abort, M: Machine + Send, D: Device + Send, G: Gate + Sync>(
+    rt: &R,
+    alloc: Global,
+    program: &M::Program,
+    devices: Vec<D>,
+    gate: &G,
+)
+where
+    M::Program: Send,
+{
+    let ends = run_three::<R, M, D, G>(rt, alloc, program, devices, gate);
+    let mut ends = ends.expect(rt, "the run");
+    expect_ends(rt, &mut ends, alloc);
+}
+
+#[test]
+fn three_nodes_and_a_task_run_in_threads(rt: HostRuntime) {
+    let alloc = rt.alloc();
+    let devices = devices(&rt, alloc);
+    let gate = InStep::new();
+    expect_run::<_, Tally, MemDevice, _>(&rt, alloc, &program(&rt), devices, &gate);
+    expect_eq(&rt, gate.late.load(Ordering::SeqCst), 0);
 }

@@ -1,16 +1,14 @@
-ghost use Rattle.std.specs.Prelude.{IfOk};
 ghost use Rattle.rp_boxes.specs.Seats.{IsSentText};
 
-use crate::setup::{CONFIG, devices, receive};
-use rp_base::{Fault, NodeId, Operation, Position, TaskId};
-use rp_boxes::{AllSeats, NodeSeat, TaskSeat, seats};
+use crate::compare::expect_eq;
+use crate::setup::{devices, go_round, lead, node, opened, program, receive, receive_all};
+use rp_base::{Operation, Position, TaskId};
+use rp_boxes::{AllSeats, NodeSeat, TaskSeat};
 use rp_codec::Party;
-use rp_machine::{Machine, Tally, TallyProgram};
-use rp_replica::{Input, Sent};
+use rp_machine::{Machine, Tally};
 use rp_store::{Device, MemDevice};
-use rp_threads::node_step;
 use std::alloc::Global;
-use std::test::Fail;
+use std::process::Abort;
 
 /// Task 1 calls node 1 for the first time: procedure 1 of object 1 with 5.
 const CALL: [u8; 21] = [
@@ -18,143 +16,128 @@ const CALL: [u8; 21] = [
 ];
 
 /// The first task's first call, to node 1.
-fn first_call<M: Machine>(task: &mut TaskSeat<M>, alloc: Global) -> Result<Sent, Fault>
-    ensures { IfOk result (λ sent. IsSentText task.new.part sent.bytes.items) }
+fn first_call<M: Machine>(rt: &impl Abort, task: &mut TaskSeat<M>, alloc: Global) -> Vec<u8>
+    ensures { IsSentText task.new.part result.items }
 {
-    let node = NodeId::new(1).ok_or(Fault::BadConfig)?;
-    task.call(alloc, node, 1, Operation::Procedure(1), 5)
-}
-
-/// What is known of the box from the task to node 1.
-#[derive(Drop)]
-struct Boxed {
-    /// The packet that was given back at the second put.
-    back: Option<Vec<u8>>,
-    first: Option<Vec<u8>>,
-    second: Option<Vec<u8>>,
+    match task.call(alloc, node(rt, 1), 1, Operation::Procedure(1), 5) {
+        Ok(sent) => sent.bytes,
+        Err(fault) => panic!(rt; "{fault:?}"),
+    }
 }
 
 /// Puts a packet and its copy: the copy, if it is given back.
 fn put_both<M: Machine>(
+    rt: &impl Abort,
     task: &mut TaskSeat<M>,
     packet: Vec<u8>,
     copy: Vec<u8>,
-) -> Result<Option<Vec<u8>>, Fault>
+) -> Option<Vec<u8>>
     requires packet { IsSentText task.old.part packet.items }
     requires copy { IsSentText task.old.part copy.items }
 {
     let Ok(()) = task.put(packet) else {
-        return Err(Fault::Io);
+        panic!(rt; "the box is in use");
     };
-    Ok(task.put(copy).err())
+    task.put(copy).err()
+}
+
+/// The first call is put twice into its box, and is given back at the second put.
+fn put_twice<M: Machine>(rt: &impl Abort, task: &mut TaskSeat<M>, alloc: Global) {
+    let packet = first_call(rt, task, alloc);
+    let Ok(copy) = packet.clone() else {
+        panic!(rt; "memory is refused");
+    };
+    let back = put_both(rt, task, packet, copy);
+    expect_eq(rt, back.as_deref(), Some(CALL.as_slice()));
+}
+
+/// This is in the node's box from the first task.
+fn expect_boxed<M: Machine, D: Device>(
+    rt: &impl Abort,
+    seat: &mut NodeSeat<M, D>,
+    packet: Option<&[u8]>,
+) {
+    let found = seat.fetch(Party::Task(TaskId::first()));
+    expect_eq(rt, found.as_deref(), packet);
 }
 
 /// A packet is put twice into one box, which is then emptied twice.
-fn put_twice<M: Machine, D: Device>(
+fn empties_twice<M: Machine, D: Device>(
+    rt: &impl Abort,
     alloc: Global,
     program: &M::Program,
     devices: Vec<D>,
-) -> Result<Boxed, Fault> {
-    let mut all: AllSeats<M, D> = seats(alloc, CONFIG, program, devices)?;
-    let from = Party::Task(TaskId::new(1).ok_or(Fault::BadConfig)?);
-    let task = all.tasks.first_mut().ok_or(Fault::BadConfig)?;
-    let packet = first_call(task, alloc)?.bytes;
-    let copy = packet.clone()?;
-    let back = put_both(task, packet, copy)?;
-    let node = all.nodes.first_mut().ok_or(Fault::BadConfig)?;
-    Ok(Boxed {
-        back,
-        first: node.fetch(from),
-        second: node.fetch(from),
-    })
+) {
+    let mut all: AllSeats<M, D> = opened(rt, alloc, program, devices);
+    put_twice(rt, all.tasks.first_mut().expect(rt, "a task"), alloc);
+    let seat = all.nodes.first_mut().expect(rt, "node 1");
+    expect_boxed(rt, seat, Some(&CALL));
+    expect_boxed(rt, seat, None);
 }
 
 #[test]
-fn a_full_box_gives_a_packet_back(rt: HostRuntime) -> Result<(), Fail> {
+fn a_full_box_gives_a_packet_back(rt: HostRuntime) {
     let alloc = rt.alloc();
-    let program = TallyProgram::new(1).ok_or("one object")?;
-    let devices = devices(alloc)?;
-    let boxed = put_twice::<Tally, MemDevice>(alloc, &program, devices)?;
-    let back = boxed.back.ok_or("the second put is given back")?;
-    assert_eq!(rt; back.as_slice(), CALL.as_slice());
-    let first = boxed.first.ok_or("the first fetch gets it")?;
-    assert_eq!(rt; first.as_slice(), CALL.as_slice());
-    assert!(rt; boxed.second.is_none());
-    Ok(())
+    let devices = devices(&rt, alloc);
+    empties_twice::<Tally, MemDevice>(&rt, alloc, &program(&rt), devices);
 }
 
-/// The node receives what is in its boxes from the first task and from the nodes, once each.
-fn receive_all<M: Machine, D: Device>(
+/// The first task calls node 1.
+fn put_call<M: Machine>(rt: &impl Abort, task: &mut TaskSeat<M>, alloc: Global) {
+    let packet = first_call(rt, task, alloc);
+    if task.put(packet).is_err() {
+        panic!(rt; "the box is in use");
+    }
+}
+
+/// The node receives what is in its boxes from the first task and from the nodes, and leads.
+fn receive_and_lead<M: Machine, D: Device>(
+    rt: &impl Abort,
     seat: &mut NodeSeat<M, D>,
     alloc: Global,
-) -> Result<(), Fault> {
-    let task = TaskId::new(1).ok_or(Fault::BadConfig)?;
-    receive(seat, alloc, Party::Task(task))?;
-    for number in 1..4u8 {
-        let node = NodeId::new(number).ok_or(Fault::BadConfig)?;
-        receive(seat, alloc, Party::Node(node))?;
-    }
-    Ok(())
+) {
+    receive(rt, seat, alloc, Party::Task(TaskId::first()));
+    receive_all(rt, seat, alloc);
+    lead(rt, seat, alloc);
 }
 
-/// What the seats report after one call.
-#[derive(Drop)]
-struct Outcome {
-    reply: Option<Vec<u8>>,
-    report: Vec<u8>,
-    applied: Vec<u32>,
+/// The first task has a reply of node 1 in its box.
+fn expect_reply<M: Machine>(rt: &impl Abort, task: &mut TaskSeat<M>) {
+    let reply = task.fetch(Party::Node(node(rt, 1)));
+    let expected = b"\x02\x09\x01\x11\0\0\0\x01\x01\0\0\0\0\0\0\0\x05";
+    expect_eq(rt, reply.as_deref(), Some(expected.as_slice()));
+}
+
+/// Node 1 reports the one call.
+fn expect_report<M: Machine, D: Device>(rt: &impl Abort, seat: &mut NodeSeat<M, D>, alloc: Global) {
+    let report = seat.report(alloc, Position::first());
+    let report = report.expect(rt, "the report").bytes;
+    let expected =
+        b"\x02\x0a\x01\x20\0\x01\0\x01\x01\x01\x01\0\0\0\x01\x01\x02\x01\0\0\0\0\0\0\0\x05";
+    expect_eq(rt, report.as_slice(), expected.as_slice());
 }
 
 /// The first task calls node 1, which leads. All packets go by boxes, on one thread.
 fn one_call<M: Machine, D: Device>(
+    rt: &impl Abort,
     alloc: Global,
     program: &M::Program,
     devices: Vec<D>,
-) -> Result<Outcome, Fault> {
-    let mut all: AllSeats<M, D> = seats(alloc, CONFIG, program, devices)?;
-    let task = all.tasks.first_mut().ok_or(Fault::BadConfig)?;
-    let packet = first_call(task, alloc)?.bytes;
-    if task.put(packet).is_err() {
-        return Err(Fault::Io);
+) {
+    let mut all: AllSeats<M, D> = opened(rt, alloc, program, devices);
+    put_call(rt, all.tasks.first_mut().expect(rt, "a task"), alloc);
+    receive_and_lead(rt, all.nodes.first_mut().expect(rt, "node 1"), alloc);
+    go_round(rt, alloc, &mut all.nodes);
+    for seat in all.nodes.iter() {
+        expect_eq(rt, seat.applied(), Ok(1));
     }
-    let leader = all.nodes.first_mut().ok_or(Fault::BadConfig)?;
-    receive_all(leader, alloc)?;
-    node_step(leader, alloc, &Input::Lead(None))?;
-    for _ in 0..8 {
-        for seat in all.nodes.iter_mut() {
-            receive_all(seat, alloc)?;
-        }
-    }
-    let mut applied = Vec::new(alloc);
-    for seat in &all.nodes {
-        applied.push(seat.applied()?)?;
-    }
-    let first = Party::Node(NodeId::new(1).ok_or(Fault::BadConfig)?);
-    let task = all.tasks.first_mut().ok_or(Fault::BadConfig)?;
-    let reply = task.fetch(first);
-    let leader = all.nodes.first_mut().ok_or(Fault::BadConfig)?;
-    Ok(Outcome {
-        reply,
-        report: leader.report(alloc, Position::first())?.bytes,
-        applied,
-    })
+    expect_reply(rt, all.tasks.first_mut().expect(rt, "a task"));
+    expect_report(rt, all.nodes.first_mut().expect(rt, "node 1"), alloc);
 }
 
 #[test]
-fn one_call_is_decided_by_seats(rt: HostRuntime) -> Result<(), Fail> {
+fn one_call_is_decided_by_seats(rt: HostRuntime) {
     let alloc = rt.alloc();
-    let program = TallyProgram::new(1).ok_or("one object")?;
-    let devices = devices(alloc)?;
-    let stated = one_call::<Tally, MemDevice>(alloc, &program, devices)?;
-    assert_eq!(rt; stated.applied.as_slice(), [1, 1, 1].as_slice());
-    let reply = stated.reply.ok_or("a reply is in the box")?;
-    assert_eq!(rt;
-        reply.as_slice(),
-        b"\x02\x09\x01\x11\0\0\0\x01\x01\0\0\0\0\0\0\0\x05".as_slice()
-    );
-    assert_eq!(rt;
-        stated.report.as_slice(),
-        b"\x02\x0a\x01\x20\0\x01\0\x01\x01\x01\x01\0\0\0\x01\x01\x02\x01\0\0\0\0\0\0\0\x05".as_slice()
-    );
-    Ok(())
+    let devices = devices(&rt, alloc);
+    one_call::<Tally, MemDevice>(&rt, alloc, &program(&rt), devices);
 }

@@ -1,9 +1,10 @@
 -- The task did nothing yet.
-use Rattle.rp_threads_tests.proofs.Asking.{first_is_fresh}
+use Rattle.std.proofs.Common.{◌≡◌, arith}
+use Rattle.rp_boxes.specs.Parts.{fresh_part, OfTask}
+use Rattle.rp_model.specs.Parts.{fresh_task}
+use Rattle.rp_threads_tests.proofs.Starting.{first_is}
 use Rattle.rp_threads_tests.proofs.turns.calls.Goals as goal
 
-pub task_loop-end-requires-clause-fresh : goal.task_loop-end-requires-clause-fresh
-task_loop-end-requires-clause-fresh g c =
-    let all = c.in_ok-all.all in
-    let are = c.in_ok-all.ensures.opened in
-    first_is_fresh all.audit.table _ _ all.tasks.items c.swap_remove-task.result are.eight are.tasks_are c.swap_remove-task.ensures.value
+pub call_once-requires : goal.call_once-requires
+call_once-requires g c =
+    first_is (λ seat. seat.part ≡ fresh_part (OfTask fresh_task)) c.opened-all.result.tasks.items c.swap_remove-task.result (omega (arith, c.opened-all.ensures.eight)) c.swap_remove-task.ensures.value c.opened-all.ensures.fresh

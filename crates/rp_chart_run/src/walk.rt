@@ -21,7 +21,7 @@ use rp_history::{Chart, Happened, Stage};
 use rp_machine::Machine;
 use rp_model::{Event, Step, worlds_grow};
 use rp_output::is_refusal;
-use rp_run::{RunOptions, Settled, sent_packet};
+use rp_run::{RunOptions, Settled, sent_packet, settled_by};
 use rp_store::CutDevice;
 use rp_world::Cluster;
 use std::alloc::Global;
@@ -125,7 +125,7 @@ impl<M: Machine, D: CutDevice> Walk<M, D> {
         let prospect = prospect_of(self.alloc, &self.cluster, event)?;
         match self.cluster.step(self.alloc, event) {
             Ok(effect) => {
-                self.settled.settle_by(event)?;
+                self.settled.settle_any(settled_by(event))?;
                 let happened = happened_after(
                     self.alloc,
                     &self.cluster,

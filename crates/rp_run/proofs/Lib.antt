@@ -10,3 +10,4 @@ mod Recounting
 pub mod Printing
 pub mod RunParts
 pub mod Stepping
+pub mod Taken

@@ -1,7 +1,7 @@
 -- What the lines of a script print.
 use Rattle.std.specs.Prelude.{ℕ, zero, suc, ◌+◌, ◌-◌, ◌^◌, ◌&&◌, min, not, nat_eq, nat_le, Bool, Option, Some}
 use Rattle.std.specs.Prelude.{None, Result, Ok, Err, List, [], ◌∷◌, ◌++◌, length, map, filter, find}
-use Rattle.std.specs.Prelude.{flat_map, if◌then◌else◌, String, string_bytes}
+use Rattle.std.specs.Prelude.{flat_map, if◌then◌else◌, true, false, String, string_bytes}
 use Rattle.std.specs.List.{list_any}
 use Rattle.indexmap.specs.IndexMap.{IndexMap, keys}
 use Rattle.rp_base.specs.Records.{applied_of}
@@ -102,6 +102,11 @@ settled_by (Cut step kept) = delivered_by step
 settled_by (Stop node) = []
 settled_by (Restart node) = []
 
+-- a message, if there is one, as a list
+abbrev pub listed : Option ℕ → List ℕ
+listed None = []
+listed (Some message) = message ∷ []
+
 -- The messages of these numbers count as settled, where all of them were sent.
 abbrev pub lost : ℕ → Play → ℕ → ℕ → Said
 lost line play first last =
@@ -159,6 +164,11 @@ opened_text (Cut step kept) opened = []
 opened_text (Stop node) opened = []
 opened_text (Restart node) opened = restarted_text node opened
 
+-- a node starts again
+abbrev pub is_restart : Event → Bool
+is_restart (Restart node) = true
+is_restart _ = false
+
 -- the node that a packet is for
 abbrev pub node_of_party : Party → Option ℕ
 node_of_party (parties.Node node) = Some node
@@ -196,6 +206,10 @@ abbrev pub dropped_text : Option ℕ → Dropped → List ℕ
 dropped_text place No = []
 dropped_text place Full = full_text place
 dropped_text place Foreign = []
+
+abbrev pub is_full : Dropped → Bool
+is_full Full = true
+is_full _ = false
 
 abbrev pub full_notes : Option ℕ → List Note
 full_notes None = []

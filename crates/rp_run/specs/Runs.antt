@@ -1,13 +1,16 @@
 -- How a run in memory is related to a play, and what it writes.
-use Rattle.std.specs.Prelude.{◌≡◌, ℕ, Option, Result, Ok, Err, List, length, replicate}
+use Rattle.std.specs.Prelude.{◌≡◌, ℕ, ◌-◌, Option, Result, Ok, Err, List, ◌++◌, length, replicate, drop}
 use Rattle.std.specs.Io.KnownBytes.{Appends}
 use Rattle.rp_base.specs.declared.action.Action.{Action}
 use Rattle.rp_base.specs.declared.config.Config.{Config}
 use Rattle.rp_base.specs.declared.fault.Fault.{Fault}
 use Rattle.rp_base.specs.declared.reply.Answer.{Answer}
+use Rattle.rp_codec.specs.Message.{Message}
 use Rattle.rp_model.specs.World.{World, opening_world}
+use Rattle.rp_model.specs.declared.effect.Effect.{Effect}
+use Rattle.rp_model.specs.declared.event.Event.{Event}
 use Rattle.rp_world.specs.Steps.{Setup, setting_of}
-use Rattle.rp_run.specs.Output.{RunSetting, Play, Said, text_of, names_of, is_among}
+use Rattle.rp_run.specs.Output.{RunSetting, Play, Said, text_of, names_of, is_among, traced_text, effect_text}
 use Rattle.rp_run.specs.Settled.{is_settled}
 use Rattle.rp_output.specs.Stream.{Begins}
 use Rattle.rp_run.specs.declared.options.RunOptions.{RunOptions}
@@ -31,6 +34,13 @@ opening_setup config program = record {
   world = opening_world config.nodes;
   failures = replicate config.nodes 0;
 }
+
+-- what is printed of an event with this effect, once these messages were sent
+abbrev pub printed_text : RunOptions → List Message → Event → Effect → List ℕ
+printed_text options sent event effect =
+    let names = names_of options.tasks.now in
+    traced_text options.traced names effect.first (drop (effect.first - 1) sent)
+    ++ effect_text names sent event effect.opened effect.dropped effect.taken
 
 -- the cluster has n nodes, and eight tasks
 pub record HasParts {P : Type 0} (nodes : ℕ) (cluster : Setup P) : Type 0 where

@@ -2,7 +2,7 @@
 
 ghost use Rattle.std.specs.Prelude.{◌≡◌, ◌≤◌, ◌-◌, Some, drop, IfErr, IfOk};
 ghost use Rattle.rp_model.specs.World.{part_at};
-ghost use Rattle.rp_run.specs.Output.{names_of, message_text, trace_text, traced_text, opened_text, full_text, dropped_text, node_of_event, node_of_step, receiver_of, taken_text};
+ghost use Rattle.rp_run.specs.Output.{names_of, message_text, trace_text, traced_text, opened_text, full_text, dropped_text, is_restart, node_of_event, node_of_step, receiver_of, taken_text};
 ghost use Rattle.rp_output.specs.Trace.{task_name, party_text_of, message_line_of};
 ghost use Rattle.rp_output.specs.PartyText.{shown_party};
 ghost use Rattle.rp_output.specs.FaultMessage.{with_line_feed};
@@ -143,6 +143,14 @@ fn task_name(tasks: &IndexMap<String, Task>, task: TaskId) -> &str
         Some((name, _)) => name.as_str(),
         None => "",
     }
+}
+
+/// Whether a node starts again, of which a line is printed.
+#[inline(always)]
+pub(crate) fn is_restart(event: &Event) -> bool
+    ensures { result ≡ is_restart event.now }
+{
+    matches!(event, Event::Restart(_))
 }
 
 /// Prints how a restart went.

@@ -6,6 +6,7 @@
 //! - `agreeing`: at any two lines of a script nodes agree, and replies are those of one order
 //! - `effects`: prints the result of an event
 //! - `settled`: which messages of a run are settled
+//! - `settling`: which message an event settles
 #![tactic(auto)]
 
 mod agreeing;
@@ -13,9 +14,11 @@ mod effects;
 mod options;
 mod run;
 mod settled;
+mod settling;
 
 pub use agreeing::scripts_agree;
 pub use effects::{node_of_event, party_text, print_reply, sent_packet};
 pub use options::RunOptions;
 pub use run::run_lines;
 pub use settled::Settled;
+pub use settling::settled_by;

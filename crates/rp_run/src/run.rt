@@ -1,22 +1,23 @@
 //! Runs the lines of a script, at any machine and over any devices that never fail.
 
-ghost use Rattle.std.specs.Prelude.{◌≡◌, ◌≤◌, ◌<◌, ◌-◌, ◌^◌, ◌++◌, [], length, drop, All, IfErr, OnOk};
+ghost use Rattle.std.specs.Prelude.{◌≡◌, ◌≤◌, ◌<◌, ◌^◌, ◌||◌, [], length, All, IfErr, OnOk};
 ghost use Rattle.rp_model.specs.World.{part_at};
 ghost use Rattle.rp_world.specs.Steps.{IsSameSetup};
 ghost use Rattle.rp_deck.specs.Script.{FitsIn, IsEventWithin};
-ghost use Rattle.rp_run.specs.Output.{Play, event_said, lost, drained, part_text, nodes_text, command_said, run_said, text_of, names_of, traced_text, effect_text};
-ghost use Rattle.rp_run.specs.Runs.{run_setting, opening_setup, HasParts, Follows, Says};
+ghost use Rattle.rp_run.specs.Output.{Play, event_said, lost, drained, part_text, nodes_text, command_said, run_said, text_of, is_restart, is_full};
+ghost use Rattle.rp_run.specs.Runs.{run_setting, opening_setup, printed_text, HasParts, Follows, Says};
 ghost use Rattle.rp_output.specs.Stream.{Writes};
 ghost use Rattle.rp_run.specs.Faults.{IsDeviceRunFault};
 ghost use Rattle.rp_output.specs.Faults.{IsRunFault};
 
-use crate::effects::{print_dropped, print_restart, print_taken, print_trace};
+use crate::effects::{is_restart, print_dropped, print_restart, print_taken, print_trace};
 use crate::options::RunOptions;
 use crate::settled::Settled;
+use crate::settling::settled_by;
 use rp_base::{Fault, NodeId};
 use rp_deck::{Command, Line};
 use rp_machine::Machine;
-use rp_model::{Effect, Event, Step, worlds_grow};
+use rp_model::{Dropped, Effect, Event, Step, worlds_grow};
 use rp_output::{
     AppliedLine, DrainLimitLine, RefusedLine, StoppedLine, is_refusal, print, write_whole,
 };
@@ -53,6 +54,7 @@ pub fn run_lines<M: Machine, D: CutDevice + InfallibleDevice, W: Write>(
         alloc,
         cluster: Cluster::<M, D>::new(alloc, options.config, program, devices)?,
         settled: Settled::new(alloc),
+        effect: no_effect(0),
     };
     for line in options.lines {
         let taken = run.take(options, line, writer);
@@ -68,6 +70,8 @@ struct Run<M: Machine, D: CutDevice> {
     alloc: Global,
     cluster: Cluster<M, D>,
     settled: Settled,
+    /// The effect of the last event.
+    effect: Effect,
 }
 
 impl<M: Machine, D: CutDevice> Run<M, D> {
@@ -125,11 +129,13 @@ impl<M: Machine, D: CutDevice> Run<M, D> {
             self.new.cluster.failures) }
     {
         worlds_grow::<M>();
-        let mut effect = no_effect(0);
-        match self.cluster.step_into(self.alloc, event, &mut effect) {
+        // What the event is, is read before it is taken, so that `drain` knows it from its deliveries.
+        let settled = settled_by(event);
+        let restarts = is_restart(event);
+        match self.cluster.step_into(self.alloc, event, &mut self.effect) {
             Ok(()) => {
-                self.settled.settle_by(event)?;
-                self.print_effect(options, event, &effect, writer)
+                self.settled.settle_any(settled)?;
+                self.print_effect(options, event, restarts, writer)
             }
             Err(fault) if is_refusal(&fault) => {
                 print(self.alloc, writer, RefusedLine { line, fault })
@@ -138,24 +144,53 @@ impl<M: Machine, D: CutDevice> Run<M, D> {
         }
     }
 
-    /// Prints the result of an event: its packets, if they are printed, how a restart went, a
-    /// pending item that was dropped, and the reply that a task takes.
+    /// Prints the result of an event: mostly no more than the reply that a task takes.
     #[inline(always)]
     fn print_effect<W: Write>(
         &self,
         options: &RunOptions<'_>,
         event: &Event,
-        effect: &Effect,
+        restarts: bool,
         writer: &mut W,
     ) -> Result<(), Fault>
-        requires { 1 ≤ effect.now.first }
+        requires first { 1 ≤ self.now.effect.first }
+        requires restarts { restarts ≡ is_restart event.now }
         ensures printed { Writes (W.contents writer.old) (W.contents writer.new)
-            (traced_text options.now.traced (names_of options.now.tasks.now) effect.now.first
-            (drop (effect.now.first - 1) self.now.cluster.world.sent)
-            ++ effect_text (names_of options.now.tasks.now) self.now.cluster.world.sent event.now
-            effect.now.opened effect.now.dropped effect.now.taken) result }
+            (printed_text options.now self.now.cluster.world.sent event.now self.now.effect)
+            result }
         ensures fault { IfErr result IsRunFault }
     {
+        if self.prints_more(options, restarts) {
+            self.print_whole_effect(options, event, writer)
+        } else {
+            print_taken(self.alloc, options.tasks, self.effect.taken, writer)
+        }
+    }
+
+    /// Whether more is printed of an event than the reply that a task takes.
+    #[inline(always)]
+    fn prints_more(&self, options: &RunOptions<'_>, restarts: bool) -> bool
+        ensures { result ≡ (options.now.traced || (restarts || is_full self.now.effect.dropped)) }
+    {
+        options.traced || restarts || matches!(self.effect.dropped, Dropped::Full)
+    }
+
+    /// Prints the result of an event: its packets, if they are printed, how a restart went, a
+    /// pending item that was dropped, and the reply that a task takes.
+    #[inline(never)]
+    fn print_whole_effect<W: Write>(
+        &self,
+        options: &RunOptions<'_>,
+        event: &Event,
+        writer: &mut W,
+    ) -> Result<(), Fault>
+        requires { 1 ≤ self.now.effect.first }
+        ensures printed { Writes (W.contents writer.old) (W.contents writer.new)
+            (printed_text options.now self.now.cluster.world.sent event.now self.now.effect)
+            result }
+        ensures fault { IfErr result IsRunFault }
+    {
+        let effect = &self.effect;
         print_trace(self.alloc, &self.cluster, options, effect.first, writer)?;
         print_restart(self.alloc, event, effect.opened, writer)?;
         print_dropped(self.alloc, &self.cluster, event, effect.dropped, writer)?;

@@ -1,10 +1,9 @@
 //! Which messages of a run are settled.
 
-ghost use Rattle.std.specs.Prelude.{◌≡◌, ℕ, ◌+◌, ◌-◌, ◌^◌, ◌<◌, ◌≤◌, ◌==◌, ◌||◌, true, false, OnOk, OnErr};
+ghost use Rattle.std.specs.Prelude.{◌≡◌, ℕ, ◌+◌, ◌-◌, ◌^◌, ◌<◌, ◌≤◌, ◌==◌, ◌||◌, true, false, IfSome, OnOk, OnErr};
 ghost use Rattle.std.specs.Ordering.{nat_cmp};
 ghost use Rattle.std.specs.BTreeSet.{contains};
 
-use rp_model::{Event, Step};
 use std::alloc::{AllocError, Global};
 use std::collections::BTreeSet;
 
@@ -20,9 +19,8 @@ pub struct Settled {
 }
 
 impl Settled {
-    ghost use Rattle.std.specs.Prelude.{All};
     ghost use Rattle.rp_run.specs.Settled.{is_settled, least_of};
-    ghost use Rattle.rp_run.specs.Output.{is_among, from_to, delivered_by, settled_by};
+    ghost use Rattle.rp_run.specs.Output.{is_among, from_to, listed};
 
     /// No message is settled.
     pub fn new(alloc: Global) -> Self
@@ -73,40 +71,36 @@ impl Settled {
         Ok(())
     }
 
-    /// The messages that an event settles are settled from now on.
+    /// The message, if there is one, is settled from now on.
     #[inline(always)]
-    pub fn settle_by(&mut self, event: &Event) -> Result<(), AllocError>
-        requires { All (λ m. (1 ≤ m) × (m < 2 ^ 63)) (settled_by event.now) }
+    pub fn settle_any(&mut self, message: Option<u64>) -> Result<(), AllocError>
+        requires { IfSome message (λ m. (1 ≤ m) × (m < 2 ^ 63)) }
         ensures { OnOk result ((m : ℕ)
-            → is_settled self.new m
-            ≡ (is_among (settled_by event.now) m || is_settled self.old m)) }
+            → is_settled self.new m ≡ (is_among (listed message) m || is_settled self.old m)) }
     {
-        match *event {
-            Event::Node(step) | Event::Cut { step, .. } => self.settle_step(step),
-            Event::Submit { .. } | Event::Again { .. } | Event::Stop(_) | Event::Restart(_) => {
-                Ok(())
-            }
-        }
-    }
-
-    /// The same of a step, whole or cut.
-    fn settle_step(&mut self, step: Step) -> Result<(), AllocError>
-        requires { All (λ m. (1 ≤ m) × (m < 2 ^ 63)) (delivered_by step) }
-        ensures { OnOk result ((m : ℕ)
-            → is_settled self.new m ≡ (is_among (delivered_by step) m || is_settled self.old m)) }
-    {
-        match step {
-            Step::Deliver(message) => self.settle(message),
-            Step::Lead { .. }
-            | Step::LeadRange { .. }
-            | Step::Interrupt { .. }
-            | Step::Tick { .. }
-            | Step::Report { .. } => Ok(()),
+        match message {
+            Some(message) => self.settle(message),
+            None => Ok(()),
         }
     }
 
     /// Settles the least number, and passes those that are settled after it.
+    #[inline(always)]
     fn pass(&mut self)
+        requires { least_of self.old + 1 < 2 ^ 64 }
+        ensures { (m : ℕ) → is_settled self.new m
+            ≡ (m == least_of self.old || is_settled self.old m) }
+    {
+        if self.above.is_empty() {
+            self.least += 1;
+        } else {
+            self.pass_above();
+        }
+    }
+
+    /// The same, where some are settled above it.
+    #[inline(never)]
+    fn pass_above(&mut self)
         requires { least_of self.old + 1 < 2 ^ 64 }
         ensures { (m : ℕ) → is_settled self.new m
             ≡ (m == least_of self.old || is_settled self.old m) }

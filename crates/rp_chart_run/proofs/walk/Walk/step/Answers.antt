@@ -8,6 +8,7 @@ use Rattle.rp_model.specs.Events.{event_of}
 use Rattle.rp_model.specs.World.{World}
 use Rattle.rp_run.specs.Output.{event_said}
 use Rattle.rp_run.specs.Runs.{run_setting}
+use Rattle.rp_run.proofs.Taken.{settled_alike}
 use Rattle.rp_run.proofs.RunParts.{happened, was_refused}
 use Rattle.rp_run.proofs.Stepping.{always_ok, parts_stay, refused_of}
 use Rattle.rp_chart_run.proofs.Charting.{charted_by, follows_of, writes_none}
@@ -46,9 +47,9 @@ returns-in_ok-packets-in-Ok-clause-reached g c =
     let s = run_setting m.next m.answers m.begin m.image old c.args.scene.now.options.now in
     let done = c.in-Ok.ensures.step.world in
     λ play follows.
-    follows_of c.step.new.self.world c.settle_by.new.self (event_said s c.args.line play c.args.event.now) c.happen.result
-    (happened s c.args.line play c.args.event.now old.world c.args.self.now.settled follows c.step.new.self.world c.settle_by.new.self c.in-Ok.effect None None c.happen.result
-    done (c.worlds_grow.ensures s.setting old.world (event_of c.args.event.now) done.transition done.resulted) c.in_ok-settle_by-in-Ok.ensures (writes_none _ c.happen.result))
+    follows_of c.step.new.self.world c.settle_any.new.self (event_said s c.args.line play c.args.event.now) c.happen.result
+    (happened s c.args.line play c.args.event.now old.world c.args.self.now.settled follows c.step.new.self.world c.settle_any.new.self c.in-Ok.effect None None c.happen.result
+    done (c.worlds_grow.ensures s.setting old.world (event_of c.args.event.now) done.transition done.resulted) (settled_alike c.args.self.now.settled c.settle_any.new.self _ _ c.settled_by.ensures.value c.in_ok-settle_any-in-Ok.ensures) (writes_none _ c.happen.result))
 
 pub returns-in_ok-packets-in-Ok-clause-charted : goal.returns-in_ok-packets-in-Ok-clause-charted
 returns-in_ok-packets-in-Ok-clause-charted g c =

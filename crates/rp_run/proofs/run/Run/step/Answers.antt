@@ -4,32 +4,33 @@ use Rattle.rp_base.specs.Fault.{code_of}
 use Rattle.rp_model.specs.Events.{event_of}
 use Rattle.rp_run.specs.Output.{event_said}
 use Rattle.rp_run.specs.Runs.{run_setting}
+use Rattle.rp_run.proofs.Taken.{settled_alike}
 use Rattle.rp_run.proofs.RunParts.{happened, was_refused, says_failed}
 use Rattle.rp_run.proofs.Stepping.{always_ok, parts_stay, parts_left, ends_with, ends_over, refused_counts, refused_of}
 use Rattle.rp_output.proofs.Writing.{begins_nothing}
 use Rattle.rp_run.proofs.run.Run.step.Goals as goal
 
-pub print_effect-requires : goal.print_effect-requires
-print_effect-requires g c = omega (arith, c.in-Ok.ensures.step.world.describes.first)
+pub print_effect-requires-clause-first : goal.print_effect-requires-clause-first
+print_effect-requires-clause-first g c = omega (arith, c.in-Ok.ensures.step.world.describes.first)
 
-pub returns-in_ok-settle_by-in-Ok-clause-parts : goal.returns-in_ok-settle_by-in-Ok-clause-parts
-returns-in_ok-settle_by-in-Ok-clause-parts g c =
+pub returns-in_ok-settle_any-in-Ok-clause-parts : goal.returns-in_ok-settle_any-in-Ok-clause-parts
+returns-in_ok-settle_any-in-Ok-clause-parts g c =
     let m = g.M.Machine in
     always_ok c.print_effect.result (parts_stay m.next m.answers m.begin c.args.options.now.config.nodes c.args.self.now.cluster c.step_into.new.self c.args.event.now
     c.requires.parts c.requires.event c.step_into.new.effect c.in-Ok.ensures.step.setup c.in-Ok.ensures.step.world)
 
-pub returns-in_ok-settle_by-in-Ok-clause-said : goal.returns-in_ok-settle_by-in-Ok-clause-said
-returns-in_ok-settle_by-in-Ok-clause-said g c =
+pub returns-in_ok-settle_any-in-Ok-clause-said : goal.returns-in_ok-settle_any-in-Ok-clause-said
+returns-in_ok-settle_any-in-Ok-clause-said g c =
     let m = g.M.Machine in
     let old = c.args.self.now.cluster in
     let s = run_setting m.next m.answers m.begin m.image old c.args.options.now in
     let done = c.in-Ok.ensures.step.world in
     λ play follows.
-    happened s c.args.line play c.args.event.now old.world c.args.self.now.settled follows c.step_into.new.self.world c.settle_by.new.self c.step_into.new.effect _ _ c.print_effect.result
-    done (c.worlds_grow.ensures s.setting old.world (event_of c.args.event.now) done.transition done.resulted) c.in_ok-settle_by-in-Ok.ensures c.print_effect.ensures.printed
+    happened s c.args.line play c.args.event.now old.world c.args.self.now.settled follows c.step_into.new.self.world c.settle_any.new.self c.step_into.new.effect _ _ c.print_effect.result
+    done (c.worlds_grow.ensures s.setting old.world (event_of c.args.event.now) done.transition done.resulted) (settled_alike c.args.self.now.settled c.settle_any.new.self _ _ c.settled_by-settled.ensures.value c.in_ok-settle_any-in-Ok.ensures) c.print_effect.ensures.printed
 
-pub returns-in_err-settle_by-in-Ok-clause-said : goal.returns-in_err-settle_by-in-Ok-clause-said
-returns-in_err-settle_by-in-Ok-clause-said g c =
+pub returns-in_err-settle_any-in-Ok-clause-said : goal.returns-in_err-settle_any-in-Ok-clause-said
+returns-in_err-settle_any-in-Ok-clause-said g c =
     let m = g.M.Machine in
     let s = run_setting m.next m.answers m.begin m.image c.args.self.now.cluster c.args.options.now in
     λ play follows. says_failed _ _ _ _ (event_said s c.args.line play c.args.event.now) c.from_residual.result c.from_residual.ensures.0 (begins_nothing _ _)
@@ -62,11 +63,11 @@ returns-in-Err-2-clause-fault g c =
     (λ numbered. let is : c.is_refusal.result ≡ true = c.is_refusal.ensures.1 numbered in absurd (cc (is, c.if-is_refusal.false)))
     c.in-Err.ensures.step.failures
 
-pub returns-in_ok-settle_by-in-Ok-clause-counts : goal.returns-in_ok-settle_by-in-Ok-clause-counts
-returns-in_ok-settle_by-in-Ok-clause-counts g c = always_ok c.print_effect.result c.in-Ok.ensures.step.failures
+pub returns-in_ok-settle_any-in-Ok-clause-counts : goal.returns-in_ok-settle_any-in-Ok-clause-counts
+returns-in_ok-settle_any-in-Ok-clause-counts g c = always_ok c.print_effect.result c.in-Ok.ensures.step.failures
 
-pub returns-in_ok-settle_by-in-Ok-clause-fault : goal.returns-in_ok-settle_by-in-Ok-clause-fault
-returns-in_ok-settle_by-in-Ok-clause-fault g c = ends_over _ _ c.print_effect.result c.print_effect.ensures.fault
+pub returns-in_ok-settle_any-in-Ok-clause-fault : goal.returns-in_ok-settle_any-in-Ok-clause-fault
+returns-in_ok-settle_any-in-Ok-clause-fault g c = ends_over _ _ c.print_effect.result c.print_effect.ensures.fault
 
 pub returns-in-Err-clause-counts : goal.returns-in-Err-clause-counts
 returns-in-Err-clause-counts g c =

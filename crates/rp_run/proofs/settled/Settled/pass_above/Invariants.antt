@@ -2,7 +2,7 @@ use Rattle.std.proofs.Common.{◌≡◌, ℕ, ◌+◌, ◌<◌, ◌≤◌, ◌^�
 use Rattle.std.specs.Ordering.{nat_cmp}
 use Rattle.std.specs.BTreeSet.{contains, btree_set_len}
 use Rattle.rp_run.specs.Settled.{is_settled_by, is_settled, least_of}
-use Rattle.rp_run.proofs.settled.Settled.pass.Given as goal
+use Rattle.rp_run.proofs.settled.Settled.pass_above.Given as goal
 
 abbrev pub invariant-loop-self : goal.invariant-loop-self
 invariant-loop-self l = record {

@@ -1,6 +1,6 @@
 //! Votes with their positions, such as a promise for a range reports.
 
-ghost use Rattle.std.specs.Prelude.{◌≡◌, ◌↔◌, ◌<◌, ◌≤◌, [], ◌∷◌, ◌++◌, length, IsTrue};
+ghost use Rattle.std.specs.Prelude.{◌≡◌, ◌<◌, [], ◌∷◌, ◌++◌, length};
 ghost use Rattle.rp_base.specs.PlacedVotes.{placed_at};
 
 use crate::action::Action;
@@ -68,28 +68,6 @@ impl RangeVotes {
             items: [unused; MOST_VOTES],
             len: 0,
         }
-    }
-
-    /// How many votes there are, at most 64.
-    pub fn len(&self) -> usize
-        ensures { result ≡ length self.now }
-    {
-        self.len
-    }
-
-    /// Whether there is none.
-    pub fn is_empty(&self) -> bool
-        ensures { IsTrue result ↔ (self.now ≡ []) }
-    {
-        self.len == 0
-    }
-
-    /// Whether there are 64, so that `push` may not be called.
-    pub fn is_full(&self) -> bool
-        ensures full { IsTrue result ↔ (length self.now ≡ 64) }
-        ensures within { length self.now ≤ 64 }
-    {
-        self.len == MOST_VOTES
     }
 
     /// Adds a vote after the others.

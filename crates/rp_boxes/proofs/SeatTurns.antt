@@ -17,10 +17,11 @@ use Rattle.rp_model.specs.Parts.{NodePart, Running, Turn}
 use Rattle.rp_agreement.specs.Answered.{setting_for}
 use Rattle.rp_agreement.specs.Inputs.{IsInput}
 use Rattle.rp_replica.specs.State.{ReplicaState, with_text}
-use Rattle.rp_replica.specs.Inputs.{IsRightInput, packet_given, given_by, effect_if_given, input_effect}
-use Rattle.rp_replica.specs.Turning.{TurnsIf, FailsAt, Stops, StopsIf, effect_of}
-use Rattle.rp_replica.specs.declared.input.Input.{Input}
-use Rattle.rp_replica.specs.declared.input.Input.TheVariants.{Receive, Lead, LeadRange, Interrupt, Tick, Report}
+use Rattle.rp_replica.specs.Inputs.{effect_if_given, input_effect, effect_of}
+use Rattle.rp_rules.specs.Inputs.{IsRightInput, packet_given, given_by}
+use Rattle.rp_replica.specs.Turning.{TurnsIf, FailsAt, Stops, StopsIf}
+use Rattle.rp_rules.specs.declared.input.Input.{Input}
+use Rattle.rp_rules.specs.declared.input.Input.TheVariants.{Receive, Lead, LeadRange, Interrupt, Tick, Report}
 use Rattle.rp_replica.specs.declared.sent.Sent.{Sent}
 use Rattle.rp_world.specs.Nodes.{Member, member_of, RunsAs, RepresentsWhile}
 use Rattle.rp_world.proofs.Represented.{represents, represents_failed, as_running, as_resting}

@@ -21,9 +21,9 @@ use Rattle.rp_model.specs.Parts.{NodePart, Running}
 use Rattle.rp_agreement.specs.Answered.{setting_for}
 use Rattle.rp_agreement.specs.Sound.{IsMember}
 use Rattle.rp_replica.specs.State.{ReplicaState}
-use Rattle.rp_replica.specs.Inputs.{given_by}
-use Rattle.rp_replica.specs.declared.input.Input.{Input}
-use Rattle.rp_replica.specs.declared.input.Input.TheVariants.{Receive, Lead, LeadRange, Interrupt, Tick, Report}
+use Rattle.rp_rules.specs.Inputs.{given_by}
+use Rattle.rp_rules.specs.declared.input.Input.{Input}
+use Rattle.rp_rules.specs.declared.input.Input.TheVariants.{Receive, Lead, LeadRange, Interrupt, Tick, Report}
 use Rattle.rp_replica.specs.declared.sent.Sent.{Sent}
 use Rattle.rp_world.specs.Callers.{Caller}
 use Rattle.rp_world.specs.Nodes.{member_of, RepresentsWhile, DescribesSent}

@@ -10,9 +10,9 @@ use Rattle.rp_boxes.specs.Parts.{Part, Role, OfNode}
 use Rattle.rp_boxes.specs.Seats.{SeatState, IsGot, IsReason, IsStopped, IsTurn, IsCutTurn, IsNoTurn, setting_at}
 use Rattle.rp_model.specs.Effect.{Setting, Done, NodeInput, Receive, Lead, LeadRange, Interrupt, Tick, Report, turn_done, turn_done_if, effect_while, running_effect}
 use Rattle.rp_model.specs.Parts.{NodePart, Running, Turn}
-use Rattle.rp_replica.specs.Inputs.{IsRightInput, given_by}
-use Rattle.rp_replica.specs.declared.input.Input.{Input}
-use Rattle.rp_replica.specs.declared.input.Input.TheVariants as inputs
+use Rattle.rp_rules.specs.Inputs.{IsRightInput, given_by}
+use Rattle.rp_rules.specs.declared.input.Input.{Input}
+use Rattle.rp_rules.specs.declared.input.Input.TheVariants as inputs
 use Rattle.rp_replica.specs.declared.sent.Sent.{Sent}
 use Rattle.rp_threads.specs.Turns.{IsEventBy, IsStopBy}
 use Rattle.rp_threads.specs.declared.turns.PacketCounts.{PacketCounts}

@@ -6,8 +6,8 @@ use Rattle.rp_model.specs.declared.event.Event.{Event}
 use Rattle.rp_model.specs.declared.event.Event.TheVariants.{Submit, Again, Node, Cut, Stop, Restart}
 use Rattle.rp_model.specs.declared.event.Step.{Step}
 use Rattle.rp_model.specs.declared.event.Step.TheVariants.{Deliver, Lead, LeadRange, Interrupt, Tick, Report}
-use Rattle.rp_replica.specs.declared.input.Input.{Input}
-use Rattle.rp_replica.specs.declared.input.Input.TheVariants as inputs
+use Rattle.rp_rules.specs.declared.input.Input.{Input}
+use Rattle.rp_rules.specs.declared.input.Input.TheVariants as inputs
 use Rattle.rp_boxes.specs.Seats.{SeatState}
 use Rattle.rp_threads.specs.Turns.{IsEventBy}
 use Rattle.rp_threads.specs.declared.turns.PacketCounts.{PacketCounts}

@@ -10,8 +10,8 @@ use Rattle.rp_boxes.specs.Audits.{known_of}
 use Rattle.rp_boxes.specs.Parts.{Part, OfNode}
 use Rattle.rp_boxes.specs.Seats.{SeatState, HasApplied, IsReport}
 use Rattle.rp_model.specs.Parts.{NodePart}
-use Rattle.rp_replica.specs.declared.input.Input.{Input}
-use Rattle.rp_replica.specs.declared.input.Input.TheVariants.{Receive, Lead, LeadRange, Interrupt, Tick, Report}
+use Rattle.rp_rules.specs.declared.input.Input.{Input}
+use Rattle.rp_rules.specs.declared.input.Input.TheVariants.{Receive, Lead, LeadRange, Interrupt, Tick, Report}
 use Rattle.rp_replica.specs.declared.sent.Sent.{Sent}
 use Rattle.rp_threads.specs.Loops.{IsSameSeat}
 use Rattle.rp_threads.specs.Rounds.{IsNodeFault}

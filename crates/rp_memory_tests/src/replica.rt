@@ -1,5 +1,5 @@
 ghost use Rattle.std.specs.Prelude.{◌≡◌, true};
-ghost use Rattle.rp_replica.specs.Inputs.{IsRightInput};
+ghost use Rattle.rp_rules.specs.Inputs.{IsRightInput};
 
 use crate::compare::{expect_at, expect_eq, expect_text};
 use crate::failing::{Call, FailingDevice};

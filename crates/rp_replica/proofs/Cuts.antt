@@ -2,14 +2,12 @@
 use Rattle.std.proofs.Common.{◌≡◌, ℕ, zero, suc, ◌+◌, ◌≤◌, Bool, true, false, cond, Option, Some, None, List, [], ◌∷◌, ◌++◌, length, take, refl, sym, ap, subst, ◌∙◌, arith, inl, inr}
 use Rattle.std.specs.Prelude.{Result, Ok, Err, OnErr, IfErr, nat_le, filter}
 use Rattle.std.specs.List.{AllByRecursion}
-use Rattle.std.specs.Result.{IsErrAnd}
 use Rattle.std.proofs.lemmas.Bool.{cases_lt, le-leb, lt-leb}
 use Rattle.rp_base.specs.declared.record.Rec.{Rec}
 use Rattle.rp_codec.specs.Record.{record_text, IsRecord}
 use Rattle.rp_store.specs.Disk.{Disk, appended, stopped, AppendFailed}
 use Rattle.rp_store.specs.Records.{AreRecordsOf}
 use Rattle.rp_store.specs.Stored.{Stored, IsNotPut}
-use Rattle.rp_base.specs.declared.config.Config.{Config}
 use Rattle.rp_base.specs.declared.fault.Fault.{Fault}
 use Rattle.rp_base.specs.declared.fault.WriteFault.{WriteFault}
 use Rattle.rp_base.specs.WriteFaults.{fault_of}
@@ -20,7 +18,8 @@ use Rattle.rp_model.specs.Parts.{Running}
 use Rattle.rp_model.specs.Effect.{cut_part, stop_part}
 use Rattle.rp_model.specs.Parts.{is_in_log}
 use Rattle.rp_replica.specs.Invariant.{IsOnDisk}
-use Rattle.rp_replica.specs.State.{ReplicaState, part_of}
+use Rattle.rp_server.specs.State.{ServerState}
+use Rattle.rp_replica.specs.State.{ReplicaState, part_of, replica_of}
 use Rattle.rp_replica.specs.Kept.{HoldsPart, HoldsOnly, HoldsItsRecords, HoldsCut}
 use Rattle.rp_replica.specs.Turning.{Stops}
 use Rattle.rp_replica.specs.Cutting.{MayWrite, Cuts, FailsInCut}
@@ -180,53 +179,29 @@ stop_holds most disk part h = record {
 
 -- ---- a write that is refused
 
-module _ {S D : Type 0} (disk : D → Disk) (me : ℕ) (config : Config) (begin : S) (running : Running) where
-  -- the replica with this store and these records
-  abbrev pub replica_with : Stored D → List Rec → ReplicaState S
-  replica_with store records = record {
-    me = me;
-    config = config;
-    begin = begin;
-    records = records;
-    running = running;
-    disk = disk store.device;
-    failed = store.failed;
-  }
-
-  stops_by : (fault : Fault) (rec : Rec) (old new : Stored D) (records after : List Rec) → IsOnDisk config.max_positions (disk old.device) old.failed records → MayWrite config.max_positions (Some rec)
-      → after ≡ records → IsNotPut disk (record_text rec) old fault new → Stops (Some rec) (replica_with old records) (replica_with new after) fault
-  stops_by OutOfMemory rec old new records after on_device may same not =
-      (λ i. record { me = me; config = config; begin = begin; records = same i; running = running; disk = not.0.disk_same i; failed = not.0.failed i }, not.1)
-  stops_by Device rec old new records after on_device may same not = (
+module _ {S D : Type 0} (disk : D → Disk) (server : ServerState S) (old new : Stored D) (rec : Rec) where
+  stops_by : (fault : Fault) → IsOnDisk server.config.max_positions (disk old.device) old.failed server.records → MayWrite server.config.max_positions (Some rec) → IsNotPut disk (record_text rec) old fault new
+      → Stops (Some rec) (replica_of server (disk old.device) old.failed) (replica_of server (disk new.device) new.failed) fault
+  stops_by OutOfMemory on_device may not = (λ i. replica_of server (not.0.disk_same i) (not.0.failed i), not.1)
+  stops_by Device on_device may not = (
     record {
       rec = rec;
       is = refl;
       disk = not.disk_is;
-      goes = λ i. record { me = me; config = config; begin = begin; records = same i; running = running; disk = disk new.device; failed = not.failed i };
-      holds = failure_cuts (replica_with old records) on_device not.worked rec (disk new.device) may not.disk_is;
+      goes = λ i. replica_of server (disk new.device) (not.failed i);
+      holds = failure_cuts (replica_of server (disk old.device) old.failed) on_device not.worked rec (disk new.device) may not.disk_is;
     },
     not.worked,
   )
-  stops_by Failed rec old new records after on_device may same not =
-      (λ i. record { me = me; config = config; begin = begin; records = same i; running = running; disk = not.0.disk_same i; failed = not.0.failed i }, not.1)
-  stops_by _ rec old new records after on_device may same not = absurd not
+  stops_by Failed on_device may not = (λ i. replica_of server (not.0.disk_same i) (not.0.failed i), not.1)
+  stops_by _ on_device may not = absurd not
 
-  pub write_stops : {T : Type 0} (r : Result T WriteFault) (rec : Rec) (old new : Stored D) (records after : List Rec) → IsOnDisk config.max_positions (disk old.device) old.failed records → MayWrite config.max_positions (Some rec)
-      → OnErr r (after ≡ records) → IfErr r (λ fault. IsNotPut disk (record_text rec) old (fault_of fault) new) → IfErr r (λ fault. Stops (Some rec) (replica_with old records) (replica_with new after) (fault_of fault))
-  write_stops (Ok x) rec old new records after on_device may same err = tt
-  write_stops (Err fault) rec old new records after on_device may same err = stops_by (fault_of fault) rec old new records after on_device may same err
-
--- what is given on of a fault
-given_on : {S T : Type 0} (r : Result T WriteFault) (fault : WriteFault) (written : Option Rec) (old new : ReplicaState S) → IsErrAnd r (λ e. e ≡ fault) → Stops written old new (fault_of fault) → IfErr r (λ e. Stops written old new (fault_of e))
-given_on (Ok x) fault written old new is stops = tt
-given_on (Err e) fault written old new is stops = subst (λ (f : WriteFault). Stops written old new (fault_of f)) (sym is) stops
-
--- a write that failed, as its caller returns the fault
-module _ {S D T : Type 0} (disk : D → Disk) (me : ℕ) (config : Config) (begin : S) (running : Running) (old new : Stored D) (records after : List Rec) where
-  pub write_fails : (rec : Rec) (before : ReplicaState S) (r : Result T WriteFault) (fault : WriteFault) → replica_with disk me config begin running old records ≡ before → IsErrAnd r (λ e. e ≡ fault)
-      → IsOnDisk config.max_positions (disk old.device) old.failed records → MayWrite config.max_positions (Some rec) → after ≡ records → IsNotPut disk (record_text rec) old (fault_of fault) new
-      → IfErr r (λ e. Stops (Some rec) before (replica_with disk me config begin running new after) (fault_of e))
-  write_fails rec before r fault is err on_device may same not =
-      let left = replica_with disk me config begin running new after in
-      given_on r fault (Some rec) before left err
-      (subst (λ (k : ReplicaState S). Stops (Some rec) k left (fault_of fault)) is (stops_by disk me config begin running (fault_of fault) rec old new records after on_device may same not))
+  -- a write that failed, as its caller returns the fault
+  pub write_fails : {T : Type 0} (r : Result T WriteFault) (after : ServerState S) (h : ReplicaState S) → OnErr r (after ≡ server) → IfErr r (λ fault. IsNotPut disk (record_text rec) old (fault_of fault) new)
+      → IsOnDisk server.config.max_positions (disk old.device) old.failed server.records → MayWrite server.config.max_positions (Some rec) → replica_of server (disk old.device) old.failed ≡ h
+      → IfErr r (λ fault. Stops (Some rec) h (replica_of after (disk new.device) new.failed) (fault_of fault))
+  write_fails (Ok v) after h same err on_device may at = tt
+  write_fails (Err fault) after h same err on_device may at =
+      subst (λ (k : ReplicaState S). Stops (Some rec) k (replica_of after (disk new.device) new.failed) (fault_of fault)) at
+      (subst (λ (k : ServerState S). Stops (Some rec) (replica_of server (disk old.device) old.failed) (replica_of k (disk new.device) new.failed) (fault_of fault)) (sym same)
+      (stops_by (fault_of fault) on_device may err))

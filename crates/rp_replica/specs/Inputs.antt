@@ -1,47 +1,23 @@
--- What a replica may be given, and the result.
-use Rattle.std.specs.Prelude.{Result, Ok, Err, List}
-use Rattle.rp_base.specs.Action.{IsRight}
+-- The result of what a replica is given.
+use Rattle.std.specs.Prelude.{Result, List}
 use Rattle.rp_base.specs.declared.action.Action.{Action}
-use Rattle.rp_base.specs.declared.action.Action.TheVariants as actions
 use Rattle.rp_base.specs.declared.reply.Answer.{Answer}
 use Rattle.rp_base.specs.declared.fault.Fault.{Fault}
-use Rattle.rp_base.specs.declared.fault.Fault.TheVariants.{BadPacket}
-use Rattle.rp_base.specs.declared.fault.PacketReason.{PacketReason}
-use Rattle.rp_codec.specs.Message.{Message}
-use Rattle.rp_codec.specs.Reading.{all_of}
 use Rattle.rp_model.specs.Parts.{Turn}
 use Rattle.rp_model.specs.Effect.{NodeInput}
-use Rattle.rp_model.specs.Effect as nodes
-use Rattle.rp_replica.specs.declared.input.Input.{Input}
-use Rattle.rp_replica.specs.declared.input.Input.TheVariants.{Receive, Lead, LeadRange, Interrupt, Tick, Report}
-use Rattle.rp_replica.specs.State.{ReplicaState}
-use Rattle.rp_replica.specs.Turning.{effect_of}
-
--- an interrupt's source is 1 to 8, and its occurrence from 1
-abbrev pub IsRightInput : Input → Type 0
-IsRightInput (Interrupt source occurrence) = IsRight (actions.Interrupt source occurrence)
-IsRightInput _ = Unit {0}
-
--- bytes are the packet of which they are the text, all of them; there is a reason where they are none's
-abbrev pub packet_given : Result Message PacketReason → Result NodeInput Fault
-packet_given (Ok message) = Ok (nodes.NodeInput.Receive message)
-packet_given (Err reason) = Err (BadPacket reason)
-
--- what the node is given by an input
-abbrev pub given_by : Input → Result NodeInput Fault
-given_by (Receive bytes) = packet_given (all_of bytes.now)
-given_by (Lead choice) = Ok (nodes.NodeInput.Lead choice)
-given_by (LeadRange range) = Ok (nodes.NodeInput.LeadRange range.first range.count)
-given_by (Interrupt source occurrence) = Ok (nodes.NodeInput.Interrupt source occurrence)
-given_by (Tick now) = Ok (nodes.NodeInput.Tick now)
-given_by (Report first) = Ok (nodes.NodeInput.Report first)
+use Rattle.rp_rules.specs.Inputs as rules
+use Rattle.rp_rules.specs.declared.input.Input.{Input}
+use Rattle.rp_replica.specs.State.{ReplicaState, server_of}
 
 module _ {S : Type 0} (next : S → Action → S) (answers : S → Action → List Answer) (replica : ReplicaState S) where
-  -- the result, or the refusal
-  abbrev pub effect_if_given : Result NodeInput Fault → Result Turn Fault
-  effect_if_given (Ok input) = effect_of next answers replica input
-  effect_if_given (Err refusal) = Err refusal
-
   -- the result of an input for a replica, or its refusal
+  abbrev pub effect_of : NodeInput → Result Turn Fault
+  effect_of input = rules.effect_of next answers (server_of replica) input
+
+  -- the same, where the input itself may be refused
+  abbrev pub effect_if_given : Result NodeInput Fault → Result Turn Fault
+  effect_if_given given = rules.effect_if_given next answers (server_of replica) given
+
+  -- the same, of what it was given
   abbrev pub input_effect : Input → Result Turn Fault
-  input_effect input = effect_if_given (given_by input)
+  input_effect input = rules.input_effect next answers (server_of replica) input

@@ -1,13 +1,8 @@
-pub mod Notes
 pub mod State
+pub mod Inputs
 pub mod Kept
 pub mod Invariant
 pub mod Turning
-pub mod Proposed
 pub mod Opening
-pub mod Status
-pub mod Plans
-pub mod Inputs
 pub mod Committing
 pub mod Cutting
-pub mod Applying

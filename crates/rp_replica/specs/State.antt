@@ -11,6 +11,7 @@ use Rattle.rp_model.specs.Parts.{NodePart}
 use Rattle.rp_model.specs.Parts.{Turn}
 use Rattle.rp_model.specs.Effect.{Setting}
 use Rattle.rp_model.specs.Parts.{with_record}
+use Rattle.rp_server.specs.State.{ServerState}
 
 -- Its node, the configuration and the start of the machine; the records that count and what it knows
 -- while it runs; what its device holds, and whether that has failed since it was opened.
@@ -22,6 +23,28 @@ pub record ReplicaState (S : Type 0) : Type 0 where
   pub running : Running
   pub disk : Disk
   pub failed : Bool
+
+-- a server over a device
+abbrev pub replica_of : {S : Type 0} → ServerState S → Disk → Bool → ReplicaState S
+replica_of server disk failed = record {
+  me = server.me;
+  config = server.config;
+  begin = server.begin;
+  records = server.records;
+  running = server.running;
+  disk = disk;
+  failed = failed;
+}
+
+-- its server
+abbrev pub server_of : {S : Type 0} → ReplicaState S → ServerState S
+server_of replica = record {
+  me = replica.me;
+  config = replica.config;
+  begin = replica.begin;
+  records = replica.records;
+  running = replica.running;
+}
 
 -- its part of a world
 abbrev pub part_of : {S : Type 0} → ReplicaState S → NodePart

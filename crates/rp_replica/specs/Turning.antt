@@ -1,7 +1,5 @@
 -- What a call of a replica results in.
 use Rattle.std.specs.Prelude.{◌≡◌, ◌⊎◌, ℕ, true, false, Option, Some, Result, Ok, Err, List, length}
-use Rattle.rp_base.specs.declared.action.Action.{Action}
-use Rattle.rp_base.specs.declared.reply.Answer.{Answer}
 use Rattle.rp_base.specs.declared.fault.Fault.{Fault}
 use Rattle.rp_base.specs.declared.fault.Fault.TheVariants.{OutOfMemory, Device, Failed}
 use Rattle.rp_base.specs.declared.record.Rec.{Rec}
@@ -13,9 +11,8 @@ use Rattle.rp_model.specs.declared.effect.Dropped.{Dropped}
 use Rattle.rp_replica.specs.Committing.{Commits}
 use Rattle.rp_replica.specs.declared.sent.Sent.{Sent}
 use Rattle.rp_outbox.specs.Packets.{texts_of}
-use Rattle.rp_model.specs.Effect.{NodeInput, running_effect}
 use Rattle.rp_replica.specs.Kept.{HoldsCut}
-use Rattle.rp_replica.specs.State.{ReplicaState, setting_of, after_turn}
+use Rattle.rp_replica.specs.State.{ReplicaState, after_turn}
 
 -- The turn took effect: its record is written and stable, and the bytes are the texts of its packets.
 pub record Turns {S : Type 0} (turn : Turn) (old new : ReplicaState S) (sent : Sent) : Type 0 where
@@ -73,9 +70,3 @@ abbrev pub AnswersOnto : {S : Type 0} → Result Turn Fault → ReplicaState S �
     → List Message → Result Dropped Fault → Type 0
 AnswersOnto effect old new before after (Ok dropped) = TurnsOnto effect old new before after dropped
 AnswersOnto effect old new before after (Err fault) = StopsIf effect old new fault × (after ≡ before)
-
--- the result of an input for a replica, or its refusal
-abbrev pub effect_of : {S : Type 0} → (S → Action → S) → (S → Action → List Answer) → ReplicaState S → NodeInput
-    → Result Turn Fault
-effect_of next answers replica input =
-    running_effect (setting_of next answers replica) replica.me replica.records replica.running input

@@ -14,19 +14,19 @@ ghost use Rattle.rp_model.specs.Parts.{is_in_log};
 ghost use Rattle.rp_model.specs.Pending.{most_pending};
 ghost use Rattle.rp_model.specs.Says.{says, says_to_task, notes, sends, writes};
 ghost use Rattle.rp_replica.specs.Committing.{Commits};
-ghost use Rattle.rp_replica.specs.State.{after_turn};
-ghost use Rattle.rp_replica.specs.declared.plan.Plan.TheVariants as plans;
-ghost use Rattle.rp_replica.specs.Plans.{turn_of, written_by, MayCommit, OnlySends};
-ghost use Rattle.rp_replica.specs.Invariant.{IsAnswer};
+ghost use Rattle.rp_replica.specs.State.{after_turn, server_of};
+ghost use Rattle.rp_rules.specs.declared.plan.Plan.TheVariants as plans;
+ghost use Rattle.rp_rules.specs.Plans.{turn_of, written_by, MayCommit, OnlySends};
+ghost use Rattle.rp_server.specs.Invariant.{IsAnswer};
 ghost use Rattle.rp_replica.specs.Turning.{Stops};
 
-use crate::plan::Plan;
-use crate::replica::{Replica, write};
-use rp_base::{Action, Answer, Ballot, NodeId, Position, Rec, Reply, TaskId, Vote, WriteFault};
+use crate::replica::Replica;
+use rp_base::{Action, Answer, NodeId, Rec, Reply, TaskId, Vote, WriteFault};
 use rp_codec::{Body, Place};
 use rp_machine::Machine;
 use rp_model::RightAction;
 use rp_outbox::Outbox;
+use rp_rules::Plan;
 use rp_store::Device;
 use std::alloc::Global;
 
@@ -42,8 +42,8 @@ impl<M: Machine, D: Device> Replica<M, D> {
         plan: &Plan,
     ) -> Result<(), WriteFault>
         requires working { self.old.failed ≡ false }
-        requires may { MayCommit self.old plan.now }
-        ensures ok { OnOk result (Commits (turn_of M.next M.answers self.old plan.now)
+        requires may { MayCommit (server_of self.old) plan.now }
+        ensures ok { OnOk result (Commits (turn_of M.next M.answers (server_of self.old) plan.now)
             self.old self.new out.old.sent out.new.sent) }
         ensures err { IfErr result (λ fault.
             Stops (written_by plan.now) self.old self.new (fault_of fault)) }
@@ -85,9 +85,9 @@ impl<M: Machine, D: Device> Replica<M, D> {
         last: &Option<Vote>,
     ) -> Result<(), WriteFault>
         requires working { self.old.failed ≡ false }
-        requires may { MayCommit self.old (plans.Promise place.now last.now) }
+        requires may { MayCommit (server_of self.old) (plans.Promise place.now last.now) }
         ensures ok { OnOk result (Commits
-            (turn_of M.next M.answers self.old (plans.Promise place.now last.now))
+            (turn_of M.next M.answers (server_of self.old) (plans.Promise place.now last.now))
             self.old self.new out.old.sent out.new.sent) }
         ensures err { IfErr result (λ fault.
             Stops (written_by (plans.Promise place.now last.now)) self.old self.new (fault_of fault)) }
@@ -103,9 +103,9 @@ impl<M: Machine, D: Device> Replica<M, D> {
     #[inline(never)]
     fn vote(&mut self, out: &mut Outbox, place: &Place, action: &Action) -> Result<(), WriteFault>
         requires working { self.old.failed ≡ false }
-        requires may { MayCommit self.old (plans.Vote place.now action.now) }
+        requires may { MayCommit (server_of self.old) (plans.Vote place.now action.now) }
         ensures ok { OnOk result (Commits
-            (turn_of M.next M.answers self.old (plans.Vote place.now action.now))
+            (turn_of M.next M.answers (server_of self.old) (plans.Vote place.now action.now))
             self.old self.new out.old.sent out.new.sent) }
         ensures err { IfErr result (λ fault.
             Stops (written_by (plans.Vote place.now action.now)) self.old self.new (fault_of fault)) }
@@ -120,9 +120,9 @@ impl<M: Machine, D: Device> Replica<M, D> {
     /// Commits a plan that writes nothing and changes nothing.
     #[inline(never)]
     fn send(&self, alloc: Global, out: &mut Outbox, plan: &Plan) -> Result<(), WriteFault>
-        requires may { MayCommit self.now plan.now }
+        requires may { MayCommit (server_of self.now) plan.now }
         requires sends { OnlySends plan.now }
-        ensures ok { OnOk result (Commits (turn_of M.next M.answers self.now plan.now)
+        ensures ok { OnOk result (Commits (turn_of M.next M.answers (server_of self.now) plan.now)
             self.now self.now out.old.sent out.new.sent) }
         ensures only { IsOkUnless result faults.OutOfMemory }
         ensures unsent { OnErr result (out.new.sent ≡ out.old.sent) }
@@ -165,7 +165,7 @@ impl<M: Machine, D: Device> Replica<M, D> {
         ensures unsent { OnErr result (out.new.sent ≡ out.old.sent) }
     {
         out.reserve(1)?;
-        out.say(self.me, to, stated);
+        out.say(self.server.me(), to, stated);
         Ok(())
     }
 
@@ -186,7 +186,7 @@ impl<M: Machine, D: Device> Replica<M, D> {
     {
         out.reserve(1)?;
         out.reply(
-            self.me,
+            self.server.me(),
             &Answer {
                 task,
                 number,
@@ -196,20 +196,6 @@ impl<M: Machine, D: Device> Replica<M, D> {
         Ok(())
     }
 
-    /// The place of a packet of this node to another.
-    #[inline(always)]
-    pub(crate) fn place_to(&self, to: NodeId, position: Position, ballot: Ballot) -> Place
-        ensures { result
-            ≡ record { from = self.now.me; to = to; position = position; ballot = ballot } }
-    {
-        Place {
-            from: self.me,
-            to,
-            position,
-            ballot,
-        }
-    }
-
     /// An item becomes pending.
     fn add(&mut self, item: RightAction)
         requires { length self.old.running.pending < most_pending }
@@ -217,7 +203,7 @@ impl<M: Machine, D: Device> Replica<M, D> {
           pending = self.old.running.pending ++ item ∷ [];
         })) }
     {
-        self.pending.push(item);
+        self.server.add(item);
     }
 
     /// Writes a promise or a vote.
@@ -232,6 +218,6 @@ impl<M: Machine, D: Device> Replica<M, D> {
         ensures err { IfErr result (λ fault.
             Stops (Some rec.now) self.old self.new (fault_of fault)) }
     {
-        write(&mut self.store, &mut self.acceptor, rec)
+        self.server.keep(&mut self.store, rec)
     }
 }

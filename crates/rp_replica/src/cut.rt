@@ -4,15 +4,17 @@ ghost use Rattle.std.specs.Prelude.{◌≡◌, Some, IfOk, IfErr, true, false};
 ghost use Rattle.rp_base.specs.Right.{IsRightRecord};
 ghost use Rattle.rp_model.specs.Parts.{is_in_log};
 ghost use Rattle.rp_replica.specs.Cutting.{Cuts, CutsIf, IsNotCut, IsNotCutIf};
-ghost use Rattle.rp_replica.specs.Inputs.{IsRightInput, input_effect};
-ghost use Rattle.rp_replica.specs.Plans.{MayCommit, written_by};
+ghost use Rattle.rp_replica.specs.Inputs.{input_effect};
+ghost use Rattle.rp_rules.specs.Inputs.{IsRightInput};
+ghost use Rattle.rp_replica.specs.State.{server_of};
+ghost use Rattle.rp_rules.specs.Plans.{MayCommit, written_by};
 
-use crate::input::Input;
-use crate::plan::{Plan, record_in_range};
 use crate::replica::Replica;
 use rp_base::{Fault, Rec};
 use rp_machine::Machine;
 use rp_model::Dropped;
+use rp_rules::{Input, Plan};
+use rp_server::record_in_range;
 use rp_store::{CutDevice, Device, NotTorn};
 use std::alloc::Global;
 
@@ -48,7 +50,7 @@ impl<M: Machine, D: CutDevice> Replica<M, D> {
     /// The node stops within the commit of a plan, with the first `kept` bytes of its record.
     fn crash(self, plan: &Plan, kept: u64) -> Result<D, NotCut<M, D>>
         requires working { self.failed ≡ false }
-        requires may { MayCommit self plan.now }
+        requires may { MayCommit (server_of self) plan.now }
         ensures ok { IfOk result (λ device.
             Cuts (written_by plan.now) kept self (D.disk device)) }
         ensures err { IfErr result (λ refused.
@@ -69,36 +71,13 @@ impl<M: Machine, D: CutDevice> Replica<M, D> {
         ensures err { IfErr result (λ refused. IsNotCut D.disk (Some rec.now) self refused) }
     {
         record_in_range(rec);
-        let Replica {
-            me,
-            config,
-            store,
-            acceptor,
-            proposer,
-            learner,
-            heard,
-            log,
-            machine,
-            pending,
-        } = self;
+        let Replica { server, store } = self;
         match store.tear(rec, kept) {
             Ok(device) => Ok(device),
             Err(NotTorn::Failed(device)) => Err(NotCut::Failed(device)),
-            Err(NotTorn::Refused(fault, store)) => Err(NotCut::Refused(
-                fault,
-                Replica {
-                    me,
-                    config,
-                    store,
-                    acceptor,
-                    proposer,
-                    learner,
-                    heard,
-                    log,
-                    machine,
-                    pending,
-                },
-            )),
+            Err(NotTorn::Refused(fault, store)) => {
+                Err(NotCut::Refused(fault, Replica { server, store }))
+            }
         }
     }
 }

@@ -9,9 +9,11 @@ ghost use Rattle.rp_codec.specs.declared.packet.Body.TheVariants as bodies;
 ghost use Rattle.rp_model.specs.Learner.{learns, missing_position, asks_for};
 ghost use Rattle.rp_model.specs.Says.{says_to_others, notes};
 ghost use Rattle.rp_replica.specs.Committing.{Commits};
-ghost use Rattle.rp_replica.specs.State.{after_turn};
+ghost use Rattle.rp_replica.specs.State.{after_turn, server_of};
+ghost use Rattle.rp_base.specs.Action.{IsRight};
+ghost use Rattle.rp_server.specs.Applying.{learns_alone, decided_packets};
 ghost use Rattle.rp_outbox.specs.Packets.{longest_text};
-ghost use Rattle.rp_replica.specs.Plans.{MayHear, MayLearn, once_heard};
+ghost use Rattle.rp_rules.specs.Plans.{MayHear, MayLearn, once_heard};
 ghost use Rattle.rp_replica.specs.Turning.{Stops};
 
 use crate::replica::Replica;
@@ -20,6 +22,7 @@ use rp_codec::Body;
 use rp_machine::Machine;
 use rp_model::Dropped;
 use rp_outbox::Outbox;
+use rp_server::Decision;
 use rp_store::Device;
 use std::alloc::Global;
 
@@ -33,7 +36,7 @@ impl<M: Machine, D: Device> Replica<M, D> {
         action: &Action,
     ) -> Result<(), WriteFault>
         requires working { self.old.failed ≡ false }
-        requires may { MayLearn self.old position action.now }
+        requires may { MayLearn (server_of self.old) position action.now }
         ensures ok { OnOk result (Commits (learns M.next M.answers self.old.begin
             self.old.me self.old.records self.old.running position action.now
             (says_to_others self.old.config.nodes self.old.me
@@ -58,7 +61,7 @@ impl<M: Machine, D: Device> Replica<M, D> {
         action: &Action,
     ) -> Result<(), WriteFault>
         requires working { self.old.failed ≡ false }
-        requires may { MayLearn self.old position action.now }
+        requires may { MayLearn (server_of self.old) position action.now }
         ensures ok { OnOk result (Commits (learns M.next M.answers self.old.begin
             self.old.me self.old.records self.old.running position action.now []
             (asks_for self.old.me from (missing_position
@@ -74,6 +77,41 @@ impl<M: Machine, D: Device> Replica<M, D> {
         Ok(())
     }
 
+    /// Learns an action at a position of the log: it is written, the other nodes are informed if
+    /// this one informs them, all that is ready then is applied, and each answer whose call is
+    /// pending is replied to. After the write it takes no memory.
+    #[inline(always)]
+    fn learn(
+        &mut self,
+        position: Position,
+        action: &Action,
+        announces: bool,
+        out: &mut Outbox,
+    ) -> Result<(), WriteFault>
+        requires working { self.old.failed ≡ false }
+        requires place { position ≤ self.old.config.max_positions }
+        requires right { IsRight action.now }
+        requires room { longest_text
+            * (self.old.config.nodes + length self.old.running.pending) ≤ out.old.room }
+        ensures learned { OnOk result (self.new ≡ after_turn self.old
+            (learns_alone M.next M.answers (server_of self.old) position action.now)) }
+        ensures replied { OnOk result (out.new.sent ≡ out.old.sent
+            ++ (decided_packets self.old.config.nodes self.old.me position action.now announces
+            ++ (learns_alone M.next M.answers (server_of self.old) position action.now).sent)) }
+        ensures room { OnOk result (out.old.room ≤ out.new.room
+            + longest_text * (self.old.config.nodes + length self.old.running.pending)) }
+        ensures unsent { OnErr result (out.new.sent ≡ out.old.sent) }
+        ensures err { IfErr result (λ fault.
+            Stops (Some (Learned position action.now)) self.old self.new (fault_of fault)) }
+    {
+        let decision = Decision {
+            position,
+            action: *action,
+            announces,
+        };
+        self.server.learn(&mut self.store, out, decision)
+    }
+
     /// Notes a vote of one of the nodes that is counted, and settles nothing. Out of memory, it
     /// changes nothing.
     #[inline(never)]
@@ -84,16 +122,13 @@ impl<M: Machine, D: Device> Replica<M, D> {
         position: Position,
         vote: &Vote,
     ) -> Result<(), WriteFault>
-        requires may { MayHear self.old from position vote.now }
+        requires may { MayHear (server_of self.old) from position vote.now }
         ensures ok { OnOk result (self.new
-            ≡ after_turn self.old (notes (once_heard self.old from position vote.now))) }
+            ≡ after_turn self.old (notes (once_heard (server_of self.old) from position vote.now))) }
         ensures err { OnErr result (self.new ≡ self.old) }
         ensures only { IsOkUnless result faults.OutOfMemory }
     {
-        self.learner
-            .note_vote(alloc, from, position, vote.ballot, &vote.action)?;
-        self.heard.hear(from, position, *vote);
-        Ok(())
+        self.server.hear(alloc, from, position, vote)
     }
 
     /// Makes room for a packet to each node, a reply to each pending call, and one packet more.
@@ -103,7 +138,7 @@ impl<M: Machine, D: Device> Replica<M, D> {
             * (self.now.config.nodes + length self.now.running.pending + 1) ≤ out.new.room) }
         ensures only { IsOkUnless result faults.OutOfMemory }
     {
-        Ok(out.reserve(usize::from(self.config.nodes) + self.pending.len() + 1)?)
+        Ok(out.reserve(usize::from(self.server.config().nodes) + self.server.pending_len() + 1)?)
     }
 
     /// Where a position is missing below a learned one, the node is asked for it.
@@ -112,8 +147,8 @@ impl<M: Machine, D: Device> Replica<M, D> {
         ensures { out.new.sent ≡ out.old.sent
             ++ asks_for self.now.me from (missing_position self.now.records) }
     {
-        if let Some(position) = self.missing_position() {
-            out.say(self.me, from, Body::Ask { position });
+        if let Some(position) = self.server.missing_position() {
+            out.say(self.server.me(), from, Body::Ask { position });
         }
     }
 }

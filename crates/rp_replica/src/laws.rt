@@ -11,10 +11,11 @@ ghost use Rattle.rp_model.specs.Effect.{NodeInput, node_effect, turn_done, goes_
 ghost use Rattle.rp_model.specs.Parts.{NodePart};
 ghost use Rattle.rp_model.specs.Parts.{Turn};
 ghost use Rattle.rp_replica.specs.State.{ReplicaState, setting_of, part_of};
-ghost use Rattle.rp_replica.specs.Inputs.{packet_given};
+ghost use Rattle.rp_rules.specs.Inputs.{packet_given};
+ghost use Rattle.rp_replica.specs.Inputs.{effect_of};
 ghost use Rattle.rp_replica.specs.Kept.{HoldsPart, HoldsOnly};
 ghost use Rattle.rp_replica.specs.Opening.{Opens};
-ghost use Rattle.rp_replica.specs.Turning.{Turns, effect_of};
+ghost use Rattle.rp_replica.specs.Turning.{Turns};
 ghost use Rattle.rp_replica.specs.declared.sent.Sent.{Sent};
 
 use rp_machine::Machine;

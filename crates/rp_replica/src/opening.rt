@@ -1,30 +1,14 @@
 //! A replica that is opened over a device.
 
-ghost use Rattle.std.specs.Prelude.{◌≡◌, ◌≤◌, ℕ, Some, None, [], length, IfOk, IfErr, IsOkUnless};
+ghost use Rattle.std.specs.Prelude.{◌≡◌, ◌≤◌, IfOk, IfErr};
 ghost use Rattle.rp_base.specs.Config.{IsRightConfig};
-ghost use Rattle.rp_base.specs.declared.fault.Fault.TheVariants as faults;
 ghost use Rattle.rp_model.specs.Parts.{is_in_log, records_in_log};
-ghost use Rattle.rp_log.specs.Recorded.{LearnedAlike};
-ghost use Rattle.rp_base.specs.Action.{IsRight};
-ghost use Rattle.rp_base.specs.declared.action.Action.{Action};
-ghost use Rattle.rp_log.specs.Contents.{IsTakenInOrder, action_at, next_to_take};
-ghost use Rattle.rp_replica.specs.Invariant.{IsLearner, IsApplied, AllInLog};
-ghost use Rattle.std.specs.List.{AllByRecursion};
-ghost use Rattle.rp_base.specs.Right.{IsRightRecord};
-ghost use Rattle.rp_proposer.specs.Proposing as proposing;
 ghost use Rattle.rp_replica.specs.Opening.{Opens, IsRefusedOpening};
 
-use crate::applying::apply_ready;
-use crate::heard::Heard;
-use crate::pending::Pending;
 use crate::replica::Replica;
-use crate::window::follow;
-use rp_acceptor::Acceptor;
 use rp_base::{Config, Fault, NodeId, Rec};
-use rp_learner::Learner;
-use rp_log::Log;
-use rp_machine::{Machine, Numbered};
-use rp_proposer::Proposer;
+use rp_machine::Machine;
+use rp_server::Server;
 use rp_store::{Device, Opened, Store};
 use std::alloc::Global;
 
@@ -42,93 +26,10 @@ fn is_in_log(max_positions: u16, rec: &Rec) -> bool
 }
 
 /// Leaves out the records that do not count.
-pub(crate) fn skip(records: &mut Vec<Rec>, max_positions: u16)
+fn skip(records: &mut Vec<Rec>, max_positions: u16)
     ensures { records.new.items ≡ records_in_log max_positions records.old.items }
 {
     records.retain(|rec| is_in_log(max_positions, rec));
-}
-
-/// A learner that heard nothing and settled what these records learn, its window from position 1 on.
-pub(crate) fn learner_of(alloc: Global, config: Config, records: &[Rec]) -> Result<Learner, Fault>
-    requires right { IsRightConfig config }
-    requires within { AllInLog config.max_positions records.now }
-    ensures learner { IfOk result (λ learner. IsLearner config records.now 0 learner []) }
-    ensures only { IsOkUnless result faults.OutOfMemory }
-{
-    let mut learner = Learner::new(alloc, config.nodes, config.max_positions)?;
-    for rec in records {
-        if let Rec::Learned(position, _) = *rec {
-            learner.settled(position);
-        }
-    }
-    Ok(learner)
-}
-
-/// The log of these records.
-pub(crate) fn log_of(alloc: Global, records: &[Rec]) -> Result<Log, Fault>
-    ensures learned { IfOk result (λ log. LearnedAlike records.now log) }
-    ensures taken { IfOk result (λ log. log.taken ≡ []) }
-    ensures only { IsOkUnless result faults.OutOfMemory }
-{
-    let mut log = Log::new(alloc);
-    for rec in records {
-        if let Rec::Learned(position, action) = rec {
-            log.reserve(*position)?;
-            log.learn(*position, action);
-        }
-    }
-    Ok(log)
-}
-
-/// What the records of a node give it to run by.
-#[derive(Drop)]
-struct Parts<M: Machine> {
-    acceptor: Acceptor,
-    proposer: Proposer,
-    learner: Learner,
-    log: Log,
-    machine: Numbered<M>,
-    pending: Pending,
-}
-
-/// What these records, all of them within the log, give a node to run by.
-fn restored<M: Machine>(
-    alloc: Global,
-    node: NodeId,
-    config: Config,
-    program: &M::Program,
-    records: &[Rec],
-) -> Result<Parts<M>, Fault>
-    requires config { IsRightConfig config }
-    requires node { node ≤ config.nodes }
-    requires within { AllInLog config.max_positions records.now }
-    requires right { AllByRecursion IsRightRecord records.now }
-    ensures acceptor { IfOk result (λ r. r.acceptor.records ≡ records.now) }
-    ensures proposer { IfOk result (λ r. r.proposer
-        ≡ proposing.restored node config.nodes records.now) }
-    ensures learner { IfOk result (λ r.
-        IsLearner config records.now (length r.log.taken) r.learner []) }
-    ensures log { IfOk result (λ r. IsApplied records.now r.log r.machine) }
-    ensures machine { IfOk result (λ r. r.machine.begin ≡ M.begin program.now) }
-    ensures pending { IfOk result (λ r. r.pending ≡ []) }
-    ensures only { IsOkUnless result faults.OutOfMemory }
-{
-    let acceptor = Acceptor::restore(alloc, records)?;
-    let proposer = Proposer::restore(alloc, node, config.nodes, records)?;
-    let mut learner = learner_of(alloc, config, records)?;
-    let mut log = log_of(alloc, records)?;
-    let mut machine = Numbered::new(alloc, program)?;
-    let pending = Pending::new(alloc)?;
-    apply_ready(&mut machine, &mut log);
-    follow(&mut learner, &log);
-    Ok(Parts {
-        acceptor,
-        proposer,
-        learner,
-        log,
-        machine,
-        pending,
-    })
 }
 
 /// What opening a device gives.
@@ -169,20 +70,9 @@ impl<M: Machine, D: Device> Replica<M, D> {
         } = Store::open(alloc, device)?;
         let count = records.len() as u64;
         skip(&mut records, config.max_positions);
-        match restored::<M>(alloc, node, config, program, &records) {
-            Ok(parts) => Ok(Opening {
-                replica: Replica {
-                    me: node,
-                    config,
-                    store,
-                    acceptor: parts.acceptor,
-                    proposer: parts.proposer,
-                    learner: parts.learner,
-                    heard: Heard::new(),
-                    log: parts.log,
-                    machine: parts.machine,
-                    pending: parts.pending,
-                },
+        match Server::restart(alloc, node, config, program, &records) {
+            Ok(server) => Ok(Opening {
+                replica: Replica { server, store },
                 records: count,
                 cut_bytes,
             }),

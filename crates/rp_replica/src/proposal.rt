@@ -10,18 +10,18 @@ ghost use Rattle.rp_base.specs.WriteFaults.{fault_of};
 ghost use Rattle.rp_model.specs.Leader.{begins_range, on_promise_range, on_nack};
 ghost use Rattle.rp_model.specs.Says.{says_to_all, notes, sends, writes};
 ghost use Rattle.rp_replica.specs.Committing.{Commits};
-ghost use Rattle.rp_replica.specs.State.{after_turn};
-ghost use Rattle.rp_replica.specs.Plans.{MayBegin, MayBeginRange, MayCount, MayCountRange, once_promised};
-ghost use Rattle.rp_replica.specs.Proposed.{started_running, offered_running};
+ghost use Rattle.rp_replica.specs.State.{after_turn, server_of};
+ghost use Rattle.rp_rules.specs.Plans.{MayBegin, MayBeginRange, MayCount, MayCountRange, once_promised};
+ghost use Rattle.rp_server.specs.Proposed.{started_running, offered_running};
 ghost use Rattle.rp_replica.specs.Turning.{Stops};
 
-use crate::plan::{CountedPromise, CountedRange};
-use crate::replica::{Replica, write};
-use rp_base::{Action, Ballot, Position, PositionRange, Rec, WriteFault};
+use crate::replica::Replica;
+use rp_base::{Action, Ballot, Position, PositionRange, WriteFault};
 use rp_codec::Body;
 use rp_machine::Machine;
 use rp_model::Dropped;
 use rp_outbox::Outbox;
+use rp_rules::{CountedPromise, CountedRange};
 use rp_store::Device;
 
 impl<M: Machine, D: Device> Replica<M, D> {
@@ -36,7 +36,7 @@ impl<M: Machine, D: Device> Replica<M, D> {
         own: &Action,
     ) -> Result<(), WriteFault>
         requires working { self.old.failed ≡ false }
-        requires may { MayBegin self.old position ballot own.now }
+        requires may { MayBegin (server_of self.old) position ballot own.now }
         ensures ok { OnOk result (Commits (writes (Started ballot)
             (started_running self.old.running position ballot own.now)
             (says_to_all self.old.config.nodes self.old.me (bodies.Prepare position ballot)))
@@ -45,9 +45,12 @@ impl<M: Machine, D: Device> Replica<M, D> {
             Stops (Some (Started ballot)) self.old self.new (fault_of fault)) }
         ensures unsent { OnErr result (out.new.sent ≡ out.old.sent) }
     {
-        out.reserve(usize::from(self.config.nodes))?;
+        out.reserve(usize::from(self.server.config().nodes))?;
         self.start(position, ballot, own)?;
-        out.prepare_all(self.place_to(self.me, position, ballot), self.config.nodes);
+        out.prepare_all(
+            self.server.place_to(self.server.me(), position, ballot),
+            self.server.config().nodes,
+        );
         Ok(())
     }
 
@@ -60,7 +63,7 @@ impl<M: Machine, D: Device> Replica<M, D> {
         ballot: Ballot,
     ) -> Result<(), WriteFault>
         requires working { self.old.failed ≡ false }
-        requires may { MayBeginRange self.old range ballot }
+        requires may { MayBeginRange (server_of self.old) range ballot }
         ensures ok { OnOk result (Commits (begins_range self.old.config.nodes self.old.me
             self.old.records self.old.running range ballot)
             self.old self.new out.old.sent out.new.sent) }
@@ -68,11 +71,11 @@ impl<M: Machine, D: Device> Replica<M, D> {
             Stops (Some (Started ballot)) self.old self.new (fault_of fault)) }
         ensures unsent { OnErr result (out.new.sent ≡ out.old.sent) }
     {
-        out.reserve(usize::from(self.config.nodes))?;
+        out.reserve(usize::from(self.server.config().nodes))?;
         self.start_range(range, ballot)?;
         out.say_to_all(
-            self.me,
-            self.config.nodes,
+            self.server.me(),
+            self.server.config().nodes,
             Body::PrepareRange { range, ballot },
         );
         Ok(())
@@ -96,10 +99,10 @@ impl<M: Machine, D: Device> Replica<M, D> {
         ensures err { IfErr result (λ fault. Stops None self.old self.new (fault_of fault)) }
         ensures unsent { OnErr result (out.new.sent ≡ out.old.sent) }
     {
-        out.reserve(usize::from(self.config.nodes))?;
+        out.reserve(usize::from(self.server.config().nodes))?;
         self.start_offer(position, action);
-        let place = self.place_to(self.me, position, ballot);
-        out.accept_all(place, action, self.config.nodes);
+        let place = self.server.place_to(self.server.me(), position, ballot);
+        out.accept_all(place, action, self.server.config().nodes);
         Ok(())
     }
 
@@ -112,19 +115,21 @@ impl<M: Machine, D: Device> Replica<M, D> {
         action: &Action,
     ) -> Result<(), WriteFault>
         requires working { self.old.failed ≡ false }
-        requires may { MayCount self.old promise.now }
+        requires may { MayCount (server_of self.old) promise.now }
         requires right { IsRight action.now }
-        ensures ok { OnOk result (Commits (sends (once_promised self.old promise.now)
+        ensures ok { OnOk result (Commits (sends (once_promised (server_of self.old) promise.now)
             (says_to_all self.old.config.nodes self.old.me
             (bodies.Accept promise.now.position promise.now.ballot action.now)))
             self.old self.new out.old.sent out.new.sent) }
         ensures err { IfErr result (λ fault. Stops None self.old self.new (fault_of fault)) }
         ensures unsent { OnErr result (out.new.sent ≡ out.old.sent) }
     {
-        out.reserve(usize::from(self.config.nodes))?;
+        out.reserve(usize::from(self.server.config().nodes))?;
         self.note_promise(promise);
-        let place = self.place_to(self.me, promise.position, promise.ballot);
-        out.accept_all(place, action, self.config.nodes);
+        let place = self
+            .server
+            .place_to(self.server.me(), promise.position, promise.ballot);
+        out.accept_all(place, action, self.server.config().nodes);
         Ok(())
     }
 
@@ -133,41 +138,33 @@ impl<M: Machine, D: Device> Replica<M, D> {
         ensures { self.new ≡ after_turn self.old
             (on_nack self.old.config.nodes self.old.running position ballot bound) }
     {
-        self.proposer.nack(position, ballot, bound);
+        self.server.note_refusal(position, ballot, bound);
     }
 
     /// Begins a proposal at an unlearned position within reach, in place of another there: its ballot
     /// is written first.
     fn start(&mut self, position: Position, ballot: Ballot, own: &Action) -> Result<(), WriteFault>
         requires working { self.old.failed ≡ false }
-        requires may { MayBegin self.old position ballot own.now }
+        requires may { MayBegin (server_of self.old) position ballot own.now }
         ensures ok { OnOk result (self.new ≡ after_turn self.old (writes (Started ballot)
             (started_running self.old.running position ballot own.now) [])) }
         ensures err { IfErr result (λ fault.
             Stops (Some (Started ballot)) self.old self.new (fault_of fault)) }
     {
-        let rec = Rec::Started(ballot);
-        write(&mut self.store, &mut self.acceptor, &rec)?;
-        let _number = position.get();
-        self.proposer.begin(position, ballot, Some(*own));
-        Ok(())
+        self.server.begin(&mut self.store, position, ballot, own)
     }
 
     /// Begins a proposal at each unlearned position of a range: the ballot is written first.
     fn start_range(&mut self, range: PositionRange, ballot: Ballot) -> Result<(), WriteFault>
         requires working { self.old.failed ≡ false }
-        requires may { MayBeginRange self.old range ballot }
+        requires may { MayBeginRange (server_of self.old) range ballot }
         ensures ok { OnOk result (self.new ≡ after_turn self.old (writes (Started ballot)
             (begins_range self.old.config.nodes self.old.me self.old.records self.old.running
             range ballot).running [])) }
         ensures err { IfErr result (λ fault.
             Stops (Some (Started ballot)) self.old self.new (fault_of fault)) }
     {
-        let learned = self.learned_mask(range);
-        let rec = Rec::Started(ballot);
-        write(&mut self.store, &mut self.acceptor, &rec)?;
-        self.proposer.begin_range(range, learned, ballot);
-        Ok(())
+        self.server.begin_range(&mut self.store, range, ballot)
     }
 
     /// The second phase of a prepared proposal begins.
@@ -177,12 +174,12 @@ impl<M: Machine, D: Device> Replica<M, D> {
             self.old.config.nodes self.old.running action.now
             (proposal_at self.old.running.proposals position))) }
     {
-        self.proposer.offer(position, *action);
+        self.server.offer(position, action);
     }
 
     /// A promise for a range counts at each proposal that takes it.
     pub(crate) fn note_range(&mut self, promise: &CountedRange)
-        requires may { MayCountRange self.old promise.now }
+        requires may { MayCountRange (server_of self.old) promise.now }
         ensures { self.new ≡ after_turn self.old (on_promise_range self.old.config.nodes
             self.old.running promise.now.from promise.now.range promise.now.ballot
             promise.now.votes) }
@@ -193,14 +190,15 @@ impl<M: Machine, D: Device> Replica<M, D> {
             ballot,
             votes,
         } = promise;
-        self.proposer
+        self.server
             .note_range(*from, *range, *ballot, votes.as_slice());
     }
 
     /// A promise counts, and makes no majority.
     pub(crate) fn note_promise(&mut self, promise: &CountedPromise)
-        requires may { MayCount self.old promise.now }
-        ensures { self.new ≡ after_turn self.old (notes (once_promised self.old promise.now)) }
+        requires may { MayCount (server_of self.old) promise.now }
+        ensures { self.new ≡ after_turn self.old
+            (notes (once_promised (server_of self.old) promise.now)) }
     {
         let CountedPromise {
             from,
@@ -208,6 +206,6 @@ impl<M: Machine, D: Device> Replica<M, D> {
             ballot,
             last,
         } = *promise;
-        self.proposer.note_promise(from, position, ballot, last);
+        self.server.note_promise(from, position, ballot, last);
     }
 }

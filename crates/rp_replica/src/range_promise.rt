@@ -7,17 +7,18 @@ ghost use Rattle.rp_base.specs.WriteFaults.{fault_of};
 ghost use Rattle.rp_codec.specs.declared.packet.Body.TheVariants as bodies;
 ghost use Rattle.rp_model.specs.Says.{says, writes};
 ghost use Rattle.rp_replica.specs.Committing.{Commits};
+ghost use Rattle.rp_replica.specs.State.{server_of};
 ghost use Rattle.rp_outbox.specs.Packets.{IsTextOf};
-ghost use Rattle.rp_replica.specs.Plans.{MayPromiseRange};
+ghost use Rattle.rp_rules.specs.Plans.{MayPromiseRange};
 ghost use Rattle.rp_replica.specs.Turning.{Stops};
 
-use crate::plan::RangePromise;
 use crate::replica::Replica;
 use rp_base::{Rec, WriteFault};
 use rp_codec::{Body, Packet, Party, Votes, encode};
 use rp_machine::Machine;
 use rp_model::Dropped;
 use rp_outbox::Outbox;
+use rp_rules::RangePromise;
 use rp_store::Device;
 use std::alloc::{AllocError, Global};
 
@@ -33,7 +34,7 @@ impl<M: Machine, D: Device> Replica<M, D> {
         promise: &RangePromise,
     ) -> Result<(), WriteFault>
         requires working { self.old.failed ≡ false }
-        requires may { MayPromiseRange self.old promise.now }
+        requires may { MayPromiseRange (server_of self.old) promise.now }
         ensures ok { OnOk result
             (Commits (writes (PromisedRange promise.now.range promise.now.ballot)
             self.old.running (says self.old.me
@@ -53,19 +54,19 @@ impl<M: Machine, D: Device> Replica<M, D> {
 
     /// The text of a promise for a range, with the last votes of the range.
     fn promise_text(&self, alloc: Global, promise: &RangePromise) -> Result<Vec<u8>, AllocError>
-        requires may { MayPromiseRange self.now promise.now }
+        requires may { MayPromiseRange (server_of self.now) promise.now }
         ensures { IfOk result (λ text. IsTextOf text.items (says self.now.me
             (bodies.PromiseRange promise.now.range promise.now.ballot
             (last_votes self.now.records promise.now.range)) promise.now.to)) }
     {
         let RangePromise { to, range, ballot } = *promise;
-        let votes = Votes::from_vec(self.acceptor.list_last_votes(alloc, range)?);
+        let votes = Votes::from_vec(self.server.last_votes(alloc, range)?);
         let stated = Body::PromiseRange {
             range,
             ballot,
             votes,
         };
-        let packet = Packet::new(Party::Node(self.me), Party::Node(to), stated);
+        let packet = Packet::new(Party::Node(self.server.me()), Party::Node(to), stated);
         let _body = packet.body();
         encode(alloc, &packet)
     }

@@ -1,38 +1,18 @@
-//! The replica, and how a record is kept.
+//! The replica.
 
-ghost use Rattle.std.specs.Prelude.{◌≡◌, ◌∷◌, ◌++◌, [], Some, OnOk, OnErr, IfErr, IfOk, IsOkUnless, length, nat_lt, true, false};
+ghost use Rattle.std.specs.Prelude.{◌≡◌, length, nat_lt, false, IfOk, IsOkUnless};
 ghost use Rattle.rp_base.specs.declared.fault.Fault.TheVariants as faults;
-ghost use Rattle.rp_base.specs.Action.{IsCount, IsIndex};
 ghost use Rattle.rp_base.specs.Records.{applied_of};
-ghost use Rattle.rp_machine.specs.Asked.{last_number, last_occurrence, kept_reply};
-ghost use Rattle.rp_machine.specs.Replay.{kept_of, replay_answers, replay_state};
-ghost use Rattle.rp_base.specs.Right.{IsRightRecord};
-ghost use Rattle.rp_base.specs.WriteFaults.{fault_of};
-ghost use Rattle.rp_acceptor.specs.Noted.{HasRoom};
-ghost use Rattle.rp_codec.specs.Message.{MaySay};
-ghost use Rattle.rp_codec.specs.Record.{record_text, HasRecordRanges};
-ghost use Rattle.rp_codec.specs.declared.packet.Party.TheVariants.{Node};
-ghost use Rattle.rp_codec.specs.declared.packet.Body.TheVariants.{Reply as Answered};
-ghost use Rattle.rp_store.specs.Stored.{IsPut, IsNotPut};
+ghost use Rattle.rp_machine.specs.Replay.{replay_state};
 ghost use Rattle.rp_model.specs.Effect.{stop_part};
-ghost use Rattle.rp_model.specs.Parts.{is_in_log};
-ghost use Rattle.rp_model.specs.Says.{says, says_to_task, writes};
 ghost use Rattle.rp_replica.specs.Kept.{HoldsPart, HoldsItsRecords, HoldsOnly};
-ghost use Rattle.rp_replica.specs.State.{after_turn, part_of};
-ghost use Rattle.rp_replica.specs.Invariant.{IsAnswer};
-ghost use Rattle.rp_replica.specs.Turning.{Stops};
+ghost use Rattle.rp_replica.specs.State.{part_of};
 
-use crate::heard::Heard;
-use crate::pending::Pending;
-use crate::plan::record_in_range;
-use rp_acceptor::Acceptor;
-use rp_base::{Config, Fault, NodeId, Rec, Reply, TaskId, WriteFault};
-use rp_learner::Learner;
-use rp_log::Log;
-use rp_machine::{Machine, Numbered};
-use rp_proposer::Proposer;
+use rp_base::Fault;
+use rp_machine::Machine;
+use rp_server::Server;
 use rp_store::{Device, Store};
-use std::alloc::{AllocError, Global};
+use std::alloc::Global;
 use std::marker::Model;
 
 /// One node as it runs, over a device of its own (Lamport, "Paxos Made Simple", sections 2.2, 2.3 and
@@ -44,79 +24,20 @@ use std::marker::Model;
 /// knows while it runs, what its device holds, and whether that has failed.
 #[derive(Drop)]
 pub struct Replica<M: Machine, D: Device> {
-    pub(crate) me: NodeId,
-    pub(crate) config: Config,
+    pub(crate) server: Server<M>,
     pub(crate) store: Store<D>,
-    pub(crate) acceptor: Acceptor,
-    pub(crate) proposer: Proposer,
-    pub(crate) learner: Learner,
-    pub(crate) heard: Heard,
-    pub(crate) log: Log,
-    pub(crate) machine: Numbered<M>,
-    pub(crate) pending: Pending,
 }
 
 impl<M: Machine, D: Device> Model for Replica<M, D> {
-    ghost use Rattle.rp_replica.specs.State.{ReplicaState};
-    ghost use Rattle.rp_replica.specs.Invariant.{IsReplica};
+    ghost use Rattle.rp_replica.specs.State.{ReplicaState, replica_of};
+    ghost use Rattle.rp_replica.specs.Invariant.{IsOnDisk};
 
     ghost Value = { ReplicaState M };
 
-    ghost view = { λ r. record {
-      me = r.me;
-      config = r.config;
-      begin = r.machine.begin;
-      records = r.acceptor.records;
-      running = record {
-        proposals = r.proposer.proposals;
-        heard = r.heard;
-        pending = r.pending;
-        refused = r.proposer.refused;
-      };
-      disk = D.disk r.store.device;
-      failed = r.store.failed;
-    } };
+    ghost view = { λ r. replica_of r.server (D.disk r.store.device) r.store.failed };
 
-    ghost invariant = { λ r. IsReplica r.me r.config
-        (D.disk r.store.device) r.store.failed r.acceptor.records r.proposer r.learner r.heard r.log
-        r.machine };
-}
-
-/// Makes room to note the record.
-#[inline(always)]
-fn reserve(acceptor: &mut Acceptor, rec: &Rec) -> Result<(), AllocError>
-    ensures room { OnOk result (HasRoom acceptor.new rec.now) }
-    ensures records { acceptor.new.records ≡ acceptor.old.records }
-{
-    match *rec {
-        Rec::Promised(position, _) => acceptor.reserve(position),
-        Rec::Voted(position, _, _) => acceptor.reserve_vote(position),
-        Rec::PromisedRange(range, _) => acceptor.reserve_range(range),
-        Rec::Started(_) | Rec::Learned(_, _) => Ok(()),
-    }
-}
-
-/// Writes the record, and notes it once it is stable.
-#[inline(always)]
-pub(crate) fn write<D: Device>(
-    store: &mut Store<D>,
-    acceptor: &mut Acceptor,
-    rec: &Rec,
-) -> Result<(), WriteFault>
-    requires right { IsRightRecord rec.now }
-    requires working { store.old.failed ≡ false }
-    ensures put { OnOk result (IsPut D.disk (record_text rec.now) store.old store.new) }
-    ensures noted { OnOk result (acceptor.new.records ≡ acceptor.old.records ++ rec.now ∷ []) }
-    ensures range { HasRecordRanges rec.now }
-    ensures unchanged { OnErr result (acceptor.new.records ≡ acceptor.old.records) }
-    ensures err { IfErr result (λ fault.
-        IsNotPut D.disk (record_text rec.now) store.old (fault_of fault) store.new) }
-{
-    record_in_range(rec);
-    reserve(acceptor, rec)?;
-    store.put(rec)?;
-    acceptor.note(rec);
-    Ok(())
+    ghost invariant = { λ r. IsOnDisk r.server.config.max_positions
+        (D.disk r.store.device) r.store.failed r.server.records };
 }
 
 impl<M: Machine, D: Device> Replica<M, D> {
@@ -145,14 +66,14 @@ impl<M: Machine, D: Device> Replica<M, D> {
     pub fn applied(&self) -> u32
         ensures { result ≡ length (applied_of self.now.records) }
     {
-        self.log.applied()
+        self.server.applied()
     }
 
     /// Whether something waits to be proposed or decided: a call, an interrupt or a tick.
     pub fn has_pending(&self) -> bool
         ensures { result ≡ nat_lt 0 (length self.now.running.pending) }
     {
-        self.pending.len() > 0
+        self.server.pending_len() > 0
     }
 
     /// Lines that show the machine's state, each ended by a line feed.
@@ -162,7 +83,7 @@ impl<M: Machine, D: Device> Replica<M, D> {
             (replay_state M.next M.answers self.now.begin (applied_of self.now.records))) }
         ensures only { IsOkUnless result faults.OutOfMemory }
     {
-        Ok(self.machine.machine().image(alloc)?)
+        self.server.image(alloc)
     }
 
     /// The device, as it is. Unless it has failed it holds the records, and nothing after them.
@@ -175,31 +96,5 @@ impl<M: Machine, D: Device> Replica<M, D> {
             → HoldsOnly (D.disk result) (stop_part (part_of self)) }
     {
         self.store.close()
-    }
-
-    /// The last occurrence of a source, 1 to 8, that counted, 0 where none did.
-    pub(crate) fn last_occurrence(&self, source: u8) -> u32
-        requires { IsIndex source }
-        ensures { result ≡ last_occurrence source
-            (kept_of M.next M.answers self.now.begin (applied_of self.now.records)) }
-    {
-        self.machine.last_occurrence(source)
-    }
-
-    /// The number of the task's last call that counted, 0 where none did.
-    pub(crate) fn last_number(&self, task: TaskId) -> u32
-        ensures { result ≡ last_number task
-            (kept_of M.next M.answers self.now.begin (applied_of self.now.records)) }
-    {
-        self.machine.last(task)
-    }
-
-    /// The reply that is kept for a call.
-    pub(crate) fn kept_reply(&self, task: TaskId, number: u32) -> Option<Reply>
-        ensures { let applied = applied_of self.now.records in result ≡ kept_reply task number
-            (kept_of M.next M.answers self.now.begin applied)
-            (replay_answers M.next M.answers self.now.begin applied) }
-    {
-        self.machine.kept(task, number)
     }
 }

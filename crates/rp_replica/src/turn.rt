@@ -1,41 +1,38 @@
 //! A step of a replica: it decides, and then commits.
 
-ghost use Rattle.std.specs.Prelude.{◌≡◌, ◌<◌, Some, Ok, IfSome, IfErr, OnOk, false, length, slice_get};
+ghost use Rattle.std.specs.Prelude.{◌≡◌, ◌<◌, Some, Ok, IfErr, OnOk, false, length, slice_get};
 ghost use Rattle.rp_base.specs.Action.{IsRight};
 ghost use Rattle.rp_base.specs.declared.action.Action.TheVariants as actions;
 ghost use Rattle.rp_codec.specs.Message.{Message};
 ghost use Rattle.rp_codec.specs.Reading.{all_of};
-ghost use Rattle.rp_codec.specs.Decoding.{IsDecoded};
 ghost use Rattle.rp_model.specs.Effect as inputs;
-ghost use Rattle.rp_replica.specs.Inputs.{IsRightInput, input_effect, packet_given, effect_if_given};
-ghost use Rattle.rp_replica.specs.Plans.{turn_of, MayCommit};
-ghost use Rattle.rp_replica.specs.Turning.{Answers, AnswersOnto, StopsIf, effect_of};
+ghost use Rattle.rp_rules.specs.Inputs.{IsRightInput, packet_given};
+ghost use Rattle.rp_rules.specs.Plans.{turn_of, MayCommit};
+ghost use Rattle.rp_replica.specs.Inputs.{effect_of, effect_if_given, input_effect};
+ghost use Rattle.rp_replica.specs.State.{server_of};
+ghost use Rattle.rp_replica.specs.Turning.{Answers, AnswersOnto, StopsIf};
 
-use crate::input::Input;
 use crate::laws::texts_are_packets;
-use crate::plan::Plan;
 use crate::replica::Replica;
 use crate::sent::Sent;
 use rp_base::{Fault, Position, PositionRange};
-use rp_codec::{Kind, decode_fields};
 use rp_machine::Machine;
 use rp_model::Dropped;
 use rp_outbox::Outbox;
+use rp_rules::{Input, Plan, decide};
 use rp_store::Device;
 use std::alloc::Global;
 use std::mem::replace;
 
 impl<M: Machine, D: Device> Replica<M, D> {
-    /// What the step of an input does, or why there is no step: `BadPacket` where the bytes of a
-    /// packet are none's text, `BallotsSpent` or `LogFull` where the node cannot lead,
-    /// `OutOfMemory`, or `Failed` after the device failed. It reads the node alone, and writes the
-    /// plan where its caller holds it, so that no plan is copied.
+    /// What the step of an input does, or why there is no step: as `rp_rules` says, or `Failed` after
+    /// the device failed. It writes the plan where its caller holds it, so that no plan is copied.
     #[inline(always)]
     pub(crate) fn decide(&self, alloc: Global, input: &Input, plan: &mut Plan) -> Result<(), Fault>
         requires right { IsRightInput input.now }
-        ensures ok { OnOk result (Ok (turn_of M.next M.answers self.now plan.new)
+        ensures ok { OnOk result (Ok (turn_of M.next M.answers (server_of self.now) plan.new)
             ≡ input_effect M.next M.answers self.now input.now) }
-        ensures may { OnOk result (MayCommit self.now plan.new) }
+        ensures may { OnOk result (MayCommit (server_of self.now) plan.new) }
         ensures working { OnOk result (self.now.failed ≡ false) }
         ensures err { IfErr result (λ fault. StopsIf
             (input_effect M.next M.answers self.now input.now) self.now self.now fault) }
@@ -43,63 +40,7 @@ impl<M: Machine, D: Device> Replica<M, D> {
         if self.has_failed() {
             return Err(Fault::Failed);
         }
-        match *input {
-            Input::Receive(bytes) => return self.on_text(alloc, bytes, plan),
-            Input::Lead(choice) => *plan = self.on_lead(choice)?,
-            Input::LeadRange(range) => *plan = self.on_lead_range(range)?,
-            Input::Interrupt { source, occurrence } => {
-                self.on_interrupt(source, occurrence, plan);
-            }
-            Input::Tick { now } => self.on_tick(now, plan),
-            Input::Report(first) => *plan = Plan::Report(first),
-        }
-        Ok(())
-    }
-
-    /// A packet comes, as its text. Each usual kind has its function, in which reading the packet and
-    /// the rule for it are compiled for that kind alone.
-    #[inline(always)]
-    fn on_text(&self, alloc: Global, bytes: &[u8], plan: &mut Plan) -> Result<(), Fault>
-        requires working { self.now.failed ≡ false }
-        ensures ok { OnOk result (Ok (turn_of M.next M.answers self.now plan.new)
-            ≡ effect_if_given M.next M.answers self.now (packet_given (all_of bytes.now))) }
-        ensures may { OnOk result (MayCommit self.now plan.new) }
-        ensures err { IfErr result (λ fault. StopsIf
-            (effect_if_given M.next M.answers self.now (packet_given (all_of bytes.now)))
-            self.now self.now fault) }
-    {
-        let is_usual = match Kind::of_text(bytes) {
-            Some(Kind::Call) => self.on_call_text(bytes, plan),
-            Some(Kind::Prepare) => self.on_prepare_text(bytes, plan),
-            Some(Kind::Promise) => self.on_promise_text(bytes, plan),
-            Some(Kind::Accept) => self.on_accept_text(bytes, plan),
-            Some(Kind::Accepted) => self.on_accepted_text(bytes, plan),
-            Some(Kind::Decided) => self.on_decided_text(bytes, plan),
-            _ => false,
-        };
-        if is_usual {
-            Ok(())
-        } else {
-            self.on_other_text(alloc, bytes, plan)
-        }
-    }
-
-    /// The same, where the packet is not read in one piece.
-    #[inline(never)]
-    fn on_other_text(&self, alloc: Global, bytes: &[u8], plan: &mut Plan) -> Result<(), Fault>
-        requires working { self.now.failed ≡ false }
-        ensures ok { OnOk result (Ok (turn_of M.next M.answers self.now plan.new)
-            ≡ effect_if_given M.next M.answers self.now (packet_given (all_of bytes.now))) }
-        ensures may { OnOk result (MayCommit self.now plan.new) }
-        ensures err { IfErr result (λ fault. StopsIf
-            (effect_if_given M.next M.answers self.now (packet_given (all_of bytes.now)))
-            self.now self.now fault) }
-    {
-        match &decode_fields(alloc, bytes) {
-            Ok(Ok(packet)) => self.on_packet(packet, plan),
-            Ok(Err(reason)) => Err(Fault::BadPacket(*reason)),
-            Err(_) => Err(Fault::OutOfMemory),
-        }
+        decide(&self.server, alloc, input, plan)
     }
 
     /// One step of the node: at most one record is written, and the packets are given out once it is

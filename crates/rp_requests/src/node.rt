@@ -1,7 +1,8 @@
 //! A node that answers requests.
 
 ghost use Rattle.std.specs.Prelude.{◌≡◌, [], length};
-ghost use Rattle.rp_replica.specs.Inputs.{IsRightInput, input_effect};
+ghost use Rattle.rp_replica.specs.Inputs.{input_effect};
+ghost use Rattle.rp_rules.specs.Inputs.{IsRightInput};
 ghost use Rattle.rp_requests.specs.Buffers.{Puts, PutsOr};
 ghost use Rattle.rp_requests.specs.Nodes.{Answers, ImageAnswers, StepAnswers, image_of};
 ghost use Rattle.rp_requests.specs.Requests.{asked_of};

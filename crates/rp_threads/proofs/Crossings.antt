@@ -37,6 +37,8 @@ use Rattle.rp_machine.specs.contracts.numbered.Numbered.TheInside as numbered
 use Rattle.rp_store.specs.declared.device.Device as device
 use Rattle.rp_store.specs.contracts.store.Store as Store
 use Rattle.rp_store.specs.contracts.store.Store.TheInside as store
+use Rattle.rp_server.specs.contracts.server.Server as Server
+use Rattle.rp_server.specs.contracts.server.Server.TheInside as server
 use Rattle.rp_replica.specs.contracts.replica.Replica as Replica
 use Rattle.rp_replica.specs.contracts.replica.Replica.TheInside as replica
 use Rattle.rp_tasks.specs.contracts.line.FaultLine as FaultLine
@@ -93,29 +95,26 @@ numbered_inside M P m s = recorded_send (numbered.the_field M P m).row _ _ (numb
 numbered_send : (M P : RattleType) (m : machine.Ghosts M.Denot P.Denot) → IsSend M → IsSend (Numbered.the_row M P m)
 numbered_send M P m s = let i = numbered_inside M P m s in search (sendable, i)
 
-replica_inside : (M D P : RattleType) (m : machine.Ghosts M.Denot P.Denot) (d : device.Ghosts D.Denot) → IsSend M → IsSend D → IsSend (replica.the_row M D P m d)
-replica_inside M D P m d s t = recorded_send (replica.the_field M D P m d).row _ _ (replica.the_type M D P m d).to_one (struct_send (shape (replica.the_type M D P m d)) (
+server_inside : (M P : RattleType) (m : machine.Ghosts M.Denot P.Denot) → IsSend M → IsSend (server.the_row M P m)
+server_inside M P m s = recorded_send (server.the_field M P m).row _ _ (server.the_type M P m).to_one (struct_send (shape (server.the_type M P m)) (
   search (crosses, sendable),
   (
     search (crosses, sendable),
     (
-      store_send D d t,
+      search (crosses, sendable, history_send) depth 40 fits 20000,
       (
-        search (crosses, sendable, history_send) depth 40 fits 20000,
+        search (crosses, sendable, history_send) depth 60 fits 40000,
         (
-          search (crosses, sendable, history_send) depth 60 fits 40000,
+          learner_send,
           (
-            learner_send,
+            search (crosses, sendable, history_send) depth 40 fits 20000,
             (
-              search (crosses, sendable, history_send) depth 40 fits 20000,
+              search (crosses, maps.crosses, sendable) depth 40 fits 20000,
               (
-                search (crosses, maps.crosses, sendable) depth 40 fits 20000,
+                numbered_send M P m s,
                 (
-                  numbered_send M P m s,
-                  (
-                    search (crosses, sendable, cells.the_send, deed.the_send) depth 40,
-                    tt,
-                  ),
+                  search (crosses, sendable, cells.the_send, deed.the_send) depth 40,
+                  tt,
                 ),
               ),
             ),
@@ -123,6 +122,18 @@ replica_inside M D P m d s t = recorded_send (replica.the_field M D P m d).row _
         ),
       ),
     ),
+  ),
+))
+
+server_send : (M P : RattleType) (m : machine.Ghosts M.Denot P.Denot) → IsSend M → IsSend (Server.the_row M P m)
+server_send M P m s = let i = server_inside M P m s in search (sendable, i)
+
+replica_inside : (M D P : RattleType) (m : machine.Ghosts M.Denot P.Denot) (d : device.Ghosts D.Denot) → IsSend M → IsSend D → IsSend (replica.the_row M D P m d)
+replica_inside M D P m d s t = recorded_send (replica.the_field M D P m d).row _ _ (replica.the_type M D P m d).to_one (struct_send (shape (replica.the_type M D P m d)) (
+  server_send M P m s,
+  (
+    store_send D d t,
+    tt,
   ),
 ))
 

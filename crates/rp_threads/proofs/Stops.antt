@@ -17,9 +17,9 @@ use Rattle.rp_model.specs.Effect.{Setting, Done, NodeInput, Receive, Lead, LeadR
 use Rattle.rp_model.specs.Leader.{chosen_position, is_out_of_reach, begins, begins_if, offers, leads_at, starts_above}
 use Rattle.rp_model.specs.Parts.{NodePart, Running, Turn}
 use Rattle.rp_model.specs.Says.{notes}
-use Rattle.rp_replica.specs.declared.input.Input.{Input}
-use Rattle.rp_replica.specs.declared.input.Input.TheVariants as inputs
-use Rattle.rp_replica.specs.Inputs.{given_by, packet_given}
+use Rattle.rp_rules.specs.declared.input.Input.{Input}
+use Rattle.rp_rules.specs.declared.input.Input.TheVariants as inputs
+use Rattle.rp_rules.specs.Inputs.{given_by, packet_given}
 use Rattle.rp_replica.specs.declared.sent.Sent.{Sent}
 use Rattle.rp_tasks.specs.Line.{Line}
 use Rattle.rp_boxes.specs.Parts.{Part, Role, OfNode}

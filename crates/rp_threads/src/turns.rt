@@ -2,7 +2,7 @@
 
 ghost use Rattle.std.specs.Prelude.{◌≡◌, ◌⊎◌, IfOk, OnOk, IfErr, OnErr, Bool};
 ghost use Rattle.rp_codec.specs.declared.packet.Party.TheVariants.{Node};
-ghost use Rattle.rp_replica.specs.Inputs.{IsRightInput};
+ghost use Rattle.rp_rules.specs.Inputs.{IsRightInput};
 ghost use Rattle.rp_boxes.specs.Seats.{IsGot, IsTurn, IsCutTurn, IsNoTurn};
 ghost use Rattle.rp_threads.specs.Lines.{HoldsTextsOf, given_on, line_after};
 ghost use Rattle.rp_threads.specs.Turns.{IsBrought, IsLost, turn_of, Works, Fails, IsEventBy, IsStopBy, IsNodeTurn, IsStoppedTurn};

@@ -67,7 +67,10 @@ fn reported<M: Machine, D: Device>(
     if node.put(report.bytes).is_err() {
         return Err(Fault::Io);
     }
-    audit.fetch(Party::Node(node.number())).ok_or(Fault::Io)
+    match audit.fetch(Party::Node(node.number())) {
+        Some(text) => Ok(text),
+        None => Err(Fault::Io),
+    }
 }
 
 /// The audit adds a report, and what it got before it still has.

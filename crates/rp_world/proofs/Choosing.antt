@@ -18,9 +18,9 @@ use Rattle.rp_model.specs.Events.{Step, Deliver, LeadRange}
 use Rattle.rp_model.specs.Leader.{on_lead_range}
 use Rattle.rp_model.specs.Parts.{NodePart, Running}
 use Rattle.rp_model.specs.World.{World, part_at, cut_step, node_named, receiver_of, node_takes, node_done_if, node_is_cut, hearing_is_cut, arrival_is_cut, delivery_is_cut, arrival_writes, delivery_writes}
-use Rattle.rp_replica.specs.Inputs.{given_by}
-use Rattle.rp_replica.specs.declared.input.Input.{Input}
-use Rattle.rp_replica.specs.declared.input.Input.TheVariants as inputs
+use Rattle.rp_rules.specs.Inputs.{given_by}
+use Rattle.rp_rules.specs.declared.input.Input.{Input}
+use Rattle.rp_rules.specs.declared.input.Input.TheVariants as inputs
 use Rattle.rp_store.specs.Disk.{Disk}
 use Rattle.rp_world.specs.Choosing.{AreNodesOf, IsOf, IsOfNone, IsRefused}
 use Rattle.rp_world.specs.Callers.{Caller}

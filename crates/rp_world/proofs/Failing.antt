@@ -19,11 +19,12 @@ use Rattle.rp_model.specs.World.{World, part_at, with_part, written_by, node_nam
 use Rattle.rp_model.proofs.Devices.{NoDevice, input_is, turn_is}
 use Rattle.rp_replica.specs.declared.cut.NotCut.{NotCut}
 use Rattle.rp_replica.specs.declared.cut.NotCut.TheVariants.{Failed as DeviceFailed, Refused}
-use Rattle.rp_replica.specs.declared.input.Input.{Input}
-use Rattle.rp_replica.specs.declared.input.Input.TheVariants.{Receive, Lead, LeadRange, Interrupt, Tick, Report}
+use Rattle.rp_rules.specs.declared.input.Input.{Input}
+use Rattle.rp_rules.specs.declared.input.Input.TheVariants.{Receive, Lead, LeadRange, Interrupt, Tick, Report}
 use Rattle.rp_replica.specs.Cutting.{CutsIf, IsNotCutIf, cut_disk}
 use Rattle.rp_replica.specs.State.{ReplicaState, setting_of, with_text}
-use Rattle.rp_replica.specs.Inputs.{packet_given, effect_if_given, input_effect}
+use Rattle.rp_replica.specs.Inputs.{effect_if_given, input_effect}
+use Rattle.rp_rules.specs.Inputs.{packet_given}
 use Rattle.rp_replica.specs.Opening.{IsRefusedOpening}
 use Rattle.rp_replica.specs.Turning.{AnswersOnto, TurnsOnto, Stops, StopsIf, IsRefused}
 use Rattle.rp_world.specs.Failures.{RisesAt}

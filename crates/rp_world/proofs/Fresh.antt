@@ -3,6 +3,7 @@ use Rattle.std.proofs.Common.{◌≡◌, ℕ, zero, suc, Option, Some, None, Lis
 use Rattle.std.specs.Prelude.{All, IfSome, get_or, ◌<◌}
 use Rattle.std.proofs.lemmas.List.{append_assoc, map-append}
 use Rattle.rp_base.specs.declared.config.Config.{Config}
+use Rattle.rp_base.specs.Config.{IsRightConfig}
 use Rattle.rp_codec.specs.Message.{Message}
 use Rattle.rp_store.specs.Disk.{Disk}
 use Rattle.rp_model.specs.Parts.{NodePart, TaskPart, fresh_node, fresh_task}
@@ -10,7 +11,7 @@ use Rattle.rp_model.specs.World.{World, opening_world}
 use Rattle.rp_world.specs.Callers.{Caller}
 use Rattle.rp_outbox.specs.Packets.{Sending}
 use Rattle.rp_world.specs.Nodes.{member_of, Represents}
-use Rattle.rp_world.specs.Shape.{part_by, world_of, AreFresh, AreFreshTasks}
+use Rattle.rp_world.specs.Shape.{part_by, world_of, AreFresh, AreFreshTasks, IsWorld}
 use Rattle.rp_world.specs.declared.node.Node.{Node}
 use Rattle.rp_world.proofs.Resting.{part_is}
 
@@ -80,3 +81,17 @@ module _ {S D P : Type 0} (disk : D → Disk) (config : Config) (begin : S) (nod
       ap (λ (ps : List NodePart). let w : World = record { nodes = ps; tasks = map (λ (t : Caller). t.part) tasks; sent = messages.sent } in w) nodes_are
       ∙ ap (λ (ps : List TaskPart). let w : World = record { nodes = replicate config.nodes fresh_node; tasks = ps; sent = messages.sent } in w) tasks_are
       ∙ ap (λ (ms : List Message). let w : World = record { nodes = replicate config.nodes fresh_node; tasks = replicate 8 fresh_task; sent = ms } in w) none
+
+  -- and each is the one of its number
+  pub fresh_are_world : IsRightConfig config → IsWorld disk config begin nodes tasks
+  fresh_are_world right = record {
+    right = right;
+    size = fresh.size;
+    members = λ k.
+        let member = member_of (suc k) config begin in
+        if_some (λ n. Represents disk member n fresh_node) (λ n. Represents disk member n (part_by disk most n))
+        (λ n represents. subst (Represents disk member n) (part_is disk member n fresh_node represents) represents) (slice_get nodes k) (fresh.each k);
+    eight = fresh_tasks.eight;
+    numbered = λ k.
+        if_some (λ t. let new : Caller = record { task = suc k; part = fresh_task } in t ≡ new) (λ t. t.task ≡ suc k) (λ t is. ap (λ (c : Caller). c.task) is) (slice_get tasks k) (fresh_tasks.each k);
+  }

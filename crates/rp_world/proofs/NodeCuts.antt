@@ -14,8 +14,8 @@ use Rattle.rp_model.specs.Events.{Step}
 use Rattle.rp_model.specs.Parts.{NodePart}
 use Rattle.rp_model.specs.World.{World, part_at, cut_step, node_done_if, node_is_cut, node_writes, step_writes, stepping}
 use Rattle.rp_outbox.specs.Packets.{Sending}
-use Rattle.rp_replica.specs.Inputs.{given_by}
-use Rattle.rp_replica.specs.declared.input.Input.{Input}
+use Rattle.rp_rules.specs.Inputs.{given_by}
+use Rattle.rp_rules.specs.declared.input.Input.{Input}
 use Rattle.rp_world.specs.Callers.{Caller}
 use Rattle.rp_world.specs.Choosing.{AreNodesOf, IsOf}
 use Rattle.rp_world.specs.Going.{Answers, Counts}

@@ -21,9 +21,10 @@ use Rattle.rp_model.specs.declared.effect.Dropped.{Dropped}
 use Rattle.rp_replica.specs.declared.sent.Sent.{Sent}
 use Rattle.rp_replica.specs.State.{ReplicaState, part_of, setting_of, with_text, after_turn}
 use Rattle.rp_replica.specs.Kept.{HoldsPart, HoldsOnly, HoldsItsRecords, HoldsCut}
-use Rattle.rp_replica.specs.declared.input.Input.{Input}
-use Rattle.rp_replica.specs.Inputs.{given_by, effect_if_given, input_effect}
-use Rattle.rp_replica.specs.Turning.{AnswersOnto, TurnsIf, TurnsOnto, FailsAt, Stops, StopsIf, IsRefused, effect_of}
+use Rattle.rp_rules.specs.declared.input.Input.{Input}
+use Rattle.rp_replica.specs.Inputs.{effect_if_given, input_effect, effect_of}
+use Rattle.rp_rules.specs.Inputs.{given_by}
+use Rattle.rp_replica.specs.Turning.{AnswersOnto, TurnsIf, TurnsOnto, FailsAt, Stops, StopsIf, IsRefused}
 use Rattle.rp_replica.specs.Cutting.{CutsIf, IsNotCutIf}
 use Rattle.rp_replica.specs.declared.cut.NotCut.{NotCut}
 use Rattle.rp_replica.specs.declared.cut.NotCut.TheVariants.{Failed as DeviceFailed, Refused}

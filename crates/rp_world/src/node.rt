@@ -3,7 +3,7 @@
 ghost use Rattle.std.specs.Prelude.{◌≡◌, ◌⊎◌, ◌≤◌, ◌<◌, ℕ, [], false, min, length, slice_get, Ok, Some, None, IfOk, IfErr, IfSome, IfNone, OnErr, IsErrOf, IsSome, IsTrue};
 ghost use Rattle.rp_base.specs.Config.{IsRightConfig};
 ghost use Rattle.rp_codec.specs.Message.{Message};
-ghost use Rattle.rp_replica.specs.Inputs.{IsRightInput, given_by};
+ghost use Rattle.rp_rules.specs.Inputs.{IsRightInput, given_by};
 ghost use Rattle.rp_base.specs.declared.fault.Fault.TheVariants as faults;
 ghost use Rattle.rp_model.specs.Effect.{NodeInput, stop_effect, restart_part};
 ghost use Rattle.rp_model.specs.Parts.{fresh_node};

@@ -14,7 +14,7 @@ ghost use Rattle.rp_model.specs.Events.{IsEvent, event_of, step_of};
 ghost use Rattle.rp_model.specs.World as worlds;
 ghost use Rattle.rp_model.specs.World.{part_at, node_takes, node_is_cut, step_effect, cut_step, stepping, step_writes, node_writes};
 ghost use Rattle.rp_agreement.specs.Ranges.{IsRangedWorld};
-ghost use Rattle.rp_replica.specs.Inputs.{IsRightInput, given_by};
+ghost use Rattle.rp_rules.specs.Inputs.{IsRightInput, given_by};
 ghost use Rattle.rp_world.specs.Choosing.{AreNodesOf, Chosen, IsRefused};
 ghost use Rattle.rp_world.specs.Going.{Answers, AnswersDelivery, Counts, CountsDelivery, reply_in, stated};
 ghost use Rattle.rp_world.specs.Steps.{IsStep, IsSameSetup, setting_of};

@@ -13,11 +13,11 @@ returns-clause-holds g c = λ working.
     let same : h.disk ≡ g.D.Device.disk c.close.result = sym (ap g.D.Device.disk c.close.ensures ∙ ap (λ (k : ReplicaState g.row.M.Denot). k.disk) c.self.view_is) in
     subst (λ (d : Disk). HoldsPart h.config.max_positions d (stop_part (part_of h))) same
     (stop_holds h.config.max_positions h.disk (part_of h)
-    (replica_now h (subst (λ (k : ReplicaState g.row.M.Denot). IsOnDisk k.config.max_positions k.disk k.failed k.records) c.self.view_is c.self.invariant.on_device) working))
+    (replica_now h (subst (λ (k : ReplicaState g.row.M.Denot). IsOnDisk k.config.max_positions k.disk k.failed k.records) c.self.view_is c.self.invariant) working))
 
 pub returns-clause-only : goal.returns-clause-only
 returns-clause-only g c = λ working only.
     let h = c.args.self in
     let same : h.disk ≡ g.D.Device.disk c.close.result = sym (ap g.D.Device.disk c.close.ensures ∙ ap (λ (k : ReplicaState g.row.M.Denot). k.disk) c.self.view_is) in
     subst (λ (d : Disk). HoldsOnly d (stop_part (part_of h))) same
-    (stops_with h (subst (λ (k : ReplicaState g.row.M.Denot). IsOnDisk k.config.max_positions k.disk k.failed k.records) c.self.view_is c.self.invariant.on_device) working only)
+    (stops_with h (subst (λ (k : ReplicaState g.row.M.Denot). IsOnDisk k.config.max_positions k.disk k.failed k.records) c.self.view_is c.self.invariant) working only)

@@ -1,10 +1,10 @@
-use Rattle.std.proofs.Common.{◌≡◌, Some, List, ℕ, ap, ◌∙◌}
+use Rattle.std.proofs.Common.{◌≡◌, List, ℕ, ap, ◌∙◌}
 use Rattle.std.specs.Prelude.{slice_get}
 use Rattle.rp_codec.specs.Reading.{all_of}
 use Rattle.rp_codec.specs.Text.{text_of}
 use Rattle.rp_model.specs.Effect.{NodeInput}
-use Rattle.rp_replica.specs.Inputs.{packet_given, effect_if_given}
-use Rattle.rp_replica.specs.Turning.{effect_of}
+use Rattle.rp_rules.specs.Inputs.{packet_given}
+use Rattle.rp_replica.specs.Inputs.{effect_of, effect_if_given}
 use Rattle.rp_outbox.proofs.Joined.{text_found_is}
 use Rattle.rp_replica.proofs.Planning.{committed, refused}
 use Rattle.rp_replica.proofs.replica.Replica.deliver.Goals as goal

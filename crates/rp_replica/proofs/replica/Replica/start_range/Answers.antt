@@ -1,45 +1,25 @@
-use Rattle.std.proofs.Common.{◌≡◌, ℕ, suc, ◌+◌, ◌≤◌, Some, List, length, refl, sym, ap, subst, ◌∙◌}
+use Rattle.std.proofs.Common.{Some, [], refl}
 use Rattle.rp_base.specs.declared.record.Rec.TheVariants.{Started}
-use Rattle.rp_base.specs.Proposals.{with_range}
-use Rattle.rp_base.specs.Ranges.{end_of}
-use Rattle.rp_base.specs.Records.{first_unlearned}
-use Rattle.rp_model.specs.Leader.{unlearned_in}
-use Rattle.rp_model.specs.Parts.{Running}
-use Rattle.rp_proposer.specs.Proposing.{unskipped, begins_range}
-use Rattle.rp_replica.specs.State.{ReplicaState}
+use Rattle.rp_model.specs.Leader.{begins_range}
+use Rattle.rp_model.specs.Says.{writes}
+use Rattle.rp_replica.specs.Cutting.{MayWrite}
 use Rattle.rp_replica.proofs.Cuts.{write_fails}
-use Rattle.rp_replica.proofs.Beginning.{replica_started}
-use Rattle.rp_replica.proofs.Covered.{open_in, leads_ranged, range_fits}
+use Rattle.rp_replica.proofs.Keeping.{disk_written}
 use Rattle.rp_replica.proofs.replica.Replica.start_range.Goals as goal
 
-pub begin_range-requires-clause-room : goal.begin_range-requires-clause-room
-begin_range-requires-clause-room g c =
+pub invariant_of-self : goal.invariant_of-self
+invariant_of-self g c =
     let r = c.self.inside in
-    let back = sym c.self.view_is in
-    let is : unskipped c.args.range c.learned_mask-learned.result ≡ unlearned_in r.acceptor.records c.args.range =
-    c.learned_mask-learned.ensures.mask ∙ ap (λ (h : ReplicaState g.row.M.Denot). unlearned_in h.records c.args.range) back in
-    let reach : end_of c.args.range ≤ first_unlearned r.acceptor.records + 64 = subst (λ (h : ReplicaState g.row.M.Denot). end_of c.args.range ≤ first_unlearned h.records + 64) back c.requires.may.reach in
-    let inside = open_in r.acceptor.records r.log r.machine c.args.range.first c.args.range.count c.self.invariant.applies c.learned_mask-learned.ensures.range.first.0 reach in
-    subst (λ (is : List ℕ). length (with_range r.proposer.proposals c.args.ballot is) ≤ 64) (sym is)
-    (range_fits (suc (length r.log.taken)) c.args.ballot r.acceptor.records (unlearned_in r.acceptor.records c.args.range) r.proposer.proposals c.self.invariant.leads.window inside)
+    let rec = Started c.args.ballot in
+    let may : MayWrite r.server.config.max_positions (Some rec) = (record { ranges = c.requires.may.ballot.ballot; right = tt }, refl) in
+    let begun = begins_range r.server.config.nodes r.server.me r.server.records r.server.running c.args.range c.args.ballot in
+    disk_written g.D.Device.disk r.server c.begin_range.new.self r.store c.begin_range.new.store rec (writes rec begun.running []) refl c.begin_range.result
+    c.begin_range.ensures.put c.begin_range.ensures.begun c.begin_range.ensures.unchanged c.begin_range.ensures.err c.self.invariant may
 
-pub invariant_of-self-2 : goal.invariant_of-self-2
-invariant_of-self-2 g c =
+pub returns-clause-err : goal.returns-clause-err
+returns-clause-err g c =
     let r = c.self.inside in
-    let back = sym c.self.view_is in
-    let is : unskipped c.args.range c.learned_mask-learned.result ≡ unlearned_in r.acceptor.records c.args.range =
-    c.learned_mask-learned.ensures.mask ∙ ap (λ (h : ReplicaState g.row.M.Denot). unlearned_in h.records c.args.range) back in
-    let reach : end_of c.args.range ≤ first_unlearned r.acceptor.records + 64 = subst (λ (h : ReplicaState g.row.M.Denot). end_of c.args.range ≤ first_unlearned h.records + 64) back c.requires.may.reach in
-    let inside = open_in r.acceptor.records r.log r.machine c.args.range.first c.args.range.count c.self.invariant.applies c.learned_mask-learned.ensures.range.first.0 reach in
-    let positions = unlearned_in r.acceptor.records c.args.range in
-    replica_started g.D.Device.disk r.me r.config r.learner r.heard r.log r.machine r.store c.write.new.store r.acceptor.records c.write.new.acceptor.records r.proposer c.begin_range.new.self
-    (begins_range r.proposer positions c.args.ballot) c.args.ballot c.in_ok-write.ensures.put c.in_ok-write.ensures.noted
-    (c.begin_range.ensures ∙ ap (λ (js : List ℕ). begins_range r.proposer js c.args.ballot) is) c.self.invariant c.requires.may.ballot.ballot
-    (leads_ranged r.me r.config r.acceptor.records (length r.log.taken) r.proposer positions c.args.ballot c.self.invariant.leads inside)
-
-pub returns-in_err-write-clause-err : goal.returns-in_err-write-clause-err
-returns-in_err-write-clause-err g c =
-    let r = c.self.inside in
-    let known : Running = record { proposals = r.proposer.proposals; heard = r.heard; pending = r.pending; refused = r.proposer.refused } in
-    write_fails g.D.Device.disk r.me r.config r.machine.begin known r.store c.write.new.store r.acceptor.records c.write.new.acceptor.records (Started c.args.ballot) c.args.self.now c.from_residual.result c.in_err-write.field-0.0
-    c.self.view_is c.from_residual.ensures.1 c.self.invariant.on_device (record { ranges = c.requires.may.ballot.ballot; right = tt }, refl) c.in_err-write.ensures.unchanged c.in_err-write.ensures.err
+    let rec = Started c.args.ballot in
+    let may : MayWrite r.server.config.max_positions (Some rec) = (record { ranges = c.requires.may.ballot.ballot; right = tt }, refl) in
+    write_fails g.D.Device.disk r.server r.store c.begin_range.new.store rec c.begin_range.result c.begin_range.new.self c.args.self.now
+    c.begin_range.ensures.unchanged c.begin_range.ensures.err c.self.invariant may c.self.view_is

@@ -14,7 +14,7 @@ pub returns-in-Ok-clause-ok : goal.returns-in-Ok-clause-ok
 returns-in-Ok-clause-ok g c =
     let h = c.args.self in
     let may : MayWrite h.config.max_positions (Some c.args.rec.now) = (record { ranges = c.record_in_range.ensures; right = c.requires.right }, c.requires.place) in
-    torn_cuts h (subst (λ (k : ReplicaState g.row.M.Denot). IsOnDisk k.config.max_positions k.disk k.failed k.records) c.self.view_is c.self.invariant.on_device) c.requires.working c.args.kept c.args.rec.now
+    torn_cuts h (subst (λ (k : ReplicaState g.row.M.Denot). IsOnDisk k.config.max_positions k.disk k.failed k.records) c.self.view_is c.self.invariant) c.requires.working c.args.kept c.args.rec.now
     (g.D.Device.disk c.in-Ok.device) may
     (c.in-Ok.ensures.ok.disk_is ∙ ap (λ (k : ReplicaState g.row.M.Denot). stopped c.args.kept (appended (record_text c.args.rec.now) k.disk)) c.self.view_is)
 
@@ -24,6 +24,6 @@ returns-in-Err-Failed-clause-err g c =
     let may : MayWrite h.config.max_positions (Some c.args.rec.now) = (record { ranges = c.record_in_range.ensures; right = c.requires.right }, c.requires.place) in
     let stated : IsNotTorn g.D.Device.disk (record_text c.args.rec.now) c.self.inside.store (Failed c.in-Err-Failed.device) =
     subst (λ (n : NotTorn g.row.D.Denot). IsNotTorn g.D.Device.disk (record_text c.args.rec.now) c.self.inside.store n) c.in-Err-Failed.field-0-is c.in-Err-Failed.ensures.err in
-    torn_fails h (subst (λ (k : ReplicaState g.row.M.Denot). IsOnDisk k.config.max_positions k.disk k.failed k.records) c.self.view_is c.self.invariant.on_device) c.requires.working c.args.rec.now
+    torn_fails h (subst (λ (k : ReplicaState g.row.M.Denot). IsOnDisk k.config.max_positions k.disk k.failed k.records) c.self.view_is c.self.invariant) c.requires.working c.args.rec.now
     (g.D.Device.disk c.in-Err-Failed.device) may
     (subst (λ (k : ReplicaState g.row.M.Denot). AppendFailed (record_text c.args.rec.now) k.disk (g.D.Device.disk c.in-Err-Failed.device)) c.self.view_is stated.0)

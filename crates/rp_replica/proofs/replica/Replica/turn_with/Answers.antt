@@ -1,4 +1,4 @@
-use Rattle.std.proofs.Common.{◌≡◌, length, refl, ap, ◌∙◌, arith}
+use Rattle.std.proofs.Common.{◌≡◌, length, refl, ap, arith}
 use Rattle.rp_replica.specs.Inputs.{input_effect}
 use Rattle.rp_outbox.proofs.Joined.{length_ends}
 use Rattle.rp_replica.proofs.Sending.{sent_onto}

@@ -2,7 +2,7 @@ use Rattle.std.proofs.Common.{◌≡◌, Some, slice_get, sym, subst, ◌∙◌}
 use Rattle.std.specs.Prelude.{IfOk, IfErr}
 use Rattle.rp_codec.specs.Message.{Message}
 use Rattle.rp_model.specs.Effect.{Receive}
-use Rattle.rp_replica.specs.Turning.{effect_of}
+use Rattle.rp_replica.specs.Inputs.{effect_of}
 use Rattle.rp_world.specs.declared.node.Node.TheVariants.{Running}
 use Rattle.rp_world.specs.Nodes.{Member, GoesBy, NotTaken, DescribesSending, IsCounted, failures_in, node_step}
 use Rattle.rp_world.proofs.Turning.{got_at, heard_ok, heard_err, unsent}

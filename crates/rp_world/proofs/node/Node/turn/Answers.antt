@@ -1,7 +1,8 @@
 use Rattle.std.proofs.Common.{◌≡◌, Ok, sym, subst, ◌∙◌}
 use Rattle.std.specs.Prelude.{IfOk, IfErr}
 use Rattle.rp_model.specs.Effect.{NodeInput}
-use Rattle.rp_replica.specs.Inputs.{given_by, input_effect}
+use Rattle.rp_replica.specs.Inputs.{input_effect}
+use Rattle.rp_rules.specs.Inputs.{given_by}
 use Rattle.rp_world.specs.declared.node.Node.TheVariants.{Running}
 use Rattle.rp_world.specs.Nodes.{Member, GoesBy, NotTaken, DescribesSending, IsCounted, failures_in, node_step}
 use Rattle.rp_world.proofs.Turning.{turned_ok, turned_err, unsent}

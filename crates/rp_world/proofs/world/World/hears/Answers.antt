@@ -1,11 +1,11 @@
 use Rattle.std.proofs.Common.{ℕ, ◌+◌, ◌-◌, ◌<◌, Result, List, None, length, map, slice_set, refl, sym, ap, subst, ◌∙◌, arith}
-use Rattle.std.specs.Prelude.{IsSome, IsTrue}
+use Rattle.std.specs.Prelude.{IsTrue}
 use Rattle.rp_base.specs.declared.action.Action.{Action}
 use Rattle.rp_base.specs.declared.fault.Fault.{Fault}
 use Rattle.rp_base.specs.declared.reply.Answer.{Answer}
 use Rattle.rp_model.specs.declared.effect.Effect.{Effect}
 use Rattle.rp_model.specs.Effect.{Receive}
-use Rattle.rp_model.specs.World.{World, part_at, delivers, delivery_is_cut, delivery_writes, receiver_of}
+use Rattle.rp_model.specs.World.{World, part_at, delivers}
 use Rattle.rp_world.specs.Going.{Goes, AnswersDelivery, CountsDelivery, stated}
 use Rattle.rp_world.specs.Nodes.{failures_in, member_of}
 use Rattle.rp_world.specs.Shape.{world_of}

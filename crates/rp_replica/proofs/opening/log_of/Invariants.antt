@@ -1,6 +1,0 @@
-use Rattle.std.proofs.Common.{◌≡◌, [], take}
-use Rattle.rp_log.specs.Recorded.{LearnedAlike}
-use Rattle.rp_replica.proofs.opening.log_of.Given as goal
-
-abbrev pub invariant-loop-rec : goal.invariant-loop-rec
-invariant-loop-rec l = LearnedAlike (take l.rec-index l.records) l.log × (l.log.taken ≡ [])

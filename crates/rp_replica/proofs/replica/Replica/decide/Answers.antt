@@ -1,0 +1,24 @@
+use Rattle.std.proofs.Common.{◌≡◌, false, sym, subst, ◌∙◌}
+use Rattle.std.specs.Prelude.{Ok, OnOk, IfErr}
+use Rattle.rp_rules.specs.Inputs.{Refuses}
+use Rattle.rp_rules.specs.Plans.{turn_of, MayCommit}
+use Rattle.rp_replica.specs.Inputs.{input_effect}
+use Rattle.rp_replica.specs.State.{ReplicaState, server_of}
+use Rattle.rp_replica.proofs.Planning.{unplanned_if}
+use Rattle.rp_replica.proofs.replica.Replica.decide.Goals as goal
+
+pub returns-clause-ok : goal.returns-clause-ok
+returns-clause-ok g c =
+    let m = g.M.Machine in
+    subst (λ (k : ReplicaState g.row.M.Denot). OnOk c.decide.result (Ok (turn_of m.next m.answers (server_of k) c.decide.new.plan) ≡ input_effect m.next m.answers k c.args.input.now)) c.self.view_is c.decide.ensures.ok
+
+pub returns-clause-may : goal.returns-clause-may
+returns-clause-may g c = subst (λ (k : ReplicaState g.row.M.Denot). OnOk c.decide.result (MayCommit (server_of k) c.decide.new.plan)) c.self.view_is c.decide.ensures.may
+
+pub returns-clause-err : goal.returns-clause-err
+returns-clause-err g c =
+    let m = g.M.Machine in
+    let h = c.args.self.now in
+    let working : h.failed ≡ false = sym c.has_failed.ensures ∙ c.if-has_failed.false in
+    unplanned_if h (input_effect m.next m.answers h c.args.input.now) c.decide.result working
+    (subst (λ (k : ReplicaState g.row.M.Denot). IfErr c.decide.result (Refuses (input_effect m.next m.answers k c.args.input.now))) c.self.view_is c.decide.ensures.err)

@@ -1,0 +1,4 @@
+pub mod Answering
+pub mod Leading
+pub mod PacketMemory
+pub mod Accepted

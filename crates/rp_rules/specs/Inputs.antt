@@ -1,0 +1,59 @@
+-- What a node may be given, and the result.
+use Rattle.std.specs.Prelude.{◌≡◌, Result, Ok, Err, List}
+use Rattle.rp_base.specs.Action.{IsRight}
+use Rattle.rp_base.specs.declared.action.Action.{Action}
+use Rattle.rp_base.specs.declared.action.Action.TheVariants as actions
+use Rattle.rp_base.specs.declared.reply.Answer.{Answer}
+use Rattle.rp_base.specs.declared.fault.Fault.{Fault}
+use Rattle.rp_base.specs.declared.fault.Fault.TheVariants.{BadPacket, OutOfMemory}
+use Rattle.rp_base.specs.declared.fault.PacketReason.{PacketReason}
+use Rattle.rp_codec.specs.Message.{Message}
+use Rattle.rp_codec.specs.Reading.{all_of}
+use Rattle.rp_model.specs.Parts.{Turn}
+use Rattle.rp_model.specs.Effect.{NodeInput, Setting, running_effect}
+use Rattle.rp_model.specs.Effect as nodes
+use Rattle.rp_rules.specs.declared.input.Input.{Input}
+use Rattle.rp_rules.specs.declared.input.Input.TheVariants.{Receive, Lead, LeadRange, Interrupt, Tick, Report}
+use Rattle.rp_server.specs.State.{ServerState}
+
+-- an interrupt's source is 1 to 8, and its occurrence from 1
+abbrev pub IsRightInput : Input → Type 0
+IsRightInput (Interrupt source occurrence) = IsRight (actions.Interrupt source occurrence)
+IsRightInput _ = Unit {0}
+
+-- bytes are the packet of which they are the text, all of them; there is a reason where they are none's
+abbrev pub packet_given : Result Message PacketReason → Result NodeInput Fault
+packet_given (Ok message) = Ok (nodes.NodeInput.Receive message)
+packet_given (Err reason) = Err (BadPacket reason)
+
+-- what the node is given by an input
+abbrev pub given_by : Input → Result NodeInput Fault
+given_by (Receive bytes) = packet_given (all_of bytes.now)
+given_by (Lead choice) = Ok (nodes.NodeInput.Lead choice)
+given_by (LeadRange range) = Ok (nodes.NodeInput.LeadRange range.first range.count)
+given_by (Interrupt source occurrence) = Ok (nodes.NodeInput.Interrupt source occurrence)
+given_by (Tick now) = Ok (nodes.NodeInput.Tick now)
+given_by (Report first) = Ok (nodes.NodeInput.Report first)
+
+module _ {S : Type 0} (next : S → Action → S) (answers : S → Action → List Answer) (server : ServerState S) where
+  -- what it shares with the other nodes
+  abbrev pub setting_of : Setting S
+  setting_of = record { config = server.config; next = next; answers = answers; begin = server.begin }
+
+  -- the result of an input for a node, or its refusal
+  abbrev pub effect_of : NodeInput → Result Turn Fault
+  effect_of input = running_effect setting_of server.me server.records server.running input
+
+  -- the result, or the refusal
+  abbrev pub effect_if_given : Result NodeInput Fault → Result Turn Fault
+  effect_if_given (Ok input) = effect_of input
+  effect_if_given (Err refusal) = Err refusal
+
+  -- the result of an input for a server, or its refusal
+  abbrev pub input_effect : Input → Result Turn Fault
+  input_effect input = effect_if_given (given_by input)
+
+-- why there is no plan: the refusal of the input, or out of memory where it has a result
+abbrev pub Refuses : Result Turn Fault → Fault → Type 0
+Refuses (Ok turn) fault = fault ≡ OutOfMemory
+Refuses (Err refusal) fault = fault ≡ refusal

@@ -1,0 +1,94 @@
+//! What a server decides that is asked for a promise or a vote (Lamport, "Paxos Made Simple",
+//! section 2.2).
+
+ghost use Rattle.std.specs.Prelude.{◌≡◌, ◌≤◌, true};
+ghost use Rattle.rp_base.specs.Action.{IsRight};
+ghost use Rattle.rp_model.specs.Acceptor.{on_prepare, on_prepare_range, on_accept};
+ghost use Rattle.rp_model.specs.Receiving.{is_range_within};
+ghost use Rattle.rp_rules.specs.Plans.{turn_of, MayCommit};
+
+use crate::plan::{Plan, RangePromise};
+use rp_acceptor::Comparison;
+use rp_base::{
+    AcceptAnswer, Action, Ballot, NodeId, Position, PositionRange, PrepareAnswer,
+    last_votes_lie_below, range_votes_are_reported,
+};
+use rp_machine::Machine;
+use rp_model::Dropped;
+use rp_server::Server;
+
+/// A `Prepare` comes.
+#[inline(always)]
+pub(crate) fn on_prepare<M: Machine>(
+    server: &Server<M>,
+    from: NodeId,
+    position: Position,
+    ballot: Ballot,
+) -> Plan
+    requires place { position ≤ server.now.config.max_positions }
+    ensures turn { turn_of M.next M.answers server.now result
+        ≡ on_prepare server.now.me server.now.records server.now.running from position ballot }
+    ensures may { MayCommit server.now result }
+{
+    last_votes_lie_below();
+    server.has_right_records();
+    match server.prepare(position, ballot) {
+        PrepareAnswer::Promise { last, rec: _ } => {
+            Plan::Promise(server.place_to(from, position, ballot), last)
+        }
+        PrepareAnswer::Nack(bound) => Plan::Refuse(from, position, ballot, bound),
+        PrepareAnswer::Silent => Plan::Pass(Dropped::No),
+    }
+}
+
+/// A `PrepareRange` comes.
+#[inline(never)]
+pub(crate) fn on_prepare_range<M: Machine>(
+    server: &Server<M>,
+    from: NodeId,
+    range: PositionRange,
+    ballot: Ballot,
+) -> Plan
+    requires place { is_range_within server.now.config.max_positions range ≡ true }
+    ensures turn { turn_of M.next M.answers server.now result
+        ≡ on_prepare_range server.now.me server.now.records server.now.running from range ballot }
+    ensures may { MayCommit server.now result }
+{
+    range_votes_are_reported();
+    server.has_right_records();
+    match server.compare(range, ballot) {
+        Comparison::Above => Plan::PromiseRange(RangePromise {
+            to: from,
+            range,
+            ballot,
+        }),
+        Comparison::Below(position, bound) => Plan::Refuse(from, position, ballot, bound),
+        Comparison::Equal => Plan::Pass(Dropped::No),
+    }
+}
+
+/// An `Accept` comes, with a right action.
+#[inline(always)]
+pub(crate) fn on_accept<M: Machine>(
+    server: &Server<M>,
+    from: NodeId,
+    position: Position,
+    ballot: Ballot,
+    action: &Action,
+) -> Plan
+    requires place { position ≤ server.now.config.max_positions }
+    requires right { IsRight action.now }
+    ensures turn { turn_of M.next M.answers server.now result
+        ≡ on_accept server.now.me server.now.records server.now.running
+        from position ballot action.now }
+    ensures may { MayCommit server.now result }
+{
+    match server.accept(position, ballot, action) {
+        AcceptAnswer::Vote { rec: _vote } => {
+            Plan::Vote(server.place_to(from, position, ballot), *action)
+        }
+        AcceptAnswer::Again => Plan::Repeat(from, position, ballot, *action),
+        AcceptAnswer::Nack(bound) => Plan::Refuse(from, position, ballot, bound),
+        AcceptAnswer::Silent => Plan::Pass(Dropped::No),
+    }
+}

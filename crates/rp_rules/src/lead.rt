@@ -1,0 +1,36 @@
+//! The word to lead, at a position or at the least free one: what a server decides.
+
+ghost use Rattle.std.specs.Prelude.{◌≡◌, ◌<◌, ◌≤◌, ◌^◌, true, IfNone, IfSome, IfOk, IfErr, Ok, Err};
+ghost use Rattle.rp_model.specs.Effect as inputs;
+ghost use Rattle.rp_model.specs.Leader.{is_free_position, is_out_of_reach, least_free};
+ghost use Rattle.rp_rules.specs.Plans.{turn_of, MayCommit};
+ghost use Rattle.rp_rules.specs.Inputs.{effect_of};
+
+use crate::leader::on_lead_at;
+use crate::plan::Plan;
+use rp_base::{Fault, Position};
+use rp_machine::Machine;
+use rp_server::Server;
+
+/// The word to lead at a position, or with none at the least position that is not learned and at
+/// which no proposal of this node runs but a prepared one. Where the position is learned nothing happens. It is
+/// refused with `LogFull` above the log or 64 positions above the first unlearned one, with
+/// `BallotsSpent` where the node has no ballot left.
+pub(crate) fn on_lead<M: Machine>(
+    server: &Server<M>,
+    choice: Option<Position>,
+) -> Result<Plan, Fault>
+    ensures ok { IfOk result (λ plan. Ok (turn_of M.next M.answers server.now plan)
+        ≡ effect_of M.next M.answers server.now (inputs.NodeInput.Lead choice)) }
+    ensures may { IfOk result (λ plan. MayCommit server.now plan) }
+    ensures err { IfErr result (λ fault. Err fault
+        ≡ effect_of M.next M.answers server.now (inputs.NodeInput.Lead choice)) }
+{
+    match choice {
+        Some(position) => on_lead_at(server, position),
+        None => match server.least_free() {
+            Some(position) => on_lead_at(server, position),
+            None => Err(Fault::LogFull),
+        },
+    }
+}

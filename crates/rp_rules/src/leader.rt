@@ -1,0 +1,107 @@
+//! What a server decides that leads, and that is answered by promises (Lamport, "Paxos Made
+//! Simple", section 2.2).
+
+ghost use Rattle.std.specs.Prelude.{◌≡◌, ◌+◌, ◌^◌, ◌<◌, ◌≤◌, Some, is_some, unwrap_or, Ok, Err, IfNone, IfOk, IfErr, IfSome, false};
+ghost use Rattle.rp_base.specs.Action.{IsRight};
+ghost use Rattle.rp_base.specs.Ballot.{IsAbove, next_ballot, round_of};
+ghost use Rattle.rp_base.specs.Proposals.{without_proposal};
+ghost use Rattle.rp_base.specs.Records.{applied_of, learned_at};
+ghost use Rattle.rp_machine.specs.Replay.{kept_of};
+ghost use Rattle.rp_model.specs.Effect as inputs;
+ghost use Rattle.rp_model.specs.Leader.{is_out_of_reach, starts_above, begins_if, on_promise};
+ghost use Rattle.rp_model.specs.Pending.{own_action};
+ghost use Rattle.rp_rules.specs.Plans.{turn_of, MayCommit, MayCount};
+ghost use Rattle.rp_rules.specs.Inputs.{effect_of};
+
+use crate::plan::{CountedPromise, Plan};
+use rp_base::{Action, Fault, Position};
+use rp_machine::Machine;
+use rp_model::Dropped;
+use rp_proposer::Progress;
+use rp_server::Server;
+
+/// The word to lead at a position. Where it is learned nothing happens, and a prepared proposal
+/// there offers its action. It is refused with `LogFull` above the log or 64 positions above the first unlearned one, with `BallotsSpent`
+/// where the node has no ballot left.
+pub(crate) fn on_lead_at<M: Machine>(server: &Server<M>, position: Position) -> Result<Plan, Fault>
+    ensures ok { IfOk result (λ plan. Ok (turn_of M.next M.answers server.now plan)
+        ≡ effect_of M.next M.answers server.now (inputs.NodeInput.Lead (Some position))) }
+    ensures may { IfOk result (λ plan. MayCommit server.now plan) }
+    ensures err { IfErr result (λ fault. Err fault
+        ≡ effect_of M.next M.answers server.now (inputs.NodeInput.Lead (Some position))) }
+{
+    if server.is_learned(position) {
+        return Ok(Plan::Pass(Dropped::No));
+    }
+    if server.is_out_of_reach(position) {
+        return Err(Fault::LogFull);
+    }
+    match server.prepared(position) {
+        Some((ballot, reported)) => {
+            let action = prepared_action(server, position, reported);
+            Ok(Plan::OfferPrepared(position, ballot, action))
+        }
+        None => on_lead_anew(server, position),
+    }
+}
+
+/// What a prepared proposal at the position offers: the action of the highest vote that its
+/// promises report, or one of its own where they report none.
+fn prepared_action<M: Machine>(
+    server: &Server<M>,
+    position: Position,
+    reported: Option<Action>,
+) -> Action
+    ensures action { result ≡ unwrap_or reported (own_action
+        (kept_of M.next M.answers server.now.begin (applied_of server.now.records))
+        (without_proposal server.now.running.proposals position) server.now.running.pending) }
+    ensures right { IfSome reported IsRight → IsRight result }
+{
+    match reported {
+        Some(action) => action,
+        None => server.own_action(position).get(),
+    }
+}
+
+/// The word to lead at a position within reach at which nothing is learned or prepared.
+fn on_lead_anew<M: Machine>(server: &Server<M>, position: Position) -> Result<Plan, Fault>
+    requires unlearned { is_some (learned_at server.now.records position) ≡ false }
+    requires reach { is_out_of_reach server.now.config.max_positions server.now.records position
+        ≡ false }
+    ensures ok { IfOk result (λ plan. Ok (turn_of M.next M.answers server.now plan)
+        ≡ begins_if M.next M.answers server.now.begin server.now.config.nodes server.now.me
+        server.now.records server.now.running position) }
+    ensures may { IfOk result (λ plan. MayCommit server.now plan) }
+    ensures err { IfErr result (λ fault. Err fault
+        ≡ begins_if M.next M.answers server.now.begin server.now.config.nodes server.now.me
+        server.now.records server.now.running position) }
+{
+    match server.next_ballot() {
+        Some(ballot) => {
+            let own = server.own_action(position).get();
+            Ok(Plan::Lead(position, ballot, own))
+        }
+        None => Err(Fault::BallotsSpent),
+    }
+}
+
+/// A `Promise` comes from one of the nodes, with a right vote.
+#[inline(always)]
+pub(crate) fn on_promise<M: Machine>(server: &Server<M>, promise: CountedPromise) -> Plan
+    requires may { MayCount server.now promise }
+    ensures turn { turn_of M.next M.answers server.now result ≡ on_promise server.now.config.nodes
+        server.now.me server.now.running promise.from promise.position promise.ballot promise.last }
+    ensures may { MayCommit server.now result }
+{
+    let CountedPromise {
+        from,
+        position,
+        ballot,
+        last,
+    } = promise;
+    match server.promise(from, position, ballot, last) {
+        Progress::Offer(action) => Plan::Offer(promise, action),
+        Progress::Waiting => Plan::Count(promise),
+        Progress::Stale => Plan::Pass(Dropped::No),
+    }
+}

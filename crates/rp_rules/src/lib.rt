@@ -1,0 +1,29 @@
+//! The rules: what a server decides of an input. They read alone, and make a plan of it, which says all
+//! that the step does.
+//!
+//! In reading order:
+//! - `input`: what a node may be given
+//! - `plan`: what the rules decided for an input, before anything of it is done
+//! - `rules`: the rule of an input, by its kind and then by the kind of the packet
+//! - `usual`: the rules for a packet of a usual kind, whose fields were read from its text
+//! - `receiving`: the rules for any packet
+//! - `acceptor`, `leader`, `lead`, `ranges`, `learner`, `arrivals`: the rules for a question for a
+//!   promise or a vote, promises, the word to lead at a position or a range, votes and decisions,
+//!   calls and interrupts and ticks
+#![tactic(auto)]
+
+mod acceptor;
+mod arrivals;
+mod input;
+mod lead;
+mod leader;
+mod learner;
+mod plan;
+mod ranges;
+mod receiving;
+mod rules;
+mod usual;
+
+pub use input::Input;
+pub use plan::{CountedPromise, CountedRange, Plan, RangePromise};
+pub use rules::decide;

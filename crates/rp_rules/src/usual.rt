@@ -1,0 +1,159 @@
+//! What a server decides that is given a packet of a usual kind: its text is read into fields, and the
+//! rule for it is called with these. Each function says whether the bytes are such a packet's text; where
+//! they are not, it leaves the plan as it is.
+
+ghost use Rattle.std.specs.Prelude.{◌≡◌, ◌&&◌, not, nat_lt, true};
+ghost use Rattle.rp_codec.specs.declared.packet.Body.TheVariants.{Prepare};
+ghost use Rattle.rp_codec.specs.declared.packet.Party.TheVariants.{Node};
+ghost use Rattle.rp_model.specs.Receiving.{is_for_node, is_node, is_no_node_above};
+ghost use Rattle.rp_model.specs.Says.{says};
+ghost use Rattle.rp_model.specs.declared.effect.Dropped.TheVariants.{Foreign};
+ghost use Rattle.rp_rules.specs.declared.plan.Plan.TheVariants.{Pass};
+ghost use Rattle.rp_rules.specs.Plans.{Decides};
+
+use crate::acceptor::{on_accept, on_prepare};
+use crate::arrivals::on_call;
+use crate::leader::on_promise;
+use crate::learner::{on_accepted, on_decided};
+use crate::plan::{CountedPromise, Plan};
+use rp_base::{NodeId, Position};
+use rp_codec::{
+    Place, usual_accept, usual_accepted, usual_call, usual_decided, usual_prepare, usual_promise,
+};
+use rp_machine::Machine;
+use rp_model::Dropped;
+use rp_server::Server;
+
+/// Whether a packet between these nodes, for a position, is for this node and keeps to the
+/// configuration.
+#[inline(always)]
+fn takes<M: Machine>(server: &Server<M>, from: NodeId, to: NodeId, position: Position) -> bool
+    ensures { result ≡ (is_node server.now.me (Node to)
+        && is_no_node_above server.now.config.nodes (Node from)
+        && not (nat_lt server.now.config.max_positions position)) }
+{
+    to == server.me()
+        && from.get() <= server.config().nodes
+        && position.get() <= server.config().max_positions
+}
+
+/// The same, for a packet in a ballot that its sender must own.
+#[inline(always)]
+fn takes_from_owner<M: Machine>(server: &Server<M>, place: &Place) -> bool
+    ensures { result ≡ is_for_node server.now.config server.now.me
+        (says place.now.from (Prepare place.now.position place.now.ballot) place.now.to) }
+{
+    takes(server, place.from, place.to, place.position) && place.ballot.owner() == place.from
+}
+
+/// A task's call comes.
+#[inline(never)]
+pub(crate) fn on_call_text<M: Machine>(server: &Server<M>, bytes: &[u8], plan: &mut Plan) -> bool
+    ensures { Decides M.next M.answers server.now bytes.now plan.old plan.new result }
+{
+    let Some(call) = usual_call(bytes) else {
+        return false;
+    };
+    if call.to != server.me() {
+        return drop_foreign(plan);
+    }
+    on_call(server, call.action, plan);
+    true
+}
+
+/// A prepare comes.
+#[inline(never)]
+pub(crate) fn on_prepare_text<M: Machine>(server: &Server<M>, bytes: &[u8], plan: &mut Plan) -> bool
+    ensures { Decides M.next M.answers server.now bytes.now plan.old plan.new result }
+{
+    let Some(place) = usual_prepare(bytes) else {
+        return false;
+    };
+    if !takes_from_owner(server, &place) {
+        return drop_foreign(plan);
+    }
+    *plan = on_prepare(server, place.from, place.position, place.ballot);
+    true
+}
+
+/// A promise comes that reports no vote.
+#[inline(never)]
+pub(crate) fn on_promise_text<M: Machine>(server: &Server<M>, bytes: &[u8], plan: &mut Plan) -> bool
+    ensures { Decides M.next M.answers server.now bytes.now plan.old plan.new result }
+{
+    let Some(place) = usual_promise(bytes) else {
+        return false;
+    };
+    if !takes(server, place.from, place.to, place.position) {
+        return drop_foreign(plan);
+    }
+    *plan = on_promise(
+        server,
+        CountedPromise {
+            from: place.from,
+            position: place.position,
+            ballot: place.ballot,
+            last: None,
+        },
+    );
+    true
+}
+
+/// An accept comes, whose action is a call.
+#[inline(never)]
+pub(crate) fn on_accept_text<M: Machine>(server: &Server<M>, bytes: &[u8], plan: &mut Plan) -> bool
+    ensures { Decides M.next M.answers server.now bytes.now plan.old plan.new result }
+{
+    let Some((place, action)) = usual_accept(bytes) else {
+        return false;
+    };
+    if !takes_from_owner(server, &place) {
+        return drop_foreign(plan);
+    }
+    *plan = on_accept(server, place.from, place.position, place.ballot, &action);
+    true
+}
+
+/// A vote for a call comes.
+#[inline(never)]
+pub(crate) fn on_accepted_text<M: Machine>(
+    server: &Server<M>,
+    bytes: &[u8],
+    plan: &mut Plan,
+) -> bool
+    ensures { Decides M.next M.answers server.now bytes.now plan.old plan.new result }
+{
+    let Some((place, action)) = usual_accepted(bytes) else {
+        return false;
+    };
+    if !takes(server, place.from, place.to, place.position) {
+        return drop_foreign(plan);
+    }
+    *plan = on_accepted(server, place.from, place.position, place.ballot, &action);
+    true
+}
+
+/// A decided call comes.
+#[inline(never)]
+pub(crate) fn on_decided_text<M: Machine>(server: &Server<M>, bytes: &[u8], plan: &mut Plan) -> bool
+    ensures { Decides M.next M.answers server.now bytes.now plan.old plan.new result }
+{
+    let Some(decision) = usual_decided(bytes) else {
+        return false;
+    };
+    if !takes(server, decision.from, decision.to, decision.position) {
+        return drop_foreign(plan);
+    }
+    *plan = on_decided(server, decision.from, decision.position, &decision.action);
+    true
+}
+
+/// Drops a packet that is not for this node or outside the configuration; it was read, so `true`.
+#[inline(always)]
+fn drop_foreign(plan: &mut Plan) -> bool
+    ensures plan { plan.new ≡ Pass Foreign }
+    ensures read { result ≡ true }
+{
+    *plan = Plan::Pass(Dropped::Foreign);
+    true
+}

@@ -1,0 +1,140 @@
+//! What a server promised and voted, and how a promise or a vote is written (Lamport, "Paxos Made
+//! Simple", section 2.2).
+
+ghost use Rattle.std.specs.Prelude.{◌≡◌, [], ◌∷◌, ◌++◌, OnOk, OnErr, IfOk, IfErr, false};
+ghost use Rattle.rp_acceptor.specs.Noted.{HasRoom};
+ghost use Rattle.rp_acceptor.specs.Comparing.{compared};
+ghost use Rattle.rp_base.specs.PlacedVotes.{last_votes};
+ghost use Rattle.rp_base.specs.Ranges.{positions_of};
+ghost use Rattle.rp_base.specs.Records.{bound_at};
+ghost use Rattle.rp_base.specs.Right.{IsRightRecord};
+ghost use Rattle.rp_base.specs.Voting.{prepare_answer, accept_answer};
+ghost use Rattle.rp_base.specs.WriteFaults.{fault_of};
+ghost use Rattle.rp_codec.specs.Record.{record_text, HasRecordRanges};
+ghost use Rattle.rp_model.specs.Says.{writes};
+ghost use Rattle.rp_store.specs.Stored.{IsPut, IsNotPut};
+ghost use Rattle.rp_server.specs.Invariant.{IsAnswer};
+ghost use Rattle.rp_server.specs.State.{server_after};
+
+use crate::server::Server;
+use rp_acceptor::{Acceptor, Comparison};
+use rp_base::{
+    AcceptAnswer, Action, Ballot, PlacedVote, Position, PositionRange, PrepareAnswer, Rec,
+    WriteFault,
+};
+use rp_machine::Machine;
+use rp_store::{Device, Store};
+use std::alloc::{AllocError, Global};
+
+impl<M: Machine> Server<M> {
+    /// What is answered to a `Prepare` of the ballot at the position.
+    #[inline(always)]
+    pub fn prepare(&self, position: Position, ballot: Ballot) -> PrepareAnswer
+        ensures answer { result ≡ prepare_answer self.now.records position ballot }
+    {
+        self.acceptor.prepare(position, ballot)
+    }
+
+    /// How the ballot compares with the bounds at the positions of the range.
+    pub fn compare(&self, range: PositionRange, ballot: Ballot) -> Comparison
+        ensures { result ≡ compared (bound_at self.now.records) ballot (positions_of range) }
+    {
+        self.acceptor.compare(range, ballot)
+    }
+
+    /// What is answered to an `Accept` of the action in the ballot at the position.
+    #[inline(always)]
+    pub fn accept(&self, position: Position, ballot: Ballot, action: &Action) -> AcceptAnswer
+        ensures answer { result ≡ accept_answer self.now.records position ballot action.now }
+    {
+        self.acceptor.accept(position, ballot, action)
+    }
+
+    /// The last votes at the positions of the range.
+    pub fn last_votes(
+        &self,
+        alloc: Global,
+        range: PositionRange,
+    ) -> Result<Vec<PlacedVote>, AllocError>
+        ensures votes { IfOk result (λ votes. votes.items ≡ last_votes self.now.records range) }
+    {
+        self.acceptor.list_last_votes(alloc, range)
+    }
+
+    /// Writes a promise or a vote to the store, and notes it once it is stable.
+    #[inline(always)]
+    pub fn keep<D: Device>(&mut self, store: &mut Store<D>, rec: &Rec) -> Result<(), WriteFault>
+        requires working { store.old.failed ≡ false }
+        requires right { IsRightRecord rec.now }
+        requires answer { IsAnswer rec.now }
+        ensures put { OnOk result (IsPut D.disk (record_text rec.now) store.old store.new) }
+        ensures noted { OnOk result
+            (self.new ≡ server_after self.old (writes rec.now self.old.running [])) }
+        ensures range { HasRecordRanges rec.now }
+        ensures unchanged { OnErr result (self.new ≡ self.old) }
+        ensures err { IfErr result (λ fault.
+            IsNotPut D.disk (record_text rec.now) store.old (fault_of fault) store.new) }
+    {
+        write(store, &mut self.acceptor, rec)
+    }
+}
+
+/// Makes room to note the record.
+#[inline(always)]
+fn reserve(acceptor: &mut Acceptor, rec: &Rec) -> Result<(), AllocError>
+    ensures room { OnOk result (HasRoom acceptor.new rec.now) }
+    ensures records { acceptor.new.records ≡ acceptor.old.records }
+{
+    match *rec {
+        Rec::Promised(position, _) => acceptor.reserve(position),
+        Rec::Voted(position, _, _) => acceptor.reserve_vote(position),
+        Rec::PromisedRange(range, _) => acceptor.reserve_range(range),
+        Rec::Started(_) | Rec::Learned(_, _) => Ok(()),
+    }
+}
+
+/// Writes the record, and notes it once it is stable.
+#[inline(always)]
+pub(crate) fn write<D: Device>(
+    store: &mut Store<D>,
+    acceptor: &mut Acceptor,
+    rec: &Rec,
+) -> Result<(), WriteFault>
+    requires right { IsRightRecord rec.now }
+    requires working { store.old.failed ≡ false }
+    ensures put { OnOk result (IsPut D.disk (record_text rec.now) store.old store.new) }
+    ensures noted { OnOk result (acceptor.new.records ≡ acceptor.old.records ++ rec.now ∷ []) }
+    ensures range { HasRecordRanges rec.now }
+    ensures unchanged { OnErr result (acceptor.new.records ≡ acceptor.old.records) }
+    ensures err { IfErr result (λ fault.
+        IsNotPut D.disk (record_text rec.now) store.old (fault_of fault) store.new) }
+{
+    record_in_range(rec);
+    reserve(acceptor, rec)?;
+    store.put(rec)?;
+    acceptor.note(rec);
+    Ok(())
+}
+
+/// Shows that each position and each ballot of a record is within its range.
+pub fn record_in_range(rec: &Rec)
+    ensures { HasRecordRanges rec.now }
+{
+    match rec {
+        Rec::Started(ballot) => {
+            let _number = ballot.get();
+        }
+        Rec::Promised(position, ballot) => {
+            let _numbers = (position.get(), ballot.get());
+        }
+        Rec::Voted(position, ballot, _) => {
+            let _numbers = (position.get(), ballot.get());
+        }
+        Rec::Learned(position, _) => {
+            let _number = position.get();
+        }
+        Rec::PromisedRange(range, ballot) => {
+            let _numbers = (range.count(), ballot.get());
+        }
+    }
+}

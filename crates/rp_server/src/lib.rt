@@ -1,0 +1,32 @@
+//! One server: all roles of the algorithm and the machine, in memory (Lamport, "Paxos Made Simple",
+//! section 3: each server plays all the roles in each instance of the algorithm).
+//!
+//! In reading order:
+//! - `server`: the server, and what it may be asked
+//! - `restart`: a server that begins by the records of a node
+//! - `acceptor`: what it promised and voted, and how a promise or a vote is written
+//! - `proposer`, `own_action`: the proposals that it leads, the positions at which it may lead, and
+//!   the action that a proposal takes as its own
+//! - `learner`: votes that are heard
+//! - `learning`, `applying`, `window`, `pending`: an action that is learned, applied in order and
+//!   answered; the learner's window, which follows the log; the items that wait to be proposed
+//! - `report`: what is applied, for a report
+//! - `heard`: the votes that were heard, which memory does not hold
+#![tactic(auto)]
+
+mod acceptor;
+mod applying;
+mod heard;
+mod learner;
+mod learning;
+mod own_action;
+mod pending;
+mod proposer;
+mod report;
+mod restart;
+mod server;
+mod window;
+
+pub use acceptor::record_in_range;
+pub use learning::Decision;
+pub use server::Server;

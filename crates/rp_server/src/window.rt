@@ -1,0 +1,62 @@
+//! The learner's window, which begins at the first unlearned position of the log.
+
+ghost use Rattle.std.specs.Prelude.{◌≡◌, ◌≢◌, ℕ, ◌+◌, ◌<◌, ◌≤◌, ◌^◌, None, is_some, false};
+ghost use Rattle.rp_learner.specs.Places.{window, is_marked};
+ghost use Rattle.rp_log.specs.Contents.{action_at, next_to_take};
+ghost use Rattle.rp_server.specs.Invariant.{IsSettledAlike, Follows};
+
+use rp_base::Position;
+use rp_learner::{Learner, WINDOW};
+use rp_log::Log;
+
+/// The bits, in which this one is clear, with it set or not.
+pub(crate) fn with_bit(bits: u64, offset: u32, is_set: bool) -> u64
+    requires offset { offset < window }
+    requires clear { is_marked bits offset ≡ false }
+    ensures here { is_marked result offset ≡ is_set }
+    ensures others { (j : ℕ) → j ≢ offset → is_marked result j ≡ is_marked bits j }
+{
+    if is_set { bits | 1 << offset } else { bits }
+}
+
+/// Which positions of the window from `first` on the log learned: bit j is that of `first + j`. It
+/// looks no further than the greatest position learned.
+fn learned_bits(log: &Log, first: u32) -> u64
+    requires low { 1 ≤ first }
+    requires high { first ≤ 65536 }
+    ensures { (j : ℕ) → j < window
+        → is_marked result j ≡ is_some (action_at log.now (first + j)) }
+{
+    let Some(top) = log.top() else {
+        return 0;
+    };
+    let end = (u32::from(top.get()) + 1).min(first + WINDOW);
+    let mut bits = 0;
+    for number in first..end {
+        let is_learned = log.is_learned(position_at(number));
+        bits = with_bit(bits, number - first, is_learned);
+    }
+    bits
+}
+
+/// Moves the window of a learner on to the first unlearned position of a log of which all that is
+/// ready was taken. It takes no memory.
+#[inline(always)]
+pub(crate) fn follow(learner: &mut Learner, log: &Log)
+    requires on { learner.old.first ≤ next_to_take log.now }
+    requires none { action_at log.now (next_to_take log.now) ≡ None }
+    requires alike { IsSettledAlike learner.old log.now }
+    ensures { Follows learner.old log.now learner.new }
+{
+    let first = log.next_unlearned();
+    learner.advance(first, learned_bits(log, first));
+}
+
+/// The position of a number within the log.
+pub(crate) fn position_at(number: u32) -> Position
+    requires low { 1 ≤ number }
+    requires high { number < 2 ^ 16 }
+    ensures { result ≡ number }
+{
+    Position::new(number as u16).unwrap()
+}

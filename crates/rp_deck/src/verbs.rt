@@ -4,7 +4,26 @@ ghost use Rattle.std.specs.Prelude.{◌≡◌};
 ghost use Rattle.rp_deck.specs.ScriptLines.{verb_named, is_live, takes};
 
 use crate::deck::Mode;
-use rp_words::is_word;
+use rp_words::named;
+
+/// The first words of the lines of a script.
+const VERBS: [(&[u8], Verb); 15] = [
+    (b"call", Verb::Call),
+    (b"arm", Verb::Arm),
+    (b"disarm", Verb::Disarm),
+    (b"again", Verb::Again),
+    (b"lead", Verb::Lead),
+    (b"range", Verb::Range),
+    (b"deliver", Verb::Deliver),
+    (b"lose", Verb::Lose),
+    (b"drain", Verb::Drain),
+    (b"stop", Verb::Stop),
+    (b"restart", Verb::Restart),
+    (b"cut", Verb::Cut),
+    (b"irq", Verb::Interrupt),
+    (b"tick", Verb::Tick),
+    (b"show", Verb::Show),
+];
 
 /// The first word of a line of the script.
 #[derive(Clone, Copy)]
@@ -32,39 +51,7 @@ impl Verb {
     pub fn named(word: &[u8]) -> Option<Verb>
         ensures { result ≡ verb_named word.now }
     {
-        if is_word(word, b"call") {
-            Some(Verb::Call)
-        } else if is_word(word, b"arm") {
-            Some(Verb::Arm)
-        } else if is_word(word, b"disarm") {
-            Some(Verb::Disarm)
-        } else if is_word(word, b"again") {
-            Some(Verb::Again)
-        } else if is_word(word, b"lead") {
-            Some(Verb::Lead)
-        } else if is_word(word, b"range") {
-            Some(Verb::Range)
-        } else if is_word(word, b"deliver") {
-            Some(Verb::Deliver)
-        } else if is_word(word, b"lose") {
-            Some(Verb::Lose)
-        } else if is_word(word, b"drain") {
-            Some(Verb::Drain)
-        } else if is_word(word, b"stop") {
-            Some(Verb::Stop)
-        } else if is_word(word, b"restart") {
-            Some(Verb::Restart)
-        } else if is_word(word, b"cut") {
-            Some(Verb::Cut)
-        } else if is_word(word, b"irq") {
-            Some(Verb::Interrupt)
-        } else if is_word(word, b"tick") {
-            Some(Verb::Tick)
-        } else if is_word(word, b"show") {
-            Some(Verb::Show)
-        } else {
-            None
-        }
+        named(&VERBS, word)
     }
 
     /// Whether live mode takes a line that begins so.

@@ -4,3 +4,4 @@ pub mod ExpressionViews
 pub mod BodyViews
 pub mod Counted
 pub mod BodyLimits
+pub mod NodeReads

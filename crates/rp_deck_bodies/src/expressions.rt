@@ -1,11 +1,11 @@
 //! Reads the expressions and conditions of a deck.
 
 ghost use Rattle.std.specs.Prelude.{◌≡◌, ◌≤◌, ◌<◌, ◌+◌, IsTrue, OnOk, IfOk};
-ghost use Rattle.rp_body.specs.Check.{expr_nodes, cond_nodes, expr_names, cond_names, expr_fits, cond_fits};
+ghost use Rattle.rp_body.specs.Check.{expr_nodes, cond_nodes, expr_fits, cond_fits};
 ghost use Rattle.rp_deck_bodies.specs.Counted.{IsCounted, WhereCounted};
 ghost use Rattle.indexmap.specs.IndexMap.{values};
 ghost use Rattle.rp_deck_bodies.specs.ExpressionViews.{expr_text, cond_text};
-ghost use Rattle.rp_deck_bodies.specs.Expressions.{expression_words, component_of, int_of, bool_of, node_at, expr_from, expr_at, expr_line, cond_word_named, cond_of, cond_from, cond_at, cond_line};
+ghost use Rattle.rp_deck_bodies.specs.Expressions.{expression_words, component_of, int_of, bool_of, node_at, expr_from, expr_line, cond_of, cond_from, cond_line};
 ghost use Rattle.rp_words.specs.Reading.{Gives, Makes};
 ghost use Rattle.rp_words.specs.Tables.{is_declared, find, key_names};
 ghost use Rattle.rp_words.specs.Words.{begins_as_number, unread};
@@ -13,11 +13,23 @@ ghost use Rattle.rp_words.specs.Words.{begins_as_number, unread};
 use crate::names::{Component, ComponentNames};
 use rp_base::DeckReason;
 use rp_body::{Cond, Expr};
-use rp_words::{LineError, Words, is_word, read_name, read_number};
+use rp_words::{LineError, Words, named, read_name, read_number};
 use std::alloc::Global;
 
 /// The most nodes of an expression or a condition.
 const MOST_NODES: u8 = 32;
+
+/// The words by which a condition begins, but for a component's name.
+const COND_WORDS: [(&[u8], CondWord); 8] = [
+    (b"true", CondWord::True),
+    (b"false", CondWord::False),
+    (b"lt", CondWord::Less),
+    (b"le", CondWord::LessOrEqual),
+    (b"eq", CondWord::Equal),
+    (b"not", CondWord::Not),
+    (b"and", CondWord::And),
+    (b"or", CondWord::Or),
+];
 
 /// Whether the word has a meaning of its own in expressions and conditions, so that no component may be
 /// named by it.
@@ -100,33 +112,6 @@ pub enum CondWord {
     Or,
 }
 
-impl CondWord {
-    /// The one that the word is.
-    fn named(word: &[u8]) -> Option<CondWord>
-        ensures { result ≡ cond_word_named word.now }
-    {
-        if is_word(word, b"true") {
-            Some(CondWord::True)
-        } else if is_word(word, b"false") {
-            Some(CondWord::False)
-        } else if is_word(word, b"lt") {
-            Some(CondWord::Less)
-        } else if is_word(word, b"le") {
-            Some(CondWord::LessOrEqual)
-        } else if is_word(word, b"eq") {
-            Some(CondWord::Equal)
-        } else if is_word(word, b"not") {
-            Some(CondWord::Not)
-        } else if is_word(word, b"and") {
-            Some(CondWord::And)
-        } else if is_word(word, b"or") {
-            Some(CondWord::Or)
-        } else {
-            None
-        }
-    }
-}
-
 /// Reads an expression, after which no word is left.
 #[tactic(auto, unfolding(crate::specs::Expressions::tree_line))]
 pub fn read_expr(alloc: Global, words: Words<'_>, names: &ComponentNames) -> Result<Expr, LineError>
@@ -135,12 +120,7 @@ pub fn read_expr(alloc: Global, words: Words<'_>, names: &ComponentNames) -> Res
     ensures fits { IfOk result (λ expr.
         WhereCounted (values names.now) (λ limits. IsTrue (expr_fits limits expr))) }
 {
-    let mut nodes = Nodes {
-        alloc,
-        words,
-        names,
-        left: MOST_NODES,
-    };
+    let mut nodes = Nodes::new(alloc, words, names);
     let expr = nodes.expr(MOST_NODES)?;
     nodes.words.end()?;
     Ok(expr)
@@ -154,12 +134,7 @@ pub fn read_cond(alloc: Global, words: Words<'_>, names: &ComponentNames) -> Res
     ensures fits { IfOk result (λ cond.
         WhereCounted (values names.now) (λ limits. IsTrue (cond_fits limits cond))) }
 {
-    let mut nodes = Nodes {
-        alloc,
-        words,
-        names,
-        left: MOST_NODES,
-    };
+    let mut nodes = Nodes::new(alloc, words, names);
     let cond = nodes.cond(MOST_NODES)?;
     nodes.words.end()?;
     Ok(cond)
@@ -177,6 +152,22 @@ struct Nodes<'w, 'n> {
 }
 
 impl<'w, 'n> Nodes<'w, 'n> {
+    ghost use Rattle.rp_deck_bodies.specs.NodeReads.{ReadsExpr, ReadsCond, expr_in, cond_in, IsExprCounted, IsCondCounted};
+
+    /// The nodes of a line: at most 32.
+    fn new(alloc: Global, words: Words<'w>, names: &'n ComponentNames) -> Self
+        ensures words { result.words ≡ words.entry }
+        ensures names { result.names ≡ names.entry }
+        ensures left { result.left ≡ 32 }
+    {
+        Nodes {
+            alloc,
+            words,
+            names,
+            left: MOST_NODES,
+        }
+    }
+
     /// The word of the next node.
     #[tactic(auto, unfolding(crate::specs::Expressions::node_at))]
     fn next(&mut self) -> Result<&'w [u8], DeckReason>
@@ -194,33 +185,23 @@ impl<'w, 'n> Nodes<'w, 'n> {
     #[cycle(expr)]
     #[tactic(auto, using(crate::proofs::ExpressionsLemmas::tree_refused, crate::proofs::ExpressionsLemmas::tree_too_deep, crate::proofs::ExpressionsLemmas::tree_deeper))]
     fn expr(&mut self, depth: u8) -> Result<Expr, LineError>
-        ensures read { Makes (λ expr. (expr_text expr, self.new.left, unread self.new.words)) result
-            (expr_at (key_names self.old.names.now) (values self.old.names.now) depth self.old.left
-            (unread self.old.words)) }
-        ensures names { self.new.names ≡ self.old.names }
+        ensures read { ReadsExpr (expr_in self.old depth) self.old self.new result }
         ensures nodes { IfOk result (λ expr. self.new.left + expr_nodes expr ≡ self.old.left) }
-        ensures counted { IfOk result (λ expr. WhereCounted (values self.old.names.now)
-            (λ limits. IsTrue (expr_names limits expr))) }
+        ensures counted { IfOk result (λ expr. IsExprCounted self.old expr) }
     {
         let word = self.next()?;
-        match depth.checked_sub(1) {
-            Some(inner) => self.expr_from(word, inner),
-            None => Err(LineError::Bad(DeckReason::BadExpression)),
-        }
+        let inner = depth.checked_sub(1).ok_or(DeckReason::BadExpression)?;
+        self.expr_from(word, inner)
     }
 
     /// Reads the rest of an expression, after its first word. Its parts are at most so deep.
     #[cycle(expr)]
     #[tactic(auto, unfolding(crate::specs::Expressions::expr_from))]
     fn expr_from(&mut self, word: &[u8], depth: u8) -> Result<Expr, LineError>
-        ensures read { Makes (λ expr. (expr_text expr, self.new.left, unread self.new.words)) result
-            (expr_from (key_names self.old.names.now) (values self.old.names.now)
-            (expr_at (key_names self.old.names.now) (values self.old.names.now) depth) word.now
-            self.old.left (unread self.old.words)) }
-        ensures names { self.new.names ≡ self.old.names }
+        ensures read { ReadsExpr (expr_from (key_names self.old.names.now)
+            (values self.old.names.now) (expr_in self.old depth) word.now) self.old self.new result }
         ensures nodes { IfOk result (λ expr. self.new.left + expr_nodes expr ≡ self.old.left + 1) }
-        ensures counted { IfOk result (λ expr. WhereCounted (values self.old.names.now)
-            (λ limits. IsTrue (expr_names limits expr))) }
+        ensures counted { IfOk result (λ expr. IsExprCounted self.old expr) }
     {
         let alloc = self.alloc;
         match word {
@@ -245,34 +226,24 @@ impl<'w, 'n> Nodes<'w, 'n> {
     #[cycle(cond)]
     #[tactic(auto, using(crate::proofs::ExpressionsLemmas::tree_refused, crate::proofs::ExpressionsLemmas::tree_too_deep, crate::proofs::ExpressionsLemmas::tree_deeper))]
     fn cond(&mut self, depth: u8) -> Result<Cond, LineError>
-        ensures read { Makes (λ cond. (cond_text cond, self.new.left, unread self.new.words)) result
-            (cond_at (key_names self.old.names.now) (values self.old.names.now) depth self.old.left
-            (unread self.old.words)) }
-        ensures names { self.new.names ≡ self.old.names }
+        ensures read { ReadsCond (cond_in self.old depth) self.old self.new result }
         ensures nodes { IfOk result (λ cond. self.new.left + cond_nodes cond ≡ self.old.left) }
-        ensures counted { IfOk result (λ cond. WhereCounted (values self.old.names.now)
-            (λ limits. IsTrue (cond_names limits cond))) }
+        ensures counted { IfOk result (λ cond. IsCondCounted self.old cond) }
     {
         let word = self.next()?;
-        match depth.checked_sub(1) {
-            Some(inner) => self.cond_from(word, inner),
-            None => Err(LineError::Bad(DeckReason::BadExpression)),
-        }
+        let inner = depth.checked_sub(1).ok_or(DeckReason::BadExpression)?;
+        self.cond_from(word, inner)
     }
 
     /// Reads the rest of a condition, after its first word. The conditions in it are at most so deep.
     #[cycle(cond)]
     fn cond_from(&mut self, word: &[u8], depth: u8) -> Result<Cond, LineError>
-        ensures read { Makes (λ cond. (cond_text cond, self.new.left, unread self.new.words)) result
-            (cond_from (key_names self.old.names.now) (values self.old.names.now)
-            (cond_at (key_names self.old.names.now) (values self.old.names.now) depth) word.now
-            self.old.left (unread self.old.words)) }
-        ensures names { self.new.names ≡ self.old.names }
+        ensures read { ReadsCond (cond_from (key_names self.old.names.now)
+            (values self.old.names.now) (cond_in self.old depth) word.now) self.old self.new result }
         ensures nodes { IfOk result (λ cond. self.new.left + cond_nodes cond ≡ self.old.left + 1) }
-        ensures counted { IfOk result (λ cond. WhereCounted (values self.old.names.now)
-            (λ limits. IsTrue (cond_names limits cond))) }
+        ensures counted { IfOk result (λ cond. IsCondCounted self.old cond) }
     {
-        let first = CondWord::named(word);
+        let first = named(&COND_WORDS, word);
         self.cond_of(first, word, depth)
     }
 
@@ -285,15 +256,11 @@ impl<'w, 'n> Nodes<'w, 'n> {
         word: &[u8],
         depth: u8,
     ) -> Result<Cond, LineError>
-        ensures read { Makes (λ cond. (cond_text cond, self.new.left, unread self.new.words)) result
-            (cond_of (key_names self.old.names.now) (values self.old.names.now)
-            (cond_at (key_names self.old.names.now) (values self.old.names.now) depth) first
-            word.now
-            self.old.left (unread self.old.words)) }
-        ensures names { self.new.names ≡ self.old.names }
+        ensures read { ReadsCond (cond_of (key_names self.old.names.now)
+            (values self.old.names.now) (cond_in self.old depth) first word.now) self.old self.new
+            result }
         ensures nodes { IfOk result (λ cond. self.new.left + cond_nodes cond ≡ self.old.left + 1) }
-        ensures counted { IfOk result (λ cond. WhereCounted (values self.old.names.now)
-            (λ limits. IsTrue (cond_names limits cond))) }
+        ensures counted { IfOk result (λ cond. IsCondCounted self.old cond) }
     {
         let alloc = self.alloc;
         match first {

@@ -5,7 +5,7 @@ ghost use Rattle.indexmap.specs.IndexMap.{index_map_len};
 ghost use Rattle.indexmap.specs.IndexSet.{index_set_len};
 ghost use Rattle.rp_words.specs.Ahead.{text_of};
 ghost use Rattle.rp_deck_declarations.specs.DraftViews.{draft_text};
-ghost use Rattle.rp_deck_declarations.specs.Drafts.{is_new, empty_draft, profile_of, last_object, is_in_body, kind_named, allows, kind_of, profile_named, positions_line, profile_line, task_line, tally_name, tally_names, tally_line, object_line, procedure_of, handler_at, handled_at, interrupt_line, timer_line, declaration_line, script_line};
+ghost use Rattle.rp_deck_declarations.specs.Drafts.{is_new, empty_draft, profile_of, last_object, is_in_body, allows, kind_of, profile_named, positions_line, profile_line, task_line, tally_name, tally_names, tally_line, object_line, procedure_of, handler_at, handled_at, interrupt_line, timer_line, declaration_line, script_line};
 ghost use Rattle.rp_deck_declarations.specs.Declaring.{object_line_of, declaring_line, ends_declarations, missing};
 ghost use Rattle.rp_words.specs.Reading.{Gives, Makes};
 ghost use Rattle.rp_words.specs.Tables.{is_declared, place_of, find, key_names, set_names};
@@ -22,7 +22,7 @@ use rp_base::{DeckReason, Position};
 use rp_deck_objects::{Index, ObjectDraft, OperationName};
 use rp_object::{Handler, Profile};
 use rp_words::{
-    LineError, TextLine, Words, add_name, declare, is_word, read_dotted, take_name_not_in,
+    LineError, TextLine, Words, add_name, declare, is_word, named, read_dotted, take_name_not_in,
     take_new_name,
 };
 use std::alloc::Global;
@@ -35,6 +35,17 @@ const MOST_OBJECTS: u64 = 8;
 
 /// The most positions that a log has.
 const MOST_POSITIONS: u64 = 65_535;
+
+/// The first words of declarations that belong to no object.
+const KINDS: [(&[u8], Kind); 7] = [
+    (b"positions", Kind::Positions),
+    (b"profile", Kind::Profile),
+    (b"task", Kind::Task),
+    (b"tally", Kind::Tally),
+    (b"object", Kind::Object),
+    (b"interrupt", Kind::Interrupt),
+    (b"timer", Kind::Timer),
+];
 
 /// What is declared so far, each kind in declared order.
 #[derive(Drop)]
@@ -65,31 +76,6 @@ pub enum Kind {
     Object,
     Interrupt,
     Timer,
-}
-
-impl Kind {
-    /// The declaration that begins with this word.
-    fn named(first: &[u8]) -> Option<Kind>
-        ensures { result ≡ kind_named first.now }
-    {
-        if is_word(first, b"positions") {
-            Some(Kind::Positions)
-        } else if is_word(first, b"profile") {
-            Some(Kind::Profile)
-        } else if is_word(first, b"task") {
-            Some(Kind::Task)
-        } else if is_word(first, b"tally") {
-            Some(Kind::Tally)
-        } else if is_word(first, b"object") {
-            Some(Kind::Object)
-        } else if is_word(first, b"interrupt") {
-            Some(Kind::Interrupt)
-        } else if is_word(first, b"timer") {
-            Some(Kind::Timer)
-        } else {
-            None
-        }
-    }
 }
 
 impl Draft {
@@ -190,7 +176,7 @@ impl Draft {
         if self.is_in_body() {
             return None;
         }
-        let kind = Kind::named(first)?;
+        let kind = named(&KINDS, first)?;
         if self.allows(kind) { Some(kind) } else { None }
     }
 

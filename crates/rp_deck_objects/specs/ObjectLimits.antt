@@ -1,6 +1,6 @@
 -- The limits that an object keeps whose lines are read.
 use Rattle.std.specs.Prelude.{ℕ, ◌≡◌, ◌<◌, ◌≤◌, All, true, false, List, Option, Some, None, String, string_bytes}
-use Rattle.std.specs.Prelude.{length}
+use Rattle.std.specs.Prelude.{length, Result, OnOk}
 use Rattle.std.specs.FinMap.{len}
 use Rattle.indexmap.specs.IndexMap.{IndexMap, values}
 use Rattle.rp_body.specs.Ranges.{IsInRange, IsNumbered}
@@ -11,6 +11,7 @@ use Rattle.rp_entry.specs.declared.operations.Operations.{Operations}
 use Rattle.rp_object.specs.Program.{has_operation, IsPriority, EndsFit, KeepsProfile}
 use Rattle.rp_object.specs.declared.program.Profile.{Profile}
 use Rattle.rp_object.specs.declared.program.Profile.TheVariants.{Ravenscar, Jorvik}
+use Rattle.rp_words.specs.declared.line_error.LineError.{LineError}
 use Rattle.rp_words.specs.Tables.{is_declared, key_names}
 use Rattle.rp_deck_bodies.specs.BodyLimits.{IsBody}
 use Rattle.rp_deck_bodies.specs.Counted.{AreCounted, WhereCounted}
@@ -20,7 +21,7 @@ use Rattle.rp_deck_objects.specs.declared.objects.Head.{Head}
 use Rattle.rp_deck_objects.specs.declared.objects.Head.TheVariants.{Procedure, Entry}
 use Rattle.rp_deck_objects.specs.declared.objects.ObjectDraft.{ObjectDraft}
 use Rattle.rp_deck_objects.specs.declared.objects.OperationDraft.{OperationDraft}
-use Rattle.rp_deck_objects.specs.ObjectViews.{operation_of}
+use Rattle.rp_deck_objects.specs.ObjectViews.{operation_of, object_text}
 use Rattle.rp_deck_objects.specs.Objects.{most_entries}
 
 module _ {Y S : Type 0} where
@@ -87,3 +88,13 @@ pub record IsObject (profile : Profile) (o : ObjectDraft) : Type 0 where
 pub record MayDeclare (profile : Profile) (o : ObjectDraft) : Type 0 where
   pub object : IsObject profile o
   pub none : o.open_operation ≡ None
+
+-- no procedure is lost
+abbrev pub Grows : ObjectDraft → ObjectDraft → Type 0
+Grows old new = length (object_text old).procedures ≤ length (object_text new).procedures
+
+-- what each line that declares keeps, if it was read: the limits, under each profile, and the procedures
+abbrev pub KeepsObject : ObjectDraft → ObjectDraft → Result (Unit {0}) LineError → Type 0
+KeepsObject old new result =
+    ((profile : Profile) → MayDeclare profile old → OnOk result (IsObject profile new))
+    × OnOk result (Grows old new)

@@ -9,7 +9,7 @@ ghost use Rattle.rp_body.specs.Store.{is_within};
 ghost use Rattle.rp_entry.specs.Operations.{FunctionFits};
 ghost use Rattle.rp_deck_bodies.specs.Counted.{WhereCounted};
 ghost use Rattle.rp_deck_objects.specs.ObjectLimits.{AreNamed};
-ghost use Rattle.rp_deck_objects.specs.Objects.{part_named, ranged_at, function_named, most_entries, longest_at, queue_at};
+ghost use Rattle.rp_deck_objects.specs.Objects.{ranged_at, function_named, most_entries, longest_at, queue_at};
 ghost use Rattle.rp_words.specs.Reading.{Gives, Makes};
 ghost use Rattle.rp_words.specs.Words.{unread};
 
@@ -23,10 +23,20 @@ use rp_deck_bodies::{
 use rp_entry::{Entry, Function, Operations};
 use rp_object::{ObjectDeclaration, Profile};
 use rp_words::{
-    LineError, TextLine, Words, declare, has_name, insert_new, is_word, take_new_name, truth_named,
+    LineError, TextLine, Words, declare, has_name, insert_new, is_word, named, take_new_name,
+    truth_named,
 };
 use std::alloc::{AllocError, Global};
 use std::sync::Arc;
+
+/// The first words of the lines that belong to an object.
+const PARTS: [(&[u8], Part); 5] = [
+    (b"int", Part::Int),
+    (b"bool", Part::Bool),
+    (b"function", Part::Function),
+    (b"procedure", Part::Procedure),
+    (b"entry", Part::Entry),
+];
 
 /// The most components of a kind.
 const MOST_COMPONENTS: u8 = 8;
@@ -45,27 +55,6 @@ pub enum Part {
     Function,
     Procedure,
     Entry,
-}
-
-impl Part {
-    /// What a line with this first word declares.
-    fn named(first: &[u8]) -> Option<Part>
-        ensures { result ≡ part_named first.now }
-    {
-        if is_word(first, b"int") {
-            Some(Part::Int)
-        } else if is_word(first, b"bool") {
-            Some(Part::Bool)
-        } else if is_word(first, b"function") {
-            Some(Part::Function)
-        } else if is_word(first, b"procedure") {
-            Some(Part::Procedure)
-        } else if is_word(first, b"entry") {
-            Some(Part::Entry)
-        } else {
-            None
-        }
-    }
 }
 
 /// What a function answers.
@@ -123,7 +112,7 @@ impl ObjectDraft {
     ghost use Rattle.std.specs.Prelude.{option_map, string_bytes, is_some};
     ghost use Rattle.rp_deck_objects.specs.ObjectViews.{function_text, operation_text, object_text, operation_of, protected_text, protected_of, object_operations, own_operations};
     ghost use Rattle.rp_deck_objects.specs.Objects.{empty_object, component_name_at, with_int, int_line, with_bool, bool_line, function_of, with_function, function_line, procedure_line, entry_line, begun_line, completed_as, operation_line, part_line, object_step};
-    ghost use Rattle.rp_deck_objects.specs.ObjectLimits.{MayBegin, IsOpenIn, IsObject, MayDeclare};
+    ghost use Rattle.rp_deck_objects.specs.ObjectLimits.{MayBegin, IsOpenIn, IsObject, MayDeclare, Grows, KeepsObject};
     ghost use Rattle.rp_deck_bodies.specs.BodyViews.{body_draft_text};
     ghost use Rattle.rp_words.specs.Tables.{find, is_declared, key_names};
 
@@ -204,13 +193,12 @@ impl ObjectDraft {
         ensures read { Makes (λ _. object_text self.new) result
             (object_step profile (object_text self.old) (text_of line.entry)) }
         ensures object { OnOk result (IsObject profile self.new) }
-        ensures grows { OnOk result (length (object_text self.old).procedures
-            ≤ length (object_text self.new).procedures) }
+        ensures grows { OnOk result (Grows self.old self.new) }
     {
         match self.open_operation.take() {
             Some(operation) => self.read_body_line(alloc, profile, operation, line),
             None => {
-                let part = Part::named(line.first);
+                let part = named(&PARTS, line.first);
                 self.read_part(alloc, profile, part, line.words)
             }
         }
@@ -231,8 +219,7 @@ impl ObjectDraft {
             (operation_line (object_text self.old) (operation_text operation)
             (text_of line.entry)) }
         ensures object { OnOk result (IsObject profile self.new) }
-        ensures grows { OnOk result (length (object_text self.old).procedures
-            ≤ length (object_text self.new).procedures) }
+        ensures grows { OnOk result (Grows self.old self.new) }
     {
         if operation
             .body
@@ -256,14 +243,13 @@ impl ObjectDraft {
         ensures read { Makes (λ _. object_text self.new) result
             (part_line profile (object_text self.old) part (unread words.entry)) }
         ensures object { OnOk result (IsObject profile self.new) }
-        ensures grows { OnOk result (length (object_text self.old).procedures
-            ≤ length (object_text self.new).procedures) }
+        ensures grows { OnOk result (Grows self.old self.new) }
     {
         match part {
-            Some(Part::Int) => self.read_int(alloc, profile, words),
-            Some(Part::Bool) => self.read_bool(alloc, profile, words),
-            Some(Part::Function) => self.read_function(alloc, profile, words),
-            Some(Part::Procedure) => self.read_procedure(alloc, profile, words),
+            Some(Part::Int) => self.read_int(alloc, words),
+            Some(Part::Bool) => self.read_bool(alloc, words),
+            Some(Part::Function) => self.read_function(alloc, words),
+            Some(Part::Procedure) => self.read_procedure(alloc, words),
             Some(Part::Entry) => self.read_entry(alloc, profile, words),
             None => Err(LineError::Bad(DeckReason::UnknownWord)),
         }
@@ -289,18 +275,10 @@ impl ObjectDraft {
 
     /// Reads the rest of `int NAME LOW HIGH INIT`.
     #[tactic(auto, unfolding(crate::specs::Objects::int_line))]
-    fn read_int(
-        &mut self,
-        alloc: Global,
-        profile: Profile,
-        mut words: Words<'_>,
-    ) -> Result<(), LineError>
-        requires { MayDeclare profile self.old }
+    fn read_int(&mut self, alloc: Global, mut words: Words<'_>) -> Result<(), LineError>
         ensures read { Makes (λ _. object_text self.new) result
             (int_line (object_text self.old) (unread words.entry)) }
-        ensures object { OnOk result (IsObject profile self.new) }
-        ensures grows { OnOk result (length (object_text self.old).procedures
-            ≤ length (object_text self.new).procedures) }
+        ensures object { KeepsObject self.old self.new result }
     {
         if self.components.limits().ints >= MOST_COMPONENTS {
             return Err(LineError::Bad(DeckReason::TooMany));
@@ -309,6 +287,22 @@ impl ObjectDraft {
         let component = take_ranged(&mut words)?;
         words.end()?;
         self.add_int(alloc, name, component)
+    }
+
+    /// Reads the rest of `bool NAME INIT`.
+    #[tactic(auto, unfolding(crate::specs::Objects::bool_line))]
+    fn read_bool(&mut self, alloc: Global, mut words: Words<'_>) -> Result<(), LineError>
+        ensures read { Makes (λ _. object_text self.new) result
+            (bool_line (object_text self.old) (unread words.entry)) }
+        ensures object { KeepsObject self.old self.new result }
+    {
+        if self.components.limits().bools >= MOST_COMPONENTS {
+            return Err(LineError::Bad(DeckReason::TooMany));
+        }
+        let name = self.take_component_name(&mut words)?;
+        let value = truth_named(words.take()?).ok_or(DeckReason::UnknownWord)?;
+        words.end()?;
+        self.add_bool(alloc, name, value)
     }
 
     /// Adds a whole number.
@@ -320,41 +314,13 @@ impl ObjectDraft {
         ensures text { OnOk result
             (object_text self.new ≡ with_int (object_text self.old) name.now component) }
         ensures memory { IfErr result (λ error. error ≡ LineError.OutOfMemory) }
-        ensures object { (profile : Profile) → MayDeclare profile self.old
-            → OnOk result (IsObject profile self.new) }
-        ensures grows { OnOk result (length (object_text self.old).procedures
-            ≤ length (object_text self.new).procedures) }
+        ensures object { KeepsObject self.old self.new result }
     {
-        let place = self.components.limits().ints;
-        let named = Component::Int(place);
+        let named = Component::Int(self.components.limits().ints);
         declare(alloc, &mut self.component_names, name, named)?;
         self.int_names.push(String::from_str(alloc, name)?)?;
         self.components.add_int(component);
         Ok(())
-    }
-
-    /// Reads the rest of `bool NAME INIT`.
-    #[tactic(auto, unfolding(crate::specs::Objects::bool_line))]
-    fn read_bool(
-        &mut self,
-        alloc: Global,
-        profile: Profile,
-        mut words: Words<'_>,
-    ) -> Result<(), LineError>
-        requires { MayDeclare profile self.old }
-        ensures read { Makes (λ _. object_text self.new) result
-            (bool_line (object_text self.old) (unread words.entry)) }
-        ensures object { OnOk result (IsObject profile self.new) }
-        ensures grows { OnOk result (length (object_text self.old).procedures
-            ≤ length (object_text self.new).procedures) }
-    {
-        if self.components.limits().bools >= MOST_COMPONENTS {
-            return Err(LineError::Bad(DeckReason::TooMany));
-        }
-        let name = self.take_component_name(&mut words)?;
-        let value = truth_named(words.take()?).ok_or(DeckReason::UnknownWord)?;
-        words.end()?;
-        self.add_bool(alloc, name, value)
     }
 
     /// Adds a Boolean.
@@ -365,13 +331,9 @@ impl ObjectDraft {
         ensures text { OnOk result
             (object_text self.new ≡ with_bool (object_text self.old) name.now value) }
         ensures memory { IfErr result (λ error. error ≡ LineError.OutOfMemory) }
-        ensures object { (profile : Profile) → MayDeclare profile self.old
-            → OnOk result (IsObject profile self.new) }
-        ensures grows { OnOk result (length (object_text self.old).procedures
-            ≤ length (object_text self.new).procedures) }
+        ensures object { KeepsObject self.old self.new result }
     {
-        let place = self.components.limits().bools;
-        let named = Component::Bool(place);
+        let named = Component::Bool(self.components.limits().bools);
         declare(alloc, &mut self.component_names, name, named)?;
         self.bool_names.push(String::from_str(alloc, name)?)?;
         self.components.add_bool(value);
@@ -380,18 +342,10 @@ impl ObjectDraft {
 
     /// Reads the rest of `function NAME value EXPR` or `function NAME truth COND`.
     #[tactic(auto, unfolding(crate::specs::Objects::function_line))]
-    fn read_function(
-        &mut self,
-        alloc: Global,
-        profile: Profile,
-        mut words: Words<'_>,
-    ) -> Result<(), LineError>
-        requires { MayDeclare profile self.old }
+    fn read_function(&mut self, alloc: Global, mut words: Words<'_>) -> Result<(), LineError>
         ensures read { Makes (λ _. object_text self.new) result
             (function_line (object_text self.old) (unread words.entry)) }
-        ensures object { OnOk result (IsObject profile self.new) }
-        ensures grows { OnOk result (length (object_text self.old).procedures
-            ≤ length (object_text self.new).procedures) }
+        ensures object { KeepsObject self.old self.new result }
     {
         if self.operations.functions.len() >= MOST_OPERATIONS {
             return Err(LineError::Bad(DeckReason::TooMany));
@@ -417,10 +371,7 @@ impl ObjectDraft {
         ensures text { OnOk result (object_text self.new
             ≡ with_function (object_text self.old) name.now (function_text function)) }
         ensures memory { IfErr result (λ error. error ≡ LineError.OutOfMemory) }
-        ensures object { (profile : Profile) → MayDeclare profile self.old
-            → OnOk result (IsObject profile self.new) }
-        ensures grows { OnOk result (length (object_text self.old).procedures
-            ≤ length (object_text self.new).procedures) }
+        ensures object { KeepsObject self.old self.new result }
     {
         let index = Index::after(self.operations.functions.len()).unwrap();
         let named = OperationName::Function(index);
@@ -456,18 +407,10 @@ impl ObjectDraft {
 
     /// Reads the rest of `procedure NAME`.
     #[tactic(auto, unfolding(crate::specs::Objects::procedure_line))]
-    fn read_procedure(
-        &mut self,
-        alloc: Global,
-        profile: Profile,
-        mut words: Words<'_>,
-    ) -> Result<(), LineError>
-        requires { MayDeclare profile self.old }
+    fn read_procedure(&mut self, alloc: Global, mut words: Words<'_>) -> Result<(), LineError>
         ensures read { Makes (λ _. object_text self.new) result
             (procedure_line (object_text self.old) (unread words.entry)) }
-        ensures object { OnOk result (IsObject profile self.new) }
-        ensures grows { OnOk result (length (object_text self.old).procedures
-            ≤ length (object_text self.new).procedures) }
+        ensures object { KeepsObject self.old self.new result }
     {
         if self.operations.procedures.len() >= MOST_OPERATIONS {
             return Err(LineError::Bad(DeckReason::TooMany));
@@ -488,8 +431,7 @@ impl ObjectDraft {
         ensures read { Makes (λ _. object_text self.new) result
             (entry_line profile (object_text self.old) (unread words.entry)) }
         ensures object { OnOk result (IsObject profile self.new) }
-        ensures grows { OnOk result (length (object_text self.old).procedures
-            ≤ length (object_text self.new).procedures) }
+        ensures grows { OnOk result (Grows self.old self.new) }
     {
         if self.operations.entries.len() >= most_entries(profile) {
             return Err(LineError::Bad(DeckReason::TooMany));
@@ -516,8 +458,7 @@ impl ObjectDraft {
             (begun_line (object_text self.old) name.now head (unread words.entry)) }
         ensures object { (profile : Profile) → MayDeclare profile self.old
             → MayBegin profile self.old name.now head → OnOk result (IsObject profile self.new) }
-        ensures grows { OnOk result (length (object_text self.old).procedures
-            ≤ length (object_text self.new).procedures) }
+        ensures grows { OnOk result (Grows self.old self.new) }
     {
         words.end()?;
         let name = String::from_str(alloc, name)?;
@@ -535,8 +476,7 @@ impl ObjectDraft {
             (object_text self.old)) }
         ensures memory { IfErr result (λ error. error ≡ LineError.OutOfMemory) }
         ensures object { OnOk result (IsObject profile self.new) }
-        ensures grows { OnOk result (length (object_text self.old).procedures
-            ≤ length (object_text self.new).procedures) }
+        ensures grows { OnOk result (Grows self.old self.new) }
     {
         let body = operation.body.into_statements();
         match operation.head {

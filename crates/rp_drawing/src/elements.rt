@@ -21,6 +21,13 @@ pub struct Look {
     pub kind: u8,
 }
 
+/// A place on a page.
+#[derive(Clone, Copy)]
+pub struct Place {
+    pub x: u64,
+    pub y: u64,
+}
+
 impl fmt::Display for Look {
     ghost use Rattle.std.specs.Prelude.{Some};
     ghost use Rattle.rp_drawing.specs.Elements.{look_text};
@@ -28,17 +35,9 @@ impl fmt::Display for Look {
     ghost output = { λ l. Some (look_text l) };
 
     fn fmt<W: fmt::Write>(&self, f: &mut fmt::Formatter<W>) -> fmt::Result {
-        let colour = self.colour;
-        let kind = self.kind;
+        let Look { colour, kind } = *self;
         write!(f, "c{colour} k{kind}")
     }
-}
-
-/// A place on a page.
-#[derive(Clone, Copy)]
-pub struct Place {
-    pub x: u64,
-    pub y: u64,
 }
 
 impl fmt::Display for Place {
@@ -48,8 +47,7 @@ impl fmt::Display for Place {
     ghost output = { λ p. Some (place_text p) };
 
     fn fmt<W: fmt::Write>(&self, f: &mut fmt::Formatter<W>) -> fmt::Result {
-        let x = self.x;
-        let y = self.y;
+        let Place { x, y } = *self;
         write!(f, "{x} {y}")
     }
 }

@@ -71,18 +71,6 @@ impl Machine for BoundedCounter {
 
     ghost runs = { Runs };
 
-    ghost none_waits = { λ program. refl };
-
-    ghost starts = { Runs-begun };
-
-    ghost keeps = { Runs-next };
-
-    ghost shows = { counter_image-injective };
-
-    ghost accounts = { counter_accounts };
-
-    ghost replies = { counter_replies };
-
     fn start(alloc: Global, program: &CounterProgram) -> Result<Self, AllocError> {
         Ok(BoundedCounter {
             most: program.most(),
@@ -113,4 +101,16 @@ impl Machine for BoundedCounter {
         writeln!(text, "count {}", self.count)?;
         Ok(text.into_bytes())
     }
+
+    ghost none_waits = { λ program. refl };
+
+    ghost starts = { Runs-begun };
+
+    ghost keeps = { Runs-next };
+
+    ghost shows = { counter_image-injective };
+
+    ghost accounts = { counter_accounts };
+
+    ghost replies = { counter_replies };
 }

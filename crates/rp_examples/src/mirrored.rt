@@ -1,6 +1,6 @@
 //! A device: two copies of the same bytes, on two devices.
 
-ghost use Rattle.std.specs.Prelude.{◌≡◌};
+ghost use Rattle.std.specs.Prelude.{◌≡◌, suc, is_ok, IfErr, if◌then◌else◌};
 ghost use Rattle.rp_store.specs.Disk.{empty_disk};
 ghost use Rattle.rp_examples.specs.Mirrored.{AreAlike, copies_left, is_left};
 
@@ -14,15 +14,21 @@ use std::marker::Model;
 /// each copy that is left. To a contract it is its main copy, with counts of its own.
 #[derive(Drop)]
 pub struct MirroredDevice<D: Device> {
-    /// The copy that is read first.
-    main: D,
-    /// The other one, until a call of it fails.
-    spare: Option<D>,
+    copies: Copies<D>,
     appends: Count,
     syncs: Count,
     reads: Count,
     cuts: Count,
     failures: Count,
+}
+
+/// The copies that are left.
+#[derive(Drop)]
+struct Copies<D: Device> {
+    /// The copy that is read first.
+    main: D,
+    /// The other one, until a call of it fails.
+    spare: Option<D>,
 }
 
 impl<D: Device> Model for MirroredDevice<D> {
@@ -33,8 +39,8 @@ impl<D: Device> Model for MirroredDevice<D> {
     ghost Value = { Disk };
 
     ghost view = { λ d. record {
-      contents = (D.disk d.main).contents;
-      stable = (D.disk d.main).stable;
+      contents = (D.disk d.copies.main).contents;
+      stable = (D.disk d.copies.main).stable;
       failures = d.failures;
       appends = d.appends;
       syncs = d.syncs;
@@ -42,7 +48,8 @@ impl<D: Device> Model for MirroredDevice<D> {
       cuts = d.cuts;
     } };
 
-    ghost invariant = { λ d. IfSome d.spare (λ spare. AreAlike (D.disk d.main) (D.disk spare)) };
+    ghost invariant = { λ d. IfSome d.copies.spare (λ spare.
+        AreAlike (D.disk d.copies.main) (D.disk spare)) };
 }
 
 impl<D: Device> MirroredDevice<D> {
@@ -55,8 +62,10 @@ impl<D: Device> MirroredDevice<D> {
         ensures { result ≡ empty_disk }
     {
         MirroredDevice {
-            main,
-            spare: Some(spare),
+            copies: Copies {
+                main,
+                spare: Some(spare),
+            },
             appends: Count::new(),
             syncs: Count::new(),
             reads: Count::new(),
@@ -70,40 +79,34 @@ impl<D: Device> Device for MirroredDevice<D> {
     ghost disk = { λ d. d };
 
     fn append(&mut self, bytes: &[u8]) -> Result<(), Fault> {
-        let done = self.main.append(bytes);
+        let done = self.copies.main.append(bytes);
         if matches!(done, Err(Fault::OutOfMemory)) {
             return done;
         }
-        let followed = match &mut self.spare {
+        let followed = match &mut self.copies.spare {
             Some(spare) => spare.append(bytes).is_ok(),
             None => false,
         };
-        if !settle(&mut self.main, &mut self.spare, done.is_ok(), followed) {
-            self.failures.raise();
-            return done;
-        }
+        self.copies.settle(&mut self.failures, done, followed)?;
         self.appends.raise();
         Ok(())
     }
 
     fn sync(&mut self) -> Result<(), Fault> {
-        let done = self.main.sync();
-        let followed = match &mut self.spare {
+        let done = self.copies.main.sync();
+        let followed = match &mut self.copies.spare {
             Some(spare) => spare.sync().is_ok(),
             None => false,
         };
-        if !settle(&mut self.main, &mut self.spare, done.is_ok(), followed) {
-            self.failures.raise();
-            return done;
-        }
+        self.copies.settle(&mut self.failures, done, followed)?;
         self.syncs.raise();
         Ok(())
     }
 
     fn read(&mut self, alloc: Global) -> Result<Vec<u8>, Fault> {
-        let mut read = self.main.read(alloc);
+        let mut read = self.copies.main.read(alloc);
         if matches!(read, Err(Fault::Device)) {
-            if let Some(spare) = &mut self.spare {
+            if let Some(spare) = &mut self.copies.spare {
                 read = spare.read(alloc);
             }
         }
@@ -116,22 +119,19 @@ impl<D: Device> Device for MirroredDevice<D> {
     }
 
     fn len(&self) -> u64 {
-        self.main.len()
+        self.copies.main.len()
     }
 
     fn cut(&mut self, len: u64) -> Result<(), Fault> {
-        let done = self.main.cut(len);
+        let done = self.copies.main.cut(len);
         if matches!(done, Err(Fault::OutOfMemory)) {
             return done;
         }
-        let followed = match &mut self.spare {
+        let followed = match &mut self.copies.spare {
             Some(spare) => spare.cut(len).is_ok(),
             None => false,
         };
-        if !settle(&mut self.main, &mut self.spare, done.is_ok(), followed) {
-            self.failures.raise();
-            return done;
-        }
+        self.copies.settle(&mut self.failures, done, followed)?;
         self.cuts.raise();
         Ok(())
     }
@@ -139,32 +139,46 @@ impl<D: Device> Device for MirroredDevice<D> {
 
 impl<D: CutDevice> CutDevice for MirroredDevice<D> {
     fn stop(&mut self, kept: u64) {
-        self.main.stop(kept);
-        if let Some(spare) = &mut self.spare {
+        self.copies.main.stop(kept);
+        if let Some(spare) = &mut self.copies.spare {
             spare.stop(kept);
         }
     }
 }
 
-/// Leaves the copies of which a call succeeded, the spare one as the main one if that failed alone.
-/// It returns whether there is one.
-fn settle<D: Device>(main: &mut D, spare: &mut Option<D>, done: bool, followed: bool) -> bool
-    // claim: After a call of two copies those are left of which it succeeded, and whether there is
-    //   one is returned
-    ensures copies { (main.new, spare.new) ≡ copies_left main.old spare.old done followed }
-    ensures left { result ≡ is_left spare.old done followed }
-{
-    if !followed {
-        *spare = None;
-    }
-    if done {
-        return true;
-    }
-    match spare.take() {
-        Some(copy) => {
-            *main = copy;
-            true
+impl<D: Device> Copies<D> {
+    /// Leaves the copies of which a call succeeded, the spare one as the main one if that failed
+    /// alone. If there is none, the call failed: that is counted, and the main copy's fault is
+    /// returned.
+    fn settle(
+        &mut self,
+        failures: &mut Count,
+        done: Result<(), Fault>,
+        followed: bool,
+    ) -> Result<(), Fault>
+        // claim (copies, left): After a call of two copies those are left of which it succeeded,
+        //   and whether there is one is returned
+        ensures copies { (self.new.main, self.new.spare)
+            ≡ copies_left self.old.main self.old.spare (is_ok done) followed }
+        ensures left { is_ok result ≡ is_left self.old.spare (is_ok done) followed }
+        ensures fault { IfErr result (λ fault. done ≡ Err fault) }
+        ensures counted { failures.new ≡ (if is_ok result then failures.old else suc failures.old) }
+    {
+        if !followed {
+            self.spare = None;
         }
-        None => false,
+        if done.is_ok() {
+            return done;
+        }
+        match self.spare.take() {
+            Some(copy) => {
+                self.main = copy;
+                Ok(())
+            }
+            None => {
+                failures.raise();
+                done
+            }
+        }
     }
 }

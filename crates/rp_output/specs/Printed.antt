@@ -4,6 +4,8 @@ use Rattle.std.specs.Fmt.{signed_decimal}
 use Rattle.rp_base.specs.Fault.{code_of, name_of}
 use Rattle.rp_base.specs.declared.fault.Fault.{Fault}
 use Rattle.rp_base.specs.declared.reply.Reply.{Reply}
+use Rattle.rp_output.specs.declared.printed.NodeState.{NodeState}
+use Rattle.rp_output.specs.declared.printed.NodeState.TheVariants as states
 use Rattle.rp_base.specs.declared.reply.Reply.TheVariants.{Value, Truth, ConstraintError, ProgramError, NoSuchOperation}
 
 -- what a call is answered
@@ -45,6 +47,14 @@ applied_line_of node applied = codes "node " ++ (decimal node ++ (codes " applie
 -- a node is stopped
 abbrev pub stopped_line_of : ℕ → List ℕ
 stopped_line_of node = codes "node " ++ (decimal node ++ codes " stopped")
+
+-- what is said of a node
+abbrev pub node_line_of : ℕ → NodeState → List ℕ
+node_line_of node (states.Opened records bytes) = opened_line_of node records bytes
+node_line_of node states.Running = running_line_of node
+node_line_of node states.Full = full_line_of node
+node_line_of node (states.Applied applied) = applied_line_of node applied
+node_line_of node states.Stopped = stopped_line_of node
 
 -- `drain` delivered as many messages as it may, and more are left
 abbrev pub limit_line_of : ℕ → List ℕ

@@ -17,8 +17,7 @@ mod trace;
 pub use ending::{Ending, NoRun, Streams, fail, refuse};
 pub use fault_message::{FaultMessage, is_refusal, reason_text, tell};
 pub use printed::{
-    AgreedLine, AppliedLine, DrainLimitLine, FullLine, OpenedLine, RefusedLine, ReplyLine,
-    ReplyText, RunningLine, StoppedLine,
+    AgreedLine, DrainLimitLine, NodeLine, NodeState, RefusedLine, ReplyLine, ReplyText,
 };
 pub use stream::{print, write_out, write_whole};
 pub use trace::{BodyText, PartyText, TraceLine};

@@ -1,7 +1,7 @@
 //! The lines that a run prints. The caller ends each by a line feed.
 
 ghost use Rattle.std.specs.Prelude.{Some};
-ghost use Rattle.rp_output.specs.Printed.{reply_text_of, reply_line_of, refused_line_of, opened_line_of, running_line_of, full_line_of, applied_line_of, stopped_line_of, limit_line_of, agreed_line};
+ghost use Rattle.rp_output.specs.Printed.{reply_text_of, reply_line_of, refused_line_of, node_line_of, limit_line_of, agreed_line};
 
 use rp_base::{Fault, NodeId, Reply};
 use std::fmt;
@@ -64,86 +64,43 @@ impl fmt::Display for RefusedLine {
     }
 }
 
-/// A stopped node runs again: `node 2 open records 3 cut 5`.
+/// What is said of a node.
 #[derive(Clone, Copy, Debug, PartialEq, Eq)]
-pub struct OpenedLine {
-    pub node: NodeId,
-    /// How many records it found.
-    pub records: u64,
-    /// How many bytes after them it truncated.
-    pub bytes: u64,
+pub enum NodeState {
+    /// It was stopped and runs again: `open records 3 cut 5`. It found n records, and truncated the
+    /// bytes after them.
+    Opened { records: u64, bytes: u64 },
+    /// It is to start again, and runs: `already running`.
+    Running,
+    /// It has no place for one more pending item: `pending full`.
+    Full,
+    /// It has applied n actions: `applied 1`.
+    Applied(u32),
+    /// `stopped`.
+    Stopped,
 }
 
-impl fmt::Display for OpenedLine {
-    ghost output = { λ l. Some (opened_line_of l.node l.records l.bytes) };
+/// The state of a node: `node 2 stopped`.
+#[derive(Clone, Copy, Debug, PartialEq, Eq)]
+pub struct NodeLine {
+    pub node: NodeId,
+    pub state: NodeState,
+}
+
+impl fmt::Display for NodeLine {
+    ghost output = { λ l. Some (node_line_of l.node l.state) };
 
     fn fmt<W: fmt::Write>(&self, f: &mut fmt::Formatter<W>) -> fmt::Result {
         let node = self.node.get();
-        let records = self.records;
-        let bytes = self.bytes;
-        write!(f, "node {node} open records {records} cut {bytes}")
-    }
-}
-
-/// A node that is to start again runs: `node 2 already running`.
-#[derive(Clone, Copy, Debug, PartialEq, Eq)]
-pub struct RunningLine {
-    pub node: NodeId,
-}
-
-impl fmt::Display for RunningLine {
-    ghost output = { λ l. Some (running_line_of l.node) };
-
-    fn fmt<W: fmt::Write>(&self, f: &mut fmt::Formatter<W>) -> fmt::Result {
-        let node = self.node.get();
-        write!(f, "node {node} already running")
-    }
-}
-
-/// A node has no place for one more pending item: `node 2 pending full`.
-#[derive(Clone, Copy, Debug, PartialEq, Eq)]
-pub struct FullLine {
-    pub node: NodeId,
-}
-
-impl fmt::Display for FullLine {
-    ghost output = { λ l. Some (full_line_of l.node) };
-
-    fn fmt<W: fmt::Write>(&self, f: &mut fmt::Formatter<W>) -> fmt::Result {
-        let node = self.node.get();
-        write!(f, "node {node} pending full")
-    }
-}
-
-/// How many actions a node has applied: `node 2 applied 1`.
-#[derive(Clone, Copy, Debug, PartialEq, Eq)]
-pub struct AppliedLine {
-    pub node: NodeId,
-    pub applied: u32,
-}
-
-impl fmt::Display for AppliedLine {
-    ghost output = { λ l. Some (applied_line_of l.node l.applied) };
-
-    fn fmt<W: fmt::Write>(&self, f: &mut fmt::Formatter<W>) -> fmt::Result {
-        let node = self.node.get();
-        let applied = self.applied;
-        write!(f, "node {node} applied {applied}")
-    }
-}
-
-/// A node is stopped: `node 2 stopped`.
-#[derive(Clone, Copy, Debug, PartialEq, Eq)]
-pub struct StoppedLine {
-    pub node: NodeId,
-}
-
-impl fmt::Display for StoppedLine {
-    ghost output = { λ l. Some (stopped_line_of l.node) };
-
-    fn fmt<W: fmt::Write>(&self, f: &mut fmt::Formatter<W>) -> fmt::Result {
-        let node = self.node.get();
-        write!(f, "node {node} stopped")
+        match self.state {
+            NodeState::Opened { records, bytes } => {
+                write!(f, "node {node} open records {records} cut {bytes}")
+            }
+            NodeState::Running => write!(f, "node {node} already running"),
+            NodeState::Full => write!(f, "node {node} pending full"),
+            NodeState::Applied(applied) => write!(f, "node {node} applied {applied}"),
+            NodeState::Stopped => write!(f, "node {node} stopped"),
+        }
     }
 }
 

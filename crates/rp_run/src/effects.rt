@@ -16,9 +16,7 @@ use rp_codec::{Packet, Party, decode};
 use rp_deck::Task;
 use rp_machine::Machine;
 use rp_model::{Dropped, Event, Step};
-use rp_output::{
-    BodyText, FullLine, OpenedLine, PartyText, ReplyLine, RunningLine, TraceLine, print,
-};
+use rp_output::{BodyText, NodeLine, NodeState, PartyText, ReplyLine, TraceLine, print};
 use rp_store::CutDevice;
 use rp_world::Cluster;
 use std::alloc::Global;
@@ -169,16 +167,14 @@ pub(crate) fn print_restart<W: Write>(
         return Ok(());
     };
     match opened {
-        Some((records, bytes)) => print(
-            alloc,
-            writer,
-            OpenedLine {
-                node,
-                records,
-                bytes,
-            },
-        ),
-        None => print(alloc, writer, RunningLine { node }),
+        Some((records, bytes)) => {
+            let state = NodeState::Opened { records, bytes };
+            print(alloc, writer, NodeLine { node, state })
+        }
+        None => {
+            let state = NodeState::Running;
+            print(alloc, writer, NodeLine { node, state })
+        }
     }
 }
 
@@ -214,7 +210,10 @@ fn print_full<M: Machine, D: CutDevice, W: Write>(
     ensures fault { IfErr result IsRunFault }
 {
     match node_of_event(alloc, cluster, event)? {
-        Some(node) => print(alloc, writer, FullLine { node }),
+        Some(node) => {
+            let state = NodeState::Full;
+            print(alloc, writer, NodeLine { node, state })
+        }
         None => Ok(()),
     }
 }

@@ -18,9 +18,7 @@ use rp_base::{Fault, NodeId};
 use rp_deck::{Command, Line};
 use rp_machine::Machine;
 use rp_model::{Dropped, Effect, Event, Step, worlds_grow};
-use rp_output::{
-    AppliedLine, DrainLimitLine, RefusedLine, StoppedLine, is_refusal, print, write_whole,
-};
+use rp_output::{DrainLimitLine, NodeLine, NodeState, RefusedLine, is_refusal, print, write_whole};
 use rp_store::{CutDevice, InfallibleDevice};
 use rp_world::{Cluster, no_effect};
 use std::alloc::Global;
@@ -285,15 +283,18 @@ impl<M: Machine, D: CutDevice> Run<M, D> {
     {
         match self.cluster.applied(node) {
             Ok(applied) => {
-                let line = AppliedLine {
+                let line = NodeLine {
                     node,
-                    applied: u32::from(applied),
+                    state: NodeState::Applied(u32::from(applied)),
                 };
                 print(self.alloc, writer, line)?;
                 let image = self.cluster.image(self.alloc, node)?;
                 write_whole(writer, &image)
             }
-            Err(_) => print(self.alloc, writer, StoppedLine { node }),
+            Err(_) => {
+                let state = NodeState::Stopped;
+                print(self.alloc, writer, NodeLine { node, state })
+            }
         }
     }
 }

@@ -19,7 +19,7 @@ pub use deck_run::{DRAIN_LIMIT, devices, run_deck, run_script};
 pub use figures::FiguresLine;
 pub use live_run::{LiveRequest, run_live};
 pub use rp_output::{
-    BodyText, FaultMessage, FullLine, OpenedLine, PartyText, RefusedLine, ReplyLine, ReplyText,
-    RunningLine, TraceLine, is_refusal, print, reason_text, tell, write_out, write_whole,
+    BodyText, FaultMessage, NodeLine, NodeState, PartyText, RefusedLine, ReplyLine, ReplyText,
+    TraceLine, is_refusal, print, reason_text, tell, write_out, write_whole,
 };
 pub use rp_run::{RunOptions, Settled, node_of_event, party_text, run_lines, sent_packet};

@@ -10,7 +10,7 @@ use indexmap::IndexMap;
 use rp_base::{Answer, Fault, NodeId};
 use rp_deck::Task;
 use rp_live::LiveOutcome;
-use rp_output::{AgreedLine, AppliedLine, print, write_out};
+use rp_output::{AgreedLine, NodeLine, NodeState, print, write_out};
 use rp_run::print_reply;
 use std::alloc::Global;
 use std::io::Write;
@@ -89,7 +89,8 @@ fn print_node<W: Write>(alloc: Global, node: u8, applied: u32, writer: &mut W) -
     ensures fault { IfErr result IsRunFault }
 {
     let node = NodeId::new(node).unwrap();
-    print(alloc, writer, AppliedLine { node, applied })
+    let state = NodeState::Applied(applied);
+    print(alloc, writer, NodeLine { node, state })
 }
 
 /// Prints that the logs agree, if they do.

@@ -2,6 +2,7 @@
 use Rattle.std.proofs.Common.{◌≡◌, ℕ, suc, ◌+◌, ◌<◌, ◌≤◌, ◌||◌, List, [], ◌∷◌, ◌++◌, Bool, true, false, cond, not, map, length, Option, Some, None, position, is_some, nat_lt, arith, ap, refl, sym, ◌∙◌}
 use Rattle.std.specs.Prelude.{String, string_bytes, slice_get, option_map}
 use Rattle.std.specs.List.{list_any, prefix_len}
+use Rattle.std.specs.List.{find as first_such}
 use Rattle.std.specs.Map.{keys_of, values_of, lookup}
 use Rattle.std.specs.Str.{bytes_eq}
 use Rattle.std.specs.String.{string_eq}
@@ -9,6 +10,7 @@ use Rattle.indexmap.specs.IndexMap.{insert_entry}
 use Rattle.std.proofs.lemmas.Bool.{ltb-true, ltb-false, lt-ltb, le-ltb}
 use Rattle.indexmap.specs.IndexSet.{insert_key}
 use Rattle.rp_words.specs.Tables.{is_declared, place_of, value_at, find}
+use Rattle.rp_words.specs.Words.{first_named}
 
 -- ---- a name that is looked up is among the names
 
@@ -86,6 +88,15 @@ pub found_itself : {Y X : Type 0} (name : List ℕ) (entries : List (String Y ×
 found_itself {Y} {X} name entries =
     sym (viewed_itself (lookup (λ key. bytes_eq name (string_bytes key)) entries)) ∙ found_is (λ (x : X). x) name entries
     ∙ ap (λ (l : List X). find name (map (λ key. string_bytes key) (keys_of entries)) l) (mapped_itself (values_of entries))
+
+-- ---- the first row with a word
+
+pub first_found : {R X : Type 0} (text : R → List ℕ) (value : R → X) (word : List ℕ) (rows : List R)
+    → option_map value (first_such (λ row. bytes_eq word (text row)) rows) ≡ first_named (map (λ row. (text row, value row)) rows) word
+first_found text value word [] = refl
+first_found text value word (row ∷ rows) =
+    viewed_cond value (bytes_eq word (text row)) row (first_such (λ r. bytes_eq word (text r)) rows)
+    ∙ ap (λ rest. cond (bytes_eq word (text row)) (Some (value row)) rest) (first_found text value word rows)
 
 -- ---- a name that is not there goes last
 

@@ -82,6 +82,11 @@ number_within low high _ = None
 abbrev pub begins_as_number : List ℕ → Bool
 begins_as_number word = begins_with (λ byte. byte == 45 || is_ascii_digit byte) word
 
+-- the value in the first of these rows that has the word
+abbrev pub first_named : {X : Type 0} → List (List ℕ × X) → List ℕ → Option X
+first_named [] word = None
+first_named (row ∷ rows) word = if bytes_eq word row.0 then Some row.1 else first_named rows word
+
 -- `true` or `false`
 abbrev pub truth_named : List ℕ → Option Bool
 truth_named word =

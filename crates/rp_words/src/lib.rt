@@ -18,4 +18,4 @@ pub use lines::{Lines, TextLine};
 pub use names::{
     add_name, declare, has_name, insert_new, place_among, place_in, take_name_not_in, take_new_name,
 };
-pub use words::{Words, is_word, read_dotted, read_name, read_number, truth_named};
+pub use words::{Words, is_word, named, read_dotted, read_name, read_number, truth_named};

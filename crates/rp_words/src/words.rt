@@ -1,10 +1,10 @@
 //! The words of a line, and the readers of them.
 
-ghost use Rattle.std.specs.Prelude.{◌≡◌, ◌≤◌, ◌<◌, ◌==◌, length, not, position, SomeIff, IfOk, IfSome};
+ghost use Rattle.std.specs.Prelude.{◌≡◌, ◌≤◌, ◌<◌, ◌==◌, length, map, not, option_map, position, SomeIff, IfOk, IfSome};
 ghost use Rattle.std.specs.Char.{is_ascii_alphabetic};
-ghost use Rattle.std.specs.List.{prefix_len, list_all};
+ghost use Rattle.std.specs.List.{find, prefix_len, list_all};
 ghost use Rattle.std.specs.Str.{bytes_eq};
-ghost use Rattle.rp_words.specs.Words.{truth_named, begins_with, is_blank, is_of_name, is_name, IsName, number_of, without_blanks, is_at_end};
+ghost use Rattle.rp_words.specs.Words.{truth_named, first_named, begins_with, is_blank, is_of_name, is_name, IsName, number_of, without_blanks, is_at_end};
 ghost use Rattle.rp_words.specs.Numbers.{IsNumber, number_read};
 ghost use Rattle.rp_words.specs.Reading.{Gives, word_at, end_at, name_at, integer_at, number_at, name_of, dotted_of};
 
@@ -123,6 +123,22 @@ pub fn is_word(word: &[u8], text: &[u8]) -> bool
     ensures { result ≡ bytes_eq word.now text.now }
 {
     word == text
+}
+
+/// The first row of the table that has the word.
+fn row_with<'t, 'w, T>(table: &'t [(&'w [u8], T)], word: &[u8]) -> Option<&'t (&'w [u8], T)>
+    ensures { option_map (λ row. row.now) result
+        ≡ find (λ row. bytes_eq word.now row.0.now) table.entry.now }
+{
+    table.iter().find(|row| is_word(word, row.0))
+}
+
+/// The value that the table has for the word, in the first row with that word.
+pub fn named<T: Copy>(table: &[(&[u8], T)], word: &[u8]) -> Option<T>
+    ensures { result ≡ first_named (map (λ row. (row.0.now, row.1)) table.now) word.now }
+{
+    let row = row_with(table, word)?;
+    Some(row.1)
 }
 
 /// The truth value that the word names.

@@ -1,4 +1,4 @@
-use Rattle.std.proofs.Common.{◌≡◌, List, ℕ, ◌∷◌, [], ◌++◌, ◌∙◌, false, ap, sym, subst}
+use Rattle.std.proofs.Common.{◌≡◌, false, sym, subst}
 use Rattle.rp_words.specs.Tables.{is_declared, key_names}
 use Rattle.rp_words.proofs.names.declare.Goals as goal
 

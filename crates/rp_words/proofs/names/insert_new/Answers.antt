@@ -1,4 +1,4 @@
-use Rattle.std.proofs.Common.{◌≡◌, ◌∷◌, [], ◌∙◌, arith, ap, refl, length-append, length}
+use Rattle.std.proofs.Common.{◌∷◌, [], ◌∙◌, arith, ap, refl, length-append, length}
 use Rattle.std.specs.Prelude.{string_bytes}
 use Rattle.rp_words.proofs.TablesLemmas.{inserted_last, names_last, values_last}
 use Rattle.rp_words.proofs.names.insert_new.Goals as goal

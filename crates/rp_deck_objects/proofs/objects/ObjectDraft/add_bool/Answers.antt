@@ -8,21 +8,24 @@ use Rattle.rp_deck_objects.proofs.ObjectLemmas.{same_components, bool_more, coun
 use Rattle.rp_deck_objects.proofs.objects.ObjectDraft.add_bool.Goals as goal
 
 pub returns-clause-object : goal.returns-clause-object
-returns-clause-object c = λ profile may.
-    let self = c.args.self.now in
-    let was = may.object in
-    let place = c.limits-place.result.bools in
-    let is : place ≡ len self.components.bools = search rules in
-    let more = bool_more self.components (length self.int_names.items) (length self.bool_names.items) (values self.component_names) c.args.value place was.components c.requires.room is in
-    let count : length c.push.new.self.items ≡ length self.bool_names.items + 1 = search rules in
-    let names : values c.declare.new.table ≡ values self.component_names ++ Bool place ∷ [] = c.in_ok-declare.ensures.values in
-    record {
-      ceiling = was.ceiling;
-      components = same_components _ c.add_bool.new.self (length self.int_names.items) (length self.int_names.items) (length self.bool_names.items + 1) (length c.push.new.self.items) (values self.component_names ++ Bool place ∷ []) (values c.declare.new.table)
-          c.add_bool.ensures refl count names more;
-      entries = was.entries;
-      fit = counted_front (values self.component_names) _ (Bool place) (λ limits. OperationsFit limits self.operations) names was.fit;
-      keeps = was.keeps;
-      named = was.named;
-      operation = search rules;
-    }
+returns-clause-object c = (
+  (λ profile may.
+      let self = c.args.self.now in
+      let was = may.object in
+      let place = c.limits.result.bools in
+      let is : place ≡ len self.components.bools = search rules in
+      let more = bool_more self.components (length self.int_names.items) (length self.bool_names.items) (values self.component_names) c.args.value place was.components c.requires.room is in
+      let count : length c.push.new.self.items ≡ length self.bool_names.items + 1 = search rules in
+      let names : values c.declare.new.table ≡ values self.component_names ++ Bool place ∷ [] = c.in_ok-declare.ensures.values in
+      record {
+        ceiling = was.ceiling;
+        components = same_components _ c.add_bool.new.self (length self.int_names.items) (length self.int_names.items) (length self.bool_names.items + 1) (length c.push.new.self.items) (values self.component_names ++ Bool place ∷ []) (values c.declare.new.table)
+            c.add_bool.ensures refl count names more;
+        entries = was.entries;
+        fit = counted_front (values self.component_names) _ (Bool place) (λ limits. OperationsFit limits self.operations) names was.fit;
+        keeps = was.keeps;
+        named = was.named;
+        operation = search rules;
+      }),
+  search rules,
+)

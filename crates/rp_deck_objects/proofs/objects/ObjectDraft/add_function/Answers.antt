@@ -9,22 +9,25 @@ use Rattle.rp_deck_objects.proofs.ObjectLemmas.{function_fits, same_entries}
 use Rattle.rp_deck_objects.proofs.objects.ObjectDraft.add_function.Goals as goal
 
 pub returns-clause-object : goal.returns-clause-object
-returns-clause-object c = λ profile may.
-    let self = c.args.self.now in
-    let was = may.object in
-    let index = c.unwrap-index.result in
-    let function = c.args.function in
-    let after : Operations = record { functions = c.push.new.self; procedures = self.operations.procedures; entries = self.operations.entries } in
-    let number : index.number ≡ length self.operations.functions.items + 1 = search rules in
-    let has : is_some (of_index after.functions.items index.number) ≡ true =
-    subst (λ l. is_some (of_index l index.number) ≡ true) (sym c.in_ok-push.ensures.items) (last_numbered self.operations.functions.items function index.number number) in
-    record {
-      ceiling = was.ceiling;
-      components = was.components;
-      entries = was.entries;
-      fit = λ limits counted. function_fits self.operations after limits function c.requires.room c.in_ok-push.ensures.items refl refl (was.fit limits counted) (c.requires.fits limits counted);
-      keeps = same_entries profile self.operations after refl was.keeps;
-      named = named_after self.operations after self.operation_names c.declare.new.table (Function index) c.in_ok-declare.ensures.values
-          (function_more self.operations after function c.in_ok-push.ensures.items refl refl) has was.named;
-      operation = search rules;
-    }
+returns-clause-object c = (
+  (λ profile may.
+      let self = c.args.self.now in
+      let was = may.object in
+      let index = c.unwrap-index.result in
+      let function = c.args.function in
+      let after : Operations = record { functions = c.push.new.self; procedures = self.operations.procedures; entries = self.operations.entries } in
+      let number : index.number ≡ length self.operations.functions.items + 1 = search rules in
+      let has : is_some (of_index after.functions.items index.number) ≡ true =
+      subst (λ l. is_some (of_index l index.number) ≡ true) (sym c.in_ok-push.ensures.items) (last_numbered self.operations.functions.items function index.number number) in
+      record {
+        ceiling = was.ceiling;
+        components = was.components;
+        entries = was.entries;
+        fit = λ limits counted. function_fits self.operations after limits function c.requires.room c.in_ok-push.ensures.items refl refl (was.fit limits counted) (c.requires.fits limits counted);
+        keeps = same_entries profile self.operations after refl was.keeps;
+        named = named_after self.operations after self.operation_names c.declare.new.table (Function index) c.in_ok-declare.ensures.values
+            (function_more self.operations after function c.in_ok-push.ensures.items refl refl) has was.named;
+        operation = search rules;
+      }),
+  search rules,
+)

@@ -10,10 +10,12 @@ always_keeps Ravenscar = tt
 always_keeps Jorvik = tt
 
 pub returns-clause-object : goal.returns-clause-object
-returns-clause-object c =
-    c.begin.ensures.object c.args.profile c.requires (record {
-      room = omega arith;
-      new = c.in_ok-name.ensures.new;
-      fits = λ limits counted. tt;
-      keeps = always_keeps c.args.profile;
-    })
+returns-clause-object c = (
+  (λ profile may. c.begin.ensures.object profile may (record {
+    room = omega arith;
+    new = c.in_ok-name.ensures.new;
+    fits = λ limits counted. tt;
+    keeps = always_keeps profile;
+  })),
+  c.begin.ensures.grows,
+)

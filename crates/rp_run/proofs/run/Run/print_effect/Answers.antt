@@ -1,5 +1,5 @@
 -- Where no more is printed, the reply is all.
-use Rattle.std.proofs.Common.{◌≡◌, ◌∙◌, ◌||◌, Bool, List, ℕ, sym, ap, subst}
+use Rattle.std.proofs.Common.{◌∙◌, ◌||◌, Bool, List, ℕ, sym, ap, subst}
 use Rattle.rp_output.specs.Stream.{Writes}
 use Rattle.rp_run.specs.Output.{is_full}
 use Rattle.rp_run.proofs.Taken.{just_taken}

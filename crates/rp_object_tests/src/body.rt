@@ -1,4 +1,6 @@
-use crate::building::{add, and, boxed, expect_eq, not, one, sub};
+use crate::building::{
+    add, and, boxed, components, expect_at, expect_eq, not, number_in, one, sub, two,
+};
 use rp_body::*;
 use std::alloc::Global;
 use std::process::Abort;
@@ -12,46 +14,53 @@ fn sum_of(rt: &impl Abort, alloc: Global, terms: u8) -> Expr {
     sum
 }
 
-/// `if true` with this body, in its first arm or in its second one.
-fn if_true(alloc: Global, body: Vec<Stmt>, first: bool) -> Stmt {
-    if first {
-        Stmt::If(Cond::Constant(true), body, Vec::new(alloc))
-    } else {
-        Stmt::If(Cond::Constant(true), Vec::new(alloc), body)
-    }
-}
-
-/// `out 1` inside n `if true`, in their first arms or in their second ones.
-fn nested(rt: &impl Abort, alloc: Global, ifs: u8, first: bool) -> Vec<Stmt> {
+/// `out 1` inside n `if true`, in their first arms.
+fn nested_in_first(rt: &impl Abort, alloc: Global, ifs: u8) -> Vec<Stmt> {
     let mut body = one(rt, alloc, Stmt::Out(Expr::Number(1)));
     for _ in 0..ifs {
-        body = one(rt, alloc, if_true(alloc, body, first));
+        let outer = Stmt::If(Cond::Constant(true), body, Vec::new(alloc));
+        body = one(rt, alloc, outer);
     }
     body
 }
 
-/// A whole number from 0 to 4 at 0, one of all 64 bits at its greatest, and a Boolean.
-fn some_components() -> Components {
-    let mut components = Components::new();
-    let small = Ranged {
+/// `out 1` inside n `if true`, in their second arms.
+fn nested_in_second(rt: &impl Abort, alloc: Global, ifs: u8) -> Vec<Stmt> {
+    let mut body = one(rt, alloc, Stmt::Out(Expr::Number(1)));
+    for _ in 0..ifs {
+        let outer = Stmt::If(Cond::Constant(true), Vec::new(alloc), body);
+        body = one(rt, alloc, outer);
+    }
+    body
+}
+
+/// A whole number from 0 to 4 at 0, and one of all 64 bits at its greatest.
+const SOME_NUMBERS: [Ranged; 2] = [
+    Ranged {
         low: 0,
         high: 4,
         value: 0,
-    };
-    let wide = Ranged {
+    },
+    Ranged {
         low: i64::MIN,
         high: i64::MAX,
         value: i64::MAX,
-    };
-    components.add_int(small);
-    components.add_int(wide);
-    components.add_bool(false);
-    components
+    },
+];
+
+/// Two whole numbers, and a Boolean that is false.
+fn some_components(rt: &impl Abort) -> Components {
+    components(rt, &SOME_NUMBERS, Some(false))
 }
 
-/// Whether a body of this one statement is right.
-fn is_right(rt: &impl Abort, alloc: Global, statement: Stmt, limits: &Limits) -> bool {
-    check(&one(rt, alloc, statement), limits)
+/// Ends the test unless the body is right, or is not.
+fn expect_check(rt: &impl Abort, body: Vec<Stmt>, limits: &Limits, right: bool) {
+    expect_at(rt, &body, check(&body, limits), right);
+}
+
+/// Ends the test unless a body of this one statement is right, or is not.
+fn expect_right(rt: &impl Abort, alloc: Global, statement: Stmt, limits: &Limits, right: bool) {
+    expect_check(rt, one(rt, alloc, statement), limits, right);
 }
 
 #[test]
@@ -60,13 +69,13 @@ fn expressions_and_conditions_have_at_most_32_nodes(rt: HostRuntime) {
     let limits = Limits { ints: 0, bools: 1 };
     for (terms, right) in [(16, true), (17, false), (60, false)] {
         let out = Stmt::Out(sum_of(&rt, alloc, terms));
-        assert_eq!(rt; is_right(&rt, alloc, out, &limits), right);
+        expect_right(&rt, alloc, out, &limits, right);
     }
     let of_32 = Cond::Equal(sum_of(&rt, alloc, 8), sum_of(&rt, alloc, 8));
     let of_32 = Stmt::Put(0, not(&rt, alloc, of_32));
-    assert!(rt; is_right(&rt, alloc, of_32, &limits));
+    expect_right(&rt, alloc, of_32, &limits, true);
     let of_33 = Stmt::Put(0, Cond::Less(sum_of(&rt, alloc, 16), Expr::Out));
-    assert!(rt; !is_right(&rt, alloc, of_33, &limits));
+    expect_right(&rt, alloc, of_33, &limits, false);
 }
 
 /// As many `out arg` as this says, inside an `if`.
@@ -83,43 +92,32 @@ fn bodies_are_at_most_8_deep_and_have_at_most_64_statements(rt: HostRuntime) {
     let alloc = rt.alloc();
     let limits = Limits { ints: 0, bools: 0 };
     for (ifs, right) in [(0, true), (7, true), (8, false), (70, false)] {
-        for first in [true, false] {
-            let body = nested(&rt, alloc, ifs, first);
-            assert_eq!(rt; check(&body, &limits), right);
-        }
+        expect_check(&rt, nested_in_first(&rt, alloc, ifs), &limits, right);
+        expect_check(&rt, nested_in_second(&rt, alloc, ifs), &limits, right);
     }
     for (count, right) in [(0, true), (63, true), (64, false)] {
-        let statement = outs(&rt, alloc, count);
-        assert_eq!(rt; is_right(&rt, alloc, statement, &limits), right);
+        expect_right(&rt, alloc, outs(&rt, alloc, count), &limits, right);
     }
 }
 
-/// A number of this name may be set, read alone and read in a condition, or not.
-fn expect_int(rt: &impl Abort, alloc: Global, name: u8, right: bool) {
+/// A number of this name may be set, read alone and read in a condition, or not. A Boolean of it may
+/// be put and read, or not.
+fn expect_name(rt: &impl Abort, alloc: Global, name: u8, int: bool, bool: bool) {
     let limits = Limits { ints: 2, bools: 1 };
-    let set = Stmt::Set(name, Expr::Arg);
-    expect_eq(rt, is_right(rt, alloc, set, &limits), right);
-    let out = Stmt::Out(Expr::Int(name));
-    expect_eq(rt, is_right(rt, alloc, out, &limits), right);
+    expect_right(rt, alloc, Stmt::Set(name, Expr::Arg), &limits, int);
+    expect_right(rt, alloc, Stmt::Out(Expr::Int(name)), &limits, int);
     let equal = Cond::Equal(Expr::Arg, Expr::Int(name));
-    let put = Stmt::Put(0, equal);
-    expect_eq(rt, is_right(rt, alloc, put, &limits), right);
-}
-
-/// A Boolean of this name may be put and read, or not.
-fn expect_bool(rt: &impl Abort, alloc: Global, name: u8, right: bool) {
-    let limits = Limits { ints: 2, bools: 1 };
+    expect_right(rt, alloc, Stmt::Put(0, equal), &limits, int);
     let put = Stmt::Put(name, Cond::Constant(true));
-    expect_eq(rt, is_right(rt, alloc, put, &limits), right);
+    expect_right(rt, alloc, put, &limits, bool);
     let read = Stmt::Put(0, Cond::Bool(name));
-    expect_eq(rt, is_right(rt, alloc, read, &limits), right);
+    expect_right(rt, alloc, read, &limits, bool);
 }
 
 #[test]
 fn names_that_are_not_counted_are_refused(rt: HostRuntime) {
     for (name, int, bool) in [(0, true, true), (1, true, false), (2, false, false)] {
-        expect_int(&rt, rt.alloc(), name, int);
-        expect_bool(&rt, rt.alloc(), name, bool);
+        expect_name(&rt, rt.alloc(), name, int, bool);
     }
 }
 
@@ -127,15 +125,18 @@ fn names_that_are_not_counted_are_refused(rt: HostRuntime) {
 fn expect_value(rt: &impl Abort, expr: &Expr, arg: i64, expected: Option<i64>) {
     let components = Components::new();
     assert!(rt; expr.fits(&components.limits()));
-    let found = value(expr, &components, arg);
-    assert_eq!(rt; found, expected, "{expr:?}");
+    expect_at(rt, expr, value(expr, &components, arg), expected);
+}
+
+/// Whether the condition, which fits the components, holds at an argument.
+fn truth_of(rt: &impl Abort, cond: &Cond, components: &Components, arg: i64) -> bool {
+    assert!(rt; cond.fits(&components.limits()));
+    truth(cond, components, arg)
 }
 
 /// The condition fits components, and holds at an argument or not.
 fn expect_truth(rt: &impl Abort, cond: Cond, components: &Components, arg: i64, holds: bool) {
-    assert!(rt; cond.fits(&components.limits()));
-    let found = truth(&cond, components, arg);
-    assert_eq!(rt; found, holds, "{cond:?}");
+    expect_eq(rt, truth_of(rt, &cond, components, arg), holds);
 }
 
 #[test]
@@ -165,7 +166,7 @@ fn middle_results_beyond_64_bits_are_compared(rt: HostRuntime) {
 
 #[test]
 fn comparisons_hold_as_their_words_say(rt: HostRuntime) {
-    let components = some_components();
+    let components = some_components(&rt);
     for (cond, holds) in [
         (Cond::Bool(0), false),
         (Cond::Less(Expr::Int(0), Expr::Int(1)), true),
@@ -186,7 +187,7 @@ fn constant(rt: &impl Abort, alloc: Global, holds: bool) -> Box<Cond> {
 #[test]
 fn conditions_hold_as_their_words_say(rt: HostRuntime) {
     let alloc = rt.alloc();
-    let components = some_components();
+    let components = some_components(&rt);
     let opposite = not(&rt, alloc, Cond::Bool(0));
     expect_truth(&rt, opposite, &components, 5, true);
     for second in [false, true] {
@@ -199,14 +200,23 @@ fn conditions_hold_as_their_words_say(rt: HostRuntime) {
     }
 }
 
-/// The number of this name is given the value of an expression, which has this outcome and leaves
-/// this value.
+/// A body that fits components has this outcome at an argument.
+fn expect_run(
+    rt: &impl Abort,
+    body: &[Stmt],
+    components: &mut Components,
+    arg: i64,
+    outcome: Outcome,
+) {
+    assert!(rt; check(body, &components.limits()));
+    expect_at(rt, &body, run(body, components, arg), outcome);
+}
+
+/// A number is given the value of an expression, which has this outcome and leaves this value.
 fn expect_set(rt: &impl Abort, body: Vec<Stmt>, name: u8, outcome: Outcome, left: i64) {
-    let mut components = some_components();
-    assert!(rt; check(&body, &components.limits()));
-    assert_eq!(rt; run(&body, &mut components, 0), outcome, "{body:?}");
-    let found = components.int(name).map(|int| int.value);
-    expect_eq(rt, found, Some(left));
+    let mut components = some_components(rt);
+    expect_run(rt, &body, &mut components, 0, outcome);
+    expect_eq(rt, number_in(rt, &components, name), left);
 }
 
 #[test]
@@ -232,40 +242,39 @@ fn a_number_is_set_only_within_its_range(rt: HostRuntime) {
 
 /// `b := true; n := 9; n := 1`.
 fn raises_between(rt: &impl Abort, alloc: Global) -> Vec<Stmt> {
-    let body = one(rt, alloc, Stmt::Put(0, Cond::Constant(true)));
-    let body = and(rt, body, Stmt::Set(0, Expr::Number(9)));
-    and(rt, body, Stmt::Set(0, Expr::Number(1)))
+    let put = Stmt::Put(0, Cond::Constant(true));
+    let raises = two(rt, alloc, put, Stmt::Set(0, Expr::Number(9)));
+    and(rt, raises, Stmt::Set(0, Expr::Number(1)))
 }
 
 #[test]
 fn assignments_before_an_exception_stay(rt: HostRuntime) {
-    let mut components = some_components();
+    let mut components = some_components(&rt);
     let body = raises_between(&rt, rt.alloc());
-    assert!(rt; check(&body, &components.limits()));
-    let outcome = run(&body, &mut components, 0);
-    expect_eq(&rt, outcome, Outcome::Raised);
+    expect_run(&rt, &body, &mut components, 0, Outcome::Raised);
     expect_eq(&rt, components.bool(0), Some(true));
-    expect_eq(&rt, components.int(0).map(|int| int.value), Some(0));
-    assert!(rt; components.int(2).is_none());
+    expect_eq(&rt, number_in(&rt, &components, 0), 0);
+    expect_eq(&rt, components.int(2).is_none(), true);
     expect_eq(&rt, components.bool(1), None);
+}
+
+/// `out := out + n`.
+fn out_plus(rt: &impl Abort, alloc: Global, number: i64) -> Vec<Stmt> {
+    let sum = add(rt, alloc, Expr::Out, Expr::Number(number));
+    one(rt, alloc, Stmt::Out(sum))
 }
 
 /// `if arg = 1 then out := out + 1 else out := out + 10`.
 fn one_or_ten(rt: &impl Abort, alloc: Global) -> Stmt {
-    let plus_one = add(rt, alloc, Expr::Out, Expr::Number(1));
-    let plus_ten = add(rt, alloc, Expr::Out, Expr::Number(10));
-    let cond = Cond::Equal(Expr::Arg, Expr::Number(1));
-    let first = one(rt, alloc, Stmt::Out(plus_one));
-    let second = one(rt, alloc, Stmt::Out(plus_ten));
-    Stmt::If(cond, first, second)
+    let first = out_plus(rt, alloc, 1);
+    let second = out_plus(rt, alloc, 10);
+    Stmt::If(Cond::Equal(Expr::Arg, Expr::Number(1)), first, second)
 }
 
 #[test]
 fn an_if_runs_one_arm_and_out_starts_at_0(rt: HostRuntime) {
     let body = one(&rt, rt.alloc(), one_or_ten(&rt, rt.alloc()));
     for (arg, outcome) in [(1, Outcome::Out(1)), (2, Outcome::Out(10))] {
-        let mut components = Components::new();
-        assert!(rt; check(&body, &components.limits()));
-        assert_eq!(rt; run(&body, &mut components, arg), outcome);
+        expect_run(&rt, &body, &mut Components::new(), arg, outcome);
     }
 }

@@ -1,8 +1,10 @@
-use crate::building::{add, and, expect_eq, one, two};
-use rp_base::{Answers, Reply, TaskId};
-use rp_body::{Components, Cond, Expr, Ranged, Stmt};
+use crate::building::{
+    add, and, components, expect_answers, expect_at, expect_eq, number_in, one, task_of, two,
+};
+use rp_base::Reply;
+use rp_body::{Cond, Expr, Ranged, Stmt};
 use rp_entry::*;
-use std::alloc::{AllocError, Global};
+use std::alloc::Global;
 use std::process::Abort;
 use std::sync::Arc;
 
@@ -13,16 +15,13 @@ const BURST: u8 = 2;
 
 const ABSENT: u8 = 3;
 
-/// n from 0 to 4 at this value, and up.
-fn gate_components(n: i64, up: bool) -> Components {
-    let mut components = Components::new();
-    components.add_int(Ranged {
+/// A number from 0 to 4 at this value.
+fn up_to_4(value: i64) -> Ranged {
+    Ranged {
         low: 0,
         high: 4,
-        value: n,
-    });
-    components.add_bool(up);
-    components
+        value,
+    }
 }
 
 /// Puts up.
@@ -79,7 +78,8 @@ fn object(
     let Ok(shared) = Arc::new(alloc, operations) else {
         panic!(rt; "memory is refused");
     };
-    Object::new(alloc, shared, gate_components(n, up)).expect(rt, "memory for the queues")
+    let components = components(rt, &[up_to_4(n)], Some(up));
+    Object::new(alloc, shared, components).expect(rt, "memory for the queues")
 }
 
 /// The gate with n at this value.
@@ -87,164 +87,228 @@ fn gate(rt: &impl Abort, alloc: Global, n: i64, up: bool) -> Object {
     object(rt, alloc, gate_operations(rt, alloc), n, up).expect(rt, "a gate")
 }
 
+/// What is done to a gate, by the indices of its operations.
+#[derive(Clone, Copy)]
+enum Request {
+    /// A call of a function with an argument.
+    Function(u8, i64),
+    /// A call of a procedure.
+    Procedure(u8),
+    /// A call of an entry by a task with an argument.
+    Entry(u8, u8, i64),
+    /// An event whose handler is a procedure.
+    Event(u8),
+}
+
+/// What is done to a gate and what follows: the reply, if there is one at once; who is served, by the
+/// task, the number of its call and the reply; the calls that wait, by the entry, the task and the
+/// argument; and the values of n and up.
+type Step<'a> = (
+    Request,
+    Option<Reply>,
+    &'a [(u8, u32, Reply)],
+    &'a [(u8, u8, i64)],
+    (i64, bool),
+);
+
 /// Calls an entry for a task that does not wait.
 fn enter(rt: &impl Abort, object: &mut Object, index: u8, task: u8, arg: i64) -> Done {
-    let task = TaskId::new(task).expect(rt, "a task");
+    let task = task_of(rt, task);
     if object.is_waiting(task) {
         panic!(rt; "a task that waits");
     }
     object.entry(index, task, 1, arg)
 }
 
-/// The tasks and arguments of the calls that wait at the entry of this place.
-fn waiting_at(alloc: Global, object: &Object, place: usize) -> Result<Vec<(u8, i64)>, AllocError> {
-    let mut calls = Vec::new(alloc);
-    if let Some(queue) = object.queues().get(place) {
-        for place in 0..queue.len() {
-            if let Some(call) = queue.get(place) {
-                calls.push((call.task.get(), call.arg))?;
-            }
+/// Does what is requested.
+fn done_by(rt: &impl Abort, gate: &mut Object, request: Request) -> Done {
+    match request {
+        Request::Function(index, arg) => {
+            Done::alone(CallOutcome::Reply(gate.function(index, arg)))
         }
+        Request::Procedure(index) => gate.procedure(index, 0),
+        Request::Entry(index, task, arg) => enter(rt, gate, index, task, arg),
+        Request::Event(index) => Done {
+            outcome: CallOutcome::Waits,
+            served: gate.handler(index),
+        },
     }
-    Ok(calls)
 }
 
-/// These tasks wait, with these arguments, at the entry of this place.
-fn expect_waiting(
-    rt: &impl Abort,
-    alloc: Global,
-    object: &Object,
-    place: usize,
-    expected: &[(u8, i64)],
-) {
-    let found = waiting_at(alloc, object, place).expect(rt, "memory for the calls");
-    assert_eq!(rt; found.as_slice(), expected);
-}
-
-/// The tasks that are answered, and their replies.
-fn replied(alloc: Global, answers: &Answers) -> Result<Vec<(u8, Reply)>, AllocError> {
-    let mut all = Vec::new(alloc);
-    for answer in answers.as_slice() {
-        all.push((answer.task.get(), answer.reply))?;
+fn reply_of(outcome: CallOutcome) -> Option<Reply> {
+    match outcome {
+        CallOutcome::Reply(reply) => Some(reply),
+        CallOutcome::Waits => None,
     }
-    Ok(all)
 }
 
-/// These tasks are answered, with these replies.
-fn expect_served(rt: &impl Abort, alloc: Global, answers: &Answers, expected: &[(u8, Reply)]) {
-    let found = replied(alloc, answers).expect(rt, "memory for the answers");
-    assert_eq!(rt; found.as_slice(), expected);
+/// The call at this place of a queue, with its entry.
+fn call_at(entry: u8, queue: &Queue, place: usize) -> Option<(u8, u8, i64)> {
+    let call = queue.get(place)?;
+    Some((entry, call.task.get(), call.arg))
 }
 
-/// A protected action has this outcome, and serves these tasks with these replies.
-fn expect_done(
-    rt: &impl Abort,
-    alloc: Global,
-    done: Done,
-    outcome: CallOutcome,
-    served: &[(u8, Reply)],
-) {
-    expect_eq(rt, done.outcome, outcome);
-    expect_served(rt, alloc, &done.served, served);
+/// The call at this place of the first two queues, one after the other.
+fn waiting_at(gate: &Object, place: usize) -> Option<(u8, u8, i64)> {
+    let first = gate.queues().first()?;
+    match place.checked_sub(first.len()) {
+        None => call_at(1, first, place),
+        Some(place) => call_at(2, gate.queues().get(1)?, place),
+    }
+}
+
+/// These calls wait, each by its entry, task and argument.
+fn expect_waiting(rt: &impl Abort, gate: &Object, expected: &[(u8, u8, i64)]) {
+    for place in 0..8 {
+        expect_eq(rt, waiting_at(gate, place), expected.get(place).copied());
+    }
+    for (_, task, _) in expected {
+        expect_eq(rt, gate.is_waiting(task_of(rt, *task)), true);
+    }
 }
 
 /// The values of n and up.
-fn expect_values(rt: &impl Abort, gate: &Object, n: i64, up: bool) {
+fn expect_values(rt: &impl Abort, gate: &Object, values: (i64, bool)) {
     let components = gate.components();
-    expect_eq(rt, components.int(0).map(|n| n.value), Some(n));
-    expect_eq(rt, components.bool(0), Some(up));
+    let up = components.bool(0).expect(rt, "a Boolean");
+    expect_eq(rt, (number_in(rt, components, 0), up), values);
 }
 
-/// A gate at whose entry task 1 waits, called with 7.
-fn waited_for(rt: &impl Abort, alloc: Global, n: i64) -> Object {
-    let mut gate = gate(rt, alloc, n, false);
-    let done = enter(rt, &mut gate, 1, 1, 7);
-    expect_done(rt, alloc, done, CallOutcome::Waits, &[]);
-    gate
+fn expect_step(rt: &impl Abort, gate: &mut Object, step: &Step) {
+    let (request, reply, served, waiting, values) = *step;
+    let done = done_by(rt, gate, request);
+    expect_eq(rt, reply_of(done.outcome), reply);
+    expect_answers(rt, &done.served, served);
+    expect_waiting(rt, gate, waiting);
+    expect_values(rt, gate, values);
 }
+
+/// The gate takes these steps.
+fn expect_steps(rt: &impl Abort, gate: Object, steps: &[Step]) {
+    let mut gate = gate;
+    for step in steps {
+        expect_step(rt, &mut gate, step);
+    }
+}
+
+/// Task 1 calls the entry with 7.
+const ENTERS: Request = Request::Entry(1, 1, 7);
+
+const DONE: Reply = Reply::Value(0);
+
+const ABSENT_REPLY: Option<Reply> = Some(Reply::NoSuchOperation);
+
+static SERVED_BY_A_RAISED_BODY: [Step<'static>; 3] = [
+    (ENTERS, None, &[], &[(1, 1, 7)], (0, false)),
+    (
+        Request::Entry(1, 2, 8),
+        Some(Reply::ProgramError),
+        &[],
+        &[(1, 1, 7)],
+        (0, false),
+    ),
+    (
+        Request::Procedure(BURST),
+        Some(Reply::ConstraintError),
+        &[(1, 1, Reply::Value(1))],
+        &[],
+        (1, false),
+    ),
+];
 
 #[test]
 fn a_waiting_caller_stays_and_a_raised_body_serves_it(rt: HostRuntime) {
-    let alloc = rt.alloc();
-    let mut gate = waited_for(&rt, alloc, 0);
-    expect_waiting(&rt, alloc, &gate, 0, &[(1, 7)]);
-    assert!(rt; gate.is_waiting(TaskId::first()));
+    let gate = gate(&rt, rt.alloc(), 0, false);
+    expect_steps(&rt, gate, &SERVED_BY_A_RAISED_BODY);
+}
 
-    let done = enter(&rt, &mut gate, 1, 2, 8);
-    let refused = CallOutcome::Reply(Reply::ProgramError);
-    expect_done(&rt, alloc, done, refused, &[]);
-    expect_waiting(&rt, alloc, &gate, 0, &[(1, 7)]);
-
-    let done = gate.procedure(BURST, 0);
-    let raised = CallOutcome::Reply(Reply::ConstraintError);
-    expect_done(&rt, alloc, done, raised, &[(1, Reply::Value(1))]);
-    expect_waiting(&rt, alloc, &gate, 0, &[]);
-    expect_values(&rt, &gate, 1, false);
+/// A caller that waits at the entry of a gate with n at this value has this reply when up is put up, and
+/// leaves n at that value.
+fn expect_lifted(rt: &impl Abort, alloc: Global, n: i64, reply: Reply, after: i64) {
+    let steps: [Step; 2] = [
+        (ENTERS, None, &[], &[(1, 1, 7)], (n, false)),
+        (
+            Request::Procedure(LIFT),
+            Some(DONE),
+            &[(1, 1, reply)],
+            &[],
+            (after, false),
+        ),
+    ];
+    expect_steps(rt, gate(rt, alloc, n, false), &steps);
 }
 
 #[test]
 fn a_served_body_raises_to_its_own_caller(rt: HostRuntime) {
-    for (n, reply, after) in [(0, Reply::Value(1), 1), (4, Reply::ConstraintError, 4)] {
-        let mut gate = waited_for(&rt, rt.alloc(), n);
-        let done = gate.procedure(LIFT, 0);
-        let lifted = CallOutcome::Reply(Reply::Value(0));
-        expect_done(&rt, rt.alloc(), done, lifted, &[(1, reply)]);
-        expect_values(&rt, &gate, after, false);
-    }
+    expect_lifted(&rt, rt.alloc(), 0, Reply::Value(1), 1);
+    expect_lifted(&rt, rt.alloc(), 4, Reply::ConstraintError, 4);
+}
+
+/// An event whose handler is this procedure serves a caller that waits, and the next one serves none.
+fn expect_event(rt: &impl Abort, alloc: Global, handler: u8) {
+    let event = Request::Event(handler);
+    let steps: [Step; 3] = [
+        (ENTERS, None, &[], &[(1, 1, 7)], (0, false)),
+        (event, None, &[(1, 1, Reply::Value(1))], &[], (1, false)),
+        (event, None, &[], &[], (1, true)),
+    ];
+    expect_steps(rt, gate(rt, alloc, 0, false), &steps);
 }
 
 #[test]
 fn an_event_has_no_caller_and_its_exception_no_effect(rt: HostRuntime) {
-    for handler in [LIFT, BURST] {
-        let mut gate = waited_for(&rt, rt.alloc(), 0);
-        let served = gate.handler(handler);
-        expect_served(&rt, rt.alloc(), &served, &[(1, Reply::Value(1))]);
-        expect_values(&rt, &gate, 1, false);
-        assert!(rt; gate.handler(handler).is_empty());
-        expect_values(&rt, &gate, 1, true);
-    }
+    expect_event(&rt, rt.alloc(), LIFT);
+    expect_event(&rt, rt.alloc(), BURST);
+}
+
+/// A call of the open entry of a gate with n at this value has this reply, and leaves n at that value.
+fn expect_entered(rt: &impl Abort, alloc: Global, n: i64, reply: Reply, after: i64) {
+    let enters = Request::Entry(1, 1, 0);
+    let steps: [Step; 1] = [(enters, Some(reply), &[], &[], (after, false))];
+    expect_steps(rt, gate(rt, alloc, n, true), &steps);
 }
 
 #[test]
 fn an_open_entry_runs_its_call_at_once(rt: HostRuntime) {
-    for (n, reply, after) in [(2, Reply::Value(3), 3), (4, Reply::ConstraintError, 4)] {
-        let mut gate = gate(&rt, rt.alloc(), n, true);
-        let done = enter(&rt, &mut gate, 1, 1, 0);
-        expect_done(&rt, rt.alloc(), done, CallOutcome::Reply(reply), &[]);
-        expect_values(&rt, &gate, after, false);
-        expect_waiting(&rt, rt.alloc(), &gate, 0, &[]);
+    expect_entered(&rt, rt.alloc(), 2, Reply::Value(3), 3);
+    expect_entered(&rt, rt.alloc(), 4, Reply::ConstraintError, 4);
+}
+
+/// A gate with n at 1 and up replies so, with no call that is served or waits, and stays as it is.
+fn expect_replies(rt: &impl Abort, alloc: Global, replies: &[(Request, Option<Reply>)]) {
+    let mut gate = gate(rt, alloc, 1, true);
+    for (request, reply) in replies {
+        let step: Step = (*request, *reply, &[], &[], (1, true));
+        expect_step(rt, &mut gate, &step);
     }
 }
+
+static FUNCTIONS: [(Request, Option<Reply>); 5] = [
+    (Request::Function(0, 0), ABSENT_REPLY),
+    (Request::Function(1, 41), Some(Reply::Value(42))),
+    (Request::Function(1, i64::MAX), Some(Reply::ConstraintError)),
+    (Request::Function(2, 0), Some(Reply::Truth(true))),
+    (Request::Function(3, 0), ABSENT_REPLY),
+];
 
 #[test]
 fn functions_reply_and_change_nothing(rt: HostRuntime) {
-    let gate = gate(&rt, rt.alloc(), 1, true);
-    for (index, arg, reply) in [
-        (0, 0, Reply::NoSuchOperation),
-        (1, 41, Reply::Value(42)),
-        (1, i64::MAX, Reply::ConstraintError),
-        (2, 0, Reply::Truth(true)),
-        (3, 0, Reply::NoSuchOperation),
-    ] {
-        assert_eq!(rt; gate.function(index, arg), reply);
-    }
-    expect_values(&rt, &gate, 1, true);
+    expect_replies(&rt, rt.alloc(), &FUNCTIONS);
 }
+
+static ABSENT_OPERATIONS: [(Request, Option<Reply>); 7] = [
+    (Request::Procedure(0), ABSENT_REPLY),
+    (Request::Event(0), None),
+    (Request::Procedure(ABSENT), ABSENT_REPLY),
+    (Request::Event(ABSENT), None),
+    (Request::Entry(0, 1, 0), ABSENT_REPLY),
+    (Request::Entry(2, 1, 0), ABSENT_REPLY),
+    (Request::Entry(5, 1, 0), ABSENT_REPLY),
+];
 
 #[test]
 fn absent_operations_reply_and_change_nothing(rt: HostRuntime) {
-    let mut gate = gate(&rt, rt.alloc(), 1, true);
-    let absent = CallOutcome::Reply(Reply::NoSuchOperation);
-    for index in [0, ABSENT] {
-        let done = gate.procedure(index, 0);
-        expect_done(&rt, rt.alloc(), done, absent, &[]);
-        assert!(rt; gate.handler(index).is_empty());
-    }
-    for index in [0, 2, 5] {
-        let done = enter(&rt, &mut gate, index, 1, 0);
-        expect_done(&rt, rt.alloc(), done, absent, &[]);
-    }
-    expect_values(&rt, &gate, 1, true);
+    expect_replies(&rt, rt.alloc(), &ABSENT_OPERATIONS);
 }
 
 /// The entries pass when up, at which n wait, which counts to 2 and then puts up down, and late when
@@ -276,30 +340,44 @@ fn gate_with(rt: &impl Abort, alloc: Global, entries: Vec<Entry>) -> Option<Obje
     object(rt, alloc, operations, 0, false)
 }
 
-/// A gate whose entries are pass, at which task 2 waits and then task 1, and late, at which task 3
-/// waits.
-fn three_wait(rt: &impl Abort, alloc: Global) -> Object {
-    let entries = pass_and_late(rt, alloc, 2);
-    let mut gate = gate_with(rt, alloc, entries).expect(rt, "a gate");
-    for (index, task) in [(2, 3), (1, 2), (1, 1)] {
-        let done = enter(rt, &mut gate, index, task, 0);
-        expect_eq(rt, done.outcome, CallOutcome::Waits);
-    }
-    gate
-}
+/// Task 2 waits at pass and then task 1, and task 3 at late.
+static SERVED_IN_ORDER: [Step<'static>; 5] = [
+    (Request::Entry(2, 3, 0), None, &[], &[(2, 3, 0)], (0, false)),
+    (
+        Request::Entry(1, 2, 0),
+        None,
+        &[],
+        &[(1, 2, 0), (2, 3, 0)],
+        (0, false),
+    ),
+    (
+        Request::Entry(1, 1, 0),
+        None,
+        &[],
+        &[(1, 2, 0), (1, 1, 0), (2, 3, 0)],
+        (0, false),
+    ),
+    (
+        Request::Procedure(LIFT),
+        Some(DONE),
+        &[(2, 1, Reply::Value(1)), (1, 1, Reply::Value(2))],
+        &[(2, 3, 0)],
+        (2, false),
+    ),
+    (
+        Request::Event(BURST),
+        None,
+        &[(3, 1, Reply::Value(7))],
+        &[],
+        (2, true),
+    ),
+];
 
 #[test]
 fn the_first_caller_of_the_first_open_entry_is_served_first(rt: HostRuntime) {
-    let alloc = rt.alloc();
-    let mut gate = three_wait(&rt, alloc);
-    let done = gate.procedure(LIFT, 0);
-    let served = [(2, Reply::Value(1)), (1, Reply::Value(2))];
-    expect_served(&rt, alloc, &done.served, &served);
-    expect_waiting(&rt, alloc, &gate, 0, &[]);
-    expect_waiting(&rt, alloc, &gate, 1, &[(3, 0)]);
-    let served = gate.handler(BURST);
-    expect_served(&rt, alloc, &served, &[(3, Reply::Value(7))]);
-    expect_values(&rt, &gate, 2, true);
+    let entries = pass_and_late(&rt, rt.alloc(), 2);
+    let gate = gate_with(&rt, rt.alloc(), entries).expect(&rt, "a gate");
+    expect_steps(&rt, gate, &SERVED_IN_ORDER);
 }
 
 /// Whether the operations of the gate fit, with this function and procedure after its own.
@@ -315,11 +393,13 @@ fn fits(rt: &impl Abort, alloc: Global, function: Function, procedure: Stmt) -> 
 #[test]
 fn operations_that_do_not_fit_make_no_object(rt: HostRuntime) {
     let alloc = rt.alloc();
-    let known = || Function::Truth(Cond::Bool(0));
-    assert!(rt; fits(&rt, alloc, known(), put(true)));
-    let unknown = Function::Truth(Cond::Bool(1));
-    assert!(rt; !fits(&rt, alloc, unknown, put(true)));
-    assert!(rt; !fits(&rt, alloc, known(), Stmt::Set(1, Expr::Arg)));
+    let known = fits(&rt, alloc, Function::Truth(Cond::Bool(0)), put(true));
+    expect_eq(&rt, known, true);
+    let unknown = fits(&rt, alloc, Function::Truth(Cond::Bool(1)), put(true));
+    expect_eq(&rt, unknown, false);
+    let set = Stmt::Set(1, Expr::Arg);
+    let unknown = fits(&rt, alloc, Function::Truth(Cond::Bool(0)), set);
+    expect_eq(&rt, unknown, false);
 }
 
 /// Entries of this barrier and this longest queue, with no statement, as many as `count` says.
@@ -342,9 +422,16 @@ fn empty_entries(
     entries
 }
 
+/// Entries, as many as `count` says, of this barrier and this longest queue make an object, or do not.
+fn expect_entries(rt: &impl Abort, alloc: Global, ends: (u8, u8, u8), right: bool) {
+    let (barrier, longest, count) = ends;
+    let entries = empty_entries(rt, alloc, barrier, longest, count);
+    let found = gate_with(rt, alloc, entries).is_some();
+    expect_at(rt, &ends, found, right);
+}
+
 #[test]
 fn entries_that_do_not_fit_make_no_object(rt: HostRuntime) {
-    let alloc = rt.alloc();
     for (barrier, longest, count, right) in [
         (0, 1, 1, true),
         (1, 1, 1, false),
@@ -352,7 +439,6 @@ fn entries_that_do_not_fit_make_no_object(rt: HostRuntime) {
         (0, 9, 1, false),
         (0, 1, 5, false),
     ] {
-        let entries = empty_entries(&rt, alloc, barrier, longest, count);
-        assert_eq!(rt; gate_with(&rt, alloc, entries).is_some(), right);
+        expect_entries(&rt, rt.alloc(), (barrier, longest, count), right);
     }
 }

@@ -1,16 +1,17 @@
 ghost use Rattle.rp_base.specs.Action.{IsRight};
 ghost use Rattle.rp_machine.specs.Calls.{MayApply};
 
-use crate::building::expect_eq;
+use crate::building::{expect_at, expect_eq, expect_image};
 use rp_base::{Action, Answers, Operation, Reply, TaskId};
 use rp_machine::*;
 use std::alloc::Global;
 use std::process::Abort;
 
-fn call(object: u8, operation: Operation, arg: i64) -> Action {
+/// The first task's call of this number.
+fn call(number: u32, object: u8, operation: Operation, arg: i64) -> Action {
     Action::Call {
         task: TaskId::first(),
-        number: 1,
+        number,
         object,
         operation,
         arg,
@@ -34,13 +35,8 @@ fn answers_to<M: Machine>(machine: &mut M, action: &Action) -> Answers
 
 /// The last reply of these answers, where there is one.
 fn last_reply(answers: &Answers) -> Option<Reply> {
-    let replies = answers.as_slice().iter().map(|answer| answer.reply);
-    replies.last()
-}
-
-fn expect_image<M: Machine>(rt: &impl Abort, alloc: Global, machine: &M, expected: &str) {
-    let image = machine.image(alloc).expect(rt, "memory for the image");
-    assert_eq!(rt; image.as_slice(), expected.as_bytes());
+    let last = answers.as_slice().last()?;
+    Some(last.reply)
 }
 
 /// The action has this reply of a tally of two objects, which then has these sums.
@@ -54,7 +50,7 @@ fn expect_effect(
     let mut tally = start_of(rt, alloc, 2);
     assert!(rt; action.is_right());
     let answers = answers_to(&mut tally, action);
-    assert_eq!(rt; last_reply(&answers), reply, "{action:?}");
+    expect_at(rt, action, last_reply(&answers), reply);
     expect_image(rt, alloc, &tally, image);
 }
 
@@ -63,8 +59,8 @@ fn each_action_gives_its_reply_and_its_sums(rt: HostRuntime) {
     let alloc = rt.alloc();
     let add = Operation::Procedure(1);
     let five = Some(Reply::Value(5));
-    expect_effect(&rt, alloc, &call(1, add, 5), five, "tally o1=5 o2=0\n");
-    expect_effect(&rt, alloc, &call(2, add, 5), five, "tally o1=0 o2=5\n");
+    expect_effect(&rt, alloc, &call(1, 1, add, 5), five, "tally o1=5 o2=0\n");
+    expect_effect(&rt, alloc, &call(1, 2, add, 5), five, "tally o1=0 o2=5\n");
 }
 
 #[test]
@@ -76,7 +72,7 @@ fn an_unknown_operation_leaves_the_sums(rt: HostRuntime) {
         (1, Operation::Function(1)),
         (1, Operation::Entry(1)),
     ] {
-        let action = call(object, operation, 5);
+        let action = call(1, object, operation, 5);
         expect_effect(&rt, rt.alloc(), &action, unknown, "tally o1=0 o2=0\n");
     }
 }
@@ -92,12 +88,17 @@ fn what_is_no_call_has_no_reply_and_leaves_the_sums(rt: HostRuntime) {
     }
 }
 
+/// Call `number` of the first task, which adds `arg` to the first object.
+fn adds(number: u32, arg: i64) -> Action {
+    call(number, 1, Operation::Procedure(1), arg)
+}
+
 /// Adds to the sum of the first object. The one reply.
 fn added(rt: &impl Abort, tally: &mut Tally, arg: i64) -> Option<Reply> {
-    let action = call(1, Operation::Procedure(1), arg);
+    let action = adds(1, arg);
     assert!(rt; action.is_right());
     let answers = answers_to(tally, &action);
-    assert_eq!(rt; answers.len(), 1);
+    expect_eq(rt, answers.len(), 1);
     last_reply(&answers)
 }
 
@@ -113,31 +114,26 @@ fn a_sum_stays_within_64_bits(rt: HostRuntime) {
     ] {
         let mut tally = start_of(&rt, rt.alloc(), 1);
         added(&rt, &mut tally, first);
-        assert_eq!(rt; added(&rt, &mut tally, second), Some(reply), "{first}");
+        let last = added(&rt, &mut tally, second);
+        expect_at(&rt, &first, last, Some(reply));
         expect_image(&rt, rt.alloc(), &tally, image);
     }
+}
+
+/// How many objects the tally has that is declared with this many, if it may be.
+fn objects_of(objects: u8) -> Option<u8> {
+    let program = TallyProgram::new(objects)?;
+    Some(program.objects())
 }
 
 #[test]
 fn a_tally_has_1_to_8_objects(rt: HostRuntime) {
     for (objects, expected) in [(0, None), (1, Some(1)), (8, Some(8)), (9, None)] {
-        let program = TallyProgram::new(objects);
-        assert_eq!(rt; program.map(|program| program.objects()), expected);
+        expect_at(&rt, &objects, objects_of(objects), expected);
     }
     replay_goes_on::<Tally>();
     replay_may_go_on::<Tally>();
     calls_count_once::<Tally>();
-}
-
-/// Call `number` of the first task, which adds `arg` to the first object.
-fn adds(number: u32, arg: i64) -> Action {
-    Action::Call {
-        task: TaskId::first(),
-        number,
-        object: 1,
-        operation: Operation::Procedure(1),
-        arg,
-    }
 }
 
 /// The log of a tally of one object.
@@ -146,62 +142,68 @@ fn log_of_one(rt: &impl Abort, alloc: Global) -> Numbered<Tally> {
     Numbered::new(alloc, &program).expect(rt, "memory for the sums")
 }
 
-/// The last call of the first task that counted, and its reply.
-#[derive(Clone, Copy)]
-struct Counted {
-    last: u32,
-    kept: Option<Reply>,
+/// The last reply that an action in a log has, where it has one.
+fn applied_to<M: Machine>(
+    rt: &impl Abort,
+    log: &mut Numbered<M>,
+    action: &Action,
+) -> Option<Reply> {
+    assert!(rt; action.is_right());
+    let mut answers = Answers::new();
+    log.apply(action, &mut answers);
+    last_reply(&answers)
 }
 
-/// An action in a log has this reply, and this call of the first task is then the last that counted.
+/// An action in a log has this reply, and the last call of the first task that counted is then this one,
+/// with this reply.
 fn expect_counted<M: Machine>(
     rt: &impl Abort,
     log: &mut Numbered<M>,
     action: &Action,
     reply: Option<Reply>,
-    counted: Counted,
+    counted: (u32, Option<Reply>),
 ) {
+    let (last, kept) = counted;
     let task = TaskId::first();
-    let Counted { last, kept } = counted;
-    assert!(rt; action.is_right());
-    let mut answers = Answers::new();
-    log.apply(action, &mut answers);
-    assert_eq!(rt; last_reply(&answers), reply, "{action:?}");
-    expect_eq(rt, log.last(task), last);
+    expect_at(rt, action, applied_to(rt, log, action), reply);
+    expect_eq(rt, (log.last(task), log.waits(task)), (last, false));
     expect_eq(rt, log.kept(task, last), kept);
     expect_eq(rt, log.kept(task, last.saturating_add(1)), None);
-    assert!(rt; !log.waits(task));
+}
+
+/// What happens in a log: an action, its reply, and the last call that counts then with its reply.
+type Step = (Action, Option<Reply>, (u32, Option<Reply>));
+
+/// The log takes these steps, after which this text shows its machine.
+fn expect_calls<M: Machine>(
+    rt: &impl Abort,
+    alloc: Global,
+    log: Numbered<M>,
+    steps: &[Step],
+    image: &str,
+) {
+    let mut log = log;
+    for (action, reply, counted) in steps {
+        expect_counted(rt, &mut log, action, *reply, *counted);
+    }
+    expect_image(rt, alloc, log.machine(), image);
 }
 
 #[test]
 fn a_call_counts_once_and_in_order(rt: HostRuntime) {
-    let mut log = log_of_one(&rt, rt.alloc());
-    let none = Counted {
-        last: 0,
-        kept: None,
-    };
-    expect_counted(&rt, &mut log, &adds(2, 5), None, none);
     let five = Some(Reply::Value(5));
-    let first = Counted {
-        last: 1,
-        kept: five,
-    };
-    expect_counted(&rt, &mut log, &adds(1, 5), five, first);
-    for action in [
-        adds(1, 7),
-        adds(3, 7),
-        Action::Noop,
-        Action::Tick { now: 3 },
-    ] {
-        expect_counted(&rt, &mut log, &action, None, first);
-    }
     let twelve = Some(Reply::Value(12));
-    let second = Counted {
-        last: 2,
-        kept: twelve,
-    };
-    expect_counted(&rt, &mut log, &adds(2, 7), twelve, second);
-    expect_image(&rt, rt.alloc(), log.machine(), "tally o1=12\n");
+    let steps = [
+        (adds(2, 5), None, (0, None)),
+        (adds(1, 5), five, (1, five)),
+        (adds(1, 7), None, (1, five)),
+        (adds(3, 7), None, (1, five)),
+        (Action::Noop, None, (1, five)),
+        (Action::Tick { now: 3 }, None, (1, five)),
+        (adds(2, 7), twelve, (2, twelve)),
+    ];
+    let log = log_of_one(&rt, rt.alloc());
+    expect_calls(&rt, rt.alloc(), log, &steps, "tally o1=12\n");
 }
 
 /// An interrupt has no reply, and the last of its source is then this one, and none of another.
@@ -215,18 +217,21 @@ fn expect_occurrence<M: Machine>(
         source: 8,
         occurrence,
     };
-    assert!(rt; action.is_right());
-    let mut answers = Answers::new();
-    log.apply(&action, &mut answers);
-    expect_eq(rt, last_reply(&answers), None);
-    assert_eq!(rt; log.last_occurrence(8), last, "{occurrence}");
-    assert_eq!(rt; log.last_occurrence(1), 0);
+    expect_eq(rt, applied_to(rt, log, &action), None);
+    let found = (log.last_occurrence(8), log.last_occurrence(1));
+    expect_eq(rt, found, (last, 0));
+}
+
+/// After each occurrence of an interrupt in the log, this one is the last of its source.
+fn expect_occurrences<M: Machine>(rt: &impl Abort, log: Numbered<M>, occurrences: &[(u32, u32)]) {
+    let mut log = log;
+    for (occurrence, last) in occurrences {
+        expect_occurrence(rt, &mut log, *occurrence, *last);
+    }
 }
 
 #[test]
 fn an_interrupt_counts_above_the_last_of_its_source(rt: HostRuntime) {
-    let mut log = log_of_one(&rt, rt.alloc());
-    for (occurrence, last) in [(2, 2), (1, 2), (2, 2), (7, 7)] {
-        expect_occurrence(&rt, &mut log, occurrence, last);
-    }
+    let log = log_of_one(&rt, rt.alloc());
+    expect_occurrences(&rt, log, &[(2, 2), (1, 2), (2, 2), (7, 7)]);
 }

@@ -1,6 +1,8 @@
-use crate::building::{add, and, expect_eq, one, two};
-use rp_base::{Action, Answer, Answers, Operation, Reply, TaskId};
-use rp_body::{Components, Cond, Expr, Ranged, Stmt};
+use crate::building::{
+    add, and, components, expect_answers, expect_eq, expect_image, one, task_of, two,
+};
+use rp_base::{Action, Answers, Operation, Reply};
+use rp_body::{Cond, Expr, Ranged, Stmt};
 use rp_entry::{Entry, Operations};
 use rp_machine::{Machine, Numbered};
 use rp_object::*;
@@ -40,15 +42,11 @@ fn adding(rt: &impl Abort, alloc: Global, a: Expr, b: Expr) -> Vec<Stmt> {
 }
 
 /// The number n.
-fn number() -> Components {
-    let mut components = Components::new();
-    components.add_int(Ranged {
-        low: 0,
-        high: 1000,
-        value: 0,
-    });
-    components
-}
+const N: Ranged = Ranged {
+    low: 0,
+    high: 1000,
+    value: 0,
+};
 
 /// The procedures inc, which adds 1 to n, and dbl, which doubles it.
 fn inc_and_dbl(rt: &impl Abort, alloc: Global) -> Operations {
@@ -68,17 +66,10 @@ fn counter(rt: &impl Abort, alloc: Global) -> ObjectDeclaration {
         ceiling: 30,
         ints: one(rt, alloc, text(rt, alloc, "n")),
         bools: Vec::new(alloc),
-        components: number(),
+        components: components(rt, &[N], None),
         entries: Vec::new(alloc),
         operations: shared(rt, alloc, inc_and_dbl(rt, alloc)),
     }
-}
-
-/// The Boolean up, which is down.
-fn boolean() -> Components {
-    let mut components = Components::new();
-    components.add_bool(false);
-    components
 }
 
 /// The procedure lift, which puts up, and the entry pass when up, which puts it down.
@@ -96,14 +87,14 @@ fn lift_and_pass(rt: &impl Abort, alloc: Global) -> Operations {
     }
 }
 
-/// The Boolean up, the procedure lift and the entry pass.
+/// The Boolean up, which is down, the procedure lift and the entry pass.
 fn gate(rt: &impl Abort, alloc: Global) -> ObjectDeclaration {
     ObjectDeclaration {
         name: text(rt, alloc, "gate"),
         ceiling: 10,
         ints: Vec::new(alloc),
         bools: one(rt, alloc, text(rt, alloc, "up")),
-        components: boolean(),
+        components: components(rt, &[], Some(false)),
         entries: one(rt, alloc, text(rt, alloc, "pass")),
         operations: shared(rt, alloc, lift_and_pass(rt, alloc)),
     }
@@ -145,40 +136,36 @@ fn started(rt: &impl Abort, alloc: Global) -> Objects {
     Objects::start(alloc, &program(rt, alloc)).expect(rt, "memory for the objects")
 }
 
-fn task_of(rt: &impl Abort, number: u8) -> TaskId {
-    TaskId::new(number).expect(rt, "a task")
-}
-
-/// What a task calls.
+/// What happens to the objects.
 #[derive(Clone, Copy)]
-struct Call {
-    task: u8,
-    number: u32,
-    object: u8,
-    operation: Operation,
-    arg: i64,
+enum Input {
+    /// A task's call of this number: an operation of an object, with an argument.
+    Call(u8, u32, u8, Operation, i64),
+    /// The first occurrence of the interrupt of a source.
+    Interrupt(u8),
+    /// The clock shows this time.
+    Tick(u32),
 }
 
-/// A call of object 1 or 2, the box or the gate, with 0.
-fn call_with_0(task: u8, number: u32, object: u8, operation: Operation) -> Call {
-    Call {
-        task,
-        number,
-        object,
-        operation,
-        arg: 0,
+fn action_of(rt: &impl Abort, input: Input) -> Action {
+    match input {
+        Input::Call(task, number, object, operation, arg) => Action::Call {
+            task: task_of(rt, task),
+            number,
+            object,
+            operation,
+            arg,
+        },
+        Input::Interrupt(source) => Action::Interrupt {
+            source,
+            occurrence: 1,
+        },
+        Input::Tick(now) => Action::Tick { now },
     }
 }
 
-fn action_of(rt: &impl Abort, call: Call) -> Action {
-    Action::Call {
-        task: task_of(rt, call.task),
-        number: call.number,
-        object: call.object,
-        operation: call.operation,
-        arg: call.arg,
-    }
-}
+/// What happens, and the answers: each by its task, the number of its call and its reply.
+type Step<'a> = (Input, &'a [(u8, u32, Reply)]);
 
 /// Applies an action whose task does not wait.
 fn applied(rt: &impl Abort, objects: &mut Objects, action: &Action) -> Answers {
@@ -188,180 +175,204 @@ fn applied(rt: &impl Abort, objects: &mut Objects, action: &Action) -> Answers {
     objects.apply(action)
 }
 
-/// The answer to a call.
-fn answer(rt: &impl Abort, call: Call, reply: Reply) -> Answer {
-    Answer {
-        task: task_of(rt, call.task),
-        number: call.number,
-        reply,
+fn expect_step(rt: &impl Abort, objects: &mut Objects, step: &Step) {
+    let (input, expected) = *step;
+    let answers = applied(rt, objects, &action_of(rt, input));
+    expect_answers(rt, &answers, expected);
+}
+
+fn expect_steps(rt: &impl Abort, objects: &mut Objects, steps: &[Step]) {
+    for step in steps {
+        expect_step(rt, objects, step);
     }
 }
 
-/// The call is answered so, and no other one is.
-fn expect_reply(rt: &impl Abort, objects: &mut Objects, call: Call, reply: Reply) {
-    let answers = applied(rt, objects, &action_of(rt, call));
-    let expected = answer(rt, call, reply);
-    assert_eq!(rt; answers.as_slice(), [expected].as_slice());
+/// The objects take these steps, after which the image is this text, and then more steps.
+fn expect_story(rt: &impl Abort, alloc: Global, steps: &[Step], image: &str, more: &[Step]) {
+    let mut objects = started(rt, alloc);
+    expect_steps(rt, &mut objects, steps);
+    expect_image(rt, alloc, &objects, image);
+    expect_steps(rt, &mut objects, more);
 }
 
-/// The action is not answered.
-fn expect_silence(rt: &impl Abort, objects: &mut Objects, action: &Action) {
-    assert!(rt; applied(rt, objects, action).is_empty());
-}
+const DONE: Reply = Reply::Value(0);
 
-fn expect_image(rt: &impl Abort, alloc: Global, objects: &Objects, expected: &str) {
-    let image = objects.image(alloc).expect(rt, "memory for the image");
-    assert_eq!(rt; image.as_slice(), expected.as_bytes());
-}
+const ABSENT: Reply = Reply::NoSuchOperation;
 
-/// A task sets a timing event of the box.
-fn sets(task: u8, number: u32, timer: u8, arg: i64) -> Call {
-    Call {
-        task,
-        number,
-        object: BOX,
-        operation: Operation::SetTimer(timer),
-        arg,
-    }
-}
-
-fn interrupt(source: u8) -> Action {
-    Action::Interrupt {
-        source,
-        occurrence: 1,
-    }
-}
+/// Both events are due at 5, x once it is set again; x calls inc and y dbl.
+static DUE_TOGETHER: [Step<'static>; 7] = [
+    (
+        Input::Call(EQUAL, 1, BOX, Operation::SetTimer(2), 5),
+        &[(EQUAL, 1, DONE)],
+    ),
+    (
+        Input::Call(EQUAL, 2, BOX, Operation::SetTimer(1), 9),
+        &[(EQUAL, 2, DONE)],
+    ),
+    (
+        Input::Call(EQUAL, 3, BOX, Operation::SetTimer(1), 5),
+        &[(EQUAL, 3, DONE)],
+    ),
+    (Input::Tick(7), &[]),
+    (Input::Tick(3), &[]),
+    (
+        Input::Call(EQUAL, 4, BOX, Operation::CancelTimer(1), 0),
+        &[(EQUAL, 4, Reply::Truth(false))],
+    ),
+    (Input::Interrupt(2), &[]),
+];
 
 #[test]
 fn events_that_are_due_together_fire_in_order_and_the_clock_stays(rt: HostRuntime) {
-    let mut objects = started(&rt, rt.alloc());
-    expect_reply(&rt, &mut objects, sets(EQUAL, 1, 2, 5), Reply::Value(0));
-    expect_reply(&rt, &mut objects, sets(EQUAL, 2, 1, 9), Reply::Value(0));
-    expect_reply(&rt, &mut objects, sets(EQUAL, 3, 1, 5), Reply::Value(0));
-    expect_silence(&rt, &mut objects, &Action::Tick { now: 7 });
-    expect_silence(&rt, &mut objects, &Action::Tick { now: 3 });
-    let cancels = call_with_0(EQUAL, 4, BOX, Operation::CancelTimer(1));
-    expect_reply(&rt, &mut objects, cancels, Reply::Truth(false));
-    expect_silence(&rt, &mut objects, &interrupt(2));
-    let expected =
+    let image =
         "object box n=2\nobject gate up=false queue none\nclock 7\ntimer x off\ntimer y off\n";
-    expect_image(&rt, rt.alloc(), &objects, expected);
+    expect_story(&rt, rt.alloc(), &DUE_TOGETHER, image, &[]);
 }
 
-/// Objects at whose gate task 1 waits, called with 7.
-fn waited_for(rt: &impl Abort, alloc: Global) -> Objects {
-    let mut objects = started(rt, alloc);
-    let passes = Call {
-        task: EQUAL,
-        number: 1,
-        object: GATE,
-        operation: Operation::Entry(1),
-        arg: 7,
-    };
-    expect_silence(rt, &mut objects, &action_of(rt, passes));
-    objects
-}
+/// Task 1 waits at the gate, and others call and interrupt the box.
+static WAITS: [Step<'static>; 3] = [
+    (Input::Call(EQUAL, 1, GATE, Operation::Entry(1), 7), &[]),
+    (
+        Input::Call(OTHER, 1, BOX, Operation::SetTimer(2), 9),
+        &[(OTHER, 1, DONE)],
+    ),
+    (Input::Interrupt(1), &[]),
+];
+
+/// Task 3 puts the gate up.
+static OPENS: [Step<'static>; 1] = [(
+    Input::Call(OTHER, 2, GATE, Operation::Procedure(1), 0),
+    &[(OTHER, 2, DONE), (EQUAL, 1, DONE)],
+)];
 
 #[test]
 fn a_caller_waits_and_is_answered_by_who_opens(rt: HostRuntime) {
-    let mut objects = waited_for(&rt, rt.alloc());
-    expect_reply(&rt, &mut objects, sets(OTHER, 1, 2, 9), Reply::Value(0));
-    expect_silence(&rt, &mut objects, &interrupt(1));
-    let expected =
+    let image =
         "object box n=1\nobject gate up=false queue task 1 call 1 arg 7\nclock 0\ntimer x off\ntimer y at 9\n";
-    expect_image(&rt, rt.alloc(), &objects, expected);
-    let passes = call_with_0(EQUAL, 1, GATE, Operation::Entry(1));
-    let lifts = call_with_0(OTHER, 2, GATE, Operation::Procedure(1));
-    let answers = applied(&rt, &mut objects, &action_of(&rt, lifts));
-    let expected = [
-        answer(&rt, lifts, Reply::Value(0)),
-        answer(&rt, passes, Reply::Value(0)),
-    ];
-    assert_eq!(rt; answers.as_slice(), expected.as_slice());
+    expect_story(&rt, rt.alloc(), &WAITS, image, &OPENS);
 }
+
+/// Calls of what is declared and of what is not, below the ceiling and above it.
+static FIRST_CALLS: [Step<'static>; 11] = [
+    (
+        Input::Call(ABOVE, 1, GATE, Operation::Procedure(1), 0),
+        &[(ABOVE, 1, Reply::ProgramError)],
+    ),
+    (
+        Input::Call(ABOVE, 1, GATE, Operation::Procedure(2), 0),
+        &[(ABOVE, 1, ABSENT)],
+    ),
+    (
+        Input::Call(ABOVE, 1, GATE, Operation::Function(1), 0),
+        &[(ABOVE, 1, ABSENT)],
+    ),
+    (
+        Input::Call(ABOVE, 1, BOX, Operation::Procedure(1), 0),
+        &[(ABOVE, 1, DONE)],
+    ),
+    (
+        Input::Call(ABOVE, 1, GATE, Operation::Entry(2), 0),
+        &[(ABOVE, 1, ABSENT)],
+    ),
+    (
+        Input::Call(ABOVE, 1, BOX, Operation::Entry(1), 0),
+        &[(ABOVE, 1, ABSENT)],
+    ),
+    (
+        Input::Call(ABOVE, 1, GATE, Operation::SetTimer(1), 0),
+        &[(ABOVE, 1, ABSENT)],
+    ),
+    (
+        Input::Call(ABOVE, 1, BOX, Operation::SetTimer(3), 0),
+        &[(ABOVE, 1, ABSENT)],
+    ),
+    (
+        Input::Call(ABOVE, 1, 3, Operation::Procedure(1), 0),
+        &[(ABOVE, 1, ABSENT)],
+    ),
+    (
+        Input::Call(UNDECLARED, 1, BOX, Operation::Procedure(1), 0),
+        &[(UNDECLARED, 1, ABSENT)],
+    ),
+    (
+        Input::Call(EQUAL, 1, GATE, Operation::Procedure(1), 0),
+        &[(EQUAL, 1, DONE)],
+    ),
+];
 
 #[test]
 fn what_is_not_declared_is_refused_before_the_ceiling(rt: HostRuntime) {
-    let mut objects = started(&rt, rt.alloc());
-    for (task, object, operation, reply) in [
-        (ABOVE, GATE, Operation::Procedure(1), Reply::ProgramError),
-        (ABOVE, GATE, Operation::Procedure(2), Reply::NoSuchOperation),
-        (ABOVE, GATE, Operation::Function(1), Reply::NoSuchOperation),
-        (ABOVE, BOX, Operation::Procedure(1), Reply::Value(0)),
-        (ABOVE, GATE, Operation::Entry(2), Reply::NoSuchOperation),
-        (ABOVE, BOX, Operation::Entry(1), Reply::NoSuchOperation),
-        (ABOVE, GATE, Operation::SetTimer(1), Reply::NoSuchOperation),
-        (ABOVE, BOX, Operation::SetTimer(3), Reply::NoSuchOperation),
-        (ABOVE, 3, Operation::Procedure(1), Reply::NoSuchOperation),
-        (
-            UNDECLARED,
-            BOX,
-            Operation::Procedure(1),
-            Reply::NoSuchOperation,
-        ),
-        (EQUAL, GATE, Operation::Procedure(1), Reply::Value(0)),
-    ] {
-        expect_reply(
-            &rt,
-            &mut objects,
-            call_with_0(task, 1, object, operation),
-            reply,
-        );
-    }
+    let image =
+        "object box n=1\nobject gate up=true queue none\nclock 0\ntimer x off\ntimer y off\n";
+    expect_story(&rt, rt.alloc(), &FIRST_CALLS, image, &[]);
 }
 
 /// An action in a log has these answers.
-fn expect_answers<M: Machine>(
+fn expect_logged<M: Machine>(
     rt: &impl Abort,
     log: &mut Numbered<M>,
     action: &Action,
-    expected: &[Answer],
+    expected: &[(u8, u32, Reply)],
 ) {
     assert!(rt; action.is_right());
     let mut answers = Answers::new();
     log.apply(action, &mut answers);
-    assert_eq!(rt; answers.as_slice(), expected, "{action:?}");
+    expect_answers(rt, &answers, expected);
 }
 
-/// Task 1 waits or not, and the last of its calls that counted has this number.
-fn expect_waiter<M: Machine>(rt: &impl Abort, log: &Numbered<M>, waits: bool, last: u32) {
-    let waiter = task_of(rt, EQUAL);
-    expect_eq(rt, log.waits(waiter), waits);
-    expect_eq(rt, log.last(waiter), last);
+/// A task waits or not, and the last of its calls that counted has this number and keeps this reply.
+type Caller = (bool, u32, Option<Reply>);
+
+/// Task 1 is such a caller.
+fn expect_caller<M: Machine>(rt: &impl Abort, log: &Numbered<M>, caller: Caller) {
+    let task = task_of(rt, EQUAL);
+    let last = log.last(task);
+    expect_eq(rt, (log.waits(task), last, log.kept(task, last)), caller);
 }
+
+/// A log takes these steps, after each of which task 1 is such a caller. Then this text shows its machine.
+fn expect_log<M: Machine>(
+    rt: &impl Abort,
+    alloc: Global,
+    log: Numbered<M>,
+    steps: &[(Step, Caller)],
+    image: &str,
+) {
+    let mut log = log;
+    for ((input, answers), caller) in steps {
+        expect_logged(rt, &mut log, &action_of(rt, *input), answers);
+        expect_caller(rt, &log, *caller);
+    }
+    expect_image(rt, alloc, log.machine(), image);
+}
+
+fn log_of(rt: &impl Abort, alloc: Global) -> Numbered<Objects> {
+    Numbered::new(alloc, &program(rt, alloc)).expect(rt, "memory for the objects")
+}
+
+const PASSES: Input = Input::Call(EQUAL, 1, GATE, Operation::Entry(1), 0);
+
+const COUNTS: Input = Input::Call(EQUAL, 2, BOX, Operation::Procedure(1), 0);
+
+const LIFTS: Input = Input::Call(OTHER, 1, GATE, Operation::Procedure(1), 0);
 
 /// Task 1 passes, and calls the box while it waits and again when task 3 has put the gate up.
-fn expect_waiter_served<M: Machine>(rt: &impl Abort, log: &mut Numbered<M>) {
-    let passes = call_with_0(EQUAL, 1, GATE, Operation::Entry(1));
-    let counts = call_with_0(EQUAL, 2, BOX, Operation::Procedure(1));
-    let lifts = call_with_0(OTHER, 1, GATE, Operation::Procedure(1));
-    expect_answers(rt, log, &action_of(rt, passes), &[]);
-    expect_waiter(rt, log, true, 1);
-    expect_answers(rt, log, &action_of(rt, counts), &[]);
-    expect_waiter(rt, log, true, 1);
-    let lifted = answer(rt, lifts, Reply::Value(0));
-    let passed = answer(rt, passes, Reply::Value(0));
-    expect_answers(rt, log, &action_of(rt, lifts), &[lifted, passed]);
-    expect_waiter(rt, log, false, 1);
-    expect_answers(rt, log, &action_of(rt, lifts), &[]);
-    expect_waiter(rt, log, false, 1);
-    let counted = answer(rt, counts, Reply::Value(0));
-    expect_answers(rt, log, &action_of(rt, counts), &[counted]);
-    expect_waiter(rt, log, false, 2);
-    expect_answers(rt, log, &action_of(rt, passes), &[]);
-    expect_waiter(rt, log, false, 2);
-}
+static SERVED_IN_A_LOG: [(Step<'static>, Caller); 6] = [
+    ((PASSES, &[]), (true, 1, None)),
+    ((COUNTS, &[]), (true, 1, None)),
+    (
+        (LIFTS, &[(OTHER, 1, DONE), (EQUAL, 1, DONE)]),
+        (false, 1, Some(DONE)),
+    ),
+    ((LIFTS, &[]), (false, 1, Some(DONE))),
+    ((COUNTS, &[(EQUAL, 2, DONE)]), (false, 2, Some(DONE))),
+    ((PASSES, &[]), (false, 2, Some(DONE))),
+];
 
 #[test]
 fn a_caller_that_waits_in_a_log_is_served_by_another_call(rt: HostRuntime) {
-    let program = program(&rt, rt.alloc());
-    let mut log: Numbered<Objects> = Numbered::new(rt.alloc(), &program).expect(
-        &rt,
-        "memory for the objects",
-    );
-    expect_waiter_served(&rt, &mut log);
-    expect_eq(&rt, log.kept(task_of(&rt, EQUAL), 2), Some(Reply::Value(0)));
-    let expected =
+    let image =
         "object box n=1\nobject gate up=false queue none\nclock 0\ntimer x off\ntimer y off\n";
-    expect_image(&rt, rt.alloc(), log.machine(), expected);
+    let log = log_of(&rt, rt.alloc());
+    expect_log(&rt, rt.alloc(), log, &SERVED_IN_A_LOG, image);
 }

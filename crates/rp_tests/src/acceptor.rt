@@ -6,7 +6,6 @@ use rp_acceptor::*;
 use rp_base::{Action, Ballot, Operation, Position, Rec, TaskId, Vote};
 use std::alloc::Global;
 use std::process::Abort;
-use std::test::Fail;
 
 fn position(rt: &impl Abort, number: u16) -> Position {
     Position::new(number).expect(rt, "a position")
@@ -52,6 +51,18 @@ fn expect_answer(rt: &impl Abort, found: PrepareAnswer, expected: PrepareAnswer)
     assert_eq!(rt; found, expected);
 }
 
+/// Ends the test unless an `Accept` of the call with this argument at position 1 is answered so.
+fn expect_accept(
+    rt: &impl Abort,
+    acceptor: &Acceptor,
+    ballot: Ballot,
+    arg: i64,
+    expected: AcceptAnswer,
+) {
+    let found = acceptor.accept(Position::first(), ballot, &call(arg));
+    assert_eq!(rt; found, expected);
+}
+
 /// The acceptor promises the ballot at a position, and reports this vote.
 fn expect_promise(
     rt: &impl Abort,
@@ -66,13 +77,14 @@ fn expect_promise(
 }
 
 /// Makes room for a record at a position, which is a promise or a vote there, and notes it.
-fn write(acceptor: &mut Acceptor, position: Position, rec: &Rec) -> Result<(), Fail>
+fn write(rt: &impl Abort, acceptor: &mut Acceptor, position: Position, rec: &Rec)
     requires place { places_in rec.now ≡ position ∷ [] }
     requires no_range { ranges_in rec.now ≡ [] }
 {
-    acceptor.reserve(position)?;
+    acceptor
+        .reserve(position)
+        .expect(rt, "memory for the record");
     acceptor.note(rec);
-    Ok(())
 }
 
 #[test]
@@ -87,48 +99,38 @@ fn a_lower_ballot_gets_the_bound(rt: HostRuntime) {
         PrepareAnswer::Nack(bound),
     );
     expect_answer(&rt, acceptor.prepare(first, bound), PrepareAnswer::Silent);
-    let answer = acceptor.accept(first, low, &call(5));
-    expect_eq(&rt, answer, AcceptAnswer::Nack(bound));
+    expect_accept(&rt, &acceptor, low, 5, AcceptAnswer::Nack(bound));
 }
 
 #[test]
 fn a_promised_ballot_gets_a_vote(rt: HostRuntime) {
     let acceptor = promised(&rt, rt.alloc());
-    let first = Position::first();
     let ten = ballot(&rt, 10);
-    let action = call(5);
-    let rec = Rec::Voted(first, ten, action);
-    let answer = acceptor.accept(first, ten, &action);
-    expect_eq(&rt, answer, AcceptAnswer::Vote { rec });
+    let rec = Rec::Voted(Position::first(), ten, call(5));
+    expect_accept(&rt, &acceptor, ten, 5, AcceptAnswer::Vote { rec });
 }
 
 #[test]
 fn a_ballot_gets_one_vote(rt: HostRuntime) {
     let acceptor = voted(&rt, rt.alloc());
-    let first = Position::first();
     let ten = ballot(&rt, 10);
-    let answer = acceptor.accept(first, ten, &call(5));
-    expect_eq(&rt, answer, AcceptAnswer::Again);
-    let answer = acceptor.accept(first, ten, &call(2));
-    expect_eq(&rt, answer, AcceptAnswer::Silent);
+    expect_accept(&rt, &acceptor, ten, 5, AcceptAnswer::Again);
+    expect_accept(&rt, &acceptor, ten, 2, AcceptAnswer::Silent);
 }
 
 #[test]
-fn a_higher_ballot_hears_of_a_vote(rt: HostRuntime) -> Result<(), Fail> {
+fn a_higher_ballot_hears_of_a_vote(rt: HostRuntime) {
     let mut acceptor = voted(&rt, rt.alloc());
     let first = Position::first();
     let ten = ballot(&rt, 10);
     let eighteen = ballot(&rt, 18);
-    let action = call(5);
     let last = Vote {
         ballot: ten,
-        action,
+        action: call(5),
     };
     expect_promise(&rt, &acceptor, first, eighteen, Some(last));
-    write(&mut acceptor, first, &Rec::Promised(first, eighteen))?;
-    let answer = acceptor.accept(first, ten, &action);
-    expect_eq(&rt, answer, AcceptAnswer::Nack(eighteen));
-    Ok(())
+    write(&rt, &mut acceptor, first, &Rec::Promised(first, eighteen));
+    expect_accept(&rt, &acceptor, ten, 5, AcceptAnswer::Nack(eighteen));
 }
 
 #[test]
@@ -188,7 +190,7 @@ fn expect_promised(rt: &impl Abort, acceptor: &Acceptor, at: Position, ballot: B
 }
 
 #[test]
-fn a_refusal_for_memory_changes_nothing(rt: HostRuntime) -> Result<(), Fail> {
+fn a_refusal_for_memory_changes_nothing(rt: HostRuntime) {
     let first = Position::first();
     let far = position(&rt, 100);
     let ten = ballot(&rt, 10);
@@ -196,8 +198,7 @@ fn a_refusal_for_memory_changes_nothing(rt: HostRuntime) -> Result<(), Fail> {
     if acceptor.reserve(far).is_err() {
         expect_promised(&rt, &acceptor, first, ten);
     }
-    write(&mut acceptor, far, &Rec::Promised(far, ten))?;
+    write(&rt, &mut acceptor, far, &Rec::Promised(far, ten));
     expect_promised(&rt, &acceptor, first, ten);
     expect_promised(&rt, &acceptor, far, ten);
-    Ok(())
 }

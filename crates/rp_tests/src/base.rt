@@ -1,10 +1,13 @@
-use crate::compare::expect_eq;
+use crate::compare::{expect_at, expect_eq};
 use rp_base::*;
 use std::process::Abort;
-use std::test::Fail;
 
 fn node(rt: &impl Abort, number: u8) -> NodeId {
     NodeId::new(number).expect(rt, "a node")
+}
+
+fn ballot(rt: &impl Abort, number: u64) -> Ballot {
+    Ballot::new(number).expect(rt, "a ballot")
 }
 
 #[test]
@@ -18,22 +21,21 @@ fn the_next_ballot_is_the_least_above(rt: HostRuntime) {
         (7, 15, 23),
     ];
     for (number, above, next) in cases {
-        let ballot = Ballot::next_for(node(&rt, number), Ballot::new(above));
-        assert_eq!(rt; ballot.map(|ballot| ballot.get()), Ok(next));
+        let found = Ballot::next_for(node(&rt, number), Ballot::new(above));
+        expect_eq(&rt, found, Ok(ballot(&rt, next)));
     }
 }
 
 #[test]
 fn the_greatest_ballot_is_the_last_one(rt: HostRuntime) {
     let node = node(&rt, 1);
-    assert_eq!(rt; Ballot::of(1, node).get(), 9);
-    let last = Ballot::new(34_359_738_367).expect(&rt, "the greatest ballot");
+    expect_eq(&rt, Ballot::of(1, node).get(), 9);
+    let last = ballot(&rt, 34_359_738_367);
     let next = Ballot::next_for(node, Some(last));
     expect_eq(&rt, next, Err(Fault::BallotsSpent));
-    assert_eq!(rt; last.round(), u32::MAX);
-    assert_eq!(rt; last.owner().get(), 7);
+    expect_eq(&rt, (last.round(), last.owner().get()), (u32::MAX, 7));
     for number in [0, 8, 16, 34_359_738_368, 34_359_738_369] {
-        assert_eq!(rt; Ballot::new(number), None);
+        expect_eq(&rt, Ballot::new(number), None);
     }
 }
 
@@ -53,11 +55,15 @@ fn numbers_are_refused_outside_their_ranges(rt: HostRuntime) {
         (8, false, true),
         (9, false, false),
     ] {
-        assert_eq!(rt; NodeId::new(number).is_some(), node);
-        assert_eq!(rt; TaskId::new(number).is_some(), task);
+        let found = (NodeId::new(number).is_some(), TaskId::new(number).is_some());
+        expect_at(&rt, &number, found, (node, task));
     }
-    assert_eq!(rt; Position::new(0), None);
-    assert_eq!(rt; Position::new(1), Some(Position::first()));
+    expect_eq(&rt, Position::new(0), None);
+    expect_eq(&rt, Position::new(1), Some(Position::first()));
+}
+
+#[test]
+fn sizes_are_refused_outside_their_ranges(rt: HostRuntime) {
     let sizes = [
         (2, 1, false),
         (3, 1, true),
@@ -70,7 +76,7 @@ fn numbers_are_refused_outside_their_ranges(rt: HostRuntime) {
             nodes,
             max_positions,
         };
-        assert_eq!(rt; config.is_right(), right);
+        expect_at(&rt, &(nodes, max_positions), config.is_right(), right);
     }
 }
 
@@ -107,9 +113,9 @@ fn an_action_is_right_within_its_ranges(rt: HostRuntime) {
 }
 
 #[test]
-fn answers_keep_their_order(rt: HostRuntime) -> Result<(), Fail> {
+fn answers_keep_their_order(rt: HostRuntime) {
     let mut answers = Answers::new();
-    assert!(rt; answers.is_empty());
+    expect_eq(&rt, answers.is_empty(), true);
     for number in 1..=8 {
         let answer = Answer {
             task: TaskId::first(),
@@ -120,11 +126,9 @@ fn answers_keep_their_order(rt: HostRuntime) -> Result<(), Fail> {
             answers.push(answer);
         }
     }
-    assert!(rt; answers.is_full());
-    assert_eq!(rt; answers.len(), 8);
-    let first = answers.as_slice().first().ok_or("eight answers")?;
-    assert_eq!(rt; first.number, 1);
-    Ok(())
+    expect_eq(&rt, (answers.is_full(), answers.len()), (true, 8));
+    let first = answers.as_slice().first();
+    expect_eq(&rt, first.expect(&rt, "eight answers").number, 1);
 }
 
 #[test]
@@ -136,8 +140,7 @@ fn a_fault_has_its_number_and_name(rt: HostRuntime) {
         (Fault::Io, 13, "Io"),
     ];
     for (fault, code, name) in cases {
-        assert_eq!(rt; fault.code(), code);
-        assert_eq!(rt; fault.name(), name);
+        expect_eq(&rt, (fault.code(), fault.name()), (code, name));
     }
 }
 

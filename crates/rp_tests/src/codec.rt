@@ -1,3 +1,4 @@
+use crate::compare::{expect_at, expect_eq, expect_text};
 use rp_base::{
     Action, Ballot, Fault, NodeId, Operation, PacketReason, PlacedVote, Position, PositionRange,
     Rec, Reply, TaskId, Vote,
@@ -5,45 +6,48 @@ use rp_base::{
 use rp_codec::*;
 use std::alloc::Global;
 use std::process::Abort;
-use std::test::*;
 
-const CALL: [u8; 21] = [
+static CALL: [u8; 21] = [
     2, 1, 17, 1, 1, 1, 0, 0, 0, 1, 1, 2, 1, 0, 0, 0, 0, 0, 0, 0, 5,
 ];
 
-const PREPARE: [u8; 14] = [2, 2, 1, 1, 0, 1, 0, 0, 0, 0, 0, 0, 0, 9];
+static PREPARE: [u8; 14] = [2, 2, 1, 1, 0, 1, 0, 0, 0, 0, 0, 0, 0, 9];
 
-const PROMISE: [u8; 15] = [2, 3, 2, 1, 0, 1, 0, 0, 0, 0, 0, 0, 0, 9, 0];
+static PROMISE: [u8; 15] = [2, 3, 2, 1, 0, 1, 0, 0, 0, 0, 0, 0, 0, 9, 0];
 
-const PROMISE_WITH_VOTE: [u8; 40] = [
+static PROMISE_WITH_VOTE: [u8; 40] = [
     2, 3, 2, 1, 0, 1, 0, 0, 0, 0, 0, 0, 0, 10, 1, 0, 0, 0, 0, 0, 0, 0, 9, 1, 1, 0, 0, 0, 1, 1, 2,
     1, 0, 0, 0, 0, 0, 0, 0, 5,
 ];
 
-const ACCEPT: [u8; 31] = [
+static ACCEPT: [u8; 31] = [
     2, 4, 1, 2, 0, 1, 0, 0, 0, 0, 0, 0, 0, 9, 1, 1, 0, 0, 0, 1, 1, 2, 1, 0, 0, 0, 0, 0, 0, 0, 5,
 ];
 
-const ACCEPTED: [u8; 31] = [
+static ACCEPTED: [u8; 31] = [
     2, 5, 2, 1, 0, 1, 0, 0, 0, 0, 0, 0, 0, 9, 1, 1, 0, 0, 0, 1, 1, 2, 1, 0, 0, 0, 0, 0, 0, 0, 5,
 ];
 
-const DECIDED: [u8; 23] = [
+static DECIDED: [u8; 23] = [
     2, 6, 1, 2, 0, 1, 1, 1, 0, 0, 0, 1, 1, 2, 1, 0, 0, 0, 0, 0, 0, 0, 5,
 ];
 
-const NACK: [u8; 22] = [
+static NACK: [u8; 22] = [
     2, 8, 3, 1, 0, 1, 0, 0, 0, 0, 0, 0, 0, 9, 0, 0, 0, 0, 0, 0, 0, 10,
 ];
 
-const REPLY: [u8; 17] = [2, 9, 1, 17, 0, 0, 0, 1, 1, 0, 0, 0, 0, 0, 0, 0, 5];
+static REPLY: [u8; 17] = [2, 9, 1, 17, 0, 0, 0, 1, 1, 0, 0, 0, 0, 0, 0, 0, 5];
 
-fn node(number: u8) -> Result<Party, Fail> {
-    Ok(Party::Node(NodeId::new(number).ok_or("a node")?))
+fn node(rt: &impl Abort, number: u8) -> Party {
+    Party::Node(NodeId::new(number).expect(rt, "a node"))
 }
 
-fn ballot(number: u64) -> Result<Ballot, Fail> {
-    Ok(Ballot::new(number).ok_or("a ballot")?)
+fn ballot(rt: &impl Abort, number: u64) -> Ballot {
+    Ballot::new(number).expect(rt, "a ballot")
+}
+
+fn position(rt: &impl Abort, number: u16) -> Position {
+    Position::new(number).expect(rt, "a position")
 }
 
 /// Task 1 calls procedure 1 of object 1 with 5, its first call.
@@ -57,174 +61,210 @@ fn call() -> Action {
     }
 }
 
-/// The bytes with each of them set to each other value are refused for a reason, or are the text of
-/// the packet that is read from them. Where the first of them says version 1, that text differs from
-/// the one of version 2 in it alone, since there is no entry in the packet.
-fn changed_bytes_are_read_as_they_are(
-    rt: &impl Abort,
-    alloc: Global,
-    bytes: &[u8],
-) -> Result<(), Fail> {
-    let mut changed = Vec::from_slice(alloc, bytes)?;
-    for place in 0..bytes.len() {
-        for value in 0..=255u8 {
-            changed[place] = value;
-            if let Ok(packet) = decode(alloc, changed.as_slice())? {
-                let mut text = encode(alloc, &packet)?;
-                text[0] = changed[0];
-                assert_eq!(rt; text.as_slice(), changed.as_slice());
-            }
+/// The packet of these parts.
+fn packet(rt: &impl Abort, from: Party, to: Party, body: Body) -> Packet {
+    Packet::checked(from, to, body).expect(rt, "the packet keeps the rules")
+}
+
+/// What is read from these bytes.
+fn decoded(rt: &impl Abort, alloc: Global, bytes: &[u8]) -> Result<Packet, PacketReason> {
+    decode(alloc, bytes).expect(rt, "memory for the packet")
+}
+
+/// The text of the packet.
+fn encoded(rt: &impl Abort, alloc: Global, packet: &Packet) -> Vec<u8> {
+    encode(alloc, packet).expect(rt, "memory for the text")
+}
+
+/// Bytes that are the text of a packet, in version 2 but for the first of them.
+fn expect_text_of(rt: &impl Abort, alloc: Global, packet: &Packet, bytes: &[u8]) {
+    let text = encoded(rt, alloc, packet);
+    expect_eq(rt, text.get(1..), bytes.get(1..));
+}
+
+/// The bytes with the one of this place set to each other value are refused for a reason, or are the
+/// text of the packet that is read from them. Where the first of them says version 1, that text differs
+/// from the one of version 2 in it alone, since there is no entry in the packet.
+fn changed_bytes_are_read_as_they_are(rt: &impl Abort, alloc: Global, bytes: &[u8], place: usize) {
+    let mut changed = Vec::from_slice(alloc, bytes).expect(rt, "memory for the bytes");
+    for value in 0..=255u8 {
+        if let Some(byte) = changed.get_mut(place) {
+            *byte = value;
         }
-        changed[place] = bytes[place];
+        if let Ok(packet) = decoded(rt, alloc, &changed) {
+            expect_text_of(rt, alloc, &packet, &changed);
+        }
     }
-    Ok(())
+}
+
+/// The bytes are refused for a reason.
+fn expect_reason(rt: &impl Abort, alloc: Global, bytes: &[u8], reason: PacketReason) {
+    let found = decoded(rt, alloc, bytes).err();
+    expect_at(rt, &bytes, found, Some(reason));
+}
+
+fn expect_reasons(rt: &impl Abort, alloc: Global, cases: &[(&[u8], PacketReason)]) {
+    for (bytes, reason) in cases {
+        expect_reason(rt, alloc, bytes, *reason);
+    }
+}
+
+/// The packet is read from these bytes.
+fn expect_packet(rt: &impl Abort, alloc: Global, bytes: &[u8], packet: &Packet) {
+    let found = decoded(rt, alloc, bytes).expect(rt, "a packet");
+    assert!(rt; found == *packet, "the packet of {bytes:?}");
+}
+
+/// The packet goes onto a run of texts as these bytes.
+fn expect_put_onto(rt: &impl Abort, alloc: Global, packet: &Packet, bytes: &[u8]) {
+    let mut run = Vec::from_slice(alloc, &PREPARE).expect(rt, "memory for a text");
+    encode_onto(packet, &mut run).expect(rt, "memory for another");
+    expect_eq(rt, run.get(..PREPARE.len()), Some(PREPARE.as_slice()));
+    expect_eq(rt, run.get(PREPARE.len()..), Some(bytes));
+}
+
+/// No proper front of the bytes is a packet.
+fn expect_no_front(rt: &impl Abort, alloc: Global, bytes: &[u8]) {
+    for end in 0..bytes.len() {
+        let front = bytes.get(..end).expect(rt, "a front");
+        expect_reason(rt, alloc, front, PacketReason::Short);
+        expect_eq(rt, packet_len(front), None);
+    }
+}
+
+/// The bytes, said to be of this version, are at the front of more bytes, and the packet is read from
+/// them.
+fn expect_version(rt: &impl Abort, alloc: Global, packet: &Packet, bytes: &[u8], version: u8) {
+    let mut run = Vec::from_slice(alloc, bytes).expect(rt, "memory for the bytes");
+    if let Some(first) = run.first_mut() {
+        *first = version;
+    }
+    expect_packet(rt, alloc, &run, packet);
+    run.push(0).expect(rt, "memory for one more");
+    expect_eq(rt, packet_len(&run), Some(bytes.len()));
 }
 
 /// The packet has these bytes, is read from them, and from no proper front of them. In version 1 it
 /// has the same but for the first.
-fn both_ways(
-    rt: &impl Abort,
-    alloc: Global,
-    from: Party,
-    to: Party,
-    body: Body,
-    bytes: &[u8],
-) -> Result<(), Fail> {
-    let packet = Packet::checked(from, to, body).ok_or("the packet keeps the rules")?;
-    let text = encode(alloc, &packet)?;
-    assert_eq!(rt; text.as_slice(), bytes);
-    let mut run = Vec::from_slice(alloc, &PREPARE)?;
-    encode_onto(&packet, &mut run)?;
-    assert_eq!(rt; &run[..PREPARE.len()], &PREPARE[..]);
-    assert_eq!(rt; &run[PREPARE.len()..], bytes);
-    assert_eq!(rt; decode(alloc, bytes)?, Ok(packet.clone()?));
-    for end in 0..bytes.len() {
-        assert_eq!(rt; decode(alloc, &bytes[..end])?, Err(PacketReason::Short));
-        assert_eq!(rt; packet_len(&bytes[..end]), None);
+fn both_ways(rt: &impl Abort, alloc: Global, packet: &Packet, bytes: &[u8]) {
+    expect_text(rt, &encoded(rt, alloc, packet), bytes);
+    expect_put_onto(rt, alloc, packet, bytes);
+    expect_version(rt, alloc, packet, bytes, 2);
+    expect_version(rt, alloc, packet, bytes, 1);
+    expect_no_front(rt, alloc, bytes);
+    for place in 0..bytes.len() {
+        changed_bytes_are_read_as_they_are(rt, alloc, bytes, place);
     }
-    run.clear();
-    run.extend_from_slice(bytes)?;
-    run.push(0)?;
-    assert_eq!(rt; packet_len(run.as_slice()), Some(bytes.len()));
-    run[0] = 1;
-    assert_eq!(rt; packet_len(run.as_slice()), Some(bytes.len()));
-    assert_eq!(rt; decode(alloc, &run[..bytes.len()])?, Ok(packet));
-    changed_bytes_are_read_as_they_are(rt, alloc, bytes)
 }
 
 #[test]
-fn a_task_calls_and_is_answered(rt: HostRuntime) -> Result<(), Fail> {
-    let task = Party::Task(TaskId::first());
-    both_ways(
-        &rt,
-        rt.alloc(),
-        task,
-        node(1)?,
-        Body::Call { action: call() },
-        &CALL,
-    )?;
-    let reply = Body::Reply {
+fn a_task_calls_and_is_answered(rt: HostRuntime) {
+    let body = Body::Call { action: call() };
+    let calls = packet(&rt, Party::Task(TaskId::first()), node(&rt, 1), body);
+    both_ways(&rt, rt.alloc(), &calls, &CALL);
+    let body = Body::Reply {
         number: 1,
         reply: Reply::Value(5),
     };
-    both_ways(&rt, rt.alloc(), node(1)?, task, reply, &REPLY)
+    let replies = packet(&rt, node(&rt, 1), Party::Task(TaskId::first()), body);
+    both_ways(&rt, rt.alloc(), &replies, &REPLY);
+}
+
+/// What node 1 sends to a node has these bytes, and is read from them.
+fn from_first(rt: &impl Abort, alloc: Global, to: u8, body: Body, bytes: &[u8]) {
+    let sent = packet(rt, node(rt, 1), node(rt, to), body);
+    both_ways(rt, alloc, &sent, bytes);
+}
+
+/// What a node sends to node 1 has these bytes, and is read from them.
+fn to_first(rt: &impl Abort, alloc: Global, from: u8, body: Body, bytes: &[u8]) {
+    let sent = packet(rt, node(rt, from), node(rt, 1), body);
+    both_ways(rt, alloc, &sent, bytes);
+}
+
+fn promise(rt: &impl Abort, number: u64, last: Option<Vote>) -> Body {
+    Body::Promise {
+        position: Position::first(),
+        ballot: ballot(rt, number),
+        last,
+    }
 }
 
 #[test]
-fn a_leader_prepares_and_is_promised(rt: HostRuntime) -> Result<(), Fail> {
+fn a_leader_prepares_and_is_promised(rt: HostRuntime) {
     let position = Position::first();
-    let prepare = Body::Prepare {
-        position,
-        ballot: ballot(9)?,
-    };
-    both_ways(&rt, rt.alloc(), node(1)?, node(1)?, prepare, &PREPARE)?;
-    let promise = Body::Promise {
-        position,
-        ballot: ballot(9)?,
-        last: None,
-    };
-    both_ways(&rt, rt.alloc(), node(2)?, node(1)?, promise, &PROMISE)?;
+    let ballot = ballot(&rt, 9);
+    let prepare = Body::Prepare { position, ballot };
+    from_first(&rt, rt.alloc(), 1, prepare, &PREPARE);
+    to_first(&rt, rt.alloc(), 2, promise(&rt, 9, None), &PROMISE);
     let vote = Vote {
-        ballot: ballot(9)?,
+        ballot,
         action: call(),
     };
-    let promise = Body::Promise {
-        position,
-        ballot: ballot(10)?,
-        last: Some(vote),
-    };
-    both_ways(
-        &rt,
-        rt.alloc(),
-        node(2)?,
-        node(1)?,
-        promise,
-        &PROMISE_WITH_VOTE,
-    )?;
-    let nack = Body::Nack {
-        position,
-        ballot: ballot(9)?,
-        bound: ballot(10)?,
-    };
-    both_ways(&rt, rt.alloc(), node(3)?, node(1)?, nack, &NACK)
+    let promise = promise(&rt, 10, Some(vote));
+    to_first(&rt, rt.alloc(), 2, promise, &PROMISE_WITH_VOTE);
 }
 
 #[test]
-fn nodes_vote_and_learn(rt: HostRuntime) -> Result<(), Fail> {
+fn a_node_refuses_a_ballot(rt: HostRuntime) {
+    let nack = Body::Nack {
+        position: Position::first(),
+        ballot: ballot(&rt, 9),
+        bound: ballot(&rt, 10),
+    };
+    to_first(&rt, rt.alloc(), 3, nack, &NACK);
+}
+
+#[test]
+fn nodes_vote_and_learn(rt: HostRuntime) {
     let position = Position::first();
+    let ballot = ballot(&rt, 9);
     let accept = Body::Accept {
         position,
-        ballot: ballot(9)?,
+        ballot,
         action: call(),
     };
-    both_ways(&rt, rt.alloc(), node(1)?, node(2)?, accept, &ACCEPT)?;
+    from_first(&rt, rt.alloc(), 2, accept, &ACCEPT);
     let accepted = Body::Accepted {
         position,
-        ballot: ballot(9)?,
+        ballot,
         action: call(),
     };
-    both_ways(&rt, rt.alloc(), node(2)?, node(1)?, accepted, &ACCEPTED)?;
+    to_first(&rt, rt.alloc(), 2, accepted, &ACCEPTED);
     let decided = Body::Decided {
         position,
         action: call(),
     };
-    both_ways(&rt, rt.alloc(), node(1)?, node(2)?, decided, &DECIDED)
+    from_first(&rt, rt.alloc(), 2, decided, &DECIDED);
 }
 
-#[test]
-fn each_spoiled_prepare_has_its_reason(rt: HostRuntime) -> Result<(), Fail> {
-    let cases: [(&[u8], PacketReason); 7] = [
-        (
-            &[2, 2, 1, 1, 0, 1, 0, 0, 0, 0, 0, 0, 0],
-            PacketReason::Short,
-        ),
-        (
-            &[2, 2, 1, 1, 0, 1, 0, 0, 0, 0, 0, 0, 0, 9, 0],
-            PacketReason::Long,
-        ),
-        (
-            &[3, 2, 1, 1, 0, 1, 0, 0, 0, 0, 0, 0, 0, 9],
-            PacketReason::Version,
-        ),
-        (
-            &[2, 11, 1, 1, 0, 1, 0, 0, 0, 0, 0, 0, 0, 9],
-            PacketReason::Kind,
-        ),
-        (
-            &[2, 2, 1, 1, 0, 1, 0, 0, 0, 0, 0, 0, 0, 8],
-            PacketReason::Field,
-        ),
-        (
-            &[2, 2, 1, 1, 0, 1, 0, 0, 0, 0, 0, 0, 0, 16],
-            PacketReason::Field,
-        ),
-        (&[], PacketReason::Short),
-    ];
-    for (bytes, reason) in &cases {
-        assert_eq!(rt; decode(rt.alloc(), bytes)?, Err(*reason));
-    }
-    Ok(())
-}
+static SPOILED_PREPARES: [(&[u8], PacketReason); 7] = [
+    (
+        &[2, 2, 1, 1, 0, 1, 0, 0, 0, 0, 0, 0, 0],
+        PacketReason::Short,
+    ),
+    (
+        &[2, 2, 1, 1, 0, 1, 0, 0, 0, 0, 0, 0, 0, 9, 0],
+        PacketReason::Long,
+    ),
+    (
+        &[3, 2, 1, 1, 0, 1, 0, 0, 0, 0, 0, 0, 0, 9],
+        PacketReason::Version,
+    ),
+    (
+        &[2, 11, 1, 1, 0, 1, 0, 0, 0, 0, 0, 0, 0, 9],
+        PacketReason::Kind,
+    ),
+    (
+        &[2, 2, 1, 1, 0, 1, 0, 0, 0, 0, 0, 0, 0, 8],
+        PacketReason::Field,
+    ),
+    (
+        &[2, 2, 1, 1, 0, 1, 0, 0, 0, 0, 0, 0, 0, 16],
+        PacketReason::Field,
+    ),
+    (&[], PacketReason::Short),
+];
 
 /// The text of this version in which task 1 calls an entry, by this byte.
 fn entry_call(version: u8, index: u8) -> [u8; 21] {
@@ -233,254 +273,297 @@ fn entry_call(version: u8, index: u8) -> [u8; 21] {
     ]
 }
 
+/// The entry that a packet calls.
+fn entry_of(packet: &Packet) -> Option<u8> {
+    match packet.body() {
+        Body::Call {
+            action: Action::Call {
+                operation: Operation::Entry(entry),
+                ..
+            },
+        } => Some(*entry),
+        _ => None,
+    }
+}
+
+/// What entry is read from the text of this version with this byte.
+fn entry_read(
+    rt: &impl Abort,
+    alloc: Global,
+    version: u8,
+    index: u8,
+) -> Result<Option<u8>, PacketReason> {
+    match decoded(rt, alloc, &entry_call(version, index)) {
+        Ok(packet) => Ok(entry_of(&packet)),
+        Err(reason) => Err(reason),
+    }
+}
+
 #[test]
-fn an_entry_is_read_by_the_version_of_its_text(rt: HostRuntime) -> Result<(), Fail> {
-    let cases: [(u8, u8, Result<u8, PacketReason>); 7] = [
-        (1, 0, Ok(1)),
-        (2, 1, Ok(1)),
-        (2, 2, Ok(2)),
+fn an_entry_is_read_by_the_version_of_its_text(rt: HostRuntime) {
+    for (version, index, expected) in [
+        (1, 0, Ok(Some(1))),
+        (2, 1, Ok(Some(1))),
+        (2, 2, Ok(Some(2))),
         (1, 2, Err(PacketReason::Field)),
         (2, 0, Err(PacketReason::Field)),
         (2, 5, Err(PacketReason::Field)),
         (3, 1, Err(PacketReason::Version)),
-    ];
-    for (version, index, expected) in cases {
-        let found = match decode(rt.alloc(), &entry_call(version, index))? {
-            Ok(packet) => match packet.body() {
-                Body::Call {
-                    action: Action::Call {
-                        operation: Operation::Entry(entry),
-                        ..
-                    },
-                } => Ok(*entry),
-                _ => return Err("a call of an entry".into()),
-            },
-            Err(reason) => Err(reason),
-        };
-        assert_eq!(rt; found, expected);
+    ] {
+        let found = entry_read(&rt, rt.alloc(), version, index);
+        expect_at(&rt, &(version, index), found, expected);
     }
-    Ok(())
 }
 
-const ASK: [u8; 6] = [2, 7, 2, 1, 0, 2];
+static ASK: [u8; 6] = [2, 7, 2, 1, 0, 2];
 
-const REPORT: [u8; 26] = [
+static REPORT: [u8; 26] = [
     2, 10, 1, 32, 0, 1, 0, 1, 1, 1, 1, 0, 0, 0, 1, 1, 2, 1, 0, 0, 0, 0, 0, 0, 0, 5,
 ];
 
-const REPORT_OF_NONE: [u8; 9] = [2, 10, 1, 32, 0, 2, 0, 1, 0];
+static REPORT_OF_NONE: [u8; 9] = [2, 10, 1, 32, 0, 2, 0, 1, 0];
 
-fn report(alloc: Global, first: u16, applied: u16, stated: &[Action]) -> Result<Body, Fail> {
-    Ok(Body::Report {
-        first: Position::new(first).ok_or("a position")?,
+fn report(rt: &impl Abort, alloc: Global, first: u16, applied: u16, stated: &[Action]) -> Body {
+    let actions = Vec::from_slice(alloc, stated).expect(rt, "memory for the actions");
+    Body::Report {
+        first: position(rt, first),
         applied,
-        actions: Actions::from_vec(Vec::from_slice(alloc, stated)?),
-    })
-}
-
-#[test]
-fn a_node_asks_and_reports(rt: HostRuntime) -> Result<(), Fail> {
-    let position = Position::new(2).ok_or("a position")?;
-    both_ways(
-        &rt,
-        rt.alloc(),
-        node(2)?,
-        node(1)?,
-        Body::Ask { position },
-        &ASK,
-    )?;
-    let one = report(rt.alloc(), 1, 1, &[call()])?;
-    both_ways(&rt, rt.alloc(), node(1)?, Party::Audit, one, &REPORT)?;
-    let none = report(rt.alloc(), 2, 1, &[])?;
-    both_ways(
-        &rt,
-        rt.alloc(),
-        node(1)?,
-        Party::Audit,
-        none,
-        &REPORT_OF_NONE,
-    )
-}
-
-#[test]
-fn a_report_has_at_most_200_actions(rt: HostRuntime) -> Result<(), Fail> {
-    let most = report(rt.alloc(), 1, 300, &[call(); 200])?;
-    let packet = Packet::checked(node(1)?, Party::Audit, most).ok_or("the report keeps the rules")?;
-    let text = encode(rt.alloc(), &packet)?;
-    assert_eq!(rt; text.len(), 3409);
-    assert_eq!(rt; decode(rt.alloc(), text.as_slice())?, Ok(packet));
-    let more = report(rt.alloc(), 1, 300, &[call(); 201])?;
-    assert_eq!(rt; Packet::checked(node(1)?, Party::Audit, more), None);
-    let Body::Report { actions, .. } = report(rt.alloc(), 1, 1, &[call()])? else {
-        return Err("a report".into());
-    };
-    assert_eq!(rt; actions.clone()?, actions);
-    assert_eq!(rt; actions.into_vec().as_slice(), &[call()][..]);
-    Ok(())
-}
-
-#[test]
-fn each_spoiled_ask_or_report_has_its_reason(rt: HostRuntime) -> Result<(), Fail> {
-    let cases: [(&[u8], PacketReason); 11] = [
-        (&[2, 7, 2, 1, 0], PacketReason::Short),
-        (&[2, 7, 2, 1, 0, 2, 0], PacketReason::Long),
-        (&[0, 7, 2, 1, 0, 2], PacketReason::Version),
-        (&[2, 7, 2, 1, 0, 0], PacketReason::Field),
-        (&[2, 7, 2, 17, 0, 2], PacketReason::Field),
-        (&[2, 10, 1, 32, 0, 2, 0, 2, 1], PacketReason::Short),
-        (&[2, 10, 1, 32, 0, 2, 0, 1, 0, 0], PacketReason::Long),
-        (&[3, 10, 1, 32, 0, 2, 0, 1, 0], PacketReason::Version),
-        (&[2, 11, 1, 32, 0, 2, 0, 1, 0], PacketReason::Kind),
-        (&[2, 10, 1, 32, 0, 2, 0, 1, 1, 0], PacketReason::Field),
-        (&[2, 10, 1, 32, 0, 2, 0, 2, 1, 4], PacketReason::Field),
-    ];
-    for (bytes, reason) in &cases {
-        assert_eq!(rt; decode(rt.alloc(), bytes)?, Err(*reason));
+        actions: Actions::from_vec(actions),
     }
-    Ok(())
 }
 
-const PREPARE_RANGE: [u8; 15] = [2, 12, 1, 2, 0, 1, 4, 0, 0, 0, 0, 0, 0, 0, 9];
+/// What node 1 reports has these bytes, and is read from them.
+fn to_audit(rt: &impl Abort, alloc: Global, body: Body, bytes: &[u8]) {
+    let sent = packet(rt, node(rt, 1), Party::Audit, body);
+    both_ways(rt, alloc, &sent, bytes);
+}
 
-const PROMISE_RANGE: [u8; 27] = [
+#[test]
+fn a_node_asks_and_reports(rt: HostRuntime) {
+    let ask = Body::Ask {
+        position: position(&rt, 2),
+    };
+    to_first(&rt, rt.alloc(), 2, ask, &ASK);
+    let one = report(&rt, rt.alloc(), 1, 1, &[call()]);
+    to_audit(&rt, rt.alloc(), one, &REPORT);
+    let none = report(&rt, rt.alloc(), 2, 1, &[]);
+    to_audit(&rt, rt.alloc(), none, &REPORT_OF_NONE);
+}
+
+/// The packet of node 1 has a text of this length, and is read from it.
+fn expect_long(rt: &impl Abort, alloc: Global, to: Party, body: Body, len: usize) -> Packet {
+    let sent = packet(rt, node(rt, 1), to, body);
+    let text = encoded(rt, alloc, &sent);
+    expect_eq(rt, text.len(), len);
+    expect_packet(rt, alloc, &text, &sent);
+    sent
+}
+
+/// No packet of this sender has this body.
+fn expect_wrong(rt: &impl Abort, from: Party, to: Party, body: Body) {
+    let packet = Packet::checked(from, to, body);
+    expect_eq(rt, packet.is_none(), true);
+}
+
+#[test]
+fn a_report_has_at_most_200_actions(rt: HostRuntime) {
+    let most = report(&rt, rt.alloc(), 1, 300, &[call(); 200]);
+    expect_long(&rt, rt.alloc(), Party::Audit, most, 3409);
+    let more = report(&rt, rt.alloc(), 1, 300, &[call(); 201]);
+    expect_wrong(&rt, node(&rt, 1), Party::Audit, more);
+}
+
+#[test]
+fn actions_are_cloned_and_given_back(rt: HostRuntime) {
+    let one = Vec::from_slice(rt.alloc(), &[call()]).expect(&rt, "memory for an action");
+    let actions = Actions::from_vec(one);
+    let again = actions.clone().expect(&rt, "memory for it again");
+    expect_eq(&rt, again == actions, true);
+    expect_eq(&rt, actions.into_vec().as_slice(), &[call()]);
+}
+
+static SPOILED_ASKS_AND_REPORTS: [(&[u8], PacketReason); 11] = [
+    (&[2, 7, 2, 1, 0], PacketReason::Short),
+    (&[2, 7, 2, 1, 0, 2, 0], PacketReason::Long),
+    (&[0, 7, 2, 1, 0, 2], PacketReason::Version),
+    (&[2, 7, 2, 1, 0, 0], PacketReason::Field),
+    (&[2, 7, 2, 17, 0, 2], PacketReason::Field),
+    (&[2, 10, 1, 32, 0, 2, 0, 2, 1], PacketReason::Short),
+    (&[2, 10, 1, 32, 0, 2, 0, 1, 0, 0], PacketReason::Long),
+    (&[3, 10, 1, 32, 0, 2, 0, 1, 0], PacketReason::Version),
+    (&[2, 11, 1, 32, 0, 2, 0, 1, 0], PacketReason::Kind),
+    (&[2, 10, 1, 32, 0, 2, 0, 1, 1, 0], PacketReason::Field),
+    (&[2, 10, 1, 32, 0, 2, 0, 2, 1, 4], PacketReason::Field),
+];
+
+static PREPARE_RANGE: [u8; 15] = [2, 12, 1, 2, 0, 1, 4, 0, 0, 0, 0, 0, 0, 0, 9];
+
+static PROMISE_RANGE: [u8; 27] = [
     2, 13, 3, 2, 0, 1, 2, 0, 0, 0, 0, 0, 0, 0, 10, 1, 0, 1, 0, 0, 0, 0, 0, 0, 0, 9, 0,
 ];
 
-const PROMISE_RANGE_OF_NONE: [u8; 16] = [2, 13, 3, 2, 255, 255, 1, 0, 0, 0, 0, 0, 0, 0, 10, 0];
+static PROMISE_RANGE_OF_NONE: [u8; 16] = [2, 13, 3, 2, 255, 255, 1, 0, 0, 0, 0, 0, 0, 0, 10, 0];
 
-fn range(first: u16, count: u8) -> Result<PositionRange, Fail> {
-    let first = Position::new(first).ok_or("a position")?;
-    Ok(PositionRange::new(first, count)?)
+fn range(rt: &impl Abort, first: u16, count: u8) -> PositionRange {
+    PositionRange::new(position(rt, first), count).expect(rt, "a range")
 }
 
-fn placed(position: u16, number: u64, action: Action) -> Result<PlacedVote, Fail> {
-    Ok(PlacedVote {
-        position: Position::new(position).ok_or("a position")?,
+fn placed(rt: &impl Abort, at: u16, number: u64, action: Action) -> PlacedVote {
+    PlacedVote {
+        position: position(rt, at),
         vote: Vote {
-            ballot: ballot(number)?,
+            ballot: ballot(rt, number),
             action,
         },
-    })
-}
-
-fn no_op_at(position: u16, number: u64) -> Result<PlacedVote, Fail> {
-    placed(position, number, Action::Noop)
+    }
 }
 
 fn promise_range(
+    rt: &impl Abort,
     alloc: Global,
     range: PositionRange,
-    number: u64,
     votes: &[PlacedVote],
-) -> Result<Body, Fail> {
-    Ok(Body::PromiseRange {
+) -> Body {
+    let votes = Vec::from_slice(alloc, votes).expect(rt, "memory for the votes");
+    Body::PromiseRange {
         range,
-        ballot: ballot(number)?,
-        votes: Votes::from_vec(Vec::from_slice(alloc, votes)?),
-    })
+        ballot: ballot(rt, 10),
+        votes: Votes::from_vec(votes),
+    }
+}
+
+/// What node 3 promises node 2 has these bytes, and is read from them.
+fn from_third(rt: &impl Abort, alloc: Global, body: Body, bytes: &[u8]) {
+    let sent = packet(rt, node(rt, 3), node(rt, 2), body);
+    both_ways(rt, alloc, &sent, bytes);
 }
 
 #[test]
-fn a_leader_prepares_a_range_and_is_promised(rt: HostRuntime) -> Result<(), Fail> {
+fn a_leader_prepares_a_range_and_is_promised(rt: HostRuntime) {
     let prepare = Body::PrepareRange {
-        range: range(1, 4)?,
-        ballot: ballot(9)?,
+        range: range(&rt, 1, 4),
+        ballot: ballot(&rt, 9),
     };
-    both_ways(&rt, rt.alloc(), node(1)?, node(2)?, prepare, &PREPARE_RANGE)?;
-    let votes = [placed(1, 9, Action::Noop)?];
-    let promise = promise_range(rt.alloc(), range(1, 2)?, 10, &votes)?;
-    both_ways(&rt, rt.alloc(), node(3)?, node(2)?, promise, &PROMISE_RANGE)?;
-    let promise = promise_range(rt.alloc(), range(65535, 1)?, 10, &[])?;
-    both_ways(
-        &rt,
-        rt.alloc(),
-        node(3)?,
-        node(2)?,
-        promise,
-        &PROMISE_RANGE_OF_NONE,
-    )
+    from_first(&rt, rt.alloc(), 2, prepare, &PREPARE_RANGE);
+    let votes = [placed(&rt, 1, 9, Action::Noop)];
+    let promise = promise_range(&rt, rt.alloc(), range(&rt, 1, 2), &votes);
+    from_third(&rt, rt.alloc(), promise, &PROMISE_RANGE);
+    let promise = promise_range(&rt, rt.alloc(), range(&rt, 65535, 1), &[]);
+    from_third(&rt, rt.alloc(), promise, &PROMISE_RANGE_OF_NONE);
 }
 
-#[test]
-fn a_promise_for_a_range_reports_at_most_64_votes(rt: HostRuntime) -> Result<(), Fail> {
-    let mut votes = Vec::new(rt.alloc());
+/// A promise for the last 64 positions that reports a vote at each.
+fn longest_promise(rt: &impl Abort, alloc: Global) -> Body {
+    let mut votes = Vec::new(alloc);
     for position in 65472..=65535 {
-        votes.push(placed(position, 9, call())?)?;
+        let vote = placed(rt, position, 9, call());
+        votes.push(vote).expect(rt, "memory for a vote");
     }
-    let most = promise_range(rt.alloc(), range(65472, 64)?, 10, votes.as_slice())?;
-    let packet = Packet::checked(node(1)?, node(2)?, most).ok_or("the promise keeps the rules")?;
-    let text = encode(rt.alloc(), &packet)?;
-    assert_eq!(rt; text.len(), 1744);
-    assert_eq!(rt; decode(rt.alloc(), text.as_slice())?, Ok(packet.clone()?));
+    promise_range(rt, alloc, range(rt, 65472, 64), &votes)
+}
+
+/// The votes that a promise for a range reports, cloned and given back, are this many.
+fn expect_votes(rt: &impl Abort, packet: &Packet, count: usize) {
     let Body::PromiseRange { votes, .. } = packet.body() else {
-        return Err("a promise for a range".into());
+        panic!(rt; "a promise for a range");
     };
-    assert_eq!(rt; votes.clone()?, *votes);
-    assert_eq!(rt; votes.clone()?.into_vec().len(), 64);
-    Ok(())
+    let again = votes.clone().expect(rt, "memory for the votes");
+    expect_eq(rt, again == *votes, true);
+    expect_eq(rt, again.into_vec().len(), count);
 }
 
 #[test]
-fn no_wrong_promise_for_a_range_is_made(rt: HostRuntime) -> Result<(), Fail> {
-    let interrupt = Action::Interrupt {
-        source: 0,
-        occurrence: 1,
-    };
-    let cases = [
-        [no_op_at(2, 9)?, no_op_at(1, 9)?],
-        [no_op_at(1, 9)?, no_op_at(1, 9)?],
-        [no_op_at(1, 9)?, no_op_at(5, 9)?],
-        [no_op_at(1, 9)?, no_op_at(2, 10)?],
-        [no_op_at(1, 9)?, placed(2, 9, interrupt)?],
-    ];
-    for votes in &cases {
-        let promise = promise_range(rt.alloc(), range(1, 4)?, 10, votes)?;
-        assert_eq!(rt; Packet::checked(node(1)?, node(2)?, promise), None);
+fn a_promise_for_a_range_reports_at_most_64_votes(rt: HostRuntime) {
+    let most = longest_promise(&rt, rt.alloc());
+    let packet = expect_long(&rt, rt.alloc(), node(&rt, 2), most, 1744);
+    expect_votes(&rt, &packet, 64);
+}
+
+const INTERRUPT: Action = Action::Interrupt {
+    source: 0,
+    occurrence: 1,
+};
+
+/// Two votes for positions from 1 on that no promise for the positions 1 to 4 in ballot 10 reports, each
+/// by its position, its ballot and its action.
+const WRONG_VOTES: [[(u16, u64, Action); 2]; 5] = [
+    [(2, 9, Action::Noop), (1, 9, Action::Noop)],
+    [(1, 9, Action::Noop), (1, 9, Action::Noop)],
+    [(1, 9, Action::Noop), (5, 9, Action::Noop)],
+    [(1, 9, Action::Noop), (2, 10, Action::Noop)],
+    [(1, 9, Action::Noop), (2, 9, INTERRUPT)],
+];
+
+/// Two votes for a promise.
+fn votes_of(rt: &impl Abort, votes: &[(u16, u64, Action); 2]) -> [PlacedVote; 2] {
+    let [(one, first, action), (other, second, last)] = votes;
+    [
+        placed(rt, *one, *first, *action),
+        placed(rt, *other, *second, *last),
+    ]
+}
+
+/// A party does not send node 2 a promise for the four positions from this one on that reports the
+/// votes.
+fn expect_no_promise(
+    rt: &impl Abort,
+    alloc: Global,
+    from: &Party,
+    first: u16,
+    votes: &[PlacedVote],
+) {
+    let promise = promise_range(rt, alloc, range(rt, first, 4), votes);
+    expect_wrong(rt, *from, node(rt, 2), promise);
+}
+
+#[test]
+fn no_wrong_promise_for_a_range_is_made(rt: HostRuntime) {
+    let leader = node(&rt, 1);
+    for votes in &WRONG_VOTES {
+        expect_no_promise(&rt, rt.alloc(), &leader, 1, &votes_of(&rt, votes));
     }
-    let promise = promise_range(rt.alloc(), range(2, 4)?, 10, &[no_op_at(1, 9)?])?;
-    assert_eq!(rt; Packet::checked(node(1)?, node(2)?, promise), None);
-    let votes = [no_op_at(1, 9)?, no_op_at(2, 9)?];
-    let promise = promise_range(rt.alloc(), range(1, 4)?, 10, &votes)?;
+    let below = [placed(&rt, 1, 9, Action::Noop)];
+    expect_no_promise(&rt, rt.alloc(), &leader, 2, &below);
+    let right = votes_of(&rt, &[(1, 9, Action::Noop), (2, 9, Action::Noop)]);
     let task = Party::Task(TaskId::first());
-    assert_eq!(rt; Packet::checked(task, node(2)?, promise), None);
-    Ok(())
+    expect_no_promise(&rt, rt.alloc(), &task, 1, &right);
 }
 
+static SPOILED_RANGES: [(&[u8], PacketReason); 9] = [
+    (&[2, 12, 1, 2, 0, 1], PacketReason::Short),
+    (
+        &[2, 12, 1, 2, 0, 0, 4, 0, 0, 0, 0, 0, 0, 0, 9],
+        PacketReason::Field,
+    ),
+    (
+        &[2, 12, 1, 2, 0, 1, 0, 0, 0, 0, 0, 0, 0, 0, 9],
+        PacketReason::Field,
+    ),
+    (
+        &[2, 12, 1, 2, 0, 1, 65, 0, 0, 0, 0, 0, 0, 0, 9],
+        PacketReason::Field,
+    ),
+    (&[2, 12, 1, 2, 255, 255, 2], PacketReason::Field),
+    (&[2, 12, 1, 17, 0, 1], PacketReason::Field),
+    (
+        &[2, 11, 1, 2, 0, 1, 4, 0, 0, 0, 0, 0, 0, 0, 9],
+        PacketReason::Kind,
+    ),
+    (
+        &[2, 14, 1, 2, 0, 1, 4, 0, 0, 0, 0, 0, 0, 0, 9],
+        PacketReason::Kind,
+    ),
+    (
+        &[2, 12, 1, 2, 0, 1, 4, 0, 0, 0, 0, 0, 0, 0, 9, 0],
+        PacketReason::Long,
+    ),
+];
+
 #[test]
-fn each_spoiled_range_has_its_reason(rt: HostRuntime) -> Result<(), Fail> {
-    let cases: [(&[u8], PacketReason); 9] = [
-        (&[2, 12, 1, 2, 0, 1], PacketReason::Short),
-        (
-            &[2, 12, 1, 2, 0, 0, 4, 0, 0, 0, 0, 0, 0, 0, 9],
-            PacketReason::Field,
-        ),
-        (
-            &[2, 12, 1, 2, 0, 1, 0, 0, 0, 0, 0, 0, 0, 0, 9],
-            PacketReason::Field,
-        ),
-        (
-            &[2, 12, 1, 2, 0, 1, 65, 0, 0, 0, 0, 0, 0, 0, 9],
-            PacketReason::Field,
-        ),
-        (&[2, 12, 1, 2, 255, 255, 2], PacketReason::Field),
-        (&[2, 12, 1, 17, 0, 1], PacketReason::Field),
-        (
-            &[2, 11, 1, 2, 0, 1, 4, 0, 0, 0, 0, 0, 0, 0, 9],
-            PacketReason::Kind,
-        ),
-        (
-            &[2, 14, 1, 2, 0, 1, 4, 0, 0, 0, 0, 0, 0, 0, 9],
-            PacketReason::Kind,
-        ),
-        (
-            &[2, 12, 1, 2, 0, 1, 4, 0, 0, 0, 0, 0, 0, 0, 9, 0],
-            PacketReason::Long,
-        ),
-    ];
-    for (bytes, reason) in &cases {
-        assert_eq!(rt; decode(rt.alloc(), bytes)?, Err(*reason));
-    }
-    Ok(())
+fn each_spoiled_packet_has_its_reason(rt: HostRuntime) {
+    expect_reasons(&rt, rt.alloc(), &SPOILED_PREPARES);
+    expect_reasons(&rt, rt.alloc(), &SPOILED_ASKS_AND_REPORTS);
+    expect_reasons(&rt, rt.alloc(), &SPOILED_RANGES);
 }
 
 /// A promise of node 3 for positions 1 and 2 in ballot 10 that says this count, and two votes.
@@ -491,113 +574,138 @@ fn two_votes(count: u8, first: u8, second: u8, ballot: u8) -> [u8; 38] {
     ]
 }
 
+/// What two votes cannot be: the count, their positions and the ballot of the second.
+static SPOILED_VOTES: [([u8; 4], PacketReason); 7] = [
+    ([3, 1, 2, 9], PacketReason::Field),
+    ([1, 1, 2, 9], PacketReason::Long),
+    ([2, 2, 1, 9], PacketReason::Field),
+    ([2, 1, 1, 9], PacketReason::Field),
+    ([2, 1, 3, 9], PacketReason::Field),
+    ([2, 0, 2, 9], PacketReason::Field),
+    ([2, 1, 2, 10], PacketReason::Field),
+];
+
 #[test]
-fn each_spoiled_promise_for_a_range_has_its_reason(rt: HostRuntime) -> Result<(), Fail> {
-    assert!(rt; decode(rt.alloc(), &two_votes(2, 1, 2, 9))?.is_ok());
-    let cases = [
-        (two_votes(3, 1, 2, 9), PacketReason::Field),
-        (two_votes(1, 1, 2, 9), PacketReason::Long),
-        (two_votes(2, 2, 1, 9), PacketReason::Field),
-        (two_votes(2, 1, 1, 9), PacketReason::Field),
-        (two_votes(2, 1, 3, 9), PacketReason::Field),
-        (two_votes(2, 0, 2, 9), PacketReason::Field),
-        (two_votes(2, 1, 2, 10), PacketReason::Field),
-    ];
-    for (bytes, reason) in cases {
-        assert_eq!(rt; decode(rt.alloc(), &bytes)?, Err(reason));
+fn each_spoiled_promise_for_a_range_has_its_reason(rt: HostRuntime) {
+    let right = two_votes(2, 1, 2, 9);
+    let packet = decoded(&rt, rt.alloc(), &right);
+    expect_eq(&rt, packet.is_ok(), true);
+    let short = right.get(..37).expect(&rt, "all bytes but the last");
+    expect_reason(&rt, rt.alloc(), short, PacketReason::Short);
+    for ([count, first, second, ballot], reason) in &SPOILED_VOTES {
+        let bytes = two_votes(*count, *first, *second, *ballot);
+        expect_reason(&rt, rt.alloc(), &bytes, *reason);
     }
-    let bytes = two_votes(2, 1, 2, 9);
-    let short = bytes.get(..37).ok_or("all bytes but the last")?;
-    assert_eq!(rt; decode(rt.alloc(), short)?, Err(PacketReason::Short));
-    Ok(())
+}
+
+/// A range of these positions is refused so.
+fn expect_no_range(rt: &impl Abort, first: u16, count: u8, fault: Fault) {
+    let range = PositionRange::new(position(rt, first), count);
+    expect_eq(rt, range.err(), Some(fault));
 }
 
 #[test]
-fn a_range_has_1_to_64_positions_up_to_the_last(rt: HostRuntime) -> Result<(), Fail> {
-    let last = Position::new(65535).ok_or("the last position")?;
-    let first = Position::first();
-    assert_eq!(rt; PositionRange::new(first, 0), Err(Fault::BadConfig));
-    assert_eq!(rt; PositionRange::new(first, 65), Err(Fault::BadConfig));
-    assert_eq!(rt; PositionRange::new(last, 65), Err(Fault::BadConfig));
-    assert_eq!(rt; PositionRange::new(last, 2), Err(Fault::LogFull));
-    let whole = PositionRange::new(last, 1)?;
-    assert_eq!(rt;
-        (whole.first(), whole.last(), whole.count()),
-        (last, last, 1)
-    );
-    assert_eq!(rt; whole.end(), 65536);
-    let range = range(1, 64)?;
+fn a_range_has_1_to_64_positions_up_to_the_last(rt: HostRuntime) {
+    expect_no_range(&rt, 1, 0, Fault::BadConfig);
+    expect_no_range(&rt, 1, 65, Fault::BadConfig);
+    expect_no_range(&rt, 65535, 65, Fault::BadConfig);
+    expect_no_range(&rt, 65535, 2, Fault::LogFull);
+    let last = position(&rt, 65535);
+    let whole = range(&rt, 65535, 1);
+    let parts = (whole.first(), whole.last(), whole.count(), whole.end());
+    expect_eq(&rt, parts, (last, last, 1, 65536));
+    let range = range(&rt, 1, 64);
+    let covers = (range.covers(range.last()), range.covers(position(&rt, 65)));
+    expect_eq(&rt, covers, (true, false));
     assert!(rt; range.count() == 64);
-    assert_eq!(rt; range.at(63).get(), 64);
-    assert!(rt; range.covers(range.last()));
-    assert!(rt; !range.covers(Position::new(65).ok_or("a position")?));
-    Ok(())
+    expect_eq(&rt, range.at(63).get(), 64);
 }
 
 #[test]
-fn no_wrong_packet_is_made(rt: HostRuntime) -> Result<(), Fail> {
-    let task = Party::Task(TaskId::first());
+fn no_wrong_packet_is_made(rt: HostRuntime) {
     let prepare = Body::Prepare {
         position: Position::first(),
-        ballot: ballot(9)?,
+        ballot: ballot(&rt, 9),
     };
-    assert_eq!(rt; Packet::checked(task, node(1)?, prepare), None);
-    let other = Party::Task(TaskId::new(2).ok_or("a task")?);
+    let task = Party::Task(TaskId::first());
+    expect_wrong(&rt, task, node(&rt, 1), prepare);
+    let other = Party::Task(TaskId::new(2).expect(&rt, "a task"));
     let body = Body::Call { action: call() };
-    assert_eq!(rt; Packet::checked(other, node(1)?, body), None);
-    Ok(())
+    expect_wrong(&rt, other, node(&rt, 1), body);
 }
 
 #[test]
-fn a_packet_gives_its_parts(rt: HostRuntime) -> Result<(), Fail> {
-    let packet = decode(rt.alloc(), &NACK)??;
-    assert_eq!(rt; packet.from(), node(3)?);
-    assert_eq!(rt; packet.to(), node(1)?);
-    assert!(rt; matches!(packet.body(), Body::Nack { .. }));
-    assert_eq!(rt; packet.clone()?, packet);
-    Ok(())
+fn a_packet_gives_its_parts(rt: HostRuntime) {
+    let packet = decoded(&rt, rt.alloc(), &NACK).expect(&rt, "a packet");
+    let parties = (packet.from(), packet.to());
+    expect_eq(&rt, parties, (node(&rt, 3), node(&rt, 1)));
+    let is_nack = matches!(packet.body(), Body::Nack { .. });
+    let again = packet.clone().expect(&rt, "memory for the packet");
+    expect_eq(&rt, (is_nack, again == packet), (true, true));
 }
 
-const STARTED: [u8; 10] = [2, 1, 0, 0, 0, 0, 0, 0, 0, 9];
+static STARTED: [u8; 10] = [2, 1, 0, 0, 0, 0, 0, 0, 0, 9];
 
-const PROMISED: [u8; 12] = [2, 2, 0, 1, 0, 0, 0, 0, 0, 0, 0, 9];
+static PROMISED: [u8; 12] = [2, 2, 0, 1, 0, 0, 0, 0, 0, 0, 0, 9];
 
-const PROMISED_RANGE: [u8; 13] = [2, 5, 0, 1, 4, 0, 0, 0, 0, 0, 0, 0, 9];
+static PROMISED_RANGE: [u8; 13] = [2, 5, 0, 1, 4, 0, 0, 0, 0, 0, 0, 0, 9];
 
-const VOTED: [u8; 29] = [
+static VOTED: [u8; 29] = [
     2, 3, 0, 1, 0, 0, 0, 0, 0, 0, 0, 9, 1, 1, 0, 0, 0, 1, 1, 2, 1, 0, 0, 0, 0, 0, 0, 0, 5,
 ];
 
-const LEARNED: [u8; 21] = [
+static LEARNED: [u8; 21] = [
     2, 4, 0, 1, 1, 1, 0, 0, 0, 1, 1, 2, 1, 0, 0, 0, 0, 0, 0, 0, 5,
 ];
 
+/// The record is read from the front of these bytes.
+fn expect_front(rt: &impl Abort, bytes: &[u8], rec: &Rec, len: usize) {
+    expect_eq(rt, decode_front(bytes), Some((*rec, len)));
+}
+
+/// No record is read from these bytes.
+fn expect_no_record(rt: &impl Abort, bytes: &[u8]) {
+    expect_at(rt, &bytes, decode_front(bytes), None);
+}
+
+/// The record has these bytes, and is read from no proper front of them.
+fn expect_record(rt: &impl Abort, alloc: Global, rec: &Rec, text: &[u8]) {
+    let bytes = encode_rec(alloc, rec).expect(rt, "memory for the text");
+    expect_text(rt, &bytes, text);
+    expect_text(rt, text_of_record(rec).as_slice(), text);
+    for end in 0..text.len() {
+        expect_no_record(rt, text.get(..end).expect(rt, "a front"));
+    }
+}
+
+/// The record is read from the front of these bytes and more of them, of either version.
+fn expect_read(rt: &impl Abort, alloc: Global, rec: &Rec, text: &[u8]) {
+    let mut bytes = Vec::from_slice(alloc, text).expect(rt, "memory for the text");
+    let more = bytes.extend_from_slice(&STARTED);
+    expect_eq(rt, more.is_ok(), true);
+    expect_front(rt, &bytes, rec, text.len());
+    if let Some(first) = bytes.first_mut() {
+        *first = 1;
+    }
+    expect_front(rt, &bytes, rec, text.len());
+}
+
 #[test]
-fn each_record_has_its_text_and_is_read_from_its_front(rt: HostRuntime) -> Result<(), Fail> {
+fn each_record_has_its_text_and_is_read_from_its_front(rt: HostRuntime) {
     let position = Position::first();
+    let ballot = ballot(&rt, 9);
+    let range = range(&rt, 1, 4);
     let cases: [(Rec, &[u8]); 5] = [
-        (Rec::Started(ballot(9)?), &STARTED),
-        (Rec::Promised(position, ballot(9)?), &PROMISED),
-        (Rec::Voted(position, ballot(9)?, call()), &VOTED),
+        (Rec::Started(ballot), &STARTED),
+        (Rec::Promised(position, ballot), &PROMISED),
+        (Rec::Voted(position, ballot, call()), &VOTED),
         (Rec::Learned(position, call()), &LEARNED),
-        (
-            Rec::PromisedRange(range(1, 4)?, ballot(9)?),
-            &PROMISED_RANGE,
-        ),
+        (Rec::PromisedRange(range, ballot), &PROMISED_RANGE),
     ];
     for (rec, text) in &cases {
-        let mut bytes = encode_rec(rt.alloc(), rec)?;
-        assert_eq!(rt; bytes.as_slice(), *text);
-        assert_eq!(rt; text_of_record(rec).as_slice(), *text);
-        for end in 0..text.len() {
-            assert_eq!(rt; decode_front(&text[..end]), None);
-        }
-        bytes.extend_from_slice(&STARTED)?;
-        assert_eq!(rt; decode_front(bytes.as_slice()), Some((*rec, text.len())));
-        bytes[0] = 1;
-        assert_eq!(rt; decode_front(bytes.as_slice()), Some((*rec, text.len())));
+        expect_record(&rt, rt.alloc(), rec, text);
+        expect_read(&rt, rt.alloc(), rec, text);
     }
-    Ok(())
 }
 
 /// How many bytes the texts of the records have.
@@ -609,47 +717,64 @@ fn text_len_of(records: &[Rec]) -> usize {
     len
 }
 
-#[test]
-fn devices_hold_one_record_for_a_range(rt: HostRuntime) -> Result<(), Fail> {
-    let (first, second) = (Position::first(), range(1, 2)?.last());
-    let (nine, ten) = (ballot(9)?, ballot(10)?);
-    let learned = [Rec::Learned(first, call()), Rec::Learned(second, call())];
-    let decided = [
+fn sum_of(lengths: &[usize]) -> usize {
+    let mut sum = 0usize;
+    for len in lengths {
+        sum = sum.saturating_add(*len);
+    }
+    sum
+}
+
+/// How many bytes two calls take that are voted for in ballot 10 and learned.
+fn len_of_decided(rt: &impl Abort) -> usize {
+    let first = Position::first();
+    let second = position(rt, 2);
+    let ten = ballot(rt, 10);
+    text_len_of(&[
+        Rec::Learned(first, call()),
+        Rec::Learned(second, call()),
         Rec::Voted(first, ten, call()),
         Rec::Voted(second, ten, call()),
-    ];
-    let both = text_len_of(&learned).saturating_add(text_len_of(&decided));
-    let started = Rec::Started(ten);
-    let promised = Rec::Promised(first, nine);
-    let ranged = Rec::PromisedRange(range(1, 2)?, ten);
-    let voted = Rec::Voted(first, nine, call());
-    let cases: [(&[Rec], usize); 5] = [
-        (&[started, ranged], 123),
-        (&[ranged], 113),
-        (&[started, promised], 122),
-        (&[started, promised, ranged], 135),
-        (&[voted, ranged], 142),
-    ];
-    for (others, len) in cases {
-        assert_eq!(rt; text_len_of(others).saturating_add(both), len);
-    }
-    Ok(())
+    ])
 }
 
 #[test]
-fn no_record_is_read_where_none_begins(rt: HostRuntime) {
-    let cases: [&[u8]; 9] = [
-        &[],
-        &[3, 1, 0, 0, 0, 0, 0, 0, 0, 9],
-        &[2, 0, 0, 0, 0, 0, 0, 0, 0, 9],
-        &[2, 6, 0, 0, 0, 0, 0, 0, 0, 9],
-        &[2, 5, 0, 1, 0, 0, 0, 0, 0, 0, 0, 0, 9],
-        &[2, 5, 0, 1, 65, 0, 0, 0, 0, 0, 0, 0, 9],
-        &[2, 5, 255, 255, 2, 0, 0, 0, 0, 0, 0, 0, 9],
-        &[2, 1, 0, 0, 0, 0, 0, 0, 0, 16],
-        &[2, 2, 0, 1, 0, 0, 0, 0, 0, 0, 0, 0],
+fn devices_hold_one_record_for_a_range(rt: HostRuntime) {
+    let first = Position::first();
+    let nine = ballot(&rt, 9);
+    let ten = ballot(&rt, 10);
+    let decided = len_of_decided(&rt);
+    let started = text_len_of(&[Rec::Started(ten)]);
+    let promised = text_len_of(&[Rec::Promised(first, nine)]);
+    let ranged = text_len_of(&[Rec::PromisedRange(range(&rt, 1, 2), ten)]);
+    let voted = text_len_of(&[Rec::Voted(first, nine, call())]);
+    let cases: [(&[usize], usize); 5] = [
+        (&[decided, started, ranged], 123),
+        (&[decided, ranged], 113),
+        (&[decided, started, promised], 122),
+        (&[decided, started, promised, ranged], 135),
+        (&[decided, voted, ranged], 142),
     ];
-    for bytes in &cases {
-        assert_eq!(rt; decode_front(bytes), None);
+    for (lengths, len) in cases {
+        expect_eq(&rt, sum_of(lengths), len);
+    }
+}
+
+static NO_RECORDS: [&[u8]; 9] = [
+    &[],
+    &[3, 1, 0, 0, 0, 0, 0, 0, 0, 9],
+    &[2, 0, 0, 0, 0, 0, 0, 0, 0, 9],
+    &[2, 6, 0, 0, 0, 0, 0, 0, 0, 9],
+    &[2, 5, 0, 1, 0, 0, 0, 0, 0, 0, 0, 0, 9],
+    &[2, 5, 0, 1, 65, 0, 0, 0, 0, 0, 0, 0, 9],
+    &[2, 5, 255, 255, 2, 0, 0, 0, 0, 0, 0, 0, 9],
+    &[2, 1, 0, 0, 0, 0, 0, 0, 0, 16],
+    &[2, 2, 0, 1, 0, 0, 0, 0, 0, 0, 0, 0],
+];
+
+#[test]
+fn no_record_is_read_where_none_begins(rt: HostRuntime) {
+    for bytes in &NO_RECORDS {
+        expect_no_record(&rt, bytes);
     }
 }

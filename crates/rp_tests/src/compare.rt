@@ -5,3 +5,18 @@ use std::process::Abort;
 pub(crate) fn expect_eq<T: PartialEq + Debug + Drop>(rt: &impl Abort, found: T, expected: T) {
     assert_eq!(rt; found, expected);
 }
+
+/// Ends the test unless it is this text.
+pub(crate) fn expect_text(rt: &impl Abort, found: &[u8], expected: &[u8]) {
+    assert_eq!(rt; found, expected);
+}
+
+/// Ends the test unless both values are equal, and says of what they are.
+pub(crate) fn expect_at<N: Debug, T: PartialEq + Debug + Drop>(
+    rt: &impl Abort,
+    name: &N,
+    found: T,
+    expected: T,
+) {
+    assert_eq!(rt; found, expected, "{name:?}");
+}

@@ -1,8 +1,9 @@
+use crate::compare::{expect_at, expect_eq, expect_text};
 use rp_base::{Action, Fault, NodeId, Operation, Reply, TaskId};
 use rp_codec::{Body, Packet, Party, decode, encode};
 use rp_tasks::*;
 use std::alloc::Global;
-use std::test::*;
+use std::process::Abort;
 
 /// The first task's call of this number, as all stubs here make it.
 fn call(number: u32) -> Action {
@@ -19,40 +20,75 @@ fn call_by(stub: &mut Stub) -> Result<Action, Fault> {
     stub.call(8, Operation::Procedure(2), -5)
 }
 
+/// The stub calls for the first time, or again, by this number, and waits for the reply to it.
+fn expect_call(rt: &impl Abort, stub: &mut Stub, number: u32) {
+    expect_eq(rt, call_by(stub), Ok(call(number)));
+    expect_eq(rt, call_by(stub), Err(Fault::TaskBusy));
+    expect_eq(rt, stub.refusal(), Some(Fault::TaskBusy));
+}
+
+/// A reply to the call of this number ends what the stub waits for, or does not.
+fn expect_reply(rt: &impl Abort, stub: &mut Stub, number: u32, ends: bool) {
+    expect_eq(rt, stub.reply(number, Reply::Value(0)), ends);
+}
+
 #[test]
 fn calls_are_numbered_in_order_and_end_by_their_own_reply(rt: HostRuntime) {
     let mut stub = Stub::new(TaskId::first());
-    assert_eq!(rt; stub.retry(), None);
+    expect_eq(&rt, stub.retry(), None);
     for number in 1..=3 {
-        assert_eq!(rt; call_by(&mut stub), Ok(call(number)));
-        assert_eq!(rt; call_by(&mut stub), Err(Fault::TaskBusy));
-        assert_eq!(rt; stub.refusal(), Some(Fault::TaskBusy));
-        assert!(rt; !stub.reply(number - 1, Reply::Value(0)));
-        assert!(rt; !stub.reply(number + 1, Reply::Value(0)));
-        assert_eq!(rt; stub.retry(), Some(call(number)));
-        assert!(rt; stub.reply(number, Reply::Value(0)));
-        assert!(rt; !stub.reply(number, Reply::Value(0)));
-        assert_eq!(rt; stub.retry(), None);
+        expect_call(&rt, &mut stub, number);
+        expect_reply(&rt, &mut stub, number - 1, false);
+        expect_reply(&rt, &mut stub, number + 1, false);
+        expect_eq(&rt, stub.retry(), Some(call(number)));
+        expect_reply(&rt, &mut stub, number, true);
+        expect_reply(&rt, &mut stub, number, false);
+        expect_eq(&rt, stub.retry(), None);
     }
 }
 
-const P: [u8; 3] = [1, 2, 3];
+static P: [u8; 3] = [1, 2, 3];
 
-const Q: [u8; 1] = [4];
+static Q: [u8; 1] = [4];
 
 /// A line whose words are those of the seed of zeros.
-fn empty_line(alloc: Global) -> Result<FaultLine, Fail> {
-    Ok(FaultLine::new(alloc, [0; 32])?)
+fn empty_line(rt: &impl Abort, alloc: Global) -> FaultLine {
+    FaultLine::new(alloc, [0; 32]).expect(rt, "memory for the line")
 }
 
-/// How many packets the line gives on.
-fn release_all(line: &mut FaultLine) -> usize {
-    (0..20).filter(|_| line.release_by(0).is_some()).count()
+/// The line takes a packet by a word.
+fn accept(rt: &impl Abort, line: &mut FaultLine, alloc: Global, word: u32, packet: &[u8]) {
+    let taken = line.accept_by(alloc, word, packet);
+    taken.expect(rt, "memory for the packet");
+}
+
+/// The line gives this packet on by a word.
+fn expect_release(rt: &impl Abort, line: &mut FaultLine, word: u32, packet: &[u8]) {
+    let found = line.release_by(word).expect(rt, "a packet");
+    expect_text(rt, &found, packet);
+}
+
+/// The line gives on this many packets, and then none.
+fn expect_copies(rt: &impl Abort, line: &mut FaultLine, copies: usize) {
+    let mut count = 0usize;
+    for _ in 0..20 {
+        if line.release_by(0).is_some() {
+            count = count.saturating_add(1);
+        }
+    }
+    expect_eq(rt, count, copies);
+}
+
+/// A line that takes a packet by a word gives on this many copies of it.
+fn expect_copies_by(rt: &impl Abort, alloc: Global, word: u32, copies: usize) {
+    let mut line = empty_line(rt, alloc);
+    accept(rt, &mut line, alloc, word, &P);
+    expect_copies(rt, &mut line, copies);
 }
 
 #[test]
-fn a_word_loses_doubles_or_holds_the_packet(rt: HostRuntime) -> Result<(), Fail> {
-    let cases = [
+fn a_word_loses_doubles_or_holds_the_packet(rt: HostRuntime) {
+    for (word, copies) in [
         (0, 0),
         (1, 0),
         (2, 2),
@@ -62,74 +98,79 @@ fn a_word_loses_doubles_or_holds_the_packet(rt: HostRuntime) -> Result<(), Fail>
         (16, 0),
         (18, 2),
         (u32::MAX, 1),
-    ];
-    for (word, copies) in cases {
-        let mut line = empty_line(rt.alloc())?;
-        line.accept_by(rt.alloc(), word, &P)?;
-        assert_eq!(rt; release_all(&mut line), copies, "{word}");
+    ] {
+        expect_copies_by(&rt, rt.alloc(), word, copies);
     }
-    Ok(())
 }
 
 #[test]
-fn a_word_picks_among_the_held_packets(rt: HostRuntime) -> Result<(), Fail> {
-    let mut line = empty_line(rt.alloc())?;
-    line.accept_by(rt.alloc(), 0, &P)?;
-    assert!(rt; line.release_by(0).is_none());
-    line.accept_by(rt.alloc(), 18, &P)?;
-    line.accept_by(rt.alloc(), 5, &Q)?;
-    let first = line.release_by(4).ok_or("p, p and q are held")?;
-    assert_eq!(rt; first.as_slice(), P.as_slice());
-    let second = line.release_by(5).ok_or("p and q are held")?;
-    assert_eq!(rt; second.as_slice(), Q.as_slice());
-    let last = line.release_by(u32::MAX).ok_or("p is held")?;
-    assert_eq!(rt; last.as_slice(), P.as_slice());
-    assert!(rt; line.release_by(0).is_none());
-    Ok(())
+fn a_word_picks_among_the_held_packets(rt: HostRuntime) {
+    let mut line = empty_line(&rt, rt.alloc());
+    accept(&rt, &mut line, rt.alloc(), 0, &P);
+    expect_copies(&rt, &mut line, 0);
+    accept(&rt, &mut line, rt.alloc(), 18, &P);
+    accept(&rt, &mut line, rt.alloc(), 5, &Q);
+    expect_release(&rt, &mut line, 4, &P);
+    expect_release(&rt, &mut line, 5, &Q);
+    expect_release(&rt, &mut line, u32::MAX, &P);
+    expect_copies(&rt, &mut line, 0);
 }
 
 #[test]
-fn the_seventeenth_copy_is_lost(rt: HostRuntime) -> Result<(), Fail> {
-    let mut line = empty_line(rt.alloc())?;
+fn the_seventeenth_copy_is_lost(rt: HostRuntime) {
+    let mut line = empty_line(&rt, rt.alloc());
     for _ in 0..15 {
-        line.accept_by(rt.alloc(), 4, &P)?;
+        accept(&rt, &mut line, rt.alloc(), 4, &P);
     }
-    line.accept_by(rt.alloc(), 2, &Q)?;
-    line.accept_by(rt.alloc(), 4, &P)?;
-    let last = line.release_by(15).ok_or("sixteen are held")?;
-    assert_eq!(rt; last.as_slice(), Q.as_slice());
-    assert_eq!(rt; release_all(&mut line), 15);
-    Ok(())
+    accept(&rt, &mut line, rt.alloc(), 2, &Q);
+    accept(&rt, &mut line, rt.alloc(), 4, &P);
+    expect_release(&rt, &mut line, 15, &Q);
+    expect_copies(&rt, &mut line, 15);
+}
+
+/// The line takes the packets 0 to 3, by its own words.
+fn accept_four(rt: &impl Abort, line: &mut FaultLine, alloc: Global) {
+    for number in 0..4 {
+        let taken = line.accept(alloc, &[number]);
+        taken.expect(rt, "memory for the packet");
+    }
+}
+
+/// The line gives this packet on, or none, by its own word.
+fn expect_released(rt: &impl Abort, line: &mut FaultLine, packet: Option<&[u8]>) {
+    let found = line.release();
+    expect_eq(rt, found.as_deref(), packet);
 }
 
 /// The words of the zero seed are those of RFC 8439, appendix A.1, test vector 1.
 #[test]
-fn the_stream_says_what_is_lost_and_given_on(rt: HostRuntime) -> Result<(), Fail> {
-    let mut line = empty_line(rt.alloc())?;
-    assert!(rt; line.release().is_none());
-    for number in 0..4 {
-        line.accept(rt.alloc(), &[number])?;
-    }
+fn the_stream_says_what_is_lost_and_given_on(rt: HostRuntime) {
+    let mut line = empty_line(&rt, rt.alloc());
+    expect_released(&rt, &mut line, None);
+    accept_four(&rt, &mut line, rt.alloc());
     // The words 0xade0b876, 0x903df1a0, 0xe56a5d40 and 0x28bd8653: 0 is held once, 3 twice.
-    let first = line.release().ok_or("0, 3 and 3 are held")?;
-    assert_eq!(rt; first.as_slice(), [3].as_slice());
-    let second = line.release().ok_or("0 and 3 are held")?;
-    assert_eq!(rt; second.as_slice(), [0].as_slice());
-    assert_eq!(rt; line.next_word(), 0xccef36a8);
+    expect_released(&rt, &mut line, Some(&[3]));
+    expect_released(&rt, &mut line, Some(&[0]));
+    expect_eq(&rt, line.next_word(), 0xccef36a8);
     gives_what_it_took();
-    Ok(())
+}
+
+/// The packet of the first task's first call to node 1.
+fn call_packet(rt: &impl Abort) -> Packet {
+    let mut stub = Stub::new(TaskId::first());
+    let from = Party::Task(TaskId::first());
+    let to = Party::Node(NodeId::new(1).expect(rt, "node 1"));
+    let action = call_by(&mut stub).expect(rt, "a call");
+    Packet::checked(from, to, Body::Call { action }).expect(rt, "a right call")
 }
 
 #[test]
-fn a_call_leaves_the_line_as_it_entered_it(rt: HostRuntime) -> Result<(), Fail> {
-    let mut stub = Stub::new(TaskId::first());
-    let from = Party::Task(TaskId::first());
-    let to = Party::Node(NodeId::new(1).ok_or("node 1")?);
-    let action = call_by(&mut stub)?;
-    let packet = Packet::checked(from, to, Body::Call { action }).ok_or("a right call")?;
-    let mut line = empty_line(rt.alloc())?;
-    line.accept_by(rt.alloc(), 5, encode(rt.alloc(), &packet)?.as_slice())?;
-    let text = line.release_by(0).ok_or("one packet")?;
-    assert!(rt; decode(rt.alloc(), text.as_slice())? == Ok(packet));
-    Ok(())
+fn a_call_leaves_the_line_as_it_entered_it(rt: HostRuntime) {
+    let packet = call_packet(&rt);
+    let text = encode(rt.alloc(), &packet).expect(&rt, "memory for the text");
+    let mut line = empty_line(&rt, rt.alloc());
+    accept(&rt, &mut line, rt.alloc(), 5, &text);
+    let text = line.release_by(0).expect(&rt, "one packet");
+    let found = decode(rt.alloc(), &text).expect(&rt, "memory for the packet");
+    expect_eq(&rt, found == Ok(packet), true);
 }

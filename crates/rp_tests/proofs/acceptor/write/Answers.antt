@@ -28,8 +28,10 @@ room_at noted position (PromisedRange range ballot) place none = record {
 }
 
 pub note-requires : goal.note-requires
-note-requires c = record {
-  room =
-      subst (λ (noted : Noted). HasRoom noted c.args.rec.now) (sym c.in_ok-reserve.ensures.ok)
-      (room_at c.args.acceptor.now c.args.position c.args.rec.now c.requires.place c.requires.no_range);
-}
+note-requires c after =
+    let reserved = rw after.expect.ensures at after.reserve.ensures.ok in
+    record {
+      room =
+          subst (λ (noted : Noted). HasRoom noted after.args.rec.now) (sym reserved)
+          (room_at after.args.acceptor.now after.args.position after.args.rec.now after.requires.place after.requires.no_range);
+    }

@@ -74,11 +74,11 @@ module _ {S : Type 0} (next : S → Action → S) (answers : S → Action → Li
       (subst (λ (f : Fault). StopsIf effect replica new f) (sym is) (stops_plan effect plan new (fault_of fault) same stops), unsent)
 
 -- what has no plan, for its reason
-pub unplanned : {S : Type 0} (replica : ReplicaState S) (effect : Result Turn Fault) (fault : Fault) → replica.failed ≡ false → Refuses effect fault → StopsIf effect replica replica fault
-unplanned replica (Ok turn) fault working is = subst (λ (f : Fault). Stops turn.written replica replica f) (sym is) (refl, working)
-unplanned replica (Err refusal) fault working is = (refl, inl (is, working))
+pub unplanned : {S : Type 0} (long : Type 0) (replica : ReplicaState S) (effect : Result Turn Fault) (fault : Fault) → replica.failed ≡ false → Refuses long effect fault → StopsIf effect replica replica fault
+unplanned long replica (Ok turn) fault working is = subst (λ (f : Fault). Stops turn.written replica replica f) (sym is.0) (refl, working)
+unplanned long replica (Err refusal) fault working is = (refl, inl (is, working))
 
 -- the same, as its caller returns the fault
-pub unplanned_if : {S T : Type 0} (replica : ReplicaState S) (effect : Result Turn Fault) (r : Result T Fault) → replica.failed ≡ false → IfErr r (Refuses effect) → IfErr r (λ fault. StopsIf effect replica replica fault)
-unplanned_if replica effect (Ok v) working is = tt
-unplanned_if replica effect (Err fault) working is = unplanned replica effect fault working is
+pub unplanned_if : {S T : Type 0} (long : Type 0) (replica : ReplicaState S) (effect : Result Turn Fault) (r : Result T Fault) → replica.failed ≡ false → IfErr r (Refuses long effect) → IfErr r (λ fault. StopsIf effect replica replica fault)
+unplanned_if long replica effect (Ok v) working is = tt
+unplanned_if long replica effect (Err fault) working is = unplanned long replica effect fault working is

@@ -90,7 +90,8 @@ impl<M: Machine, D: Device> Replica<M, D> {
             (turn_of M.next M.answers (server_of self.old) (plans.Promise place.now last.now))
             self.old self.new out.old.sent out.new.sent) }
         ensures err { IfErr result (λ fault.
-            Stops (written_by (plans.Promise place.now last.now)) self.old self.new (fault_of fault)) }
+            Stops (written_by (plans.Promise place.now last.now))
+            self.old self.new (fault_of fault)) }
         ensures unsent { OnErr result (out.new.sent ≡ out.old.sent) }
     {
         out.reserve(1)?;
@@ -108,7 +109,8 @@ impl<M: Machine, D: Device> Replica<M, D> {
             (turn_of M.next M.answers (server_of self.old) (plans.Vote place.now action.now))
             self.old self.new out.old.sent out.new.sent) }
         ensures err { IfErr result (λ fault.
-            Stops (written_by (plans.Vote place.now action.now)) self.old self.new (fault_of fault)) }
+            Stops (written_by (plans.Vote place.now action.now))
+            self.old self.new (fault_of fault)) }
         ensures unsent { OnErr result (out.new.sent ≡ out.old.sent) }
     {
         out.reserve(1)?;

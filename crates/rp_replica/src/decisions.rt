@@ -123,8 +123,8 @@ impl<M: Machine, D: Device> Replica<M, D> {
         vote: &Vote,
     ) -> Result<(), WriteFault>
         requires may { MayHear (server_of self.old) from position vote.now }
-        ensures ok { OnOk result (self.new
-            ≡ after_turn self.old (notes (once_heard (server_of self.old) from position vote.now))) }
+        ensures ok { OnOk result (self.new ≡ after_turn self.old
+            (notes (once_heard (server_of self.old) from position vote.now))) }
         ensures err { OnErr result (self.new ≡ self.old) }
         ensures only { IsOkUnless result faults.OutOfMemory }
     {

@@ -42,7 +42,8 @@ impl<M: Machine, D: Device> Replica<M, D> {
             (last_votes self.old.records promise.now.range)) promise.now.to ∷ []))
             self.old self.new out.old.sent out.new.sent) }
         ensures err { IfErr result (λ fault. Stops (Some
-            (PromisedRange promise.now.range promise.now.ballot)) self.old self.new (fault_of fault)) }
+            (PromisedRange promise.now.range promise.now.ballot))
+            self.old self.new (fault_of fault)) }
         ensures unsent { OnErr result (out.new.sent ≡ out.old.sent) }
     {
         let text = self.promise_text(alloc, promise)?;

@@ -7,6 +7,7 @@ use Rattle.rp_base.specs.declared.reply.Answer.{Answer}
 use Rattle.rp_base.specs.declared.fault.Fault.{Fault}
 use Rattle.rp_base.specs.declared.fault.Fault.TheVariants.{BadPacket, OutOfMemory}
 use Rattle.rp_base.specs.declared.fault.PacketReason.{PacketReason}
+use Rattle.rp_codec.specs.Decoding.{IsLongText}
 use Rattle.rp_codec.specs.Message.{Message}
 use Rattle.rp_codec.specs.Reading.{all_of}
 use Rattle.rp_model.specs.Parts.{Turn}
@@ -53,7 +54,12 @@ module _ {S : Type 0} (next : S → Action → S) (answers : S → Action → Li
   abbrev pub input_effect : Input → Result Turn Fault
   input_effect input = effect_if_given (given_by input)
 
--- why there is no plan: the refusal of the input, or out of memory where it has a result
-abbrev pub Refuses : Result Turn Fault → Fault → Type 0
-Refuses (Ok turn) fault = fault ≡ OutOfMemory
-Refuses (Err refusal) fault = fault ≡ refusal
+-- a packet that takes memory to read: a report, or a promise for a range
+abbrev pub IsLong : Input → Type 0
+IsLong (Receive bytes) = IsLongText bytes.now
+IsLong _ = ⊥
+
+-- why there is no plan: the refusal of the input; where it has a result, the memory that a long packet takes
+abbrev pub Refuses : Type 0 → Result Turn Fault → Fault → Type 0
+Refuses long (Ok turn) fault = (fault ≡ OutOfMemory) × long
+Refuses long (Err refusal) fault = fault ≡ refusal

@@ -68,8 +68,9 @@ pub(crate) fn on_decided<M: Machine>(
 ) -> Plan
     requires place { position ≤ server.now.config.max_positions }
     requires right { IsRight action.now }
-    ensures turn { turn_of M.next M.answers server.now result ≡ on_decided M.next M.answers
-        server.now.begin server.now.me server.now.records server.now.running from position action.now }
+    ensures turn { turn_of M.next M.answers server.now result
+        ≡ on_decided M.next M.answers server.now.begin server.now.me
+        server.now.records server.now.running from position action.now }
     ensures may { MayCommit server.now result }
 {
     if server.is_learned(position) {

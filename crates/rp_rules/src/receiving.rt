@@ -1,8 +1,9 @@
 //! What a server decides that is given a packet.
 
-ghost use Rattle.std.specs.Prelude.{◌≡◌, nat_eq, true, IfOk, IfErr, OnOk, IsOkUnless};
+ghost use Rattle.std.specs.Prelude.{◌≡◌, nat_eq, true, IfErr, OnOk};
 ghost use Rattle.rp_base.specs.declared.fault.Fault.TheVariants as faults;
 ghost use Rattle.rp_base.specs.Ballot.{owner_of};
+ghost use Rattle.rp_codec.specs.Decoding.{IsLongBody};
 ghost use Rattle.rp_codec.specs.Message.{IsNodeParty, IsPacket};
 ghost use Rattle.rp_codec.specs.declared.packet.Party.TheVariants.{Node};
 ghost use Rattle.rp_model.specs.Receiving.{is_for_node, is_allowed, is_range_within, is_node, is_no_node_above, party_number, on_body, receives};
@@ -30,7 +31,8 @@ pub(crate) fn on_packet<M: Machine>(
         ≡ receives M.next M.answers server.now.begin server.now.config server.now.me
         server.now.records server.now.running packet.now) }
     ensures may { OnOk result (MayCommit server.now plan.new) }
-    ensures only { IsOkUnless result faults.OutOfMemory }
+    ensures memory { IfErr result (λ fault. (fault ≡ faults.OutOfMemory)
+        × IsLongBody packet.now.body) }
 {
     if !is_for_node(server.config(), server.me(), packet) {
         *plan = Plan::Pass(Dropped::Foreign);
@@ -59,7 +61,8 @@ fn on_node<M: Machine>(
         ≡ on_body M.next M.answers server.now.begin server.now.config.nodes server.now.me
         server.now.records server.now.running from packet.now.body) }
     ensures may { OnOk result (MayCommit server.now plan.new) }
-    ensures only { IsOkUnless result faults.OutOfMemory }
+    ensures memory { IfErr result (λ fault. (fault ≡ faults.OutOfMemory)
+        × IsLongBody packet.now.body) }
 {
     match packet.body() {
         Body::Prepare { position, ballot } => {

@@ -18,11 +18,29 @@ use crate::learner::{on_accepted, on_decided};
 use crate::plan::{CountedPromise, Plan};
 use rp_base::{NodeId, Position};
 use rp_codec::{
-    Place, usual_accept, usual_accepted, usual_call, usual_decided, usual_prepare, usual_promise,
+    Kind, Place, usual_accept, usual_accepted, usual_call, usual_decided, usual_prepare,
+    usual_promise,
 };
 use rp_machine::Machine;
 use rp_model::Dropped;
 use rp_server::Server;
+
+/// A packet comes, as its text: each usual kind has its function, in which reading the packet and the
+/// rule for it are compiled for that kind alone.
+#[inline(always)]
+pub(crate) fn on_usual_text<M: Machine>(server: &Server<M>, bytes: &[u8], plan: &mut Plan) -> bool
+    ensures { Decides M.next M.answers server.now bytes.now plan.old plan.new result }
+{
+    match Kind::of_text(bytes) {
+        Some(Kind::Call) => on_call_text(server, bytes, plan),
+        Some(Kind::Prepare) => on_prepare_text(server, bytes, plan),
+        Some(Kind::Promise) => on_promise_text(server, bytes, plan),
+        Some(Kind::Accept) => on_accept_text(server, bytes, plan),
+        Some(Kind::Accepted) => on_accepted_text(server, bytes, plan),
+        Some(Kind::Decided) => on_decided_text(server, bytes, plan),
+        _ => false,
+    }
+}
 
 /// Whether a packet between these nodes, for a position, is for this node and keeps to the
 /// configuration.
@@ -48,7 +66,7 @@ fn takes_from_owner<M: Machine>(server: &Server<M>, place: &Place) -> bool
 
 /// A task's call comes.
 #[inline(never)]
-pub(crate) fn on_call_text<M: Machine>(server: &Server<M>, bytes: &[u8], plan: &mut Plan) -> bool
+fn on_call_text<M: Machine>(server: &Server<M>, bytes: &[u8], plan: &mut Plan) -> bool
     ensures { Decides M.next M.answers server.now bytes.now plan.old plan.new result }
 {
     let Some(call) = usual_call(bytes) else {
@@ -63,7 +81,7 @@ pub(crate) fn on_call_text<M: Machine>(server: &Server<M>, bytes: &[u8], plan: &
 
 /// A prepare comes.
 #[inline(never)]
-pub(crate) fn on_prepare_text<M: Machine>(server: &Server<M>, bytes: &[u8], plan: &mut Plan) -> bool
+fn on_prepare_text<M: Machine>(server: &Server<M>, bytes: &[u8], plan: &mut Plan) -> bool
     ensures { Decides M.next M.answers server.now bytes.now plan.old plan.new result }
 {
     let Some(place) = usual_prepare(bytes) else {
@@ -78,7 +96,7 @@ pub(crate) fn on_prepare_text<M: Machine>(server: &Server<M>, bytes: &[u8], plan
 
 /// A promise comes that reports no vote.
 #[inline(never)]
-pub(crate) fn on_promise_text<M: Machine>(server: &Server<M>, bytes: &[u8], plan: &mut Plan) -> bool
+fn on_promise_text<M: Machine>(server: &Server<M>, bytes: &[u8], plan: &mut Plan) -> bool
     ensures { Decides M.next M.answers server.now bytes.now plan.old plan.new result }
 {
     let Some(place) = usual_promise(bytes) else {
@@ -101,7 +119,7 @@ pub(crate) fn on_promise_text<M: Machine>(server: &Server<M>, bytes: &[u8], plan
 
 /// An accept comes, whose action is a call.
 #[inline(never)]
-pub(crate) fn on_accept_text<M: Machine>(server: &Server<M>, bytes: &[u8], plan: &mut Plan) -> bool
+fn on_accept_text<M: Machine>(server: &Server<M>, bytes: &[u8], plan: &mut Plan) -> bool
     ensures { Decides M.next M.answers server.now bytes.now plan.old plan.new result }
 {
     let Some((place, action)) = usual_accept(bytes) else {
@@ -116,11 +134,7 @@ pub(crate) fn on_accept_text<M: Machine>(server: &Server<M>, bytes: &[u8], plan:
 
 /// A vote for a call comes.
 #[inline(never)]
-pub(crate) fn on_accepted_text<M: Machine>(
-    server: &Server<M>,
-    bytes: &[u8],
-    plan: &mut Plan,
-) -> bool
+fn on_accepted_text<M: Machine>(server: &Server<M>, bytes: &[u8], plan: &mut Plan) -> bool
     ensures { Decides M.next M.answers server.now bytes.now plan.old plan.new result }
 {
     let Some((place, action)) = usual_accepted(bytes) else {
@@ -135,7 +149,7 @@ pub(crate) fn on_accepted_text<M: Machine>(
 
 /// A decided call comes.
 #[inline(never)]
-pub(crate) fn on_decided_text<M: Machine>(server: &Server<M>, bytes: &[u8], plan: &mut Plan) -> bool
+fn on_decided_text<M: Machine>(server: &Server<M>, bytes: &[u8], plan: &mut Plan) -> bool
     ensures { Decides M.next M.answers server.now bytes.now plan.old plan.new result }
 {
     let Some(decision) = usual_decided(bytes) else {

@@ -50,13 +50,14 @@ impl<M: Machine> Server<M> {
         self.acceptor.accept(position, ballot, action)
     }
 
-    /// The last votes at the positions of the range.
+    /// The last votes at the positions of the range. `OutOfMemory` comes only where there is one.
     pub fn last_votes(
         &self,
         alloc: Global,
         range: PositionRange,
     ) -> Result<Vec<PlacedVote>, AllocError>
         ensures votes { IfOk result (λ votes. votes.items ≡ last_votes self.now.records range) }
+        ensures full { OnErr result (¬ (last_votes self.now.records range ≡ [])) }
     {
         self.acceptor.list_last_votes(alloc, range)
     }

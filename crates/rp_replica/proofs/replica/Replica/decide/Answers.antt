@@ -1,6 +1,6 @@
 use Rattle.std.proofs.Common.{◌≡◌, false, sym, subst, ◌∙◌}
 use Rattle.std.specs.Prelude.{Ok, OnOk, IfErr}
-use Rattle.rp_rules.specs.Inputs.{Refuses}
+use Rattle.rp_rules.specs.Inputs.{IsLong, Refuses}
 use Rattle.rp_rules.specs.Plans.{turn_of, MayCommit}
 use Rattle.rp_replica.specs.Inputs.{input_effect}
 use Rattle.rp_replica.specs.State.{ReplicaState, server_of}
@@ -20,5 +20,5 @@ returns-clause-err g c =
     let m = g.M.Machine in
     let h = c.args.self.now in
     let working : h.failed ≡ false = sym c.has_failed.ensures ∙ c.if-has_failed.false in
-    unplanned_if h (input_effect m.next m.answers h c.args.input.now) c.decide.result working
-    (subst (λ (k : ReplicaState g.row.M.Denot). IfErr c.decide.result (Refuses (input_effect m.next m.answers k c.args.input.now))) c.self.view_is c.decide.ensures.err)
+    unplanned_if (IsLong c.args.input.now) h (input_effect m.next m.answers h c.args.input.now) c.decide.result working
+    (subst (λ (k : ReplicaState g.row.M.Denot). IfErr c.decide.result (Refuses (IsLong c.args.input.now) (input_effect m.next m.answers k c.args.input.now))) c.self.view_is c.decide.ensures.err)

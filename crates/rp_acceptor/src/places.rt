@@ -32,7 +32,8 @@ impl<'a> Model for Places<'a> {
 
     ghost view = { λ p. record {
       votes = votes_from p.range.first p.near.now ++ votes_from (p.range.first + p.split) p.far.now;
-      bounds = bounds_from p.range.first p.near.now ++ bounds_from (p.range.first + p.split) p.far.now;
+      bounds = bounds_from p.range.first p.near.now
+          ++ bounds_from (p.range.first + p.split) p.far.now;
     } };
 
     ghost invariant = { λ p. (length p.near.now ≤ p.split)

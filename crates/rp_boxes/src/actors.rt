@@ -2,14 +2,10 @@
 
 ghost use Rattle.std.specs.Prelude.{◌≡◌, ◌<◌};
 ghost use Rattle.rp_codec.specs.Message.{Message, IsPacket, IsParty};
-ghost use Rattle.rp_codec.specs.Text.{party_number, text_of};
-ghost use Rattle.rp_codec.specs.declared.packet.Party.{Party};
+ghost use Rattle.rp_codec.specs.Text.{text_of};
 ghost use Rattle.rp_boxes.specs.Parts.{actor_of};
 
-use rp_codec::Party;
-
-/// Where the number of a packet's receiver is in its text.
-const RECEIVER: usize = 3;
+use rp_codec::{Party, RECEIVER, party_of};
 
 /// The actor that a party is.
 pub(crate) fn actor_of(party: Party) -> usize
@@ -24,26 +20,13 @@ pub(crate) fn actor_of(party: Party) -> usize
     }
 }
 
-/// The actor that a text names by this byte: a node by its number, a task by 16 more.
-fn named_actor(byte: u8) -> usize
-    ensures named { (party : Party) → IsParty party → party_number party ≡ byte
-        → result ≡ actor_of party }
-    ensures small { result < 16 }
-{
-    match byte {
-        1..=7 => usize::from(byte),
-        17..=24 => usize::from(byte) - 9,
-        _ => 0,
-    }
-}
-
 /// The actor to which a packet goes, by its text.
 pub(crate) fn receiver(text: &[u8]) -> usize
     ensures named { (m : Message) → IsPacket m → text.now ≡ text_of m → result ≡ actor_of m.to }
     ensures small { result < 16 }
 {
     match text.get(RECEIVER) {
-        Some(byte) => named_actor(*byte),
+        Some(byte) => actor_of(party_of(*byte)),
         None => 0,
     }
 }

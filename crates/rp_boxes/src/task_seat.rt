@@ -4,11 +4,10 @@ ghost use Rattle.std.specs.Prelude.{◌≡◌, [], IfOk, IfErr, IfSome, IfNone, 
 ghost use Rattle.rp_base.specs.Action.{IsRight};
 ghost use Rattle.rp_base.specs.Sets.{Has};
 ghost use Rattle.rp_base.specs.declared.fault.Fault.TheVariants.{OutOfMemory};
-ghost use Rattle.rp_codec.specs.Message.{Message, IsPacket, IsCallBy};
+ghost use Rattle.rp_codec.specs.Message.{Message, IsCallBy};
 ghost use Rattle.rp_codec.specs.Text.{text_of};
 ghost use Rattle.rp_codec.specs.declared.packet.Party.TheVariants as parties;
 ghost use Rattle.rp_model.specs.Tasks.{Submit, Again};
-ghost use Rattle.rp_world.specs.Going.{reply_in};
 ghost use Rattle.rp_boxes.specs.Looks.{WasSent};
 ghost use Rattle.rp_boxes.specs.Moments.{WasInUse, WasNotFull, WasPut};
 ghost use Rattle.rp_boxes.specs.Parts.{task_of};
@@ -27,11 +26,11 @@ use rp_agreement::{
     calls_count_in_order, replies_answer_calls_that_count, tasks_send_right_packets,
 };
 use rp_base::{Action, Answer, Config, Fault, NodeId, Operation, Reply, TaskId};
-use rp_codec::{Body, Party, decode, encode_onto};
+use rp_codec::{Party, encode_onto};
 use rp_machine::Machine;
 use rp_model::Dropped;
 use rp_replica::Sent;
-use rp_world::{Task, asks};
+use rp_world::{Task, asks, read_reply};
 use std::alloc::{AllocError, Global};
 use std::marker::{Brand, Model};
 use std::sync::Arc;
@@ -263,20 +262,6 @@ fn asking(
                 dropped: Dropped::No,
             })
         }
-    }
-}
-
-/// The number and the reply in the text of a packet, if it is a reply.
-fn read_reply(alloc: Global, text: &[u8]) -> Result<Option<(u32, Reply)>, AllocError>
-    ensures { IfOk result (λ stated. (m : Message) → IsPacket m → text.now ≡ text_of m
-        → stated ≡ reply_in m.body) }
-{
-    let Ok(packet) = decode(alloc, text)? else {
-        return Ok(None);
-    };
-    match *packet.body() {
-        Body::Reply { number, reply } => Ok(Some((number, reply))),
-        _ => Ok(None),
     }
 }
 

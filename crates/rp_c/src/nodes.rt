@@ -1,14 +1,15 @@
 //! A node of a deck, by its handle.
 
 ghost use Rattle.std.specs.Prelude.{◌≡◌, Option, Result, None};
-ghost use Rattle.rp_handles.specs.Handles.{NodeAnswers};
+ghost use Rattle.rp_handles.specs.Handles.{HandleAnswers};
+ghost use Rattle.rp_handles.specs.declared.actor.ActorKind.TheVariants as kinds;
 ghost use Rattle.rp_requests.specs.declared.buffer.Lengths.{Lengths};
 ghost use Rattle.rp_requests.specs.declared.refusal.Refusal.{Refusal as RefusalOf};
 ghost use Rattle.rp_c.specs.Handles.{OpensByHandle, WritesLengths, answer_code, opening_code};
 
 use crate::answer::{AnswerLengths, code_of_answer, code_of_opening, write_lengths};
 use rp_base::Fault;
-use rp_handles::{Found, Handle, call_node, close, open_node};
+use rp_handles::{ActorKind, Found, Handle, call, close, open_node};
 use rp_requests::Refusal;
 use rp_script::MOST_BYTES;
 use std::alloc::Global;
@@ -82,10 +83,11 @@ pub extern "C" fn rp_node_call(
     // claim: A C caller gets the answer of its handle's node, with its lengths, or the number of the
     //   reason for which there is none; by a handle that keeps no node nothing has changed
     ensures { (ended : Option (Result Lengths RefusalOf)) × (result ≡ answer_code ended)
-        × NodeAnswers request.now node.old.kept node.new.kept answer.old answer.new ended
+        × HandleAnswers kinds.Node request.now node.old.kept node.new.kept
+        answer.old answer.new ended
         × WritesLengths ended lengths.old lengths.new }
 {
-    let ended = call_node(alloc, node, request, answer);
+    let ended = call(alloc, node, ActorKind::Node, request, answer);
     write_lengths(&ended, lengths);
     code_of_answer(&ended)
 }

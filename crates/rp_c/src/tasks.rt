@@ -1,13 +1,14 @@
 //! A task's stub, by its handle.
 
 ghost use Rattle.std.specs.Prelude.{◌≡◌, Option, Result, None};
-ghost use Rattle.rp_handles.specs.Handles.{TaskAnswers};
+ghost use Rattle.rp_handles.specs.Handles.{HandleAnswers};
+ghost use Rattle.rp_handles.specs.declared.actor.ActorKind.TheVariants as kinds;
 ghost use Rattle.rp_requests.specs.declared.buffer.Lengths.{Lengths};
 ghost use Rattle.rp_requests.specs.declared.refusal.Refusal.{Refusal as RefusalOf};
 ghost use Rattle.rp_c.specs.Handles.{TaskByHandle, WritesLengths, answer_code, opening_code};
 
 use crate::answer::{AnswerLengths, code_of_answer, code_of_opening, write_lengths};
-use rp_handles::{Handle, call_task, close, open_task};
+use rp_handles::{ActorKind, Handle, call, close, open_task};
 use rp_requests::Refusal;
 use std::alloc::Global;
 
@@ -46,10 +47,11 @@ pub extern "C" fn rp_task_call(
     // claim: A C caller gets the answer of its handle's task, with its lengths, or the number of the
     //   reason for which there is none; by a handle that keeps no task nothing has changed
     ensures { (ended : Option (Result Lengths RefusalOf)) × (result ≡ answer_code ended)
-        × TaskAnswers request.now stub.old.kept stub.new.kept answer.old answer.new ended
+        × HandleAnswers kinds.Task request.now stub.old.kept stub.new.kept
+        answer.old answer.new ended
         × WritesLengths ended lengths.old lengths.new }
 {
-    let ended = call_task(alloc, stub, request, answer);
+    let ended = call(alloc, stub, ActorKind::Task, request, answer);
     write_lengths(&ended, lengths);
     code_of_answer(&ended)
 }

@@ -15,7 +15,7 @@ use rp_drawing::{Lane, Words};
 use rp_history::{Stage, View};
 use rp_machine::Tally;
 use rp_object::Objects;
-use rp_script::{DRAIN_LIMIT, RunOptions, devices, read_whole, write_out, write_whole};
+use rp_script::{DRAIN_LIMIT, RunOptions, read_whole, write_out, write_whole};
 use rp_store::MemDevice;
 use std::alloc::{AllocError, Global};
 use std::io::{Read, Write};
@@ -62,7 +62,7 @@ fn draw_deck(alloc: Global, deck: Deck, view: View, lines: &[&[u8]]) -> Result<S
         script,
         ..
     } = deck;
-    let devices = devices(alloc, config.nodes)?;
+    let devices = MemDevice::several(alloc, config.nodes)?;
     let lanes = lanes_of(alloc, &tasks, config.nodes)?;
     let options = RunOptions {
         config,

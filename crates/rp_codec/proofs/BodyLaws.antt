@@ -13,7 +13,7 @@ use Rattle.rp_codec.specs.declared.packet.Body.TheVariants as bodies
 use Rattle.rp_codec.specs.declared.kind.Kind.{Kind}
 use Rattle.rp_codec.specs.declared.kind.Kind.TheVariants.{Call, Prepare, Promise, Accept, Accepted, Decided, Ask, Nack, Reply as Answer, Report, PrepareRange, PromiseRange}
 use Rattle.rp_base.specs.Right.{IsReply}
-use Rattle.rp_codec.specs.Kind.{Role, ANode, ATask, TheAudit, sender_role, receiver_role}
+use Rattle.rp_codec.specs.Kind.{Role, ANode, ATask, TheAudit, sender_role, receiver_role, number_of, kind_of_body}
 use Rattle.rp_codec.specs.declared.version.Version.{Version}
 use Rattle.rp_codec.specs.Message.{IsBody, IsNodeParty, IsTaskParty, IsAudit, IsVoteBelow, MaySay, report_len}
 use Rattle.rp_codec.specs.Text.{number_text, position_text, ballot_text, action_text_at, reply_text, last_text_at, kind_number, body_text_at, HasActionText, HasBodyText, range_text, votes_text_at}
@@ -93,21 +93,6 @@ last_again v ballot None rest right = refl
 last_again v ballot (Some vote) rest right = rw (vote_again v ballot vote rest (right.0, right.1.0) (right.1.1, right.2)) refl
 
 -- ---- bodies
-
--- the number of a kind
-abbrev pub number_of : Kind → ℕ
-number_of Call = 1
-number_of Prepare = 2
-number_of Promise = 3
-number_of Accept = 4
-number_of Accepted = 5
-number_of Decided = 6
-number_of Ask = 7
-number_of Nack = 8
-number_of Answer = 9
-number_of Report = 10
-number_of PrepareRange = 12
-number_of PromiseRange = 13
 
 -- the party has this role
 abbrev pub HasRole : Role → Party → Type 0
@@ -241,21 +226,6 @@ body_took v Answer from bytes h = answer_took v from bytes h
 body_took v Report from bytes h = report_took v from bytes h
 body_took v PrepareRange from bytes h = prepare_range_took v from bytes h
 body_took v PromiseRange from bytes h = promise_range_took v from bytes h
-
--- the kind of a body
-abbrev pub kind_of_body : Body → Kind
-kind_of_body (bodies.Call action) = Call
-kind_of_body (bodies.Prepare position ballot) = Prepare
-kind_of_body (bodies.Promise position ballot last) = Promise
-kind_of_body (bodies.Accept position ballot action) = Accept
-kind_of_body (bodies.Accepted position ballot action) = Accepted
-kind_of_body (bodies.Decided position action) = Decided
-kind_of_body (bodies.Ask position) = Ask
-kind_of_body (bodies.Nack position ballot bound) = Nack
-kind_of_body (bodies.Reply number reply) = Answer
-kind_of_body (bodies.Report first applied actions) = Report
-kind_of_body (bodies.PrepareRange range ballot) = PrepareRange
-kind_of_body (bodies.PromiseRange range ballot votes) = PromiseRange
 
 pub body_again : (v : Version) (from to : Party) (body : Body) (rest : List ℕ) → IsBody body → MaySay from to body → HasBodyText v body → body_at v (kind_of_body body) from (body_text_at v body ++ rest) ≡ Ok (body, rest)
 unfolding body_at task_call_at prepare_at promise_at accept_at accepted_at decided_at ask_at nack_at answer_at report_at prepare_range_at promise_range_at

@@ -8,7 +8,7 @@ use Rattle.rp_base.specs.declared.fault.PacketReason.TheVariants.{Short, Long, V
 use Rattle.rp_codec.specs.declared.packet.Body.{Body}
 use Rattle.rp_codec.specs.declared.kind.Kind.{Kind}
 use Rattle.rp_codec.specs.declared.kind.Kind.TheVariants.{Call, Prepare, Promise, Accept, Accepted, Decided, Ask, Nack, Reply as Answer, Report, PrepareRange, PromiseRange}
-use Rattle.rp_codec.specs.Kind.{kind_of}
+use Rattle.rp_codec.specs.Kind.{kind_of, number_of}
 use Rattle.rp_codec.specs.declared.version.Version.{Version}
 use Rattle.rp_codec.specs.declared.version.Version.TheVariants.{V2}
 use Rattle.rp_codec.specs.Version.{version_number, version_of}
@@ -21,7 +21,6 @@ use Rattle.rp_codec.specs.declared.content.Found.{Found}
 use Rattle.rp_codec.specs.Found.{IsContentOf, IsList, with_body}
 use Rattle.rp_codec.specs.Reading.{◌>>=◌, Read, said_at, known, kind_at, packet_at, all_of}
 use Rattle.rp_codec.proofs.Steps.{IsBytes, Yields}
-use Rattle.rp_codec.proofs.BodyLaws.{number_of}
 use Rattle.rp_codec.proofs.VersionLaws.{version_of_number, number_once, number_from_version, no_version, has_text, latest, text_same}
 use Rattle.rp_codec.proofs.PacketLaws.{TookSaid, said_took, packet_again}
 

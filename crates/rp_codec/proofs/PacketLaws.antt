@@ -7,7 +7,7 @@ use Rattle.rp_codec.specs.declared.packet.Party.TheVariants.{Node, Task, Audit}
 use Rattle.rp_codec.specs.declared.packet.Body.{Body}
 use Rattle.rp_codec.specs.declared.packet.Body.TheVariants as bodies
 use Rattle.rp_codec.specs.declared.kind.Kind.{Kind}
-use Rattle.rp_codec.specs.Kind.{kind_of, Role, ANode, ATask, TheAudit, sender_role, receiver_role}
+use Rattle.rp_codec.specs.Kind.{kind_of, number_of, kind_of_body, Role, ANode, ATask, TheAudit, sender_role, receiver_role}
 use Rattle.rp_codec.specs.declared.version.Version.{Version}
 use Rattle.rp_codec.specs.Message.{Message, IsParty, IsNodeParty, IsTaskParty, IsAudit, MaySay, IsPacket}
 use Rattle.rp_codec.specs.Text.{party_text, kind_number, body_text_at, text_at, HasText}
@@ -16,7 +16,7 @@ use Rattle.rp_codec.proofs.RuleTests.{is_node_decides}
 use Rattle.rp_codec.proofs.Steps.{IsBytes, Yields, Took, then, guarded}
 use Rattle.rp_codec.proofs.FieldLaws.{TookByte, byte_took}
 use Rattle.rp_codec.proofs.VersionLaws.{version_of_number}
-use Rattle.rp_codec.proofs.BodyLaws.{number_of, HasRole, TookBody, body_took, kind_of_body, body_again}
+use Rattle.rp_codec.proofs.BodyLaws.{HasRole, TookBody, body_took, body_again}
 
 -- ---- parties
 

@@ -1,8 +1,40 @@
 -- The kinds of packets, and their numbers.
 use Rattle.std.specs.Prelude.{ℕ, List, ◌==◌, if◌then◌else◌, Option, Some, None, IsSome, slice_get, option_and_then}
+use Rattle.rp_codec.specs.declared.packet.Body.{Body}
+use Rattle.rp_codec.specs.declared.packet.Body.TheVariants as bodies
 use Rattle.rp_codec.specs.declared.kind.Kind.{Kind}
 use Rattle.rp_codec.specs.declared.kind.Kind.TheVariants.{Call, Prepare, Promise, Accept, Accepted, Decided, Ask, Nack}
 use Rattle.rp_codec.specs.declared.kind.Kind.TheVariants.{Reply, Report, PrepareRange, PromiseRange}
+
+-- the number of a kind
+abbrev pub number_of : Kind → ℕ
+number_of Call = 1
+number_of Prepare = 2
+number_of Promise = 3
+number_of Accept = 4
+number_of Accepted = 5
+number_of Decided = 6
+number_of Ask = 7
+number_of Nack = 8
+number_of Reply = 9
+number_of Report = 10
+number_of PrepareRange = 12
+number_of PromiseRange = 13
+
+-- the kind of a body
+abbrev pub kind_of_body : Body → Kind
+kind_of_body (bodies.Call action) = Call
+kind_of_body (bodies.Prepare position ballot) = Prepare
+kind_of_body (bodies.Promise position ballot last) = Promise
+kind_of_body (bodies.Accept position ballot action) = Accept
+kind_of_body (bodies.Accepted position ballot action) = Accepted
+kind_of_body (bodies.Decided position action) = Decided
+kind_of_body (bodies.Ask position) = Ask
+kind_of_body (bodies.Nack position ballot bound) = Nack
+kind_of_body (bodies.Reply number reply) = Reply
+kind_of_body (bodies.Report first applied actions) = Report
+kind_of_body (bodies.PrepareRange range ballot) = PrepareRange
+kind_of_body (bodies.PromiseRange range ballot votes) = PromiseRange
 
 -- the kind of a number
 abbrev pub kind_of : ℕ → Option Kind

@@ -18,6 +18,7 @@ use Rattle.rp_codec.specs.declared.packet.Body.{Body}
 use Rattle.rp_codec.specs.declared.packet.Body.TheVariants.{Call, Prepare, Promise, Accept, Accepted, Decided, Ask}
 use Rattle.rp_codec.specs.declared.packet.Body.TheVariants.{Nack, Reply as Answer, Report, PrepareRange, PromiseRange}
 use Rattle.rp_codec.specs.declared.version.Version.{Version}
+use Rattle.rp_codec.specs.Kind.{number_of, kind_of_body}
 use Rattle.rp_codec.specs.declared.version.Version.TheVariants.{V1, V2}
 use Rattle.rp_codec.specs.Version.{version_number}
 use Rattle.rp_codec.specs.Message.{Message}
@@ -124,18 +125,7 @@ list_text item_text front items = front ++ length items ∷ flat_map item_text i
 
 -- the number of a packet's kind
 abbrev pub kind_number : Body → ℕ
-kind_number (Call action) = 1
-kind_number (Prepare position ballot) = 2
-kind_number (Promise position ballot last) = 3
-kind_number (Accept position ballot action) = 4
-kind_number (Accepted position ballot action) = 5
-kind_number (Decided position action) = 6
-kind_number (Ask position) = 7
-kind_number (Nack position ballot bound) = 8
-kind_number (Answer number reply) = 9
-kind_number (Report first applied actions) = 10
-kind_number (PrepareRange range ballot) = 12
-kind_number (PromiseRange range ballot votes) = 13
+kind_number body = number_of (kind_of_body body)
 
 -- what a body says, but for a report's actions and the votes of a promise for a range
 abbrev pub short_body_text : Body → List ℕ

@@ -12,9 +12,9 @@ ghost use Rattle.rp_codec.specs.Decoding.{IsDecoded, IsLongText, BeginsWithPacke
 
 use crate::body_text::read_content;
 use crate::content::{Content, Found};
-use crate::fields::{AUDIT, TASK_BASE};
 use crate::kind::Kind;
 use crate::packet::{Body, Packet, Party};
+use crate::party_text::{AUDIT, TASK_BASE};
 use crate::reader::Reader;
 use crate::report_text::list_actions;
 use crate::usual_texts::{

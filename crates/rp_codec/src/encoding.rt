@@ -4,55 +4,26 @@ ghost use Rattle.std.specs.Prelude.{◌≡◌, ℕ, List, ◌++◌, length, IfOk
 ghost use Rattle.rp_codec.specs.Message.{Message, IsPacket};
 ghost use Rattle.rp_codec.specs.Decoding.{IsLongBody};
 ghost use Rattle.rp_codec.specs.declared.version.Version.{Version};
-ghost use Rattle.rp_codec.specs.Text.{kind_number, party_number, head_text, text_at, text_of, HasText};
+ghost use Rattle.rp_codec.specs.Text.{head_text, text_at, text_of, HasText};
 
 use crate::body_text::put_body;
-use crate::fields::{AUDIT, TASK_BASE, VERSION};
+use crate::fields::VERSION;
+use crate::kind::Kind;
 use crate::list_text::put_list;
-use crate::packet::{Body, Packet, Party};
+use crate::packet::{Body, Packet};
+use crate::party_text::party_number;
 use crate::short_text::{LONGEST, ShortText};
 use std::alloc::{AllocError, Global};
-
-#[inline(always)]
-fn kind_number(body: &Body) -> u8
-    ensures { result ≡ kind_number body.now }
-{
-    match body {
-        Body::Call { .. } => 1,
-        Body::Prepare { .. } => 2,
-        Body::Promise { .. } => 3,
-        Body::Accept { .. } => 4,
-        Body::Accepted { .. } => 5,
-        Body::Decided { .. } => 6,
-        Body::Ask { .. } => 7,
-        Body::Nack { .. } => 8,
-        Body::Reply { .. } => 9,
-        Body::Report { .. } => 10,
-        Body::PrepareRange { .. } => 12,
-        Body::PromiseRange { .. } => 13,
-    }
-}
-
-#[inline(always)]
-fn party_number(party: Party) -> u8
-    ensures { result ≡ party_number party }
-{
-    match party {
-        Party::Node(node) => node.get(),
-        Party::Task(task) => TASK_BASE + task.get(),
-        Party::Audit => AUDIT,
-    }
-}
 
 /// What is before the body.
 #[inline(always)]
 fn head_of(packet: &Packet) -> [u8; 4]
     ensures { result ≡ head_text packet.now }
 {
-    let kind = kind_number(packet.body());
+    let kind = Kind::of_body(packet.body());
     [
         VERSION,
-        kind,
+        kind.number(),
         party_number(packet.from()),
         party_number(packet.to()),
     ]

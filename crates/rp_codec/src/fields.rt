@@ -14,12 +14,6 @@ use rp_base::{Ballot, PacketReason, Position, PositionRange};
 /// The version of the texts that are written, their first byte.
 pub(crate) const VERSION: u8 = 2;
 
-/// Task t is the party `TASK_BASE` + t.
-pub(crate) const TASK_BASE: u8 = 16;
-
-/// The party that is the audit.
-pub(crate) const AUDIT: u8 = 32;
-
 #[inline(always)]
 #[tactic(auto, unfolding(crate::specs::Reading::signed_at))]
 pub(crate) fn read_i64(reader: &mut Reader) -> Result<i64, PacketReason>

@@ -1,7 +1,9 @@
 //! The kinds of packets.
 
 ghost use Rattle.std.specs.Prelude.{◌≡◌};
-ghost use Rattle.rp_codec.specs.Kind.{kind_of, kind_in};
+ghost use Rattle.rp_codec.specs.Kind.{kind_of, kind_in, kind_of_body, number_of};
+
+use crate::packet::Body;
 
 /// Which variant of `Body` a packet has.
 #[derive(Clone, Copy, Debug, PartialEq, Eq)]
@@ -21,6 +23,27 @@ pub enum Kind {
 }
 
 impl Kind {
+    /// Its number, the second byte of each text.
+    #[inline(always)]
+    pub(crate) fn number(self) -> u8
+        ensures { result ≡ number_of self }
+    {
+        match self {
+            Kind::Call => 1,
+            Kind::Prepare => 2,
+            Kind::Promise => 3,
+            Kind::Accept => 4,
+            Kind::Accepted => 5,
+            Kind::Decided => 6,
+            Kind::Ask => 7,
+            Kind::Nack => 8,
+            Kind::Reply => 9,
+            Kind::Report => 10,
+            Kind::PrepareRange => 12,
+            Kind::PromiseRange => 13,
+        }
+    }
+
     /// The kind of this number, if it is one.
     #[inline(always)]
     pub(crate) fn of(number: u8) -> Option<Self>
@@ -40,6 +63,27 @@ impl Kind {
             12 => Some(Kind::PrepareRange),
             13 => Some(Kind::PromiseRange),
             _ => None,
+        }
+    }
+
+    /// The kind of a body.
+    #[inline(always)]
+    pub(crate) fn of_body(body: &Body) -> Self
+        ensures { result ≡ kind_of_body body.now }
+    {
+        match body {
+            Body::Call { .. } => Kind::Call,
+            Body::Prepare { .. } => Kind::Prepare,
+            Body::Promise { .. } => Kind::Promise,
+            Body::Accept { .. } => Kind::Accept,
+            Body::Accepted { .. } => Kind::Accepted,
+            Body::Decided { .. } => Kind::Decided,
+            Body::Ask { .. } => Kind::Ask,
+            Body::Nack { .. } => Kind::Nack,
+            Body::Reply { .. } => Kind::Reply,
+            Body::Report { .. } => Kind::Report,
+            Body::PrepareRange { .. } => Kind::PrepareRange,
+            Body::PromiseRange { .. } => Kind::PromiseRange,
         }
     }
 

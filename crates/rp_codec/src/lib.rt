@@ -7,6 +7,7 @@
 //! - `rules`: who may say what to whom
 //! - `kind`: the kinds of packets
 //! - `version`: the versions of texts
+//! - `party_text`: the byte by which a packet names a party
 //! - `reader`: bytes that are read from the front
 //! - `fields`: the fields that are in more than one text: numbers, positions and ballots
 //! - `action_text`: actions as bytes
@@ -36,6 +37,7 @@ mod kind;
 mod lengths;
 mod list_text;
 mod packet;
+mod party_text;
 mod reader;
 mod record_text;
 mod reply_text;
@@ -53,6 +55,7 @@ pub use items::{Actions, Items, Votes};
 pub use kind::Kind;
 pub use lengths::text_len;
 pub use packet::{Body, Packet, Party};
+pub use party_text::{RECEIVER, party_number, party_of, receiver_of};
 pub use record_text::{
     decode_front, encode_rec, one_record_text, text_of_record, two_record_texts,
 };

@@ -6,11 +6,14 @@ ghost use Rattle.std.specs.Prelude.{◌≡◌, ◌↔◌, ◌+◌, [], ◌∷◌
 ghost use Rattle.std.specs.Int.{w32};
 ghost use Rattle.rp_base.specs.declared.record.Rec.TheVariants.{Promised, Voted, Learned};
 ghost use Rattle.rp_base.specs.declared.reply.Reply.TheVariants.{Value};
+ghost use Rattle.rp_codec.specs.Kind.{number_of};
 ghost use Rattle.rp_codec.specs.Text.{number_text, signed_text, position_text, ballot_text, operation_text, action_text, vote_text, text_of};
 ghost use Rattle.rp_codec.specs.Record.{record_text};
 ghost use Rattle.rp_codec.specs.Usual.{IsCall, prepare_at, promise_at, accept_at, accepted_at, decided_of, reply_sent};
 
-use crate::fields::{TASK_BASE, VERSION};
+use crate::fields::VERSION;
+use crate::kind::Kind;
+use crate::party_text::TASK_BASE;
 use crate::short_text::overwrite;
 use crate::usual_texts::{Place, SentDecision, SentReply};
 use rp_base::{Action, Ballot, Operation, Position};
@@ -125,10 +128,10 @@ fn vote_bytes(position: Position, ballot: Ballot, action: &Action) -> [u8; 27]
 
 /// The version, a kind, and who says it to whom.
 #[inline(always)]
-fn head_bytes(kind: u8, place: Place) -> [u8; 4]
-    ensures { result ≡ 2 ∷ kind ∷ place.from ∷ place.to ∷ [] }
+fn head_bytes(kind: Kind, place: Place) -> [u8; 4]
+    ensures { result ≡ 2 ∷ number_of kind ∷ place.from ∷ place.to ∷ [] }
 {
-    [VERSION, kind, place.from.get(), place.to.get()]
+    [VERSION, kind.number(), place.from.get(), place.to.get()]
 }
 
 /// The text of a prepare.
@@ -137,7 +140,7 @@ pub fn prepare_text(place: Place) -> [u8; 14]
     ensures { result ≡ text_of (prepare_at place) }
 {
     let body = bound_bytes(place.position, place.ballot);
-    joined(&head_bytes(2, place), &body)
+    joined(&head_bytes(Kind::Prepare, place), &body)
 }
 
 /// The text of a promise that reports no vote.
@@ -147,7 +150,7 @@ pub fn promise_text(place: Place) -> [u8; 15]
 {
     let ballot: [u8; 9] = joined(&ballot_bytes(place.ballot), &[0]);
     let body: [u8; 11] = joined(&position_bytes(place.position), &ballot);
-    joined(&head_bytes(3, place), &body)
+    joined(&head_bytes(Kind::Promise, place), &body)
 }
 
 /// The text of an accept whose action is a call.
@@ -157,7 +160,7 @@ pub fn accept_text(place: Place, action: &Action) -> [u8; 31]
     ensures { result ≡ text_of (accept_at place action.now) }
 {
     let body = vote_bytes(place.position, place.ballot, action);
-    joined(&head_bytes(4, place), &body)
+    joined(&head_bytes(Kind::Accept, place), &body)
 }
 
 /// The text of a vote for a call.
@@ -167,7 +170,7 @@ pub fn accepted_text(place: Place, action: &Action) -> [u8; 31]
     ensures { result ≡ text_of (accepted_at place action.now) }
 {
     let body = vote_bytes(place.position, place.ballot, action);
-    joined(&head_bytes(5, place), &body)
+    joined(&head_bytes(Kind::Accepted, place), &body)
 }
 
 /// The text of a decided call.
@@ -176,7 +179,12 @@ pub fn decided_text(decision: &SentDecision) -> [u8; 23]
     requires { IsCall decision.now.action }
     ensures { result ≡ text_of (decided_of decision.now) }
 {
-    let head = [VERSION, 6, decision.from.get(), decision.to.get()];
+    let head = [
+        VERSION,
+        Kind::Decided.number(),
+        decision.from.get(),
+        decision.to.get(),
+    ];
     let call = call_bytes(&decision.action);
     let body: [u8; 19] = joined(&position_bytes(decision.position), &call);
     joined(&head, &body)
@@ -188,7 +196,12 @@ pub fn value_reply_text(sent: &SentReply, value: i64) -> [u8; 17]
     requires { sent.now.reply ≡ Value value }
     ensures { result ≡ text_of (reply_sent sent.now) }
 {
-    let head = [VERSION, 9, sent.from.get(), TASK_BASE + sent.task.get()];
+    let head = [
+        VERSION,
+        Kind::Reply.number(),
+        sent.from.get(),
+        TASK_BASE + sent.task.get(),
+    ];
     let reply: [u8; 9] = joined(&[1], &value_bytes(value));
     let body: [u8; 13] = joined(&count_bytes(sent.number), &reply);
     joined(&head, &body)

@@ -7,14 +7,17 @@ ghost use Rattle.rp_base.specs.Number.{IsNode, IsPosition};
 ghost use Rattle.rp_base.specs.Ballot.{IsBallot};
 ghost use Rattle.rp_base.specs.Action.{IsCount, IsRight, IsRightOperation};
 ghost use Rattle.rp_codec.specs.Text.{number_text, signed_text, position_text, ballot_text, operation_text, action_text, vote_text};
+ghost use Rattle.rp_codec.specs.Kind.{number_of};
 ghost use Rattle.rp_codec.specs.Message.{IsCallOf};
 ghost use Rattle.rp_codec.specs.declared.packet.Party.TheVariants.{Task};
 ghost use Rattle.rp_codec.specs.Decoding.{IsDecoded};
 ghost use Rattle.rp_codec.specs.Usual.{IsPlace, prepare_at, promise_at, accept_at, accepted_at, decided_of, call_sent, reply_sent};
 
 use crate::action_text::MOST_ENTRIES;
-use crate::fields::{TASK_BASE, VERSION};
+use crate::fields::VERSION;
+use crate::kind::Kind;
 use crate::packet::Party;
+use crate::party_text::TASK_BASE;
 use crate::rules::is_call_of;
 use rp_base::{Action, Ballot, NodeId, Operation, Position, Reply, TaskId};
 
@@ -150,11 +153,11 @@ fn own_call_of(bytes: &[u8], task: TaskId) -> Option<Action>
 
 /// The two nodes of a packet of this kind.
 #[inline(always)]
-fn nodes_of(head: &[u8; 4], kind: u8) -> Option<(NodeId, NodeId)>
-    ensures text { IfSome result (λ nodes. head.now ≡ 2 ∷ kind ∷ nodes.0 ∷ nodes.1 ∷ []) }
+fn nodes_of(head: &[u8; 4], kind: Kind) -> Option<(NodeId, NodeId)>
+    ensures text { IfSome result (λ nodes. head.now ≡ 2 ∷ number_of kind ∷ nodes.0 ∷ nodes.1 ∷ []) }
     ensures in_range { IfSome result (λ nodes. IsNode nodes.0 × IsNode nodes.1) }
 {
-    if head[0] != VERSION || head[1] != kind {
+    if head[0] != VERSION || head[1] != kind.number() {
         return None;
     }
     let from = NodeId::new(head[2])?;
@@ -163,8 +166,9 @@ fn nodes_of(head: &[u8; 4], kind: u8) -> Option<(NodeId, NodeId)>
 }
 
 #[inline(always)]
-fn place_of(front: &[u8; 14], kind: u8) -> Option<Place>
-    ensures text { IfSome result (λ place. front.now ≡ (2 ∷ kind ∷ place.from ∷ place.to ∷ [])
+fn place_of(front: &[u8; 14], kind: Kind) -> Option<Place>
+    ensures text { IfSome result (λ place. front.now
+        ≡ (2 ∷ number_of kind ∷ place.from ∷ place.to ∷ [])
         ++ position_text place.position ++ ballot_text place.ballot) }
     ensures in_range { IfSome result IsPlace }
 {
@@ -185,8 +189,9 @@ fn place_of(front: &[u8; 14], kind: u8) -> Option<Place>
 
 /// A place, and an action for it: a vote, or what asks for one.
 #[inline(always)]
-fn vote_of(bytes: &[u8], kind: u8) -> Option<(Place, Action)>
-    ensures text { IfSome result (λ vote. bytes.now ≡ (2 ∷ kind ∷ vote.0.from ∷ vote.0.to ∷ [])
+fn vote_of(bytes: &[u8], kind: Kind) -> Option<(Place, Action)>
+    ensures text { IfSome result (λ vote. bytes.now
+        ≡ (2 ∷ number_of kind ∷ vote.0.from ∷ vote.0.to ∷ [])
         ++ vote_text vote.0.position vote.0.ballot vote.1) }
     ensures in_range { IfSome result (λ vote. IsPlace vote.0) }
     ensures right { IfSome result (λ vote. IsRight vote.1) }
@@ -209,7 +214,7 @@ pub fn usual_prepare(bytes: &[u8]) -> Option<Place>
         return None;
     }
     let (front, _) = bytes.split_first_chunk::<14>()?;
-    let place = place_of(front, 2)?;
+    let place = place_of(front, Kind::Prepare)?;
     Some(place)
 }
 
@@ -226,7 +231,7 @@ pub fn usual_promise(bytes: &[u8]) -> Option<Place>
     if tag[0] != 0 {
         return None;
     }
-    let place = place_of(front, 3)?;
+    let place = place_of(front, Kind::Promise)?;
     Some(place)
 }
 
@@ -235,7 +240,7 @@ pub fn usual_promise(bytes: &[u8]) -> Option<Place>
 pub fn usual_accept(bytes: &[u8]) -> Option<(Place, Action)>
     ensures { IfSome result (λ vote. IsDecoded bytes.now (Ok (accept_at vote.0 vote.1))) }
 {
-    let (place, action) = vote_of(bytes, 4)?;
+    let (place, action) = vote_of(bytes, Kind::Accept)?;
     Some((place, action))
 }
 
@@ -244,7 +249,7 @@ pub fn usual_accept(bytes: &[u8]) -> Option<(Place, Action)>
 pub fn usual_accepted(bytes: &[u8]) -> Option<(Place, Action)>
     ensures { IfSome result (λ vote. IsDecoded bytes.now (Ok (accepted_at vote.0 vote.1))) }
 {
-    let (place, action) = vote_of(bytes, 5)?;
+    let (place, action) = vote_of(bytes, Kind::Accepted)?;
     Some((place, action))
 }
 
@@ -255,7 +260,7 @@ pub fn usual_decided(bytes: &[u8]) -> Option<SentDecision>
 {
     let (head, rest) = bytes.split_first_chunk::<4>()?;
     let (position, rest) = rest.split_first_chunk::<2>()?;
-    let (from, to) = nodes_of(head, 6)?;
+    let (from, to) = nodes_of(head, Kind::Decided)?;
     let position = position_of(position)?;
     let action = call_of(rest)?;
     Some(SentDecision {
@@ -272,7 +277,7 @@ pub fn usual_call(bytes: &[u8]) -> Option<SentCall>
     ensures { IfSome result (λ call. IsDecoded bytes.now (Ok (call_sent call))) }
 {
     let (head, rest) = bytes.split_first_chunk::<4>()?;
-    if head[0] != VERSION || head[1] != 1 || head[2] < TASK_BASE {
+    if head[0] != VERSION || head[1] != Kind::Call.number() || head[2] < TASK_BASE {
         return None;
     }
     let task = TaskId::new(head[2] - TASK_BASE)?;
@@ -293,7 +298,7 @@ pub fn usual_reply(bytes: &[u8]) -> Option<SentReply>
     let (number, rest) = rest.split_first_chunk::<4>()?;
     let (tag, rest) = rest.split_first_chunk::<1>()?;
     let (value, _) = rest.split_first_chunk::<8>()?;
-    if head[0] != VERSION || head[1] != 9 || head[3] < TASK_BASE || tag[0] != 1 {
+    if head[0] != VERSION || head[1] != Kind::Reply.number() || head[3] < TASK_BASE || tag[0] != 1 {
         return None;
     }
     let from = NodeId::new(head[2])?;

@@ -199,7 +199,8 @@ impl<'w, 'n> Nodes<'w, 'n> {
     #[tactic(auto, unfolding(crate::specs::Expressions::expr_from))]
     fn expr_from(&mut self, word: &[u8], depth: u8) -> Result<Expr, LineError>
         ensures read { ReadsExpr (expr_from (key_names self.old.names.now)
-            (values self.old.names.now) (expr_in self.old depth) word.now) self.old self.new result }
+            (values self.old.names.now) (expr_in self.old depth) word.now)
+            self.old self.new result }
         ensures nodes { IfOk result (λ expr. self.new.left + expr_nodes expr ≡ self.old.left + 1) }
         ensures counted { IfOk result (λ expr. IsExprCounted self.old expr) }
     {
@@ -239,7 +240,8 @@ impl<'w, 'n> Nodes<'w, 'n> {
     #[cycle(cond)]
     fn cond_from(&mut self, word: &[u8], depth: u8) -> Result<Cond, LineError>
         ensures read { ReadsCond (cond_from (key_names self.old.names.now)
-            (values self.old.names.now) (cond_in self.old depth) word.now) self.old self.new result }
+            (values self.old.names.now) (cond_in self.old depth) word.now)
+            self.old self.new result }
         ensures nodes { IfOk result (λ cond. self.new.left + cond_nodes cond ≡ self.old.left + 1) }
         ensures counted { IfOk result (λ cond. IsCondCounted self.old cond) }
     {

@@ -14,7 +14,7 @@ pub const RIGHT: u64 = 600;
 /// How high a line is.
 pub const LINE: u64 = 18;
 
-/// A page with so many lanes.
+/// A page with n lanes.
 #[derive(Clone, Copy)]
 pub struct Page {
     pub lanes: u32,

@@ -1,4 +1,4 @@
--- What opening and calling a handle come to.
+-- What a handle keeps once it is opened, and what a call by it answers.
 use Rattle.std.specs.Prelude.{◌≡◌, ◌⊎◌, ℕ, Option, Some, None, Result, List}
 use Rattle.rp_base.specs.declared.fault.Fault.TheVariants as faults
 use Rattle.rp_base.specs.Number.{IsTask}
@@ -15,24 +15,27 @@ use Rattle.rp_tasks.specs.Calls.{no_calls}
 use Rattle.rp_handles.specs.DeckNodes.{OpensNode}
 use Rattle.rp_handles.specs.declared.actor.Actor.{Actor}
 use Rattle.rp_handles.specs.declared.actor.Actor.TheVariants.{Node, Task}
+use Rattle.rp_handles.specs.declared.actor.ActorKind.{ActorKind}
+use Rattle.rp_handles.specs.declared.actor.ActorKind.TheVariants as kinds
 
--- The answer to a request of the node that a handle keeps; none if it keeps no node, and then nothing changed.
-abbrev pub NodeAnswers : List ℕ → Option Actor → Option Actor → List ℕ → List ℕ → Option (Result Lengths Refusal)
+-- The answer to a request to an actor of this kind; none by one of the other kind, and then nothing changed.
+abbrev pub ActorAnswers : ActorKind → List ℕ → Actor → Actor → List ℕ → List ℕ → Option (Result Lengths Refusal)
     → Type 0
-NodeAnswers request (Some (Node old)) (Some (Node new)) before after (Some result) =
+ActorAnswers kinds.Node request (Node old) (Node new) before after (Some result) =
     Answers objects_next objects_answers objects_image (asked_of request) old new before after result
-NodeAnswers request (Some (Node old)) new before after result = ⊥
-NodeAnswers request old new before after (Some result) = ⊥
-NodeAnswers request old new before after None = (new ≡ old) × (after ≡ before)
-
--- The answer to a request of the task that a handle keeps; none if it keeps no task, and then nothing changed.
-abbrev pub TaskAnswers : List ℕ → Option Actor → Option Actor → List ℕ → List ℕ → Option (Result Lengths Refusal)
-    → Type 0
-TaskAnswers request (Some (Task old)) (Some (Task new)) before after (Some result) =
+ActorAnswers kinds.Task request (Task old) (Task new) before after (Some result) =
     IsShort old new before after result ⊎ TaskDoes (task_asked_of request) old new before after result
-TaskAnswers request (Some (Task old)) new before after result = ⊥
-TaskAnswers request old new before after (Some result) = ⊥
-TaskAnswers request old new before after None = (new ≡ old) × (after ≡ before)
+ActorAnswers kinds.Node request (Task old) new before after None = (new ≡ Task old) × (after ≡ before)
+ActorAnswers kinds.Task request (Node old) new before after None = (new ≡ Node old) × (after ≡ before)
+ActorAnswers kind request old new before after result = ⊥
+
+-- The same, by what a handle keeps; none if it is closed, and it stays closed.
+abbrev pub HandleAnswers : ActorKind → List ℕ → Option Actor → Option Actor → List ℕ → List ℕ
+    → Option (Result Lengths Refusal) → Type 0
+HandleAnswers kind request (Some old) (Some new) before after result =
+    ActorAnswers kind request old new before after result
+HandleAnswers kind request None new before after None = (new ≡ None) × (after ≡ before)
+HandleAnswers kind request old new before after result = ⊥
 
 -- It keeps the node of this number of the deck that the text means, opened over these bytes.
 abbrev pub KeepsNode : List ℕ → ℕ → List ℕ → Option Actor → ℕ → ℕ → Type 0

@@ -1,7 +1,6 @@
 //! A node or a task, which answers requests.
 
-ghost use Rattle.std.specs.Prelude.{Some};
-ghost use Rattle.rp_handles.specs.Handles.{NodeAnswers, TaskAnswers};
+ghost use Rattle.rp_handles.specs.Handles.{ActorAnswers};
 
 use rp_object::Objects;
 use rp_requests::{Lengths, Node, Refusal, Task};
@@ -14,36 +13,34 @@ pub enum Actor {
     Task(Task),
 }
 
-impl Actor {
-    /// Answers a request to a node, as `Node::call` says; `None` if it is a task.
-    pub(crate) fn call_node(
-        &mut self,
-        alloc: Global,
-        request: &[u8],
-        answer: &mut [u8],
-    ) -> Option<Result<Lengths, Refusal>>
-        ensures { NodeAnswers request.now (Some self.old) (Some self.new)
-            answer.old answer.new result }
-    {
-        match self {
-            Actor::Node(node) => Some(node.call(alloc, request, answer)),
-            Actor::Task(_) => None,
-        }
-    }
+/// Which of the two an actor is.
+#[derive(Clone, Copy, Debug, PartialEq, Eq)]
+pub enum ActorKind {
+    Node,
+    Task,
+}
 
-    /// Answers a request to a task, as `Task::call` says; `None` if it is a node.
-    pub(crate) fn call_task(
+impl Actor {
+    /// Answers a request to an actor of this kind, as `Node::call` or `Task::call` says; `None` if it
+    /// is of the other kind.
+    pub(crate) fn call(
         &mut self,
         alloc: Global,
+        kind: ActorKind,
         request: &[u8],
         answer: &mut [u8],
     ) -> Option<Result<Lengths, Refusal>>
-        ensures { TaskAnswers request.now (Some self.old) (Some self.new)
-            answer.old answer.new result }
+        ensures { ActorAnswers kind request.now self.old self.new answer.old answer.new result }
     {
         match self {
-            Actor::Task(task) => Some(task.call(alloc, request, answer)),
-            Actor::Node(_) => None,
+            Actor::Node(node) => match kind {
+                ActorKind::Node => Some(node.call(alloc, request, answer)),
+                ActorKind::Task => None,
+            },
+            Actor::Task(task) => match kind {
+                ActorKind::Node => None,
+                ActorKind::Task => Some(task.call(alloc, request, answer)),
+            },
         }
     }
 }

@@ -4,9 +4,9 @@ ghost use Rattle.std.specs.Prelude.{◌≡◌, ◌<◌, ◌+◌, ◌^◌, length
 ghost use Rattle.rp_base.specs.declared.fault.Fault.TheVariants as faults;
 ghost use Rattle.rp_requests.specs.declared.refusal.Refusal.TheVariants as refusals;
 ghost use Rattle.rp_handles.specs.DeckNodes.{OpensNoNode};
-ghost use Rattle.rp_handles.specs.Handles.{IsNoTask, KeepsNode, KeepsTask, NodeAnswers, TaskAnswers};
+ghost use Rattle.rp_handles.specs.Handles.{HandleAnswers, IsNoTask, KeepsNode, KeepsTask};
 
-use crate::actor::Actor;
+use crate::actor::{Actor, ActorKind};
 use crate::deck_nodes::node_of_deck;
 use crate::handle::{Handle, closed, into_box, of};
 use rp_base::Fault;
@@ -72,40 +72,23 @@ pub fn open_task(alloc: Global, number: u8, handle: &mut Handle) -> Result<(), R
     Ok(())
 }
 
-/// Answers a request to the node of a handle, as `Node::call` of `rp_requests` says; `None` if the
-/// handle is closed or keeps a task.
-pub fn call_node(
+/// Answers a request to the node or the task of a handle, as `Node::call` or `Task::call` of
+/// `rp_requests` says; `None` if the handle is closed or keeps an actor of the other kind.
+pub fn call(
     alloc: Global,
     handle: &mut Handle,
+    kind: ActorKind,
     request: &[u8],
     answer: &mut [u8],
 ) -> Option<Result<Lengths, Refusal>>
-    // claim: A request by a node's handle is answered by its node, and by nothing else; a handle that
-    //   keeps no node has no answer, and nothing has changed
-    ensures { NodeAnswers request.now handle.old.kept handle.new.kept answer.old answer.new result }
+    // claim: A request by a node's handle is answered by its node, one by a task's handle by its task,
+    //   and by nothing else; a handle that keeps none has no answer, and nothing has changed
+    ensures { HandleAnswers kind request.now handle.old.kept handle.new.kept
+        answer.old answer.new result }
 {
     let taken = replace(handle, closed());
     let mut actor = into_box(alloc, taken)?;
-    let result = actor.call_node(alloc, request, answer);
-    *handle = of(actor);
-    result
-}
-
-/// Answers a request to the task of a handle, as `Task::call` of `rp_requests` says; `None` if the
-/// handle is closed or keeps a node.
-pub fn call_task(
-    alloc: Global,
-    handle: &mut Handle,
-    request: &[u8],
-    answer: &mut [u8],
-) -> Option<Result<Lengths, Refusal>>
-    // claim: A request by a task's handle is answered by its task, and by nothing else; a handle that
-    //   keeps no task has no answer, and nothing has changed
-    ensures { TaskAnswers request.now handle.old.kept handle.new.kept answer.old answer.new result }
-{
-    let taken = replace(handle, closed());
-    let mut actor = into_box(alloc, taken)?;
-    let result = actor.call_task(alloc, request, answer);
+    let result = actor.call(alloc, kind, request, answer);
     *handle = of(actor);
     result
 }

@@ -15,6 +15,6 @@ mod deck_nodes;
 mod handle;
 mod loose;
 
-pub use actor::Actor;
-pub use calls::{Found, call_node, call_task, close, open_node, open_task};
+pub use actor::{Actor, ActorKind};
+pub use calls::{Found, call, close, open_node, open_task};
 pub use handle::Handle;

@@ -1,24 +1,12 @@
 //! The faulty line of a node or a task.
 
 ghost use Rattle.std.specs.Prelude.{◌≡◌, IfOk, IsOkUnless};
-ghost use Rattle.rp_codec.specs.Text.{party_number};
 ghost use Rattle.rp_live.specs.Lines.{line_seed, party_line};
 
 use rp_base::Fault;
-use rp_codec::Party;
+use rp_codec::{Party, party_number};
 use rp_tasks::FaultLine;
 use std::alloc::Global;
-
-/// The byte by which a packet names a party.
-fn party_byte(party: Party) -> u8
-    ensures { result ≡ party_number party }
-{
-    match party {
-        Party::Node(node) => node.get(),
-        Party::Task(task) => 16 + task.get(),
-        Party::Audit => 32,
-    }
-}
 
 /// The seed of a party's line.
 fn seed_for(seed: u32, party: Party) -> [u8; 32]
@@ -30,7 +18,7 @@ fn seed_for(seed: u32, party: Party) -> [u8; 32]
     bytes[1] = second;
     bytes[2] = third;
     bytes[3] = fourth;
-    bytes[4] = party_byte(party);
+    bytes[4] = party_number(party);
     bytes
 }
 

@@ -1,10 +1,9 @@
 //! Seats are made, and those of nodes and tasks are made ready to run.
 
-ghost use Rattle.std.specs.Prelude.{◌≡◌, ℕ, List, map, filter_map, length, All, IfOk, IsOkUnless};
+ghost use Rattle.std.specs.Prelude.{◌≡◌, ℕ, List, map, filter_map, All, IfOk, IsOkUnless};
 ghost use Rattle.rp_base.specs.Config.{IsRightConfig};
 ghost use Rattle.rp_boxes.specs.Making.{AreSeats};
 ghost use Rattle.rp_codec.specs.declared.packet.Party.TheVariants as parties;
-ghost use Rattle.rp_store.specs.Disk.{disk_of, empty_disk};
 ghost use Rattle.rp_live.specs.Events.{call_by};
 ghost use Rattle.rp_live.specs.Lines.{party_line};
 
@@ -17,20 +16,7 @@ use rp_machine::Machine;
 use rp_model::Event;
 use rp_store::{Device, MemDevice};
 use rp_threads::{NodeStart, TaskStart};
-use std::alloc::{AllocError, Global};
-
-/// Devices that hold nothing, n of them.
-fn devices(alloc: Global, count: u8) -> Result<Vec<MemDevice>, AllocError>
-    ensures count { IfOk result (λ devices. length devices.items ≡ count) }
-    ensures empty { IfOk result
-        (λ devices. All (λ device. disk_of device ≡ empty_disk) devices.items) }
-{
-    let mut devices = Vec::new(alloc);
-    for _ in 0..count {
-        devices.push(MemDevice::new(alloc))?;
-    }
-    Ok(devices)
-}
+use std::alloc::Global;
 
 /// The seats of a program whose nodes write to memory. Nothing has happened.
 pub(crate) fn seats_in_memory<M: Machine>(
@@ -43,7 +29,7 @@ pub(crate) fn seats_in_memory<M: Machine>(
         all.nodes.items all.tasks.items all.audit) }
     ensures only { IsOkUnless result Fault.OutOfMemory }
 {
-    let devices = devices(alloc, config.nodes)?;
+    let devices = MemDevice::several(alloc, config.nodes)?;
     seats(alloc, config, program, devices)
 }
 

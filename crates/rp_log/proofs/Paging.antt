@@ -12,7 +12,7 @@ nothing : (actions : List Action) → length actions ≡ 0 → actions ≡ []
 nothing [] none = refl
 nothing (action ∷ rest) none = absurd (omega arith)
 
--- there are so many actions
+-- how many actions there are
 pub joined_length : (pages : List Page) (count : ℕ) → AreFilled pages count → length (joined pages) ≡ count
 joined_length [] count filled = sym filled
 joined_length (page ∷ rest) count filled =

@@ -19,11 +19,11 @@ joined (page ∷ rest) = page.items ++ joined rest
 abbrev pub paged_of : List Page → Paged
 paged_of pages = record { items = joined pages; room = 64 * length pages }
 
--- a page has room for 64, and has the first 64 of so many actions
+-- a page has room for 64, and has the first 64 of n actions
 abbrev pub IsPage : Page → ℕ → Type 0
 IsPage page count = (64 ≤ vec_capacity page) × (length page.items ≡ min 64 count)
 
--- the pages have so many actions: each is full where one more follows, and those after the last action are empty
+-- the pages have n actions: each is full where one more follows, and those after the last action are empty
 abbrev pub AreFilled : List Page → ℕ → Type 0
 AreFilled [] count = count ≡ 0
 AreFilled (page ∷ rest) count = IsPage page count × AreFilled rest (count - 64)

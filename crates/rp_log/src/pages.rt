@@ -57,7 +57,7 @@ impl Pages {
         page.get(place % PAGE)
     }
 
-    /// Makes room for so many actions more.
+    /// Makes room for n actions more.
     #[inline(always)]
     pub(crate) fn reserve(&mut self, more: usize) -> Result<(), AllocError>
         requires { length self.old.items + more < 2 ^ 64 }
@@ -85,7 +85,7 @@ impl Pages {
     }
 }
 
-/// Makes pages with no action, up to so many pages in all.
+/// Makes pages with no action, until there are n.
 #[inline(never)]
 fn make_pages(pages: &mut Vec<Vec<Action>>, alloc: Global, count: usize) -> Result<(), AllocError>
     ensures items { joined pages.new.items ≡ joined pages.old.items }

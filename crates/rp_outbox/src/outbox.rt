@@ -14,17 +14,15 @@ ghost use Rattle.rp_outbox.specs.Packets.{IsTextOf, IsRun, packets_in, ends_of, 
 
 use rp_base::{Action, Answer, NodeId, Reply, Vote};
 use rp_codec::{
-    Body, Packet, Party, Place, SentDecision, SentReply, accept_text, accepted_text, decided_text,
-    encode_onto, is_call, prepare_text, promise_text, text_of_packet, value_reply_text,
+    Body, Packet, Party, Place, RECEIVER, SentDecision, SentReply, accept_text, accepted_text,
+    decided_text, encode_onto, is_call, prepare_text, promise_text, text_of_packet,
+    value_reply_text,
 };
 use std::alloc::{AllocError, Global};
 use std::marker::Model;
 
 /// How many bytes the text of a packet has at most, if it takes no memory.
 const LONGEST_TEXT: usize = 40;
-
-/// The place of a text at which its receiver is, from 0.
-const RECEIVER: usize = 3;
 
 /// Packets that are sent: their texts in one run of bytes, with the place where each ends. What is put
 /// into the room that was made takes no memory.

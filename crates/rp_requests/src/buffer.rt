@@ -5,7 +5,7 @@ ghost use Rattle.rp_requests.specs.Buffers.{IsPut, Puts, PutsOr};
 
 use crate::refusal::Refusal;
 
-/// How long an answer is: so many bytes to be stored, and then the others.
+/// How long an answer is: first are the bytes to be stored, then the others.
 #[derive(Clone, Copy, Debug, PartialEq, Eq)]
 pub struct Lengths {
     /// How many of its first bytes are to be stored.

@@ -83,7 +83,7 @@ fn print_message<M: Machine, D: CutDevice, W: Write>(
     }
 }
 
-/// The message of this number, if so many were sent.
+/// The message of this number, from 1; `None` above the last.
 pub fn sent_packet<M: Machine, D: CutDevice>(
     alloc: Global,
     cluster: &Cluster<M, D>,

@@ -1,6 +1,6 @@
 //! Runs the script of a deck.
 
-ghost use Rattle.std.specs.Prelude.{◌≡◌, [], length, All, IfOk, IfErr, OnOk, OnErr};
+ghost use Rattle.std.specs.Prelude.{◌≡◌, IfErr, OnOk, OnErr};
 ghost use Rattle.rp_script.specs.Agreeing.{DeckPrints, ScriptBegins, ScriptPrints};
 ghost use Rattle.rp_deck.specs.Deck.{IsRightDeck};
 ghost use Rattle.rp_script.specs.Faults.{IsBadDeck, IsProgramFault};
@@ -17,7 +17,7 @@ use rp_object::Objects;
 use rp_output::write_out;
 use rp_run::{RunOptions, run_lines, scripts_agree};
 use rp_store::MemDevice;
-use std::alloc::{AllocError, Global};
+use std::alloc::Global;
 use std::io::{Read, Write};
 
 /// The most messages that one `drain` delivers.
@@ -86,7 +86,7 @@ pub fn run_deck<W: Write>(
         script,
         ..
     } = deck;
-    let devices = devices(alloc, config.nodes)?;
+    let devices = MemDevice::several(alloc, config.nodes)?;
     let lines = script.as_slice();
     let options = RunOptions {
         config,
@@ -105,16 +105,4 @@ pub fn run_deck<W: Write>(
             run_lines::<Objects, MemDevice, W>(alloc, &options, program, devices, writer)
         }
     }
-}
-
-/// Empty devices, n of them.
-pub fn devices(alloc: Global, count: u8) -> Result<Vec<MemDevice>, AllocError>
-    ensures count { IfOk result (λ devices. length devices.items ≡ count) }
-    ensures empty { IfOk result (λ devices. All (λ d. d.contents ≡ []) devices.items) }
-{
-    let mut devices = Vec::new(alloc);
-    for place in 0..count {
-        devices.push(MemDevice::new(alloc))?;
-    }
-    Ok(devices)
 }

@@ -15,7 +15,7 @@ mod live_output;
 mod live_run;
 
 pub use deck_read::{MOST_BYTES, read_whole};
-pub use deck_run::{DRAIN_LIMIT, devices, run_deck, run_script};
+pub use deck_run::{DRAIN_LIMIT, run_deck, run_script};
 pub use figures::FiguresLine;
 pub use live_run::{LiveRequest, run_live};
 pub use rp_output::{

@@ -1,12 +1,12 @@
 //! A device in memory.
 
-ghost use Rattle.std.specs.Prelude.{◌≡◌};
+ghost use Rattle.std.specs.Prelude.{◌≡◌, [], length, All, IfOk};
 ghost use Rattle.rp_store.specs.Disk.{disk_of, empty_disk};
 
 use crate::count::Count;
 use crate::device::{CutDevice, Device, InfallibleDevice};
 use rp_base::Fault;
-use std::alloc::Global;
+use std::alloc::{AllocError, Global};
 use std::marker::Model;
 
 /// A device in memory. It never fails.
@@ -51,6 +51,21 @@ impl MemDevice {
             reads: Count::new(),
             cuts: Count::new(),
         }
+    }
+
+    /// Devices that hold nothing, n of them.
+    pub fn several(alloc: Global, count: u8) -> Result<Vec<Self>, AllocError>
+        ensures count { IfOk result (λ devices. length devices.items ≡ count) }
+        // claim (empty): New devices in memory hold nothing
+        ensures empty { IfOk result
+            (λ devices. All (λ device. disk_of device ≡ empty_disk) devices.items) }
+        ensures contents { IfOk result (λ devices. All (λ d. d.contents ≡ []) devices.items) }
+    {
+        let mut devices = Vec::new(alloc);
+        for _ in 0..count {
+            devices.push(MemDevice::new(alloc))?;
+        }
+        Ok(devices)
     }
 
     /// All of its bytes, where they are.

@@ -33,7 +33,7 @@ drawn line = record line { words = (next_word 10 line.words).1 }
 abbrev pub copies_of : ℕ → ℕ
 copies_of word = if nat_lt (word % 16) 2 then 0 else if nat_lt (word % 16) 4 then 2 else 1
 
--- how many are lost of so many copies, where n packets are held: the packet itself if no copy is asked for, and else
+-- how many of these copies are lost, where n packets are held: the packet itself if no copy is asked for, and else
 -- each copy that finds no place among 16
 abbrev pub lost_of : ℕ → ℕ → ℕ
 lost_of copies held = if nat_eq copies 0 then 1 else held + copies - 16

@@ -50,7 +50,7 @@ abbrev pub asked_in : ℕ → List TaskCall → ℕ → Calls → Option TaskInp
 asked_in nodes calls turn so_far = asked_by so_far.waits nodes calls so_far.made turn
 
 module _ {S P : Type 0} (next : S → Action → S) (answers : S → Action → List Answer) (begin : P → S) where
-  -- One event, by this input; then its packet, if it sends one, was offered to its box, and so many are lost.
+  -- One event, by this input; then its packet, if it sends one, was offered to its box, with how many are lost.
   pub record IsAskedBy (input : TaskInput) (old new : SeatState P) (lost : ℕ) : Type 0 where
     pub stepped : SeatState P
     pub sent : Sent

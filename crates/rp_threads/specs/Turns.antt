@@ -129,8 +129,8 @@ module _ {S P : Type 0} (next : S → Action → S) (answers : S → Action → 
   IsOfferedInPart from sent old new =
       (packets : List Message) → AreGivenOut old.part sent packets → AreOfferedInPart from packets old new
 
-  -- One event, by such an input; then each of its packets was offered to its box. So many were sent, and so many of
-  -- them are lost.
+  -- One event, by such an input; then each of its packets was offered to its box, with how many were sent, and how
+  -- many of these are lost.
   pub record IsEventBy (Is : Input → Type 0) (old new : SeatState P) (packets : PacketCounts) : Type 0 where
     pub input : Input
     pub is : Is input

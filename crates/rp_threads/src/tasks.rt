@@ -71,7 +71,7 @@ impl Calls {
         }
     }
 
-    /// So many packets more are lost at boxes.
+    /// Counts n packets more as lost at boxes.
     fn lose(&mut self, lost: usize)
         ensures { self.new ≡ with_lost lost self.old }
     {

@@ -15,11 +15,7 @@ pub(crate) const CONFIG: Config = Config {
 
 /// Their devices, with nothing on them.
 pub(crate) fn devices(alloc: Global) -> Result<Vec<MemDevice>, AllocError> {
-    let mut devices = Vec::new(alloc);
-    for _ in 0..CONFIG.nodes {
-        devices.push(MemDevice::new(alloc))?;
-    }
-    Ok(devices)
+    MemDevice::several(alloc, CONFIG.nodes)
 }
 
 /// The node receives what is in the box from a party, if there is anything.

@@ -31,7 +31,7 @@ pub at_err : {A : Type 0} (Q : Result A Fault → Type 0) (fault : Fault) (r : R
 at_err Q fault (Ok x) is q = absurd is
 at_err Q fault (Err other) is q = subst (λ (e : Fault). Q (Err e)) (sym is) q
 
--- an effect that reports what a node's step sent, where so many messages were sent after it
+-- an effect that reports what a node's step sent, where this is the number of messages after it
 abbrev pub stated_sent : ℕ → ℕ → Dropped → Effect
 stated_sent first count dropped = record { first = first; sent = min (count + 1 - first) (2 ^ 32 - 1); dropped = dropped; taken = None; opened = None }
 

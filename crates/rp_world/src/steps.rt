@@ -1,6 +1,6 @@
 //! The result of an event: steps of nodes, and stops within them.
 
-ghost use Rattle.std.specs.Prelude.{◌≡◌, ℕ, Ok, Some, IfOk, IfErr, IsSome, length, option_copied, option_map};
+ghost use Rattle.std.specs.Prelude.{◌≡◌, Ok, Some, IfOk, IfErr, IsSome, option_copied, option_map};
 ghost use Rattle.std.specs.List.{AllByRecursion};
 ghost use Rattle.rp_base.specs.Config.{IsRightConfig};
 ghost use Rattle.rp_base.specs.Sets.{Has};
@@ -24,28 +24,13 @@ use crate::node;
 use crate::world::{World, put_back};
 use rp_agreement::events_keep_ranges;
 use rp_base::{Fault, NodeId, Position, PositionRange, Reply, TaskId};
-use rp_codec::{Body, Party, decode, usual_reply};
+use rp_codec::{Body, Party, decode, receiver_of, usual_reply};
 use rp_machine::Machine;
 use rp_model::{Effect, Event, Interrupt, Step};
 use rp_outbox::Outbox;
 use rp_replica::{Input, texts_are_packets};
 use rp_store::CutDevice;
 use std::alloc::{AllocError, Global};
-
-/// To whom a packet is, by its text.
-fn receiver(text: &[u8]) -> Party
-    requires { (m : Message) × IsPacket m × (text.now ≡ text_of m) }
-    ensures { (m : Message) → IsPacket m → text.now ≡ text_of m → result ≡ m.to }
-{
-    let number = text[3];
-    if let Some(node) = NodeId::new(number) {
-        return Party::Node(node);
-    }
-    match TaskId::new(number.wrapping_sub(16)) {
-        Some(task) => Party::Task(task),
-        None => Party::Audit,
-    }
-}
 
 /// The text of the message of this number, from 1.
 #[inline(always)]
@@ -195,7 +180,7 @@ impl<M: Machine, D: CutDevice> World<M, D> {
                 let Some(text) = text_of_number(messages, number) else {
                     return Err(Fault::NoSuchMessage);
                 };
-                let Party::Node(node) = receiver(text) else {
+                let Party::Node(node) = receiver_of(text) else {
                     return Err(Fault::NotRunning);
                 };
                 if usize::from(node.get()) > nodes.len() {
@@ -286,7 +271,7 @@ impl<M: Machine, D: CutDevice> World<M, D> {
         ensures { result ≡ option_map (λ m. m.to) (part_at self.now.world.sent number) }
     {
         let text = self.text(number)?;
-        Some(receiver(text))
+        Some(receiver_of(text))
     }
 
     /// A message is taken by whom it is for; by none where that is no node that runs and no task.
@@ -405,8 +390,8 @@ impl<M: Machine, D: CutDevice> World<M, D> {
 }
 
 /// The number and the reply in the text of a packet, if it is a reply.
-fn read_reply(alloc: Global, text: &[u8]) -> Result<Option<(u32, Reply)>, AllocError>
-    requires { (m : Message) × IsPacket m × (text.now ≡ text_of m) }
+pub fn read_reply(alloc: Global, text: &[u8]) -> Result<Option<(u32, Reply)>, AllocError>
+    // claim: The reply that a packet carries is read from its text; none is read where it carries none
     ensures { IfOk result (λ stated. (m : Message) → IsPacket m → text.now ≡ text_of m
         → stated ≡ reply_in m.body) }
 {

@@ -162,18 +162,45 @@ pub(crate) fn expect_left<M: Machine, D: CutDevice>(
     expect_eq(rt, reply, Reply::Value(5));
 }
 
-/// Task 1 called node 1 and node 1 led, each followed by its rounds.
-fn one_call_in_rounds<M: Machine, D: CutDevice>(
+/// How the messages of a run are delivered.
+#[derive(Clone, Copy)]
+enum Delivery {
+    /// In order, each once.
+    InOrder,
+    /// In rounds: those that were sent in the last one, from the highest down, each three times.
+    InRounds,
+}
+
+/// Delivers the messages above this number until none is left. It gives the number of the last.
+fn deliver_all<M: Machine, D: CutDevice>(
+    rt: &impl Abort,
+    cluster: &mut Cluster<M, D>,
+    alloc: Global,
+    delivered: u64,
+    how: Delivery,
+) -> u64 {
+    match how {
+        Delivery::InOrder => {
+            let next = deliver_from(rt, cluster, alloc, delivered.saturating_add(1));
+            next.saturating_sub(1)
+        }
+        Delivery::InRounds => deliver_in_rounds(rt, cluster, alloc, delivered),
+    }
+}
+
+/// Task 1 called node 1 and node 1 led, and the messages of each were delivered.
+fn one_call<M: Machine, D: CutDevice>(
     rt: &impl Abort,
     alloc: Global,
     program: M::Program,
     devices: Vec<D>,
+    how: Delivery,
 ) -> Cluster<M, D> {
     let mut cluster: Cluster<M, D> = opened(rt, alloc, program, devices, 1);
     step(rt, &mut cluster, alloc, &call(rt, 1, 1, 5));
-    let delivered = deliver_in_rounds(rt, &mut cluster, alloc, 0);
+    let delivered = deliver_all(rt, &mut cluster, alloc, 0, how);
     step(rt, &mut cluster, alloc, &lead(rt, 1));
-    deliver_in_rounds(rt, &mut cluster, alloc, delivered);
+    deliver_all(rt, &mut cluster, alloc, delivered, how);
     cluster
 }
 
@@ -185,7 +212,7 @@ fn expect_left_in_rounds<M: Machine, D: CutDevice>(
     devices: Vec<D>,
     left: &Left,
 ) {
-    let cluster: Cluster<M, D> = one_call_in_rounds(rt, alloc, program, devices);
+    let cluster: Cluster<M, D> = one_call(rt, alloc, program, devices, Delivery::InRounds);
     expect_left(rt, alloc, &cluster, left);
 }
 
@@ -196,13 +223,10 @@ pub(crate) fn program(rt: &impl Abort) -> TallyProgram {
 
 /// Three devices that hold nothing.
 pub(crate) fn devices(rt: &impl Abort, alloc: Global) -> Vec<MemDevice> {
-    let mut devices = Vec::new(alloc);
-    for _ in 0..3 {
-        if devices.push(MemDevice::new(alloc)).is_err() {
-            panic!(rt; "memory is refused");
-        }
+    match MemDevice::several(alloc, 3) {
+        Ok(devices) => devices,
+        Err(_) => panic!(rt; "memory is refused"),
     }
-    devices
 }
 
 #[test]
@@ -240,7 +264,7 @@ fn report_after_one_call<M: Machine, D: CutDevice>(
         node: node(rt, 2),
         first: Position::new(first).expect(rt, "a position"),
     });
-    let mut cluster: Cluster<M, D> = one_call_in_rounds(rt, alloc, program, devices);
+    let mut cluster: Cluster<M, D> = one_call(rt, alloc, program, devices, Delivery::InRounds);
     step(rt, &mut cluster, alloc, &report);
     last_text(rt, alloc, &cluster)
 }
@@ -257,21 +281,6 @@ fn a_report_has_the_actions_from_a_position_on(rt: HostRuntime) {
     let all = b"\x02\x0a\x02\x20\0\x01\0\x01\x01\x01\x01\0\0\0\x01\x01\x02\x01\0\0\0\0\0\0\0\x05";
     expect_report(&rt, rt.alloc(), 1, all);
     expect_report(&rt, rt.alloc(), 2, b"\x02\x0a\x02\x20\0\x02\0\x01\0");
-}
-
-/// One call, all of whose messages are delivered in order.
-fn one_call<M: Machine, D: CutDevice>(
-    rt: &impl Abort,
-    alloc: Global,
-    program: M::Program,
-    devices: Vec<D>,
-) -> Cluster<M, D> {
-    let mut cluster: Cluster<M, D> = opened(rt, alloc, program, devices, 1);
-    step(rt, &mut cluster, alloc, &call(rt, 1, 1, 5));
-    let next = deliver_from(rt, &mut cluster, alloc, 1);
-    step(rt, &mut cluster, alloc, &lead(rt, 1));
-    deliver_from(rt, &mut cluster, alloc, next);
-    cluster
 }
 
 /// Some of the texts of these messages, by their numbers.
@@ -313,7 +322,7 @@ fn expect_texts<M: Machine, D: CutDevice>(
     devices: Vec<D>,
     expected: &[(u64, &[u8])],
 ) {
-    let cluster: Cluster<M, D> = one_call(rt, alloc, program, devices);
+    let cluster: Cluster<M, D> = one_call(rt, alloc, program, devices, Delivery::InOrder);
     expect_eq(rt, cluster.messages(), 16);
     for (number, text) in expected {
         expect_message(rt, alloc, &cluster, *number, text);

@@ -27,7 +27,7 @@ returns c =
     let ended : r4 ≡ [] = nil_from_length r4 (omega (arith, c.if-bytes-ne17.false, c.in_ok-head.ensures.cases.2, c.in_ok-number.ensures.cases.2, c.in_ok-tag.ensures.cases.2, c.in_ok-value.ensures.cases.2)) in
     let to : get_or head 3 0 ≡ 16 + c.in_ok-task.task = omega (arith, c.in_ok-task.ensures.value, c.if-head-lt-TASK_BASE.false) in
     let h : head ≡ 2 ∷ 9 ∷ c.in_ok-from.from ∷ (16 + c.in_ok-task.task) ∷ [] =
-    four head _ _ _ _ (front_long 4 c.args.bytes.now head r1 c.in_ok-head.ensures.cases.0 c.in_ok-head.ensures.cases.2) c.if-head-ne-VERSION.false c.if-head-ne9.false (sym c.in_ok-from.ensures.value) to in
+    four head _ _ _ _ (front_long 4 c.args.bytes.now head r1 c.in_ok-head.ensures.cases.0 c.in_ok-head.ensures.cases.2) c.if-head-ne-VERSION.false (c.if-head-number.false ∙ c.number.ensures) (sym c.in_ok-from.ensures.value) to in
     let t : tag ≡ 1 ∷ [] = one tag _ (front_long 1 r2 tag r3 c.in_ok-tag.ensures.cases.0 c.in_ok-tag.ensures.cases.2) c.if-tag-ne1.false in
     let z : ℤ = cast_signed w64 (cast_unsigned w64 c.value_of.result) in
     let v : value ≡ signed_text z = c.value_of.ensures.text ∙ ap signed_text (sym (to_z-of_z w64 c.value_of.result c.value_of.ensures.fits)) in

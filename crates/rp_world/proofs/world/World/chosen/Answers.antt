@@ -12,8 +12,8 @@ use Rattle.rp_world.proofs.Hearing.{has_at, message_found}
 use Rattle.rp_world.proofs.world.World.chosen.Goals.{in-Lead, in-LeadRange+in-Ok, in-Interrupt, in-Tick, in-Report}
 use Rattle.rp_world.proofs.world.World.chosen.Goals as goal
 
-pub receiver-requires : goal.receiver-requires
-receiver-requires g c =
+pub receiver_of-requires : goal.receiver_of-requires
+receiver_of-requires g c =
     let number = c.in-Deliver.number in
     let found = message_found (part_at c.args.messages.now.sent number) c.in-Some.text.now c.in-Some.ensures in
     (found.0, c.requires.packets found.0 (has_at c.args.messages.now.sent number found.0 found.1), found.2)
@@ -27,15 +27,15 @@ returns-in_default g c = record {
       (no_message s w number (ap (λ ms. part_at ms number) sent ∙ no_text (part_at c.args.messages.now.sent number) c.in_default.ensures));
 }
 
-pub returns-in_default-receiver : goal.returns-in_default-receiver
-returns-in_default-receiver g c = record {
+pub returns-in_default-receiver_of : goal.returns-in_default-receiver_of
+returns-in_default-receiver_of g c = record {
   right = tt;
   chosen = λ s w sent are.
       let number = c.in-Deliver.number in
       let found = message_found (part_at c.args.messages.now.sent number) c.in-Some.text.now c.in-Some.ensures in
       let packet = c.requires.packets found.0 (has_at c.args.messages.now.sent number found.0 found.1) in
       subst (λ step. IsOfNone s w (step_of step) NotRunning) (sym c.in-Deliver.is)
-      (for_no_node s w number found.0 (ap (λ ms. part_at ms number) sent ∙ found.1) c.receiver.result (c.receiver.ensures found.0 packet found.2) c.in_default-receiver.not-Node);
+      (for_no_node s w number found.0 (ap (λ ms. part_at ms number) sent ∙ found.1) c.receiver_of.result (c.receiver_of.ensures found.0 packet found.2) c.in_default-receiver_of.not-Node);
 }
 
 pub returns-then-from-nodes-clause-chosen : goal.returns-then-from-nodes-clause-chosen

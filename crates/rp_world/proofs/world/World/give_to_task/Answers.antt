@@ -20,13 +20,6 @@ use Rattle.rp_world.proofs.world.World.give_to_task.Goals as goal
 pub unwrap-text-requires : goal.unwrap-text-requires
 unwrap-text-requires g c = text_found c.text.result (part_at c.args.self.now.world.sent c.args.number) c.requires.to.0 c.text.ensures c.requires.to.1
 
-pub read_reply-requires : goal.read_reply-requires
-read_reply-requires g c =
-    let message = c.requires.to.0 in
-    let sent = c.args.self.now.world.sent in
-    let packet = c.requires.ranged.packets message (has_at sent c.args.number message c.requires.to.1) in
-    (message, packet, text_is c.text.result c.unwrap-text.result (part_at sent c.args.number) message c.unwrap-text.ensures c.text.ensures c.requires.to.1)
-
 pub returns-in_default-reply-clause-answer : goal.returns-in_default-reply-clause-answer
 returns-in_default-reply-clause-answer g c =
     let m = g.M.Machine in

@@ -1,13 +1,17 @@
 -- Which numbers name nodes, tasks and positions (the limits are ours).
 use Rattle.std.specs.Prelude.{ℕ, Bool, ◌<◌, ◌≤◌, ◌^◌, ◌&&◌, nat_le}
 
+-- the number is 1 to `most`
+abbrev pub IsUpTo : ℕ → ℕ → Type 0
+IsUpTo most n = (1 ≤ n) × (n ≤ most)
+
 -- a node is 1 to 7
 abbrev pub IsNode : ℕ → Type 0
-IsNode n = (1 ≤ n) × (n ≤ 7)
+IsNode n = IsUpTo 7 n
 
 -- a task is 1 to 8
 abbrev pub IsTask : ℕ → Type 0
-IsTask n = (1 ≤ n) × (n ≤ 8)
+IsTask n = IsUpTo 8 n
 
 -- a position of the log is 1 to 65,535
 abbrev pub IsPosition : ℕ → Type 0

@@ -6,6 +6,7 @@
 //! - `majorities`: how many nodes decide
 //! - `action`: what the log holds: calls, interrupts and ticks
 //! - `reply`: what a call is answered
+//! - `fixed_list`: a list that takes no memory
 //! - `answers`: the answers of one action
 //! - `range`: ranges of positions
 //! - `record`: what a node writes down before it says it
@@ -24,6 +25,7 @@ mod answers;
 mod ballot;
 mod config;
 mod fault;
+mod fixed_list;
 mod history;
 mod majorities;
 mod number;
@@ -41,9 +43,10 @@ pub use answers::Answers;
 pub use ballot::Ballot;
 pub use config::Config;
 pub use fault::{DeckReason, Fault, PacketReason, WriteFault};
+pub use fixed_list::FixedList;
 pub use history::History;
 pub use majorities::{majorities_intersect, majority};
-pub use number::{NodeId, Position, TaskId};
+pub use number::{Id, NodeId, Position, TaskId};
 pub use placed::{PlacedVote, RangeVotes};
 pub use proposal::Phase;
 pub use range::PositionRange;

@@ -1,7 +1,7 @@
 //! The numbers that name nodes, tasks and positions of the log.
 
-ghost use Rattle.std.specs.Prelude.{◌≡◌, ℕ, ◌↔◌, IsSome, IfSome};
-ghost use Rattle.rp_base.specs.Number.{IsNode, IsTask, IsPosition};
+ghost use Rattle.std.specs.Prelude.{◌≡◌, ◌≤◌, ℕ, ◌↔◌, IsSome, IfSome};
+ghost use Rattle.rp_base.specs.Number.{IsUpTo, IsPosition};
 
 use std::marker::Model;
 
@@ -11,93 +11,54 @@ pub(crate) const MOST_NODES: u8 = 7;
 /// The most tasks that a program has.
 pub(crate) const MOST_TASKS: u8 = 8;
 
-/// A node of the cluster, 1 to 7.
+/// A number from 1 to `MOST`, which names one of so few.
 #[derive(Clone, Copy, Debug, PartialEq, Eq, PartialOrd, Ord, Hash)]
-pub struct NodeId {
+pub struct Id<const MOST: u8> {
     number: u8,
 }
 
-impl Model for NodeId {
-    ghost Value = { ℕ };
-
-    ghost view = { λ n. n.number };
-
-    ghost invariant = { λ n. IsNode n.number };
-
-    ghost inverse = { λ n. record { number = n } };
-}
-
-impl NodeId {
-    /// The first node.
-    pub fn first() -> Self
-        ensures { result ≡ 1 }
-    {
-        NodeId { number: 1 }
-    }
-
-    /// The node of this number, or `None` outside 1 to 7.
-    pub fn new(number: u8) -> Option<Self>
-        // claim: Node, task and position numbers exist exactly in their ranges
-        ensures valid { IsSome result ↔ IsNode number }
-        ensures value { IfSome result (λ node. node ≡ number) }
-    {
-        if matches!(number, 1..=MOST_NODES) {
-            Some(NodeId { number })
-        } else {
-            None
-        }
-    }
-
-    /// Its number, 1 to 7.
-    pub fn get(self) -> u8
-        ensures value { result ≡ self }
-        ensures in_range { IsNode self }
-    {
-        self.number
-    }
-}
+/// A node of the cluster, 1 to 7.
+pub type NodeId = Id<MOST_NODES>;
 
 /// A task of the program, 1 to 8 in the order of the deck.
-#[derive(Clone, Copy, Debug, PartialEq, Eq, PartialOrd, Ord, Hash)]
-pub struct TaskId {
-    number: u8,
-}
+pub type TaskId = Id<MOST_TASKS>;
 
-impl Model for TaskId {
+impl<const MOST: u8> Model for Id<MOST> {
     ghost Value = { ℕ };
 
-    ghost view = { λ t. t.number };
+    ghost view = { λ id. id.number };
 
-    ghost invariant = { λ t. IsTask t.number };
+    ghost invariant = { λ id. IsUpTo MOST id.number };
 
     ghost inverse = { λ n. record { number = n } };
 }
 
-impl TaskId {
-    /// The first task.
+impl<const MOST: u8> Id<MOST> {
+    /// The first of them.
     pub fn first() -> Self
+        requires { 1 ≤ MOST }
         ensures { result ≡ 1 }
     {
-        TaskId { number: 1 }
+        Id { number: 1 }
     }
 
-    /// The task of this number, or `None` outside 1 to 8.
+    /// The one of this number, or `None` outside 1 to `MOST`.
     pub fn new(number: u8) -> Option<Self>
-        // claim as NodeId::new
-        ensures valid { IsSome result ↔ IsTask number }
-        ensures value { IfSome result (λ task. task ≡ number) }
+        // claim: Node, task and position numbers exist exactly in their ranges
+        ensures valid { IsSome result ↔ IsUpTo MOST number }
+        ensures value { IfSome result (λ id. id ≡ number) }
     {
-        if matches!(number, 1..=MOST_TASKS) {
-            Some(TaskId { number })
+        if (1..=MOST).contains(&number) {
+            Some(Id { number })
         } else {
             None
         }
     }
 
-    /// Its number, 1 to 8.
+    /// Its number, 1 to `MOST`.
     pub fn get(self) -> u8
-        ensures value { result ≡ self }
-        ensures in_range { IsTask self }
+        ensures value { result ≡ self.entry }
+        ensures in_range { IsUpTo MOST self.entry }
     {
         self.number
     }
@@ -130,7 +91,7 @@ impl Position {
 
     /// The position of this number, or `None` at 0.
     pub fn new(number: u16) -> Option<Self>
-        // claim as NodeId::new
+        // claim as Id::new
         ensures valid { IsSome result ↔ IsPosition number }
         ensures value { IfSome result (λ position. position ≡ number) }
     {

@@ -1,14 +1,13 @@
 //! Votes with their positions, such as a promise for a range reports.
 
-ghost use Rattle.std.specs.Prelude.{◌≡◌, ◌<◌, [], ◌∷◌, ◌++◌, length};
+ghost use Rattle.std.specs.Prelude.{◌≡◌, []};
 ghost use Rattle.rp_base.specs.PlacedVotes.{placed_at};
 
 use crate::action::Action;
 use crate::ballot::Ballot;
+use crate::fixed_list::FixedList;
 use crate::number::{NodeId, Position};
 use crate::record::Vote;
-use std::fmt;
-use std::marker::Model;
 
 /// The most votes that one promise reports, one for each position of a range.
 const MOST_VOTES: usize = 64;
@@ -34,61 +33,19 @@ impl PlacedVote {
 
 /// The votes that an acceptor reports for a range, by rising position: at most 64, in place, so
 /// that the answer takes no memory.
-#[derive(Drop)]
-pub struct RangeVotes {
-    items: [PlacedVote; MOST_VOTES],
-    len: usize,
-}
+pub type RangeVotes = FixedList<PlacedVote, MOST_VOTES>;
 
-impl Model for RangeVotes {
-    ghost use Rattle.std.specs.Prelude.{◌≡◌, List, ◌≤◌, length, take};
-    ghost use Rattle.rp_base.specs.declared.placed.PlacedVote.{PlacedVote};
-
-    ghost Value = { List PlacedVote };
-
-    ghost view = { λ v. take v.len v.items };
-
-    ghost invariant = { λ v. (v.len ≤ 64) × (length v.items ≡ 64) };
-}
-
-impl RangeVotes {
+impl FixedList<PlacedVote, MOST_VOTES> {
     /// No vote yet.
     pub fn new() -> Self
         ensures { result ≡ [] }
     {
-        let ballot = Ballot::of(1, NodeId::first());
-        let unused = PlacedVote {
+        FixedList::of(PlacedVote {
             position: Position::first(),
             vote: Vote {
-                ballot,
+                ballot: Ballot::of(1, NodeId::first()),
                 action: Action::Noop,
             },
-        };
-        RangeVotes {
-            items: [unused; MOST_VOTES],
-            len: 0,
-        }
-    }
-
-    /// Adds a vote after the others.
-    pub fn push(&mut self, placed: PlacedVote)
-        requires { length self.old < 64 }
-        ensures { self.new ≡ self.old ++ placed ∷ [] }
-    {
-        self.items[self.len] = placed;
-        self.len += 1;
-    }
-
-    /// The votes in their order.
-    pub fn as_slice(&self) -> &[PlacedVote]
-        ensures { result.now ≡ self.now }
-    {
-        &self.items[..self.len]
-    }
-}
-
-impl fmt::Debug for RangeVotes {
-    fn fmt<W: fmt::Write>(&self, f: &mut fmt::Formatter<W>) -> fmt::Result {
-        write!(f, "{:?}", self.as_slice())
+        })
     }
 }

@@ -1,20 +1,17 @@
 -- Entries that are open and have a caller.
-use Rattle.std.proofs.Common.{◌⊎◌, inl, inr, Bool, true, false, ◌||◌, ◌++◌, ◌≡◌, ◌≢◌, ◌<◌, ◌+◌, ℕ, zero, suc, List, [], ◌∷◌, length, map, get_or, Some, refl, sym, ◌∙◌, ap, subst, arith}
+use Rattle.std.proofs.Common.{◌≡◌, ◌≢◌, ◌<◌, ◌+◌, ℕ, zero, suc, List, [], ◌∷◌, length, map, get_or, Some, refl, sym, ◌∙◌, ap, subst, arith}
 use Rattle.std.specs.Prelude.{slice_get}
 use Rattle.std.proofs.lemmas.Bool.{cases_eq}
 use Rattle.std.proofs.lemmas.Option.{slice_get_read, get_or_from_slice_get}
 use Rattle.std.proofs.Math.Logic.{⊎_elim}
 use Rattle.std.specs.List.{AllZip}
-use Rattle.std.specs.Prelude.{nat_eq}
-use Rattle.std.proofs.lemmas.Bool.Decides.{nat_tests}
 use Rattle.rp_base.specs.Sets.{Has, IsSet}
-use Rattle.rp_base.proofs.Members.{has_split, has_left, has_right}
 use Rattle.rp_body.specs.Store.{Store, limits_of}
 use Rattle.rp_entry.specs.declared.operations.Entry.{Entry}
 use Rattle.rp_entry.specs.declared.operations.Operations.{Operations}
 use Rattle.rp_entry.specs.declared.state.Waiting.{Waiting}
 use Rattle.rp_entry.specs.Operations.{OperationsFit}
-use Rattle.rp_entry.specs.Queue.{State, IsOpen, IsReady, IsServiced, queue_at, all_calls, empty_queues, tasks_waiting, has_task, is_waiting}
+use Rattle.rp_entry.specs.Queue.{State, IsOpen, IsReady, IsServiced, queue_at, all_calls, empty_queues, tasks_waiting}
 use Rattle.rp_entry.specs.Protected.{Protected, IsShort, IsObject}
 use Rattle.rp_entry.proofs.Acting.{one_item}
 
@@ -80,49 +77,3 @@ first_is_object operations store fits =
 -- the same object in other words
 pub same_serviced : {one other : Protected} → one ≡ other → IsServiced one.operations one.state → IsServiced other.operations other.state
 same_serviced same serviced = subst (λ (o : Protected). IsServiced o.operations o.state) same serviced
-
--- ---- who waits
-
-here_or_later : (a b : Bool) (P Q : Type 0) → ((a ≡ true) → P) → ((b ≡ true) → Q) → (a || b) ≡ true → P ⊎ Q
-here_or_later true b P Q left right holds = inl (left refl)
-here_or_later false b P Q left right holds = inr (right holds)
-
-after_true : (a b : Bool) → b ≡ true → (a || b) ≡ true
-after_true true b holds = refl
-after_true false b holds = holds
-
-in_front_true : (a b : Bool) → a ≡ true → (a || b) ≡ true
-in_front_true true b holds = refl
-in_front_true false b holds = absurd (cc)
-
-task_found : (task : ℕ) (calls : List Waiting) → has_task task calls ≡ true → Has task (map (λ (call : Waiting). call.task) calls)
-task_found task [] holds = absurd (cc)
-task_found task (call ∷ rest) holds = here_or_later (nat_eq call.task task) (has_task task rest) (task ≡ call.task) _ (λ same. grind (arith, nat_tests)) (task_found task rest) holds
-
-task_finds : (task : ℕ) (calls : List Waiting) → Has task (map (λ (call : Waiting). call.task) calls) → has_task task calls ≡ true
-task_finds task [] has = absurd has
-task_finds task (call ∷ rest) (inl is) = in_front_true (nat_eq call.task task) (has_task task rest) (grind (arith, nat_tests))
-task_finds task (call ∷ rest) (inr later) = after_true (nat_eq call.task task) (has_task task rest) (task_finds task rest later)
-
--- the tasks of a queue and of those after it
-tasks_apart : (queue : List Waiting) (queues : List (List Waiting)) → map (λ (call : Waiting). call.task) (queue ++ all_calls queues) ≡ map (λ (call : Waiting). call.task) queue ++ map (λ (call : Waiting). call.task) (all_calls queues)
-tasks_apart [] queues = refl
-tasks_apart (call ∷ rest) queues = ap (λ (l : List ℕ). call.task ∷ l) (tasks_apart rest queues)
-
-pub waits_found : (task : ℕ) (queues : List (List Waiting)) → is_waiting task queues ≡ true → Has task (map (λ (call : Waiting). call.task) (all_calls queues))
-waits_found task [] holds = absurd (cc)
-waits_found task (queue ∷ queues) holds =
-    let here = map (λ (call : Waiting). call.task) queue in
-    let others = map (λ (call : Waiting). call.task) (all_calls queues) in
-    subst (λ (l : List ℕ). Has task l) (sym (tasks_apart queue queues))
-    (elim (here_or_later (has_task task queue) (is_waiting task queues) (Has task here) (Has task others) (task_found task queue) (waits_found task queues) holds) [ inl h ↦ has_left task here others h | inr h ↦ has_right task here others h ])
-
-pub waits_finds : (task : ℕ) (queues : List (List Waiting)) → Has task (map (λ (call : Waiting). call.task) (all_calls queues)) → is_waiting task queues ≡ true
-waits_finds task [] has = absurd has
-waits_finds task (queue ∷ queues) has =
-    let here = map (λ (call : Waiting). call.task) queue in
-    let others = map (λ (call : Waiting). call.task) (all_calls queues) in
-    elim (has_split task here others (subst (λ (l : List ℕ). Has task l) (tasks_apart queue queues) has)) [
-      | inl h ↦ in_front_true (has_task task queue) (is_waiting task queues) (task_finds task queue h)
-      | inr h ↦ after_true (has_task task queue) (is_waiting task queues) (waits_finds task queues h)
-    ]

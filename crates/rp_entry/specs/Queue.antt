@@ -1,9 +1,8 @@
 -- The state of a protected object: its components, and a queue for each of its entries (Ada Reference Manual, section
 -- 9.5.3).
-use Rattle.std.specs.Prelude.{◌≡◌, ℕ, nat_eq, Bool, ℤ, IsTrue, Some, List, [], ◌∷◌, map, flat_map, slice_get}
+use Rattle.std.specs.Prelude.{◌≡◌, ℕ, ℤ, IsTrue, Some, List, [], ◌∷◌, map, flat_map, slice_get}
 use Rattle.std.specs.Prelude.{slice_index_or, refl}
 use Rattle.std.specs.Coded.{Coded, code_by, coded×, coded_ℕ, coded_ℤ, coded_list}
-use Rattle.std.specs.List.{list_any}
 use Rattle.rp_body.specs.Store.{Store, store_code, bool_value}
 use Rattle.rp_entry.specs.declared.operations.Entry.{Entry}
 use Rattle.rp_entry.specs.declared.operations.Operations.{Operations}
@@ -40,13 +39,6 @@ all_calls queues = flat_map (λ queue. queue) queues
 
 abbrev pub tasks_waiting : State → List ℕ
 tasks_waiting state = map (λ (call : Waiting). call.task) (all_calls state.queues)
-
--- a call of the task is among these, and at one of the entries
-abbrev pub has_task : ℕ → List Waiting → Bool
-has_task task calls = list_any (λ call. nat_eq call.task task) calls
-
-abbrev pub is_waiting : ℕ → List (List Waiting) → Bool
-is_waiting task queues = list_any (has_task task) queues
 
 -- an entry is open where its barrier is True, and else closed
 abbrev pub IsOpen : Entry → Store → Type 0

@@ -1,6 +1,6 @@
 //! A protected object.
 
-ghost use Rattle.std.specs.Prelude.{◌≡◌, ◌↔◌, IsTrue, [], Some, None, SomeIff, IfOk};
+ghost use Rattle.std.specs.Prelude.{◌≡◌, [], Some, None, SomeIff, IfOk};
 ghost use Rattle.std.specs.Arc.{arc_value};
 ghost use Rattle.rp_body.specs.Store.{limits_of};
 ghost use Rattle.rp_entry.specs.Operations.{OperationsFit};
@@ -80,14 +80,6 @@ impl Object {
         ensures { result.now ≡ self.now.state.queues }
     {
         self.state.queues()
-    }
-
-    /// Whether a call of the task waits at one of the entries, so that `entry` may not be called for
-    /// it.
-    pub fn is_waiting(&self, task: TaskId) -> bool
-        ensures { IsTrue result ↔ Has task (tasks_waiting self.now.state) }
-    {
-        self.state.is_waiting(task)
     }
 
     /// Calls the function of this index, counted from 1: its value, or Constraint_Error where the

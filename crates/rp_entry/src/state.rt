@@ -4,7 +4,7 @@ ghost use Rattle.std.specs.Prelude.{ℕ, ◌≡◌, ◌≢◌, ◌↔◌, ◌≤
 ghost use Rattle.rp_body.specs.Store.{limits_of};
 ghost use Rattle.rp_body.specs.Check.{KeepsLimits};
 ghost use Rattle.rp_entry.specs.Operations.{OperationsFit, longest_queue};
-ghost use Rattle.rp_entry.specs.Queue.{IsOpen, IsReady, IsServiced, queue_at, empty_queues, has_task, is_waiting};
+ghost use Rattle.rp_entry.specs.Queue.{IsOpen, IsReady, IsServiced, queue_at, empty_queues};
 ghost use Rattle.rp_entry.specs.Protected.{HasQueues};
 ghost use Rattle.rp_entry.specs.Replies.{reply_of};
 ghost use Rattle.rp_entry.specs.Servicing.{Serves, Services};
@@ -115,13 +115,6 @@ impl Queue {
         self.calls.get(place).copied()
     }
 
-    /// Whether a call of the task waits.
-    fn has_task(&self, task: TaskId) -> bool
-        ensures { result ≡ has_task task self.now }
-    {
-        self.calls.iter().any(|call| call.task == task)
-    }
-
     /// Puts a call after the others.
     fn push(&mut self, call: Waiting)
         requires { length self.old < longest_queue }
@@ -181,13 +174,6 @@ impl State {
         ensures { result.now ≡ self.now.queues }
     {
         &self.queues
-    }
-
-    /// Whether a call of the task waits at one of the entries.
-    pub fn is_waiting(&self, task: TaskId) -> bool
-        ensures { result ≡ is_waiting task self.now.queues }
-    {
-        self.queues.iter().any(|queue| queue.has_task(task))
     }
 
     /// Whether the entry is open.

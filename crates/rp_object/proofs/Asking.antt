@@ -7,7 +7,7 @@ use Rattle.std.proofs.lemmas.List.Elements.{recursion_from_All}
 use Rattle.std.proofs.lemmas.Option.{slice_get_read}
 use Rattle.rp_base.specs.Number.{IsTask}
 use Rattle.rp_base.specs.Sets.{Has, IsSet}
-use Rattle.rp_base.proofs.Members.{mapped_has, has_mapped, has_split, has_left, has_right}
+use Rattle.rp_base.proofs.Members.{mapped_has, has_left, has_right}
 use Rattle.rp_base.specs.declared.action.Action.TheVariants.{Call}
 use Rattle.rp_base.specs.declared.action.Operation.{Operation}
 use Rattle.rp_base.specs.declared.reply.Answer.{Answer}
@@ -218,22 +218,3 @@ task_among objects place object task below read has = among_them objects place (
       subst (λ (l : List ℕ). Has task l) (sym (map_append (λ (call : CallName). call.task) (waiting_at one) (flat_map waiting_at rest))) (has_left task (tasks_of (waiting_at one)) (tasks_at rest) here)
   among_them (one ∷ rest) (suc i) there =
       subst (λ (l : List ℕ). Has task l) (sym (map_append (λ (call : CallName). call.task) (waiting_at one) (flat_map waiting_at rest))) (has_right task (tasks_of (waiting_at one)) (tasks_at rest) (among_them rest i there))
-
-none_at : (rest : List Protected) (one : Protected) (task : ℕ) → ¬ Has task (tasks_waiting one.state) → ¬ Has task (tasks_at rest) → ¬ Has task (tasks_at (one ∷ rest))
-none_at rest one task here others has =
-    elim (has_split task (tasks_of (waiting_at one)) (tasks_at rest) (subst (λ (l : List ℕ). Has task l) (map_append (λ (call : CallName). call.task) (waiting_at one) (flat_map waiting_at rest)) has)) [
-      | inl h ↦ here (subst (λ (l : List ℕ). Has task l) (tasks_named (all_calls one.state.queues)) h)
-      | inr h ↦ others h
-    ]
-
--- a task that waits at no object waits at none of all
-pub none_among : (objects : List Protected) (task : ℕ) → ((k : ℕ) → k < length objects → (d : Protected) → ¬ Has task (tasks_waiting (get_or objects k d).state)) → ¬ Has task (tasks_at objects)
-none_among [] task none has = absurd has
-none_among (one ∷ rest) task none has = none_at rest one task (none 0 (omega arith) one) (none_among rest task (λ k below d. none (suc k) (omega (arith, below)) d)) has
-
--- where the action's own task waits nowhere, it may be applied
-pub may_call : (waiting : List CallName) (task number object : ℕ) (operation : Operation) (arg : ℤ) → ¬ Has task (tasks_of waiting) → MayApply waiting (Call task number object operation arg)
-may_call waiting task number object operation arg free own other mine theirs same = elim mine [
-  | inl is ↦ free (subst (λ (t : ℕ). Has t (tasks_of waiting)) (sym same ∙ ap (λ (call : CallName). call.task) is) (has_mapped (λ (call : CallName). call.task) other waiting theirs))
-  | inr none ↦ absurd none
-]

@@ -1,6 +1,6 @@
 //! A program that runs.
 
-ghost use Rattle.std.specs.Prelude.{◌≡◌, ◌↔◌, ◌≤◌, max, IsTrue, Some, None, IfSome, IfNone, IfOk, map, List, [], ◌∷◌, ◌++◌, ◌+◌, length, option_to_list};
+ghost use Rattle.std.specs.Prelude.{◌≡◌, ◌≤◌, max, IsTrue, Some, None, IfSome, IfNone, IfOk, map, List, [], ◌∷◌, ◌++◌, ◌+◌, length, option_to_list};
 ghost use Rattle.rp_base.specs.declared.reply.Answer.{Answer};
 ghost use Rattle.rp_entry.specs.Actions.{calls_function, calls_procedure, calls_entry, event};
 ghost use Rattle.rp_base.specs.Sets.{Has};
@@ -66,28 +66,6 @@ impl Objects {
             timers,
             clock: 0,
         })
-    }
-
-    /// Whether no call of the action's task waits, so that `apply` may be called.
-    pub fn may_apply(&self, action: &Action) -> bool
-        ensures { IsTrue result ↔ MayApply (objects_waiting self.now) action.now }
-    {
-        match *action {
-            Action::Call { task, .. } => !self.is_waiting(task),
-            Action::Noop | Action::Interrupt { .. } | Action::Tick { .. } => true,
-        }
-    }
-
-    /// Whether a call of the task waits at one of the objects.
-    fn is_waiting(&self, task: TaskId) -> bool
-        ensures { IsTrue result ↔ Has task (tasks_waiting self.now) }
-    {
-        for object in &self.objects {
-            if object.is_waiting(task) {
-                return true;
-            }
-        }
-        false
     }
 
     /// Applies an action, and gives the answers that result: the caller's, and then those of the

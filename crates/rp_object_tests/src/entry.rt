@@ -1,7 +1,11 @@
+ghost use Rattle.std.specs.Prelude.{IsTrue, map};
+ghost use Rattle.rp_base.specs.Sets.{Has};
+ghost use Rattle.rp_entry.specs.Queue.{tasks_waiting};
+
 use crate::building::{
     add, and, components, expect_answers, expect_at, expect_eq, number_in, one, task_of, two,
 };
-use rp_base::Reply;
+use rp_base::{Reply, TaskId};
 use rp_body::{Cond, Expr, Ranged, Stmt};
 use rp_entry::*;
 use std::alloc::Global;
@@ -111,12 +115,34 @@ type Step<'a> = (
     (i64, bool),
 );
 
+/// Whether a call of the task waits in the queue.
+fn has_task(queue: &Queue, task: TaskId) -> bool
+    ensures { Has task (map (λ call. call.task) queue.now) → IsTrue result }
+{
+    for place in 0..queue.len() {
+        if queue.get(place).is_some_and(|call| call.task == task) {
+            return true;
+        }
+    }
+    false
+}
+
+/// Whether a call of the task waits at one of the entries.
+fn is_waiting(object: &Object, task: TaskId) -> bool
+    ensures { Has task (tasks_waiting object.now.state) → IsTrue result }
+{
+    for queue in object.queues() {
+        if has_task(queue, task) {
+            return true;
+        }
+    }
+    false
+}
+
 /// Calls an entry for a task that does not wait.
 fn enter(rt: &impl Abort, object: &mut Object, index: u8, task: u8, arg: i64) -> Done {
     let task = task_of(rt, task);
-    if object.is_waiting(task) {
-        panic!(rt; "a task that waits");
-    }
+    assert!(rt; !is_waiting(object, task), "a task that waits");
     object.entry(index, task, 1, arg)
 }
 
@@ -161,9 +187,6 @@ fn waiting_at(gate: &Object, place: usize) -> Option<(u8, u8, i64)> {
 fn expect_waiting(rt: &impl Abort, gate: &Object, expected: &[(u8, u8, i64)]) {
     for place in 0..8 {
         expect_eq(rt, waiting_at(gate, place), expected.get(place).copied());
-    }
-    for (_, task, _) in expected {
-        expect_eq(rt, gate.is_waiting(task_of(rt, *task)), true);
     }
 }
 

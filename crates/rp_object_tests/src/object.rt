@@ -4,7 +4,7 @@ use crate::building::{
 use rp_base::{Action, Answers, Operation, Reply};
 use rp_body::{Cond, Expr, Ranged, Stmt};
 use rp_entry::{Entry, Operations};
-use rp_machine::{Machine, Numbered};
+use rp_machine::Numbered;
 use rp_object::*;
 use std::alloc::Global;
 use std::process::Abort;
@@ -132,8 +132,8 @@ fn program(rt: &impl Abort, alloc: Global) -> Program {
     Program::new(shared(rt, alloc, declarations(rt, alloc))).expect(rt, "a program")
 }
 
-fn started(rt: &impl Abort, alloc: Global) -> Objects {
-    Objects::start(alloc, &program(rt, alloc)).expect(rt, "memory for the objects")
+fn log_of(rt: &impl Abort, alloc: Global) -> Numbered<Objects> {
+    Numbered::new(alloc, &program(rt, alloc)).expect(rt, "memory for the objects")
 }
 
 /// What happens to the objects.
@@ -167,32 +167,28 @@ fn action_of(rt: &impl Abort, input: Input) -> Action {
 /// What happens, and the answers: each by its task, the number of its call and its reply.
 type Step<'a> = (Input, &'a [(u8, u32, Reply)]);
 
-/// Applies an action whose task does not wait.
-fn applied(rt: &impl Abort, objects: &mut Objects, action: &Action) -> Answers {
-    if !objects.may_apply(action) {
-        panic!(rt; "a task that waits");
-    }
-    objects.apply(action)
-}
-
-fn expect_step(rt: &impl Abort, objects: &mut Objects, step: &Step) {
+/// Takes a step in a log, which has the answers of the step.
+fn expect_step(rt: &impl Abort, log: &mut Numbered<Objects>, step: &Step) {
     let (input, expected) = *step;
-    let answers = applied(rt, objects, &action_of(rt, input));
+    let action = action_of(rt, input);
+    assert!(rt; action.is_right());
+    let mut answers = Answers::new();
+    log.apply(&action, &mut answers);
     expect_answers(rt, &answers, expected);
 }
 
-fn expect_steps(rt: &impl Abort, objects: &mut Objects, steps: &[Step]) {
+fn expect_steps(rt: &impl Abort, log: &mut Numbered<Objects>, steps: &[Step]) {
     for step in steps {
-        expect_step(rt, objects, step);
+        expect_step(rt, log, step);
     }
 }
 
-/// The objects take these steps, after which the image is this text, and then more steps.
+/// A log takes these steps, after which this text shows its machine, and then more steps.
 fn expect_story(rt: &impl Abort, alloc: Global, steps: &[Step], image: &str, more: &[Step]) {
-    let mut objects = started(rt, alloc);
-    expect_steps(rt, &mut objects, steps);
-    expect_image(rt, alloc, &objects, image);
-    expect_steps(rt, &mut objects, more);
+    let mut log = log_of(rt, alloc);
+    expect_steps(rt, &mut log, steps);
+    expect_image(rt, alloc, log.machine(), image);
+    expect_steps(rt, &mut log, more);
 }
 
 const DONE: Reply = Reply::Value(0);
@@ -259,36 +255,36 @@ static FIRST_CALLS: [Step<'static>; 11] = [
         &[(ABOVE, 1, Reply::ProgramError)],
     ),
     (
-        Input::Call(ABOVE, 1, GATE, Operation::Procedure(2), 0),
-        &[(ABOVE, 1, ABSENT)],
+        Input::Call(ABOVE, 2, GATE, Operation::Procedure(2), 0),
+        &[(ABOVE, 2, ABSENT)],
     ),
     (
-        Input::Call(ABOVE, 1, GATE, Operation::Function(1), 0),
-        &[(ABOVE, 1, ABSENT)],
+        Input::Call(ABOVE, 3, GATE, Operation::Function(1), 0),
+        &[(ABOVE, 3, ABSENT)],
     ),
     (
-        Input::Call(ABOVE, 1, BOX, Operation::Procedure(1), 0),
-        &[(ABOVE, 1, DONE)],
+        Input::Call(ABOVE, 4, BOX, Operation::Procedure(1), 0),
+        &[(ABOVE, 4, DONE)],
     ),
     (
-        Input::Call(ABOVE, 1, GATE, Operation::Entry(2), 0),
-        &[(ABOVE, 1, ABSENT)],
+        Input::Call(ABOVE, 5, GATE, Operation::Entry(2), 0),
+        &[(ABOVE, 5, ABSENT)],
     ),
     (
-        Input::Call(ABOVE, 1, BOX, Operation::Entry(1), 0),
-        &[(ABOVE, 1, ABSENT)],
+        Input::Call(ABOVE, 6, BOX, Operation::Entry(1), 0),
+        &[(ABOVE, 6, ABSENT)],
     ),
     (
-        Input::Call(ABOVE, 1, GATE, Operation::SetTimer(1), 0),
-        &[(ABOVE, 1, ABSENT)],
+        Input::Call(ABOVE, 7, GATE, Operation::SetTimer(1), 0),
+        &[(ABOVE, 7, ABSENT)],
     ),
     (
-        Input::Call(ABOVE, 1, BOX, Operation::SetTimer(3), 0),
-        &[(ABOVE, 1, ABSENT)],
+        Input::Call(ABOVE, 8, BOX, Operation::SetTimer(3), 0),
+        &[(ABOVE, 8, ABSENT)],
     ),
     (
-        Input::Call(ABOVE, 1, 3, Operation::Procedure(1), 0),
-        &[(ABOVE, 1, ABSENT)],
+        Input::Call(ABOVE, 9, 3, Operation::Procedure(1), 0),
+        &[(ABOVE, 9, ABSENT)],
     ),
     (
         Input::Call(UNDECLARED, 1, BOX, Operation::Procedure(1), 0),
@@ -307,47 +303,24 @@ fn what_is_not_declared_is_refused_before_the_ceiling(rt: HostRuntime) {
     expect_story(&rt, rt.alloc(), &FIRST_CALLS, image, &[]);
 }
 
-/// An action in a log has these answers.
-fn expect_logged<M: Machine>(
-    rt: &impl Abort,
-    log: &mut Numbered<M>,
-    action: &Action,
-    expected: &[(u8, u32, Reply)],
-) {
-    assert!(rt; action.is_right());
-    let mut answers = Answers::new();
-    log.apply(action, &mut answers);
-    expect_answers(rt, &answers, expected);
-}
-
 /// A task waits or not, and the last of its calls that counted has this number and keeps this reply.
 type Caller = (bool, u32, Option<Reply>);
 
 /// Task 1 is such a caller.
-fn expect_caller<M: Machine>(rt: &impl Abort, log: &Numbered<M>, caller: Caller) {
+fn expect_caller(rt: &impl Abort, log: &Numbered<Objects>, caller: Caller) {
     let task = task_of(rt, EQUAL);
     let last = log.last(task);
     expect_eq(rt, (log.waits(task), last, log.kept(task, last)), caller);
 }
 
 /// A log takes these steps, after each of which task 1 is such a caller. Then this text shows its machine.
-fn expect_log<M: Machine>(
-    rt: &impl Abort,
-    alloc: Global,
-    log: Numbered<M>,
-    steps: &[(Step, Caller)],
-    image: &str,
-) {
-    let mut log = log;
-    for ((input, answers), caller) in steps {
-        expect_logged(rt, &mut log, &action_of(rt, *input), answers);
+fn expect_log(rt: &impl Abort, alloc: Global, steps: &[(Step, Caller)], image: &str) {
+    let mut log = log_of(rt, alloc);
+    for (step, caller) in steps {
+        expect_step(rt, &mut log, step);
         expect_caller(rt, &log, *caller);
     }
     expect_image(rt, alloc, log.machine(), image);
-}
-
-fn log_of(rt: &impl Abort, alloc: Global) -> Numbered<Objects> {
-    Numbered::new(alloc, &program(rt, alloc)).expect(rt, "memory for the objects")
 }
 
 const PASSES: Input = Input::Call(EQUAL, 1, GATE, Operation::Entry(1), 0);
@@ -373,6 +346,5 @@ static SERVED_IN_A_LOG: [(Step<'static>, Caller); 6] = [
 fn a_caller_that_waits_in_a_log_is_served_by_another_call(rt: HostRuntime) {
     let image =
         "object box n=1\nobject gate up=false queue none\nclock 0\ntimer x off\ntimer y off\n";
-    let log = log_of(&rt, rt.alloc());
-    expect_log(&rt, rt.alloc(), log, &SERVED_IN_A_LOG, image);
+    expect_log(&rt, rt.alloc(), &SERVED_IN_A_LOG, image);
 }

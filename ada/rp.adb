@@ -36,24 +36,22 @@ package body RP is
          What   : in out Found) return Status
         with Import, Convention => C, External_Name => "rp_node_open";
 
-      function Node_Call
-        (Handle  : in out Node;
+      --  A call by the handle at this address, of a node or a task.
+      function Handle_Call
+        (Kind    : Byte;
+         Handle  : System.Address;
          Request : System.Address;
          Count   : Interfaces.C.size_t;
          Answer  : System.Address;
          Size    : Interfaces.C.size_t;
          Length  : in out Lengths) return Status
-        with Import, Convention => C, External_Name => "rp_node_call";
-
-      function Task_Call
-        (Handle  : in out Task_Stub;
-         Request : System.Address;
-         Count   : Interfaces.C.size_t;
-         Answer  : System.Address;
-         Size    : Interfaces.C.size_t;
-         Length  : in out Lengths) return Status
-        with Import, Convention => C, External_Name => "rp_task_call";
+        with Import, Convention => C, External_Name => "rp_handle_call";
    end Library;
+
+   --  Which of the two a handle keeps.
+
+   Node_Handle : constant Byte := 1;
+   Task_Handle : constant Byte := 2;
 
    None : aliased Byte := 0;
 
@@ -100,6 +98,18 @@ package body RP is
      (if Is_Null (Deck, Count) or else Is_Null (Device, Held) then Null_Pointer
       else Library.Node_Open (Place (Deck), Count, Number, Place (Device), Held, Handle, What));
 
+   --  The call of both kinds, unless an address is null.
+   function Handle_Call
+     (Kind    : Byte;
+      Handle  : System.Address;
+      Request : System.Address;
+      Count   : Interfaces.C.size_t;
+      Answer  : System.Address;
+      Size    : Interfaces.C.size_t;
+      Length  : in out Lengths) return Status is
+     (if Is_Null (Request, Count) or else Is_Null (Answer, Size) then Null_Pointer
+      else Library.Handle_Call (Kind, Handle, Place (Request), Count, Place (Answer), Size, Length));
+
    function Node_Call
      (Handle  : in out Node;
       Request : System.Address;
@@ -107,8 +117,7 @@ package body RP is
       Answer  : System.Address;
       Size    : Interfaces.C.size_t;
       Length  : in out Lengths) return Status is
-     (if Is_Null (Request, Count) or else Is_Null (Answer, Size) then Null_Pointer
-      else Library.Node_Call (Handle, Place (Request), Count, Place (Answer), Size, Length));
+     (Handle_Call (Node_Handle, Handle'Address, Request, Count, Answer, Size, Length));
 
    function Task_Call
      (Handle  : in out Task_Stub;
@@ -117,6 +126,5 @@ package body RP is
       Answer  : System.Address;
       Size    : Interfaces.C.size_t;
       Length  : in out Lengths) return Status is
-     (if Is_Null (Request, Count) or else Is_Null (Answer, Size) then Null_Pointer
-      else Library.Task_Call (Handle, Place (Request), Count, Place (Answer), Size, Length));
+     (Handle_Call (Task_Handle, Handle'Address, Request, Count, Answer, Size, Length));
 end RP;

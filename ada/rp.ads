@@ -170,7 +170,7 @@ package RP is
    --  Wrong_Handle, Bad_Request, Bad_Packet, Ballots_Spent, Log_Full, Out_Of_Memory: nothing has changed.
 
    procedure Node_Close (Handle : in out Node)
-     with Import, Convention => C, External_Name => "rp_node_close";
+     with Import, Convention => C, External_Name => "rp_handle_close";
    --  Stops a node: the handle is closed, and what the node knew besides its device is gone. A closed
    --  handle stays closed.
 
@@ -227,7 +227,7 @@ package RP is
    --  Wrong_Handle, Bad_Request, Task_Busy, Numbers_Spent, Bad_Packet, Out_Of_Memory: nothing has changed.
 
    procedure Task_Close (Handle : in out Task_Stub)
-     with Import, Convention => C, External_Name => "rp_task_close";
+     with Import, Convention => C, External_Name => "rp_handle_close";
    --  Gives a task's stub back: the handle is closed. A closed handle stays closed.
 
 private

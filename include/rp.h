@@ -4,8 +4,8 @@
  * Two threads may be in two calls at once, but not with one handle.
  *
  * A null pointer is refused by RP_NULL, and nothing has changed; rp_node_close and rp_task_close do
- * nothing then. Bytes of which there are none, and a buffer of no bytes, may be null. The functions at the
- * end of this header look for that before they call the library's, of the same names: those take no null.
+ * nothing then. Bytes of which there are none, and a buffer of no bytes, may be null. The inline functions
+ * of this header look for that before they call the library's, which take no null.
  *
  * What a caller owes, for every call:
  * - A pointer that is not null is that of as many bytes as are passed with it, or of one value.
@@ -93,6 +93,45 @@ typedef struct rp_lengths {
  * RP_TASK_PARTY + t. */
 enum rp_party { RP_TASK_PARTY = 16, RP_AUDIT_PARTY = 32 };
 
+/* Where bytes are: also where there are none, an address that is not null. */
+static inline const uint8_t *rp_bytes_at(const uint8_t *bytes, size_t count) {
+  static const uint8_t none = 0;
+  return bytes == NULL && count == 0 ? &none : bytes;
+}
+
+static inline uint8_t *rp_buffer_at(uint8_t *buffer, size_t size) {
+  static uint8_t none = 0;
+  return buffer == NULL && size == 0 ? &none : buffer;
+}
+
+/* Which of the two a handle keeps. */
+enum rp_handle_kind { RP_NODE_HANDLE = 1, RP_TASK_HANDLE = 2 };
+
+/* The library's functions for both kinds, of which rp_node_call, rp_task_call, rp_node_close and
+ * rp_task_close are made. A `kind` that is none of rp_handle_kind is refused by RP_WRONG_HANDLE. */
+uint8_t rp_handle_call(uint8_t kind, void *handle, const uint8_t *request, size_t count, uint8_t *answer,
+                       size_t size, rp_lengths *lengths);
+
+void rp_handle_close(void *handle);
+
+/* The same, unless a pointer is null. */
+static inline uint8_t rp_handle_call_guarded(uint8_t kind, void *handle, const uint8_t *request,
+                                             size_t count, uint8_t *answer, size_t size,
+                                             rp_lengths *lengths) {
+  request = rp_bytes_at(request, count);
+  answer = rp_buffer_at(answer, size);
+  if (handle == NULL || request == NULL || answer == NULL || lengths == NULL) {
+    return RP_NULL;
+  }
+  return rp_handle_call(kind, handle, request, count, answer, size, lengths);
+}
+
+static inline void rp_handle_close_guarded(void *handle) {
+  if (handle != NULL) {
+    rp_handle_close(handle);
+  }
+}
+
 /* ---- A node, which runs over a copy of its device
  *
  * The caller keeps the device, a run of bytes that survives a stop. What the caller owes:
@@ -150,12 +189,14 @@ uint8_t rp_node_open(const uint8_t *deck, size_t count, uint8_t number, const ui
  *   RP_NODE_LAST gives it into a longer buffer. No step is known to need that.
  * RP_WRONG_HANDLE, RP_BAD_REQUEST, RP_BAD_PACKET, RP_BALLOTS_SPENT, RP_LOG_FULL, RP_OUT_OF_MEMORY:
  *   nothing has changed. */
-uint8_t rp_node_call(rp_node *node, const uint8_t *request, size_t count, uint8_t *answer, size_t size,
-                     rp_lengths *lengths);
+static inline uint8_t rp_node_call(rp_node *node, const uint8_t *request, size_t count, uint8_t *answer,
+                                   size_t size, rp_lengths *lengths) {
+  return rp_handle_call_guarded(RP_NODE_HANDLE, node, request, count, answer, size, lengths);
+}
 
 /* Stops a node: the handle is closed, and what the node knew besides its device is gone. A closed handle
  * stays closed. */
-void rp_node_close(rp_node *node);
+static inline void rp_node_close(rp_node *node) { rp_handle_close_guarded(node); }
 
 /* ---- A task's stub
  *
@@ -201,26 +242,17 @@ uint8_t rp_task_open(uint8_t number, rp_task *task);
  * RP_SHORT_ANSWER: the buffer has fewer than RP_TASK_BYTES bytes; nothing but lengths->used is written.
  * RP_WRONG_HANDLE, RP_BAD_REQUEST, RP_TASK_BUSY, RP_NUMBERS_SPENT, RP_BAD_PACKET, RP_OUT_OF_MEMORY:
  *   nothing has changed. */
-uint8_t rp_task_call(rp_task *task, const uint8_t *request, size_t count, uint8_t *answer, size_t size,
-                     rp_lengths *lengths);
+static inline uint8_t rp_task_call(rp_task *task, const uint8_t *request, size_t count, uint8_t *answer,
+                                   size_t size, rp_lengths *lengths) {
+  return rp_handle_call_guarded(RP_TASK_HANDLE, task, request, count, answer, size, lengths);
+}
 
 /* Gives a task's stub back: the handle is closed. A closed handle stays closed. */
-void rp_task_close(rp_task *task);
+static inline void rp_task_close(rp_task *task) { rp_handle_close_guarded(task); }
 
 /* ---- Null pointers
  *
  * What a caller of this header calls: the function of the library, unless a pointer is null. */
-
-/* Where bytes are: also where there are none, an address that is not null. */
-static inline const uint8_t *rp_bytes_at(const uint8_t *bytes, size_t count) {
-  static const uint8_t none = 0;
-  return bytes == NULL && count == 0 ? &none : bytes;
-}
-
-static inline uint8_t *rp_buffer_at(uint8_t *buffer, size_t size) {
-  static uint8_t none = 0;
-  return buffer == NULL && size == 0 ? &none : buffer;
-}
 
 static inline uint8_t rp_packet_length_guarded(const uint8_t *bytes, size_t count, size_t *length) {
   bytes = rp_bytes_at(bytes, count);
@@ -259,22 +291,6 @@ static inline uint8_t rp_node_open_guarded(const uint8_t *deck, size_t count, ui
   return rp_node_open(deck, count, number, device, held, node, found);
 }
 
-static inline uint8_t rp_node_call_guarded(rp_node *node, const uint8_t *request, size_t count,
-                                           uint8_t *answer, size_t size, rp_lengths *lengths) {
-  request = rp_bytes_at(request, count);
-  answer = rp_buffer_at(answer, size);
-  if (node == NULL || request == NULL || answer == NULL || lengths == NULL) {
-    return RP_NULL;
-  }
-  return rp_node_call(node, request, count, answer, size, lengths);
-}
-
-static inline void rp_node_close_guarded(rp_node *node) {
-  if (node != NULL) {
-    rp_node_close(node);
-  }
-}
-
 static inline uint8_t rp_task_open_guarded(uint8_t number, rp_task *task) {
   if (task == NULL) {
     return RP_NULL;
@@ -282,31 +298,11 @@ static inline uint8_t rp_task_open_guarded(uint8_t number, rp_task *task) {
   return rp_task_open(number, task);
 }
 
-static inline uint8_t rp_task_call_guarded(rp_task *task, const uint8_t *request, size_t count,
-                                           uint8_t *answer, size_t size, rp_lengths *lengths) {
-  request = rp_bytes_at(request, count);
-  answer = rp_buffer_at(answer, size);
-  if (task == NULL || request == NULL || answer == NULL || lengths == NULL) {
-    return RP_NULL;
-  }
-  return rp_task_call(task, request, count, answer, size, lengths);
-}
-
-static inline void rp_task_close_guarded(rp_task *task) {
-  if (task != NULL) {
-    rp_task_close(task);
-  }
-}
-
 #define rp_packet_length rp_packet_length_guarded
 #define rp_packet_check rp_packet_check_guarded
 #define rp_run_deck rp_run_deck_guarded
 #define rp_node_open rp_node_open_guarded
-#define rp_node_call rp_node_call_guarded
-#define rp_node_close rp_node_close_guarded
 #define rp_task_open rp_task_open_guarded
-#define rp_task_call rp_task_call_guarded
-#define rp_task_close rp_task_close_guarded
 
 #ifdef __cplusplus
 }

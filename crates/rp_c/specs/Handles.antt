@@ -2,8 +2,9 @@
 use Rattle.std.specs.Prelude.{◌≡◌, ◌<◌, ◌⊎◌, ℕ, Option, Some, None, Result, Ok, Err, List, length}
 use Rattle.rp_base.specs.declared.fault.Fault.TheVariants as faults
 use Rattle.rp_handles.specs.DeckNodes.{OpensNoNode}
-use Rattle.rp_handles.specs.Handles.{IsNoTask, KeepsNode, KeepsTask}
+use Rattle.rp_handles.specs.Handles.{HandleAnswers, IsNoTask, KeepsNode, KeepsTask}
 use Rattle.rp_handles.specs.declared.actor.Actor.{Actor}
+use Rattle.rp_handles.specs.declared.actor.ActorKind.{ActorKind}
 use Rattle.rp_handles.specs.declared.calls.Found.{Found}
 use Rattle.rp_requests.specs.Refusals.{refusal_code}
 use Rattle.rp_requests.specs.declared.buffer.Lengths.{Lengths}
@@ -32,6 +33,12 @@ OpensByHandle text number bytes old new before found (Some refusal) =
 abbrev pub TaskByHandle : ℕ → Option Actor → Option Actor → Option Refusal → Type 0
 TaskByHandle number old new None = KeepsTask number new
 TaskByHandle number old new (Some refusal) = (new ≡ old) × IsNoTask number refusal
+
+-- The answer to a request by a handle to an actor of this kind; none if there is no such kind: then nothing changed.
+abbrev pub CallByHandle : Option ActorKind → List ℕ → Option Actor → Option Actor → List ℕ → List ℕ
+    → Option (Result Lengths Refusal) → Type 0
+CallByHandle (Some kind) request old new before after ended = HandleAnswers kind request old new before after ended
+CallByHandle None request old new before after ended = (ended ≡ None) × (new ≡ old) × (after ≡ before)
 
 -- the number of an answer: 0, that of the refusal, or 68 if the handle keeps none of that kind
 abbrev pub answer_code : Option (Result Lengths Refusal) → ℕ

@@ -6,12 +6,14 @@
 //! - `packets`: how long a packet is, and whether bytes are one
 //! - `decks`: runs the script of a deck
 //! - `answer`: how a call by a handle ends, as a number, and what it writes besides
-//! - `nodes`: a node of a deck, by its handle
-//! - `tasks`: a task's stub, by its handle
+//! - `nodes`: a node of a deck is opened by its handle
+//! - `tasks`: a task's stub is opened by its handle
+//! - `handles`: a node or a task is called and closed by its handle
 #![tactic(auto)]
 
 mod answer;
 mod decks;
+mod handles;
 mod nodes;
 mod packets;
 mod status;
@@ -19,6 +21,7 @@ mod tasks;
 
 pub use answer::AnswerLengths;
 pub use decks::rp_run_deck;
-pub use nodes::{rp_node_call, rp_node_close, rp_node_open};
+pub use handles::{rp_handle_call, rp_handle_close};
+pub use nodes::rp_node_open;
 pub use packets::{rp_packet_check, rp_packet_length};
-pub use tasks::{rp_task_call, rp_task_close, rp_task_open};
+pub use tasks::rp_task_open;

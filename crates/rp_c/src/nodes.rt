@@ -1,15 +1,12 @@
-//! A node of a deck, by its handle.
+//! A node of a deck is opened by its handle.
 
-ghost use Rattle.std.specs.Prelude.{◌≡◌, Option, Result, None};
-ghost use Rattle.rp_handles.specs.Handles.{HandleAnswers};
-ghost use Rattle.rp_handles.specs.declared.actor.ActorKind.TheVariants as kinds;
-ghost use Rattle.rp_requests.specs.declared.buffer.Lengths.{Lengths};
+ghost use Rattle.std.specs.Prelude.{◌≡◌, Option};
 ghost use Rattle.rp_requests.specs.declared.refusal.Refusal.{Refusal as RefusalOf};
-ghost use Rattle.rp_c.specs.Handles.{OpensByHandle, WritesLengths, answer_code, opening_code};
+ghost use Rattle.rp_c.specs.Handles.{OpensByHandle, opening_code};
 
-use crate::answer::{AnswerLengths, code_of_answer, code_of_opening, write_lengths};
+use crate::answer::code_of_opening;
 use rp_base::Fault;
-use rp_handles::{ActorKind, Found, Handle, call, close, open_node};
+use rp_handles::{Found, Handle, open_node};
 use rp_requests::Refusal;
 use rp_script::MOST_BYTES;
 use std::alloc::Global;
@@ -68,35 +65,4 @@ fn opened(
         }
         Err(refusal) => Some(refusal),
     }
-}
-
-/// Answers a request to the node of a handle, as `Node::call` of `rp_requests` says. 68 if the handle
-/// is closed or keeps a task: then nothing has changed.
-#[unsafe(no_mangle)]
-pub extern "C" fn rp_node_call(
-    alloc: Global,
-    node: &mut Handle,
-    request: &[u8],
-    answer: &mut [u8],
-    lengths: &mut AnswerLengths,
-) -> u8
-    // claim: A C caller gets the answer of its handle's node, with its lengths, or the number of the
-    //   reason for which there is none; by a handle that keeps no node nothing has changed
-    ensures { (ended : Option (Result Lengths RefusalOf)) × (result ≡ answer_code ended)
-        × HandleAnswers kinds.Node request.now node.old.kept node.new.kept
-        answer.old answer.new ended
-        × WritesLengths ended lengths.old lengths.new }
-{
-    let ended = call(alloc, node, ActorKind::Node, request, answer);
-    write_lengths(&ended, lengths);
-    code_of_answer(&ended)
-}
-
-/// Gives back what a handle keeps: it is closed. A closed handle stays closed.
-#[unsafe(no_mangle)]
-pub extern "C" fn rp_node_close(alloc: Global, node: &mut Handle)
-    // claim: A handle that a C caller closes keeps nothing
-    ensures { node.new.kept ≡ None }
-{
-    close(alloc, node)
 }

@@ -1,14 +1,11 @@
-//! A task's stub, by its handle.
+//! A task's stub is opened by its handle.
 
-ghost use Rattle.std.specs.Prelude.{◌≡◌, Option, Result, None};
-ghost use Rattle.rp_handles.specs.Handles.{HandleAnswers};
-ghost use Rattle.rp_handles.specs.declared.actor.ActorKind.TheVariants as kinds;
-ghost use Rattle.rp_requests.specs.declared.buffer.Lengths.{Lengths};
+ghost use Rattle.std.specs.Prelude.{◌≡◌, Option};
 ghost use Rattle.rp_requests.specs.declared.refusal.Refusal.{Refusal as RefusalOf};
-ghost use Rattle.rp_c.specs.Handles.{TaskByHandle, WritesLengths, answer_code, opening_code};
+ghost use Rattle.rp_c.specs.Handles.{TaskByHandle, opening_code};
 
-use crate::answer::{AnswerLengths, code_of_answer, code_of_opening, write_lengths};
-use rp_handles::{ActorKind, Handle, call, close, open_task};
+use crate::answer::code_of_opening;
+use rp_handles::{Handle, open_task};
 use rp_requests::Refusal;
 use std::alloc::Global;
 
@@ -32,35 +29,4 @@ fn opened(alloc: Global, number: u8, stub: &mut Handle) -> Option<Refusal>
         Ok(()) => None,
         Err(refusal) => Some(refusal),
     }
-}
-
-/// Answers a request to the task of a handle, as `Task::call` of `rp_requests` says. 68 if the handle
-/// is closed or keeps a node: then nothing has changed.
-#[unsafe(no_mangle)]
-pub extern "C" fn rp_task_call(
-    alloc: Global,
-    stub: &mut Handle,
-    request: &[u8],
-    answer: &mut [u8],
-    lengths: &mut AnswerLengths,
-) -> u8
-    // claim: A C caller gets the answer of its handle's task, with its lengths, or the number of the
-    //   reason for which there is none; by a handle that keeps no task nothing has changed
-    ensures { (ended : Option (Result Lengths RefusalOf)) × (result ≡ answer_code ended)
-        × HandleAnswers kinds.Task request.now stub.old.kept stub.new.kept
-        answer.old answer.new ended
-        × WritesLengths ended lengths.old lengths.new }
-{
-    let ended = call(alloc, stub, ActorKind::Task, request, answer);
-    write_lengths(&ended, lengths);
-    code_of_answer(&ended)
-}
-
-/// Gives back what a handle keeps: it is closed. A closed handle stays closed.
-#[unsafe(no_mangle)]
-pub extern "C" fn rp_task_close(alloc: Global, stub: &mut Handle)
-    // claim as rp_node_close
-    ensures { stub.new.kept ≡ None }
-{
-    close(alloc, stub)
 }

@@ -1,5 +1,5 @@
 -- What a handle keeps once it is opened, and what a call by it answers.
-use Rattle.std.specs.Prelude.{◌≡◌, ◌⊎◌, ℕ, Option, Some, None, Result, List}
+use Rattle.std.specs.Prelude.{◌≡◌, ◌⊎◌, ◌==◌, if◌then◌else◌, ℕ, Option, Some, None, Result, List}
 use Rattle.rp_base.specs.declared.fault.Fault.TheVariants as faults
 use Rattle.rp_base.specs.Number.{IsTask}
 use Rattle.rp_object.specs.Step.{objects_next, objects_answers}
@@ -17,6 +17,13 @@ use Rattle.rp_handles.specs.declared.actor.Actor.{Actor}
 use Rattle.rp_handles.specs.declared.actor.Actor.TheVariants.{Node, Task}
 use Rattle.rp_handles.specs.declared.actor.ActorKind.{ActorKind}
 use Rattle.rp_handles.specs.declared.actor.ActorKind.TheVariants as kinds
+
+-- the kind of a number
+abbrev pub kind_of : ℕ → Option ActorKind
+kind_of number =
+    if number == 1 then Some kinds.Node else
+    if number == 2 then Some kinds.Task else
+    None
 
 -- The answer to a request to an actor of this kind; none by one of the other kind, and then nothing changed.
 abbrev pub ActorAnswers : ActorKind → List ℕ → Actor → Actor → List ℕ → List ℕ → Option (Result Lengths Refusal)

@@ -1,6 +1,7 @@
 //! A node or a task, which answers requests.
 
-ghost use Rattle.rp_handles.specs.Handles.{ActorAnswers};
+ghost use Rattle.std.specs.Prelude.{◌≡◌};
+ghost use Rattle.rp_handles.specs.Handles.{ActorAnswers, kind_of};
 
 use rp_object::Objects;
 use rp_requests::{Lengths, Node, Refusal, Task};
@@ -18,6 +19,19 @@ pub enum Actor {
 pub enum ActorKind {
     Node,
     Task,
+}
+
+impl ActorKind {
+    /// The kind of this number, if it is one: 1 is a node, 2 a task.
+    pub fn of(number: u8) -> Option<Self>
+        ensures { result ≡ kind_of number }
+    {
+        match number {
+            1 => Some(ActorKind::Node),
+            2 => Some(ActorKind::Task),
+            _ => None,
+        }
+    }
 }
 
 impl Actor {

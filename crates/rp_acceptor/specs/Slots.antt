@@ -135,8 +135,8 @@ pub record HasMore (before after : List (List Kept)) : Type 0 where
 
 -- ---- the places of a range
 
--- What places hold: the last votes, and the bounds.
-pub record Held : Type 0 where
+-- What is kept at the positions of a range: the last votes, and the bounds.
+pub record VotesAndBounds : Type 0 where
   pub votes : List PlacedVote
   pub bounds : List Bound
 

@@ -26,9 +26,9 @@ pub struct Places<'a> {
 
 impl<'a> Model for Places<'a> {
     ghost use Rattle.std.specs.Prelude.{length, ◌+◌, ◌≤◌, ◌++◌};
-    ghost use Rattle.rp_acceptor.specs.Slots.{Held, votes_from, bounds_from};
+    ghost use Rattle.rp_acceptor.specs.Slots.{VotesAndBounds, votes_from, bounds_from};
 
-    ghost Value = { Held };
+    ghost Value = { VotesAndBounds };
 
     ghost view = { λ p. record {
       votes = votes_from p.range.first p.near.now ++ votes_from (p.range.first + p.split) p.far.now;

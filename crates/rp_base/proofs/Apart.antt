@@ -1,5 +1,5 @@
 -- The proposals that run at a node lie at different positions, with one put in place or taken out.
-use Rattle.std.proofs.Common.{◌≡◌, ℕ, Bool, true, false, List, [], ◌∷◌, ◌++◌, map, ◌⊎◌, inl, inr, sym, ap, subst, refl, ◌∙◌}
+use Rattle.std.proofs.Common.{◌≡◌, ℕ, Bool, true, false, List, [], ◌∷◌, map, ◌⊎◌, inl, inr, sym, ap, subst, refl, ◌∙◌}
 use Rattle.std.specs.Prelude.{nat_eq, not, filter, ◌&&◌, if◌then◌else◌}
 use Rattle.std.proofs.lemmas.Bool.{cases_Bool, cond-true, cond-false, eqb-true, eqb-false}
 use Rattle.rp_base.specs.Sets.{Has, IsSet}

@@ -6,16 +6,16 @@ ghost use Rattle.rp_base.specs.Action.{IsRight, IsRightOperation, is_right_opera
 use crate::number::{MOST_TASKS, TaskId};
 
 /// The most operations of a kind that an object has, entries aside.
-const MOST_OPERATIONS: u8 = 8;
+pub const MOST_OPERATIONS: u8 = 8;
 
 /// The most entries that an object has.
-const MOST_ENTRIES: u8 = 4;
+pub const MOST_ENTRIES: u8 = 4;
 
 /// The most objects that a program has.
-const MOST_OBJECTS: u8 = 8;
+pub const MOST_OBJECTS: u8 = 8;
 
 /// The most sources of interrupts.
-const MOST_SOURCES: u8 = 8;
+pub const MOST_SOURCES: u8 = 8;
 
 /// Which operation of an object is called, by its index from 1 in declared order. A `SetTimer`'s
 /// argument is the time, and its reply is `Value(0)`.

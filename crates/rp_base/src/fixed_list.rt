@@ -47,14 +47,6 @@ impl<T: Copy, const MOST: usize> FixedList<T, MOST> {
         self.len == 0
     }
 
-    /// Whether there are `MOST`, so that `push` may not be called.
-    pub fn is_full(&self) -> bool
-        ensures full { IsTrue result ↔ (length self.now ≡ MOST) }
-        ensures within { length self.now ≤ MOST }
-    {
-        self.len == MOST
-    }
-
     /// No item, in place of those that there are.
     #[inline(always)]
     pub fn clear(&mut self)

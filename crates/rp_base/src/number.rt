@@ -6,10 +6,10 @@ ghost use Rattle.rp_base.specs.Number.{IsUpTo, IsPosition};
 use std::marker::Model;
 
 /// The most nodes that a cluster has.
-pub(crate) const MOST_NODES: u8 = 7;
+pub const MOST_NODES: u8 = 7;
 
 /// The most tasks that a program has.
-pub(crate) const MOST_TASKS: u8 = 8;
+pub const MOST_TASKS: u8 = 8;
 
 /// A number from 1 to `MOST`, which names one of so few.
 #[derive(Clone, Copy, Debug, PartialEq, Eq, PartialOrd, Ord, Hash)]

@@ -7,10 +7,11 @@ use crate::action::Action;
 use crate::ballot::Ballot;
 use crate::fixed_list::FixedList;
 use crate::number::{NodeId, Position};
+use crate::range::MOST_COVERED;
 use crate::record::Vote;
 
 /// The most votes that one promise reports, one for each position of a range.
-const MOST_VOTES: usize = 64;
+const MOST_VOTES: usize = MOST_COVERED as usize;
 
 /// A vote and the position that it is for.
 #[derive(Clone, Copy, Debug, PartialEq, Eq, Hash)]

@@ -9,7 +9,7 @@ use crate::number::Position;
 use std::marker::Model;
 
 /// The most positions that a range has.
-const MOST_COVERED: u8 = 64;
+pub const MOST_COVERED: u8 = 64;
 
 /// Positions that follow one another: 1 to 64, the last at most 65,535. A leader asks once for all
 /// of them (Lamport, "Paxos Made Simple", section 3).

@@ -45,7 +45,7 @@ impl Ranged {
 }
 
 /// The most whole numbers, and the most Booleans, that an object has.
-const MOST_OF_A_KIND: usize = 8;
+pub const MOST_OF_A_KIND: usize = 8;
 
 /// The components of an object: at most 8 whole numbers and at most 8 Booleans, in place. Those of
 /// a kind are named by the numbers from 0 in the order in which they were added.

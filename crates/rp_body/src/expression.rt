@@ -8,7 +8,7 @@ ghost use Rattle.rp_body.specs.Check.{expr_nodes, cond_nodes, expr_names, cond_n
 use crate::components::{Components, Limits};
 
 /// The most nodes that an expression or a condition has.
-const MOST_NODES: u8 = 32;
+pub const MOST_EXPRESSION_NODES: u8 = 32;
 
 /// An expression over whole numbers.
 #[derive(Debug, Drop)]
@@ -77,7 +77,7 @@ impl Expr {
     pub fn fits(&self, limits: &Limits) -> bool
         ensures { result ≡ expr_fits limits.now self.now }
     {
-        self.nodes_left(MOST_NODES).is_some() && self.names(limits)
+        self.nodes_left(MOST_EXPRESSION_NODES).is_some() && self.names(limits)
     }
 
     /// Its exact value.
@@ -135,7 +135,7 @@ impl Cond {
     pub fn fits(&self, limits: &Limits) -> bool
         ensures { result ≡ cond_fits limits.now self.now }
     {
-        self.nodes_left(MOST_NODES).is_some() && self.names(limits)
+        self.nodes_left(MOST_EXPRESSION_NODES).is_some() && self.names(limits)
     }
 
     /// Whether it holds.

@@ -12,7 +12,7 @@ mod expression;
 mod laws;
 mod statement;
 
-pub use components::{Components, Limits, Ranged};
-pub use expression::{Cond, Expr, truth, value};
+pub use components::{Components, Limits, MOST_OF_A_KIND, Ranged};
+pub use expression::{Cond, Expr, MOST_EXPRESSION_NODES, truth, value};
 pub use laws::{bodies_keep_booleans, bodies_keep_ranges};
-pub use statement::{Outcome, Stmt, check, run};
+pub use statement::{MOST_DEPTH, MOST_STATEMENTS, Outcome, Stmt, check, run};

@@ -9,10 +9,10 @@ use crate::components::{Components, Limits};
 use crate::expression::{Cond, Expr, in_64_bits};
 
 /// The most statements that a body has, those inside its `if`s too.
-const MOST_STATEMENTS: u8 = 64;
+pub const MOST_STATEMENTS: u8 = 64;
 
 /// The greatest depth of a body.
-const MOST_DEPTH: u8 = 8;
+pub const MOST_DEPTH: u8 = 8;
 
 /// A statement of a body.
 #[derive(Debug, Drop)]

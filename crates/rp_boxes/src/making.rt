@@ -13,7 +13,7 @@ use crate::node_seat::NodeSeat;
 use crate::task_seat::TaskSeat;
 use atomic_table::{Split, Table};
 use rp_agreement::replies_follow_the_order;
-use rp_base::{Config, Fault, NodeId, TaskId};
+use rp_base::{Config, Fault, MOST_NODES, MOST_TASKS, NodeId, TaskId};
 use rp_machine::Machine;
 use rp_replica::{Opening, Replica};
 use rp_store::Device;
@@ -28,9 +28,7 @@ const WORDS: usize = 272;
 /// How many slots it has: one for each box.
 const SLOTS: usize = 256;
 /// The first actor that is a task.
-const FIRST_TASK: usize = 8;
-/// How many tasks there are.
-const TASKS: u8 = 8;
+const FIRST_TASK: usize = MOST_NODES as usize + 1;
 
 /// The seats of all nodes and tasks, each in order of their numbers, and of the audit.
 #[derive(Drop)]
@@ -252,7 +250,7 @@ impl<M: Machine> Unseated<M> {
         ensures rest { OnOk result (self.new ≡ after_seats 8 self.old) }
     {
         let mut seats = Vec::new(alloc);
-        for number in 1..=TASKS {
+        for number in 1..=MOST_TASKS {
             let task = TaskId::new(number).unwrap();
             seats.push(self.task(alloc, task)?)?;
         }

@@ -31,8 +31,7 @@ fn command<'a>(alloc: Global) -> Result<Command<'a>, AllocError> {
         .arg(hide_self)
 }
 
-/// Reads the words, of which the first is the program's name. An error has the text that the user
-/// is told.
+/// Reads the words, of which the first is the program's name. An error has the text for the user.
 pub fn read_args<S: AsStr>(alloc: Global, words: &[S]) -> Result<View, Error> {
     let matches = command(alloc)?.try_get_matches_from(words)?;
     let position = matches.get_one::<u16>("position").unwrap_or(0);

@@ -12,10 +12,9 @@ use crate::packet::Party;
 use crate::reader::Reader;
 use crate::short_text::ShortText;
 use crate::version::Version;
-use rp_base::{Action, Ballot, Operation, PacketReason, PlacedVote, Position, TaskId, Vote};
-
-/// The greatest index of an entry.
-pub(crate) const MOST_ENTRIES: u8 = 4;
+use rp_base::{
+    Action, Ballot, MOST_ENTRIES, Operation, PacketReason, PlacedVote, Position, TaskId, Vote,
+};
 
 /// 1 to 4; in version 1 it is 0, which means entry 1.
 #[inline(always)]

@@ -9,7 +9,10 @@ ghost use Rattle.rp_codec.specs.Reading.{Gives, byte_at, number_at, signed_at, i
 use crate::reader::Reader;
 use crate::short_text::ShortText;
 use byteorder::{BigEndian, ByteOrder};
-use rp_base::{Ballot, PacketReason, Position, PositionRange};
+use rp_base::{Ballot, MOST_OBJECTS, PacketReason, Position, PositionRange};
+
+/// The greatest index of an object, and as well of an operation of a kind and of a source.
+const MOST_INDEX: u8 = MOST_OBJECTS;
 
 /// The version of the texts that are written, their first byte.
 pub(crate) const VERSION: u8 = 2;
@@ -30,7 +33,7 @@ pub(crate) fn read_index(reader: &mut Reader) -> Result<u8, PacketReason>
     ensures { Gives result reader.new (index_at reader.old) }
 {
     let index = reader.byte()?;
-    if index < 1 || index > 8 {
+    if index < 1 || index > MOST_INDEX {
         return Err(PacketReason::Field);
     }
     Ok(index)

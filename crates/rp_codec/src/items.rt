@@ -36,14 +36,6 @@ impl<T: Copy> Items<T> {
         Items { items }
     }
 
-    /// The items as a vector.
-    pub fn into_vec(self) -> Vec<T>
-        ensures { result.items ≡ self }
-    {
-        let Items { items } = self;
-        items
-    }
-
     /// The items in order.
     pub fn as_slice(&self) -> &[T]
         ensures { result.now ≡ self.now }

@@ -1,6 +1,6 @@
 //! What nodes and tasks say to one another.
 
-ghost use Rattle.std.specs.Prelude.{◌≡◌, ◌↔◌, IsSome, IfSome};
+ghost use Rattle.std.specs.Prelude.{◌≡◌};
 
 use crate::items::{Actions, Votes};
 use crate::rules;
@@ -124,18 +124,6 @@ impl Packet {
         rules::party_in_range(&to);
         rules::body_in_range(&body);
         Packet { from, to, body }
-    }
-
-    /// The packet of this body, or `None` where it breaks the rules.
-    pub fn checked(from: Party, to: Party, body: Body) -> Option<Self>
-        ensures valid { IsSome result ↔ KeepsRules (record { from = from; to = to; body = body }) }
-        ensures value { IfSome result (λ p. p ≡ record { from = from; to = to; body = body }) }
-    {
-        if rules::may_say(&from, &to, &body) {
-            Some(Packet::new(from, to, body))
-        } else {
-            None
-        }
     }
 
     /// Who says it.

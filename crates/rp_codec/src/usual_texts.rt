@@ -13,13 +13,12 @@ ghost use Rattle.rp_codec.specs.declared.packet.Party.TheVariants.{Task};
 ghost use Rattle.rp_codec.specs.Decoding.{IsDecoded};
 ghost use Rattle.rp_codec.specs.Usual.{IsPlace, prepare_at, promise_at, accept_at, accepted_at, decided_of, call_sent, reply_sent};
 
-use crate::action_text::MOST_ENTRIES;
 use crate::fields::VERSION;
 use crate::kind::Kind;
 use crate::packet::Party;
 use crate::party_text::TASK_BASE;
 use crate::rules::is_call_of;
-use rp_base::{Action, Ballot, NodeId, Operation, Position, Reply, TaskId};
+use rp_base::{Action, Ballot, MOST_ENTRIES, NodeId, Operation, Position, Reply, TaskId};
 
 /// From whom a packet is and to whom, and its position and ballot: what is before the action in most
 /// packets between nodes.

@@ -18,7 +18,7 @@ use crate::calls::{read_arm, read_call, read_disarm, read_interrupt, read_tick};
 use crate::deck::{Command, Line, Mode};
 use crate::operands::{read_node, read_position, read_task};
 use crate::verbs::Verb;
-use rp_base::{DeckReason, Fault, Position};
+use rp_base::{DeckReason, Fault, MOST_COVERED, Position};
 use rp_deck_declarations::Declared;
 use rp_model::{Event, Step};
 use rp_words::{Lines, TextLine, Words};
@@ -168,9 +168,6 @@ fn read_lead(words: &mut Words<'_>, nodes: u8) -> Result<Step, DeckReason>
     Ok(Step::Lead { node, position })
 }
 
-/// The most positions that a range has.
-const MOST_COVERED: u64 = 64;
-
 /// Reads the rest of `range NODE FIRST COUNT`.
 #[tactic(auto, unfolding(crate::specs::ScriptLines::range_at))]
 fn read_range(words: &mut Words<'_>, nodes: u8) -> Result<Step, DeckReason>
@@ -182,7 +179,7 @@ fn read_range(words: &mut Words<'_>, nodes: u8) -> Result<Step, DeckReason>
 {
     let node = read_node(words, nodes)?;
     let first = read_position(words)?;
-    let count = words.take_number(1, MOST_COVERED)? as u8;
+    let count = words.take_number(1, u64::from(MOST_COVERED))? as u8;
     Ok(Step::LeadRange { node, first, count })
 }
 

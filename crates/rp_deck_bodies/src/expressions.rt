@@ -12,12 +12,9 @@ ghost use Rattle.rp_words.specs.Words.{begins_as_number, unread};
 
 use crate::names::{Component, ComponentNames};
 use rp_base::DeckReason;
-use rp_body::{Cond, Expr};
+use rp_body::{Cond, Expr, MOST_EXPRESSION_NODES};
 use rp_words::{LineError, Words, named, read_name, read_number};
 use std::alloc::Global;
-
-/// The most nodes of an expression or a condition.
-const MOST_NODES: u8 = 32;
 
 /// The words by which a condition begins, but for a component's name.
 const COND_WORDS: [(&[u8], CondWord); 8] = [
@@ -121,7 +118,7 @@ pub fn read_expr(alloc: Global, words: Words<'_>, names: &ComponentNames) -> Res
         WhereCounted (values names.now) (λ limits. IsTrue (expr_fits limits expr))) }
 {
     let mut nodes = Nodes::new(alloc, words, names);
-    let expr = nodes.expr(MOST_NODES)?;
+    let expr = nodes.expr(MOST_EXPRESSION_NODES)?;
     nodes.words.end()?;
     Ok(expr)
 }
@@ -135,7 +132,7 @@ pub fn read_cond(alloc: Global, words: Words<'_>, names: &ComponentNames) -> Res
         WhereCounted (values names.now) (λ limits. IsTrue (cond_fits limits cond))) }
 {
     let mut nodes = Nodes::new(alloc, words, names);
-    let cond = nodes.cond(MOST_NODES)?;
+    let cond = nodes.cond(MOST_EXPRESSION_NODES)?;
     nodes.words.end()?;
     Ok(cond)
 }
@@ -164,7 +161,7 @@ impl<'w, 'n> Nodes<'w, 'n> {
             alloc,
             words,
             names,
-            left: MOST_NODES,
+            left: MOST_EXPRESSION_NODES,
         }
     }
 
@@ -269,16 +266,16 @@ impl<'w, 'n> Nodes<'w, 'n> {
             Some(CondWord::True) => Ok(Cond::Constant(true)),
             Some(CondWord::False) => Ok(Cond::Constant(false)),
             Some(CondWord::Less) => {
-                let first = self.expr(MOST_NODES)?;
-                Ok(Cond::Less(first, self.expr(MOST_NODES)?))
+                let first = self.expr(MOST_EXPRESSION_NODES)?;
+                Ok(Cond::Less(first, self.expr(MOST_EXPRESSION_NODES)?))
             }
             Some(CondWord::LessOrEqual) => {
-                let first = self.expr(MOST_NODES)?;
-                Ok(Cond::LessOrEqual(first, self.expr(MOST_NODES)?))
+                let first = self.expr(MOST_EXPRESSION_NODES)?;
+                Ok(Cond::LessOrEqual(first, self.expr(MOST_EXPRESSION_NODES)?))
             }
             Some(CondWord::Equal) => {
-                let first = self.expr(MOST_NODES)?;
-                Ok(Cond::Equal(first, self.expr(MOST_NODES)?))
+                let first = self.expr(MOST_EXPRESSION_NODES)?;
+                Ok(Cond::Equal(first, self.expr(MOST_EXPRESSION_NODES)?))
             }
             Some(CondWord::Not) => Ok(Cond::Not(Box::new(alloc, self.cond(depth)?)?)),
             Some(CondWord::And) => {

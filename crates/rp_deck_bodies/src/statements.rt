@@ -18,16 +18,10 @@ ghost use Rattle.rp_words.specs.Words.{unread};
 use crate::expressions::{bool_named, int_named, read_cond, read_expr};
 use crate::names::ComponentNames;
 use rp_base::DeckReason;
-use rp_body::{Cond, Stmt};
+use rp_body::{Cond, MOST_DEPTH, MOST_STATEMENTS, Stmt};
 use rp_words::{LineError, TextLine, Words};
 use std::alloc::{AllocError, Global};
 use std::mem;
-
-/// The most statements of a body, those inside its `if`s too.
-const MOST_STATEMENTS: u8 = 64;
-
-/// The greatest depth of a body.
-const MOST_DEPTH: usize = 8;
 
 /// The first word of a line in a body.
 #[derive(Clone, Copy)]
@@ -197,7 +191,7 @@ impl BodyDraft {
         ensures limits { OnOk result ((declared : List Component) → IsBody declared 0 self.old
             → IsBody declared 1 self.new) }
     {
-        if self.ifs.len() >= MOST_DEPTH {
+        if self.ifs.len() >= usize::from(MOST_DEPTH) {
             return Err(DeckReason::TooMany);
         }
         self.left = self.left.checked_sub(1).ok_or(DeckReason::TooMany)?;

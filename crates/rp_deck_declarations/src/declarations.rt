@@ -15,7 +15,7 @@ use crate::deck_program::{DeckProgram, Task};
 use crate::draft::Draft;
 use crate::program::finish;
 use indexmap::{IndexMap, IndexSet};
-use rp_base::{DeckReason, Fault, Position};
+use rp_base::{DeckReason, Fault, MOST_NODES, Position};
 use rp_deck_objects::OperationNames;
 use rp_object::Handler;
 use rp_words::{LineError, Lines, TextLine, is_word};
@@ -92,7 +92,7 @@ fn node_count(mut line: TextLine<'_>) -> Result<u8, DeckReason>
     if !is_word(line.first, b"nodes") {
         return Err(DeckReason::NodesExpected);
     }
-    let nodes = line.words.take_number(3, 7)?;
+    let nodes = line.words.take_number(3, u64::from(MOST_NODES))?;
     line.words.end()?;
     Ok(nodes as u8)
 }

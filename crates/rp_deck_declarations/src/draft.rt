@@ -18,20 +18,19 @@ ghost use Rattle.rp_deck_objects.specs.ObjectLimits.{IsObject};
 
 use crate::deck_program::Task;
 use indexmap::{IndexMap, IndexSet};
-use rp_base::{DeckReason, Position};
+use rp_base::{DeckReason, MOST_OBJECTS, MOST_SOURCES, MOST_TASKS, Position};
 use rp_deck_objects::{Index, ObjectDraft, OperationName};
-use rp_object::{Handler, Profile};
+use rp_object::{Handler, MOST_TIMERS, Profile};
 use rp_words::{
     LineError, TextLine, Words, add_name, declare, is_word, named, read_dotted, take_name_not_in,
     take_new_name,
 };
 use std::alloc::Global;
 
-/// The most that is declared of each kind.
-const MOST: usize = 8;
+/// The most interrupts, and the most timing events.
+const MOST_HANDLERS: usize = MOST_SOURCES as usize;
 
-/// The most objects of a tally.
-const MOST_OBJECTS: u64 = 8;
+const _: () = prove!(MOST_TIMERS == MOST_SOURCES);
 
 /// The most positions that a log has.
 const MOST_POSITIONS: u64 = 65_535;
@@ -239,7 +238,7 @@ impl Draft {
             (task_line (draft_text self.old) (unread words.entry)) }
         ensures draft { OnOk result (IsDraft self.new × (self.new.nodes ≡ self.old.nodes)) }
     {
-        if self.tasks.len() >= MOST {
+        if self.tasks.len() >= usize::from(MOST_TASKS) {
             return Err(LineError::Bad(DeckReason::TooMany));
         }
         let name = take_new_name(&mut words, &self.tasks)?;
@@ -257,7 +256,7 @@ impl Draft {
             (tally_line (draft_text self.old) (unread words.entry)) }
         ensures draft { OnOk result (IsDraft self.new × (self.new.nodes ≡ self.old.nodes)) }
     {
-        let count = words.take_number(1, MOST_OBJECTS)?;
+        let count = words.take_number(1, u64::from(MOST_OBJECTS))?;
         words.end()?;
         self.objects = tally_objects(alloc, count as u8)?;
         self.is_tally = true;
@@ -280,7 +279,7 @@ impl Draft {
             (object_line (draft_text self.old) (unread words.entry)) }
         ensures draft { OnOk result (IsDraft self.new × (self.new.nodes ≡ self.old.nodes)) }
     {
-        if self.objects.len() >= MOST {
+        if self.objects.len() >= usize::from(MOST_OBJECTS) {
             return Err(LineError::Bad(DeckReason::TooMany));
         }
         let name = take_name_not_in(&mut words, &self.objects)?;
@@ -351,7 +350,7 @@ impl Draft {
         ensures read { Gives (λ new. (new.0.now, new.1)) result
             (handled_at (draft_text self.now) (key_names table.now) (unread words.entry)) }
     {
-        if table.len() >= MOST {
+        if table.len() >= MOST_HANDLERS {
             return Err(DeckReason::TooMany);
         }
         let name = take_new_name(&mut words, table)?;

@@ -4,7 +4,7 @@ ghost use Rattle.std.specs.Prelude.{◌≡◌, ◌↔◌, ◌<◌, ◌≤◌, �
 ghost use Rattle.rp_base.specs.Action.{IsRightOperation};
 
 use indexmap::IndexMap;
-use rp_base::Operation;
+use rp_base::{MOST_ENTRIES, MOST_OPERATIONS, Operation};
 
 /// A number from 1 to `MOST`, in declared order.
 #[derive(Clone, Copy)]
@@ -29,11 +29,11 @@ impl<const MOST: u8> Numbered<MOST> {
     }
 }
 
-/// The number of an object, a function, a procedure or a timing event: there are at most 8.
-pub type Index = Numbered<8>;
+/// The number of a function, a procedure or a timing event: there are at most 8.
+pub type Index = Numbered<MOST_OPERATIONS>;
 
 /// The number of an entry: an object has at most 4.
-pub type EntryIndex = Numbered<4>;
+pub type EntryIndex = Numbered<MOST_ENTRIES>;
 
 /// An operation of an object, by its number among those of its kind.
 #[derive(Clone, Copy)]

@@ -15,12 +15,12 @@ ghost use Rattle.rp_words.specs.Words.{unread};
 
 use crate::names::{EntryIndex, Index, OperationName, OperationNames};
 use indexmap::IndexMap;
-use rp_base::DeckReason;
-use rp_body::{Components, Ranged};
+use rp_base::{DeckReason, MOST_ENTRIES, MOST_OPERATIONS};
+use rp_body::{Components, MOST_OF_A_KIND, Ranged};
 use rp_deck_bodies::{
     BodyDraft, Component, ComponentNames, bool_named, is_of_expressions, read_cond, read_expr,
 };
-use rp_entry::{Entry, Function, Operations};
+use rp_entry::{Entry, Function, LONGEST_QUEUE, Operations};
 use rp_object::{ObjectDeclaration, Profile};
 use rp_words::{
     LineError, TextLine, Words, declare, has_name, insert_new, is_word, named, take_new_name,
@@ -37,15 +37,6 @@ const PARTS: [(&[u8], Part); 5] = [
     (b"procedure", Part::Procedure),
     (b"entry", Part::Entry),
 ];
-
-/// The most components of a kind.
-const MOST_COMPONENTS: u8 = 8;
-
-/// The most functions, and the most procedures, of an object.
-const MOST_OPERATIONS: usize = 8;
-
-/// The longest queue of an entry.
-const LONGEST_QUEUE: u64 = 8;
 
 /// What a line declares that belongs to an object.
 #[derive(Clone, Copy)]
@@ -280,7 +271,7 @@ impl ObjectDraft {
             (int_line (object_text self.old) (unread words.entry)) }
         ensures object { KeepsObject self.old self.new result }
     {
-        if self.components.limits().ints >= MOST_COMPONENTS {
+        if usize::from(self.components.limits().ints) >= MOST_OF_A_KIND {
             return Err(LineError::Bad(DeckReason::TooMany));
         }
         let name = self.take_component_name(&mut words)?;
@@ -296,7 +287,7 @@ impl ObjectDraft {
             (bool_line (object_text self.old) (unread words.entry)) }
         ensures object { KeepsObject self.old self.new result }
     {
-        if self.components.limits().bools >= MOST_COMPONENTS {
+        if usize::from(self.components.limits().bools) >= MOST_OF_A_KIND {
             return Err(LineError::Bad(DeckReason::TooMany));
         }
         let name = self.take_component_name(&mut words)?;
@@ -347,7 +338,7 @@ impl ObjectDraft {
             (function_line (object_text self.old) (unread words.entry)) }
         ensures object { KeepsObject self.old self.new result }
     {
-        if self.operations.functions.len() >= MOST_OPERATIONS {
+        if self.operations.functions.len() >= usize::from(MOST_OPERATIONS) {
             return Err(LineError::Bad(DeckReason::TooMany));
         }
         let name = take_new_name(&mut words, &self.operation_names)?;
@@ -412,7 +403,7 @@ impl ObjectDraft {
             (procedure_line (object_text self.old) (unread words.entry)) }
         ensures object { KeepsObject self.old self.new result }
     {
-        if self.operations.procedures.len() >= MOST_OPERATIONS {
+        if self.operations.procedures.len() >= usize::from(MOST_OPERATIONS) {
             return Err(LineError::Bad(DeckReason::TooMany));
         }
         let name = take_new_name(&mut words, &self.operation_names)?;
@@ -507,7 +498,7 @@ fn most_entries(profile: Profile) -> usize
 {
     match profile {
         Profile::Ravenscar => 1,
-        Profile::Jorvik => 4,
+        Profile::Jorvik => usize::from(MOST_ENTRIES),
     }
 }
 
@@ -534,7 +525,7 @@ fn take_queue(words: &mut Words<'_>) -> Result<u8, DeckReason>
     if !is_word(words.take()?, b"queue") {
         return Err(DeckReason::UnknownWord);
     }
-    let longest = words.take_number(1, LONGEST_QUEUE)?;
+    let longest = words.take_number(1, u64::from(LONGEST_QUEUE))?;
     Ok(longest as u8)
 }
 

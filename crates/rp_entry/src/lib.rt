@@ -17,5 +17,5 @@ pub use laws::{
     actions_keep_booleans, actions_keep_ranges, servicing_has_one_end,
 };
 pub use object::Object;
-pub use operations::{Entry, Function, Operations, of_index};
+pub use operations::{Entry, Function, LONGEST_QUEUE, Operations, of_index};
 pub use state::{CallOutcome, Done, Queue, Waiting};

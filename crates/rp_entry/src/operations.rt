@@ -7,17 +7,11 @@ ghost use Rattle.rp_body.specs.Check.{KeepsLimits};
 ghost use Rattle.rp_entry.specs.Operations.{of_index, FunctionFits, EntryFits, OperationsFit};
 ghost use Rattle.rp_entry.specs.Replies.{function_reply};
 
-use rp_base::Reply;
+use rp_base::{MOST_ENTRIES, MOST_OPERATIONS, Reply};
 use rp_body::{Components, Cond, Expr, Limits, Stmt, check, truth, value};
 
-/// The most functions, and the most procedures, of an object.
-const MOST_OPERATIONS: usize = 8;
-
-/// The most entries of an object.
-const MOST_ENTRIES: usize = 4;
-
 /// The longest queue that an entry may have.
-pub(crate) const LONGEST_QUEUE: u8 = 8;
+pub const LONGEST_QUEUE: u8 = 8;
 
 /// A function: one expression or one condition, which reads the components and changes none.
 #[derive(Debug, Drop)]
@@ -95,9 +89,9 @@ impl Operations {
     pub fn fit(&self, limits: &Limits) -> bool
         ensures { IsTrue result ↔ OperationsFit limits.now self.now }
     {
-        self.functions.len() <= MOST_OPERATIONS
-            && self.procedures.len() <= MOST_OPERATIONS
-            && self.entries.len() <= MOST_ENTRIES
+        self.functions.len() <= usize::from(MOST_OPERATIONS)
+            && self.procedures.len() <= usize::from(MOST_OPERATIONS)
+            && self.entries.len() <= usize::from(MOST_ENTRIES)
             && functions_fit(&self.functions, limits)
             && procedures_fit(&self.procedures, limits)
             && entries_fit(&self.entries, limits)

@@ -8,7 +8,7 @@ ghost use Rattle.rp_learner.specs.Places.{window};
 ghost use Rattle.rp_learner.specs.declared.place.Place.TheVariants.{Unheard};
 ghost use Rattle.rp_learner.specs.Status.{SameLearning, SameSizes, fresh, vote_for, status_with, decision_at, with_settled, with_vote, NotesVote, Settles, IsOneMore, Advances};
 
-use crate::place::Place;
+use crate::place::{Cast, Place};
 use circular_buffer::HeapCircularBuffer;
 use rp_base::{Action, Ballot, Fault, NodeId, Position, majority};
 use std::alloc::{AllocError, Global};
@@ -165,7 +165,12 @@ impl Learner {
         let Some(place) = self.places.get_mut(offset) else {
             return Ok(());
         };
-        place.hear(alloc, self.nodes, from, ballot, action)
+        let cast = Cast {
+            from,
+            ballot,
+            action,
+        };
+        place.hear(alloc, self.nodes, cast)
     }
 
     /// What a decision at the position is that another node sends.

@@ -21,40 +21,45 @@ pub enum Place {
     Settled,
 }
 
+/// A vote that a node cast.
+#[derive(Clone, Copy, Debug)]
+pub struct Cast<'a> {
+    pub from: NodeId,
+    pub ballot: Ballot,
+    pub action: &'a Action,
+}
+
 impl Place {
     /// Notes a vote of one of 3 to 7 nodes. `AllocError` leaves the place as it was.
     #[inline(always)]
-    pub fn hear(
-        &mut self,
-        alloc: Global,
-        nodes: u8,
-        from: NodeId,
-        ballot: Ballot,
-        action: &Action,
-    ) -> Result<(), AllocError>
+    pub fn hear(&mut self, alloc: Global, nodes: u8, cast: Cast<'_>) -> Result<(), AllocError>
         requires nodes { (3 ≤ nodes) × (nodes ≤ 7) }
-        ensures ok { OnOk result (NotesCast nodes self.old
-            (record { from = from; vote = vote_for ballot action.now }) self.new) }
+        ensures ok { OnOk result (NotesCast nodes self.old (record {
+          from = cast.entry.from;
+          vote = vote_for cast.entry.ballot cast.entry.action.now;
+        }) self.new) }
         ensures err { OnErr result (self.new ≡ self.old) }
         ensures open { OnErr result (is_settled_in self.old ≡ false) }
         ensures unheard { OnErr result (¬ Has (record {
-          from = from;
-          vote = vote_for ballot action.now;
+          from = cast.entry.from;
+          vote = vote_for cast.entry.ballot cast.entry.action.now;
         }) (votes_in self.old)) }
-        ensures few { OnErr result (voters_at nodes self.old
-            (record { from = from; vote = vote_for ballot action.now }) ≤ 1) }
+        ensures few { OnErr result (voters_at nodes self.old (record {
+          from = cast.entry.from;
+          vote = vote_for cast.entry.ballot cast.entry.action.now;
+        }) ≤ 1) }
     {
         match self {
             Place::Settled => {}
             Place::Unheard => {
                 let vote = Vote {
-                    ballot,
-                    action: *action,
+                    ballot: cast.ballot,
+                    action: *cast.action,
                 };
-                *self = Place::Heard(VoteCounts::new(alloc, from, vote));
+                *self = Place::Heard(VoteCounts::new(alloc, cast.from, vote));
             }
             Place::Heard(vote_counts) => {
-                let voters = vote_counts.hear(nodes, from, ballot, action)?;
+                let voters = vote_counts.hear(nodes, cast.from, cast.ballot, cast.action)?;
                 if voters >= usize::from(majority(nodes)) {
                     *self = Place::Settled;
                 }

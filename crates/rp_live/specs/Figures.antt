@@ -22,6 +22,6 @@ figures_of nodes tasks = record {
   asked = sum_from 0 (map (λ end. end.made) tasks);
   answered = sum_from 0 (map (λ end. length (task_of end.seat.part.role).replies) tasks);
   last_reply = greatest_from 0 (map (λ end. end.last_reply) tasks);
-  lost = sum_from (sum_from 0 (map (λ end. end.lost) nodes)) (map (λ end. end.lost) tasks);
-  led = sum_from 0 (map (λ end. end.led) nodes);
+  lost = sum_from (sum_from 0 (map (λ end. end.counts.lost) nodes)) (map (λ end. end.lost) tasks);
+  led = sum_from 0 (map (λ end. end.counts.led) nodes);
 }

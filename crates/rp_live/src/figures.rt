@@ -77,11 +77,11 @@ fn last_reply<M: Machine>(tasks: &[TaskEnd<M>]) -> u64
 
 /// How many packets the loops of nodes count as lost.
 fn lost_by_nodes<M: Machine, D: Device>(nodes: &[NodeEnd<M, D>]) -> u64
-    ensures { result ≡ sum_from 0 (map (λ end. end.lost) nodes.now) }
+    ensures { result ≡ sum_from 0 (map (λ end. end.counts.lost) nodes.now) }
 {
     let mut sum: u64 = 0;
     for end in nodes {
-        sum = sum.saturating_add(end.lost);
+        sum = sum.saturating_add(end.counts.lost);
     }
     sum
 }
@@ -99,11 +99,11 @@ fn lost_by_tasks<M: Machine>(before: u64, tasks: &[TaskEnd<M>]) -> u64
 
 /// In how many turns nodes led.
 fn turns_led<M: Machine, D: Device>(nodes: &[NodeEnd<M, D>]) -> u64
-    ensures { result ≡ sum_from 0 (map (λ end. end.led) nodes.now) }
+    ensures { result ≡ sum_from 0 (map (λ end. end.counts.led) nodes.now) }
 {
     let mut sum: u64 = 0;
     for end in nodes {
-        sum = sum.saturating_add(end.led);
+        sum = sum.saturating_add(end.counts.led);
     }
     sum
 }

@@ -1,6 +1,6 @@
 //! How the threads of a run keep pace.
 
-use rp_base::{NodeId, TaskId};
+use rp_base::{MOST_NODES, MOST_TASKS, NodeId, TaskId};
 use rp_threads::Gate;
 use std::alloc::{AllocError, Global};
 use std::sync::atomic::{AtomicU64, Ordering};
@@ -16,10 +16,10 @@ const MOST_AHEAD: u64 = 16;
 const MOST_WAITS: u64 = 20_000_000;
 
 /// How many nodes there are at most.
-const NODES: usize = 7;
+const NODES: usize = MOST_NODES as usize;
 
 /// How many tasks there are.
-const TASKS: usize = 8;
+const TASKS: usize = MOST_TASKS as usize;
 
 /// The gate of a run. A node leads by its patience alone: the turns in which its loop would have it
 /// lead at the least position that is free for it are skipped. The threads of all nodes and tasks keep

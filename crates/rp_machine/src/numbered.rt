@@ -11,10 +11,16 @@ ghost use Rattle.rp_machine.specs.Numbered.{outcome, with_action, with_occurrenc
 
 use crate::machine::Machine;
 use crate::replay::replay_may_go_on;
-use rp_base::{Action, Answer, Answers, History, Reply, TaskId};
+use rp_base::{Action, Answer, Answers, History, MOST_SOURCES, MOST_TASKS, Reply, TaskId};
 use std::alloc::{AllocError, Global};
 use std::marker::Model;
 use std::snapshot::Snapshot;
+
+/// How many tasks something is kept of.
+const CALLERS: usize = MOST_TASKS as usize;
+
+/// How many sources of interrupts something is kept of.
+const SOURCES: usize = MOST_SOURCES as usize;
 
 /// What is kept of a task's calls: the number of the last one that counted, 0 where none did, and the
 /// reply to it, once there is one.
@@ -42,8 +48,8 @@ impl Caller {
 #[derive(Drop)]
 pub struct Numbered<M: Machine> {
     machine: M,
-    callers: [Caller; 8],
-    occurrences: [u32; 8],
+    callers: [Caller; CALLERS],
+    occurrences: [u32; SOURCES],
     program: Snapshot<M::Program>,
     actions: History<Action>,
 }
@@ -73,8 +79,8 @@ impl<M: Machine> Numbered<M> {
         };
         Ok(Numbered {
             machine,
-            callers: [unused; 8],
-            occurrences: [0; 8],
+            callers: [unused; CALLERS],
+            occurrences: [0; SOURCES],
             program: Snapshot::of(program),
             actions: History::new(),
         })
@@ -201,7 +207,7 @@ impl<M: Machine> Numbered<M> {
 }
 
 /// Notes that the action counted: a call waits for its reply.
-fn note(callers: &mut [Caller; 8], occurrences: &mut [u32; 8], action: &Action)
+fn note(callers: &mut [Caller; CALLERS], occurrences: &mut [u32; SOURCES], action: &Action)
     requires { IsRight action.now }
     ensures callers { callers.new ≡ with_action callers.old action.now }
     ensures occurrences { occurrences.new ≡ with_occurrence occurrences.old action.now }
@@ -221,7 +227,7 @@ fn note(callers: &mut [Caller; 8], occurrences: &mut [u32; 8], action: &Action)
 }
 
 /// Keeps the reply of each answer.
-fn hear(callers: &mut [Caller; 8], answers: &[Answer])
+fn hear(callers: &mut [Caller; CALLERS], answers: &[Answer])
     ensures { callers.new ≡ with_answers callers.old answers.now }
 {
     for answer in answers {

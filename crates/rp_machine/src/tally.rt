@@ -5,7 +5,7 @@ ghost use Rattle.rp_machine.specs.TallyRule.{HasSums, sum_of, new_sum, with_sum,
 ghost use Rattle.rp_machine.specs.TallyLaws.{HasSums-start, HasSums-next, tally_image-injective, tally_accounts, tally_replies};
 
 use crate::machine::Machine;
-use rp_base::{Action, Answer, Answers, Operation, Reply};
+use rp_base::{Action, Answer, Answers, MOST_OBJECTS, Operation, Reply};
 use std::alloc::{AllocError, Global};
 use std::marker::Model;
 
@@ -33,7 +33,7 @@ impl TallyProgram {
         ensures valid { IsSome result ↔ ((1 ≤ objects) × (objects ≤ 8)) }
         ensures value { IfSome result (λ program. program ≡ objects) }
     {
-        if matches!(objects, 1..=8) {
+        if matches!(objects, 1..=MOST_OBJECTS) {
             Some(TallyProgram { objects })
         } else {
             None

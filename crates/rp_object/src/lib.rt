@@ -19,4 +19,6 @@ pub use laws::{
     actions_account_for_callers, due_events_are_due, logs_lead_to_states_of_the_program,
 };
 pub use objects::Objects;
-pub use program::{Declarations, Handler, ObjectDeclaration, Profile, Program, TimingEvent};
+pub use program::{
+    Declarations, Handler, MOST_TIMERS, ObjectDeclaration, Profile, Program, TimingEvent,
+};

@@ -7,14 +7,14 @@ ghost use Rattle.rp_object.specs.Program.{has_operation, object_has, is_offered,
 ghost use Rattle.rp_object.specs.OneProof.{one_proof};
 ghost use Rattle.rp_body.specs.Ranges.{IsInRange};
 
-use rp_base::{Operation, TaskId};
-use rp_body::Components;
+use rp_base::{MOST_OBJECTS, MOST_OPERATIONS, MOST_SOURCES, MOST_TASKS, Operation, TaskId};
+use rp_body::{Components, MOST_OF_A_KIND};
 use rp_entry::{Entry, Operations, of_index};
 use std::alloc::{AllocError, Global};
 use std::sync::Arc;
 
-/// The most tasks, objects, interrupts or timing events, and the most components of a kind.
-const MOST: usize = 8;
+/// The most timing events that a program has, each of which a call names by an operation's index.
+pub const MOST_TIMERS: u8 = MOST_OPERATIONS;
 
 /// What runs at an interrupt, or when the time of a timing event has come: a procedure of an object, both
 /// counted from 1 (Ada Reference Manual, sections C.3 and D.15).
@@ -116,8 +116,8 @@ impl ObjectDeclaration {
     {
         let limits = self.components.limits();
         is_priority(self.ceiling)
-            && self.ints.len() <= MOST
-            && self.bools.len() <= MOST
+            && self.ints.len() <= MOST_OF_A_KIND
+            && self.bools.len() <= MOST_OF_A_KIND
             && self.ints.len() == usize::from(limits.ints)
             && self.bools.len() == usize::from(limits.bools)
             && self.entries.len() == self.operations.entries.len()
@@ -212,10 +212,10 @@ impl Declarations {
     fn is_program(&self) -> bool
         ensures { IsTrue result ↔ IsProgram self.now }
     {
-        self.priorities.len() <= MOST
-            && self.objects.len() <= MOST
-            && self.interrupts.len() <= MOST
-            && self.timers.len() <= MOST
+        self.priorities.len() <= usize::from(MOST_TASKS)
+            && self.objects.len() <= usize::from(MOST_OBJECTS)
+            && self.interrupts.len() <= usize::from(MOST_SOURCES)
+            && self.timers.len() <= usize::from(MOST_TIMERS)
             && are_priorities(&self.priorities)
             && objects_fit(&self.objects)
             && objects_keep(self.profile, &self.objects)

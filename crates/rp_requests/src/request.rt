@@ -6,7 +6,7 @@ ghost use Rattle.std.specs.Int.{w16, from_be_bytes};
 ghost use Rattle.rp_base.specs.Number.{IsPosition};
 ghost use Rattle.rp_requests.specs.Requests.{asked, asked_of, lead_asked, interrupt_asked, tick_asked, report_asked, range_asked, IsRightRequest};
 
-use rp_base::{Position, PositionRange};
+use rp_base::{MOST_SOURCES, Position, PositionRange};
 use rp_replica::Input;
 
 /// What a caller asks of a node.
@@ -67,7 +67,7 @@ fn interrupt_of(operands: &[u8]) -> Option<Request<'static>>
         return None;
     };
     let occurrence = u32::from_be_bytes([*a, *b, *c, *d]);
-    if *source < 1 || *source > 8 || occurrence < 1 {
+    if *source < 1 || *source > MOST_SOURCES || occurrence < 1 {
         return None;
     }
     Some(Request::Step(Input::Interrupt {

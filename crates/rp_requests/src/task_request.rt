@@ -5,7 +5,7 @@ ghost use Rattle.std.specs.Prelude.{◌≡◌, ◌≤◌, IfSome, option_map};
 ghost use Rattle.rp_base.specs.Action.{IsIndex, IsRightOperation};
 ghost use Rattle.rp_requests.specs.TaskRequests.{task_asked, task_asked_of, arg_at, call_asked, again_asked, operation_at, IsRightTaskRequest};
 
-use rp_base::{NodeId, Operation};
+use rp_base::{MOST_OBJECTS, NodeId, Operation};
 
 /// What a caller asks of a task.
 #[derive(Debug, Drop)]
@@ -61,7 +61,7 @@ fn call_of(operands: &[u8]) -> Option<TaskRequest<'static>>
     let node = NodeId::new(*node)?;
     let operation = operation_of(*kind, *index)?;
     let arg = arg_of(arg)?;
-    if *object < 1 || *object > 8 || !operation.is_right() {
+    if *object < 1 || *object > MOST_OBJECTS || !operation.is_right() {
         return None;
     }
     Some(TaskRequest::Call {

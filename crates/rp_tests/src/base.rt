@@ -122,11 +122,11 @@ fn answers_keep_their_order(rt: HostRuntime) {
             number,
             reply: Reply::Value(0),
         };
-        if !answers.is_full() {
+        if answers.len() < 8 {
             answers.push(answer);
         }
     }
-    expect_eq(&rt, (answers.is_full(), answers.len()), (true, 8));
+    expect_eq(&rt, answers.len(), 8);
     let first = answers.as_slice().first();
     expect_eq(&rt, first.expect(&rt, "eight answers").number, 1);
 }

@@ -61,14 +61,23 @@ fn call() -> Action {
     }
 }
 
-/// The packet of these parts.
-fn packet(rt: &impl Abort, from: Party, to: Party, body: Body) -> Packet {
-    Packet::checked(from, to, body).expect(rt, "the packet keeps the rules")
-}
-
 /// What is read from these bytes.
 fn decoded(rt: &impl Abort, alloc: Global, bytes: &[u8]) -> Result<Packet, PacketReason> {
     decode(alloc, bytes).expect(rt, "memory for the packet")
+}
+
+/// The packet that is read from these bytes, which has these parts.
+fn packet(
+    rt: &impl Abort,
+    alloc: Global,
+    bytes: &[u8],
+    parties: (Party, Party),
+    body: Body,
+) -> Packet {
+    let found = decoded(rt, alloc, bytes).expect(rt, "a packet");
+    expect_eq(rt, (found.from(), found.to()), parties);
+    assert!(rt; *found.body() == body, "the body in {bytes:?}");
+    found
 }
 
 /// The text of the packet.
@@ -144,13 +153,14 @@ fn expect_version(rt: &impl Abort, alloc: Global, packet: &Packet, bytes: &[u8],
     expect_eq(rt, packet_len(&run), Some(bytes.len()));
 }
 
-/// The packet has these bytes, is read from them, and from no proper front of them. In version 1 it
-/// has the same but for the first.
-fn both_ways(rt: &impl Abort, alloc: Global, packet: &Packet, bytes: &[u8]) {
-    expect_text(rt, &encoded(rt, alloc, packet), bytes);
-    expect_put_onto(rt, alloc, packet, bytes);
-    expect_version(rt, alloc, packet, bytes, 2);
-    expect_version(rt, alloc, packet, bytes, 1);
+/// The packet of these parts is read from these bytes, and from no proper front of them, and is written
+/// as they are. In version 1 it has the same but for the first.
+fn both_ways(rt: &impl Abort, alloc: Global, bytes: &[u8], parties: (Party, Party), body: Body) {
+    let packet = packet(rt, alloc, bytes, parties, body);
+    expect_text(rt, &encoded(rt, alloc, &packet), bytes);
+    expect_put_onto(rt, alloc, &packet, bytes);
+    expect_version(rt, alloc, &packet, bytes, 2);
+    expect_version(rt, alloc, &packet, bytes, 1);
     expect_no_front(rt, alloc, bytes);
     for place in 0..bytes.len() {
         changed_bytes_are_read_as_they_are(rt, alloc, bytes, place);
@@ -159,27 +169,25 @@ fn both_ways(rt: &impl Abort, alloc: Global, packet: &Packet, bytes: &[u8]) {
 
 #[test]
 fn a_task_calls_and_is_answered(rt: HostRuntime) {
-    let body = Body::Call { action: call() };
-    let calls = packet(&rt, Party::Task(TaskId::first()), node(&rt, 1), body);
-    both_ways(&rt, rt.alloc(), &calls, &CALL);
-    let body = Body::Reply {
+    let calls = Body::Call { action: call() };
+    let parties = (Party::Task(TaskId::first()), node(&rt, 1));
+    both_ways(&rt, rt.alloc(), &CALL, parties, calls);
+    let replies = Body::Reply {
         number: 1,
         reply: Reply::Value(5),
     };
-    let replies = packet(&rt, node(&rt, 1), Party::Task(TaskId::first()), body);
-    both_ways(&rt, rt.alloc(), &replies, &REPLY);
+    let parties = (node(&rt, 1), Party::Task(TaskId::first()));
+    both_ways(&rt, rt.alloc(), &REPLY, parties, replies);
 }
 
 /// What node 1 sends to a node has these bytes, and is read from them.
 fn from_first(rt: &impl Abort, alloc: Global, to: u8, body: Body, bytes: &[u8]) {
-    let sent = packet(rt, node(rt, 1), node(rt, to), body);
-    both_ways(rt, alloc, &sent, bytes);
+    both_ways(rt, alloc, bytes, (node(rt, 1), node(rt, to)), body);
 }
 
 /// What a node sends to node 1 has these bytes, and is read from them.
 fn to_first(rt: &impl Abort, alloc: Global, from: u8, body: Body, bytes: &[u8]) {
-    let sent = packet(rt, node(rt, from), node(rt, 1), body);
-    both_ways(rt, alloc, &sent, bytes);
+    both_ways(rt, alloc, bytes, (node(rt, from), node(rt, 1)), body);
 }
 
 fn promise(rt: &impl Abort, number: u64, last: Option<Vote>) -> Body {
@@ -334,8 +342,7 @@ fn report(rt: &impl Abort, alloc: Global, first: u16, applied: u16, stated: &[Ac
 
 /// What node 1 reports has these bytes, and is read from them.
 fn to_audit(rt: &impl Abort, alloc: Global, body: Body, bytes: &[u8]) {
-    let sent = packet(rt, node(rt, 1), Party::Audit, body);
-    both_ways(rt, alloc, &sent, bytes);
+    both_ways(rt, alloc, bytes, (node(rt, 1), Party::Audit), body);
 }
 
 #[test]
@@ -350,36 +357,51 @@ fn a_node_asks_and_reports(rt: HostRuntime) {
     to_audit(&rt, rt.alloc(), none, &REPORT_OF_NONE);
 }
 
-/// The packet of node 1 has a text of this length, and is read from it.
-fn expect_long(rt: &impl Abort, alloc: Global, to: Party, body: Body, len: usize) -> Packet {
-    let sent = packet(rt, node(rt, 1), to, body);
-    let text = encoded(rt, alloc, &sent);
-    expect_eq(rt, text.len(), len);
-    expect_packet(rt, alloc, &text, &sent);
-    sent
+/// Puts the bytes after a text.
+fn put(rt: &impl Abort, text: &mut Vec<u8>, bytes: &[u8]) {
+    text.extend_from_slice(bytes)
+        .expect(rt, "memory for the text");
 }
 
-/// No packet of this sender has this body.
-fn expect_wrong(rt: &impl Abort, from: Party, to: Party, body: Body) {
-    let packet = Packet::checked(from, to, body);
-    expect_eq(rt, packet.is_none(), true);
+/// Puts the text of the call after a text: all that is after the parties in that of its packet.
+fn put_call(rt: &impl Abort, text: &mut Vec<u8>) {
+    put(rt, text, CALL.get(4..).expect(rt, "the call"));
+}
+
+/// The text of node 1's report of `count` calls, of 300 that it has applied.
+fn long_report(rt: &impl Abort, alloc: Global, count: u8) -> Vec<u8> {
+    let mut text = Vec::new(alloc);
+    put(rt, &mut text, &[2, 10, 1, 32, 0, 1, 1, 44, count]);
+    for _ in 0..count {
+        put_call(rt, &mut text);
+    }
+    text
+}
+
+/// A long text is that of node 1's packet of these parts.
+fn expect_long(rt: &impl Abort, alloc: Global, text: &[u8], to: Party, body: Body) -> Packet {
+    let sent = packet(rt, alloc, text, (node(rt, 1), to), body);
+    expect_text(rt, &encoded(rt, alloc, &sent), text);
+    sent
 }
 
 #[test]
 fn a_report_has_at_most_200_actions(rt: HostRuntime) {
+    let text = long_report(&rt, rt.alloc(), 200);
     let most = report(&rt, rt.alloc(), 1, 300, &[call(); 200]);
-    expect_long(&rt, rt.alloc(), Party::Audit, most, 3409);
-    let more = report(&rt, rt.alloc(), 1, 300, &[call(); 201]);
-    expect_wrong(&rt, node(&rt, 1), Party::Audit, more);
+    expect_eq(&rt, text.len(), 3409);
+    expect_long(&rt, rt.alloc(), &text, Party::Audit, most);
+    let more = long_report(&rt, rt.alloc(), 201);
+    expect_reason(&rt, rt.alloc(), &more, PacketReason::Field);
 }
 
 #[test]
-fn actions_are_cloned_and_given_back(rt: HostRuntime) {
+fn a_clone_of_actions_has_the_same(rt: HostRuntime) {
     let one = Vec::from_slice(rt.alloc(), &[call()]).expect(&rt, "memory for an action");
     let actions = Actions::from_vec(one);
     let again = actions.clone().expect(&rt, "memory for it again");
     expect_eq(&rt, again == actions, true);
-    expect_eq(&rt, actions.into_vec().as_slice(), &[call()]);
+    expect_eq(&rt, actions.as_slice(), &[call()]);
 }
 
 static SPOILED_ASKS_AND_REPORTS: [(&[u8], PacketReason); 11] = [
@@ -402,7 +424,17 @@ static PROMISE_RANGE: [u8; 27] = [
     2, 13, 3, 2, 0, 1, 2, 0, 0, 0, 0, 0, 0, 0, 10, 1, 0, 1, 0, 0, 0, 0, 0, 0, 0, 9, 0,
 ];
 
+static PROMISE_RANGE_OF_INTERRUPT: [u8; 32] = [
+    2, 13, 3, 2, 0, 1, 2, 0, 0, 0, 0, 0, 0, 0, 10, 1, 0, 1, 0, 0, 0, 0, 0, 0, 0, 9, 2, 1, 0, 0, 0,
+    1,
+];
+
 static PROMISE_RANGE_OF_NONE: [u8; 16] = [2, 13, 3, 2, 255, 255, 1, 0, 0, 0, 0, 0, 0, 0, 10, 0];
+
+const INTERRUPT: Action = Action::Interrupt {
+    source: 1,
+    occurrence: 1,
+};
 
 fn range(rt: &impl Abort, first: u16, count: u8) -> PositionRange {
     PositionRange::new(position(rt, first), count).expect(rt, "a range")
@@ -434,8 +466,7 @@ fn promise_range(
 
 /// What node 3 promises node 2 has these bytes, and is read from them.
 fn from_third(rt: &impl Abort, alloc: Global, body: Body, bytes: &[u8]) {
-    let sent = packet(rt, node(rt, 3), node(rt, 2), body);
-    both_ways(rt, alloc, &sent, bytes);
+    both_ways(rt, alloc, bytes, (node(rt, 3), node(rt, 2)), body);
 }
 
 #[test]
@@ -448,6 +479,9 @@ fn a_leader_prepares_a_range_and_is_promised(rt: HostRuntime) {
     let votes = [placed(&rt, 1, 9, Action::Noop)];
     let promise = promise_range(&rt, rt.alloc(), range(&rt, 1, 2), &votes);
     from_third(&rt, rt.alloc(), promise, &PROMISE_RANGE);
+    let votes = [placed(&rt, 1, 9, INTERRUPT)];
+    let promise = promise_range(&rt, rt.alloc(), range(&rt, 1, 2), &votes);
+    from_third(&rt, rt.alloc(), promise, &PROMISE_RANGE_OF_INTERRUPT);
     let promise = promise_range(&rt, rt.alloc(), range(&rt, 65535, 1), &[]);
     from_third(&rt, rt.alloc(), promise, &PROMISE_RANGE_OF_NONE);
 }
@@ -462,71 +496,35 @@ fn longest_promise(rt: &impl Abort, alloc: Global) -> Body {
     promise_range(rt, alloc, range(rt, 65472, 64), &votes)
 }
 
-/// The votes that a promise for a range reports, cloned and given back, are this many.
+/// The text of node 1's promise to node 2 for the last 64 positions, with a vote at each.
+fn longest_promise_text(rt: &impl Abort, alloc: Global) -> Vec<u8> {
+    let mut text = Vec::new(alloc);
+    put(rt, &mut text, &[2, 13, 1, 2, 255, 192, 64]);
+    put(rt, &mut text, &[0, 0, 0, 0, 0, 0, 0, 10, 64]);
+    for low in 192..=255u8 {
+        put(rt, &mut text, &[255, low, 0, 0, 0, 0, 0, 0, 0, 9]);
+        put_call(rt, &mut text);
+    }
+    text
+}
+
+/// The votes that a promise for a range reports, and their clone, are this many.
 fn expect_votes(rt: &impl Abort, packet: &Packet, count: usize) {
     let Body::PromiseRange { votes, .. } = packet.body() else {
         panic!(rt; "a promise for a range");
     };
     let again = votes.clone().expect(rt, "memory for the votes");
     expect_eq(rt, again == *votes, true);
-    expect_eq(rt, again.into_vec().len(), count);
+    expect_eq(rt, again.as_slice().len(), count);
 }
 
 #[test]
 fn a_promise_for_a_range_reports_at_most_64_votes(rt: HostRuntime) {
+    let text = longest_promise_text(&rt, rt.alloc());
     let most = longest_promise(&rt, rt.alloc());
-    let packet = expect_long(&rt, rt.alloc(), node(&rt, 2), most, 1744);
+    expect_eq(&rt, text.len(), 1744);
+    let packet = expect_long(&rt, rt.alloc(), &text, node(&rt, 2), most);
     expect_votes(&rt, &packet, 64);
-}
-
-const INTERRUPT: Action = Action::Interrupt {
-    source: 0,
-    occurrence: 1,
-};
-
-/// Two votes for positions from 1 on that no promise for the positions 1 to 4 in ballot 10 reports, each
-/// by its position, its ballot and its action.
-const WRONG_VOTES: [[(u16, u64, Action); 2]; 5] = [
-    [(2, 9, Action::Noop), (1, 9, Action::Noop)],
-    [(1, 9, Action::Noop), (1, 9, Action::Noop)],
-    [(1, 9, Action::Noop), (5, 9, Action::Noop)],
-    [(1, 9, Action::Noop), (2, 10, Action::Noop)],
-    [(1, 9, Action::Noop), (2, 9, INTERRUPT)],
-];
-
-/// Two votes for a promise.
-fn votes_of(rt: &impl Abort, votes: &[(u16, u64, Action); 2]) -> [PlacedVote; 2] {
-    let [(one, first, action), (other, second, last)] = votes;
-    [
-        placed(rt, *one, *first, *action),
-        placed(rt, *other, *second, *last),
-    ]
-}
-
-/// A party does not send node 2 a promise for the four positions from this one on that reports the
-/// votes.
-fn expect_no_promise(
-    rt: &impl Abort,
-    alloc: Global,
-    from: &Party,
-    first: u16,
-    votes: &[PlacedVote],
-) {
-    let promise = promise_range(rt, alloc, range(rt, first, 4), votes);
-    expect_wrong(rt, *from, node(rt, 2), promise);
-}
-
-#[test]
-fn no_wrong_promise_for_a_range_is_made(rt: HostRuntime) {
-    let leader = node(&rt, 1);
-    for votes in &WRONG_VOTES {
-        expect_no_promise(&rt, rt.alloc(), &leader, 1, &votes_of(&rt, votes));
-    }
-    let below = [placed(&rt, 1, 9, Action::Noop)];
-    expect_no_promise(&rt, rt.alloc(), &leader, 2, &below);
-    let right = votes_of(&rt, &[(1, 9, Action::Noop), (2, 9, Action::Noop)]);
-    let task = Party::Task(TaskId::first());
-    expect_no_promise(&rt, rt.alloc(), &task, 1, &right);
 }
 
 static SPOILED_RANGES: [(&[u8], PacketReason); 9] = [
@@ -621,17 +619,29 @@ fn a_range_has_1_to_64_positions_up_to_the_last(rt: HostRuntime) {
     expect_eq(&rt, range.at(63).get(), 64);
 }
 
+/// The bytes with the one of this place set to this value have a field that breaks its rule.
+fn expect_wrong(rt: &impl Abort, alloc: Global, bytes: &[u8], place: usize, value: u8) {
+    let mut changed = Vec::from_slice(alloc, bytes).expect(rt, "memory for the bytes");
+    if let Some(byte) = changed.get_mut(place) {
+        *byte = value;
+    }
+    expect_reason(rt, alloc, &changed, PacketReason::Field);
+}
+
+/// A task prepares or promises, or makes another's call; a vote is below the range; an interrupt is of
+/// source 0.
 #[test]
-fn no_wrong_packet_is_made(rt: HostRuntime) {
-    let prepare = Body::Prepare {
-        position: Position::first(),
-        ballot: ballot(&rt, 9),
-    };
-    let task = Party::Task(TaskId::first());
-    expect_wrong(&rt, task, node(&rt, 1), prepare);
-    let other = Party::Task(TaskId::new(2).expect(&rt, "a task"));
-    let body = Body::Call { action: call() };
-    expect_wrong(&rt, other, node(&rt, 1), body);
+fn one_wrong_field_leaves_no_packet(rt: HostRuntime) {
+    let cases: [(&[u8], usize, u8); 5] = [
+        (&PREPARE, 2, 17),
+        (&PROMISE_RANGE, 2, 17),
+        (&CALL, 2, 18),
+        (&PROMISE_RANGE, 5, 2),
+        (&PROMISE_RANGE_OF_INTERRUPT, 27, 0),
+    ];
+    for (bytes, place, value) in cases {
+        expect_wrong(&rt, rt.alloc(), bytes, place, value);
+    }
 }
 
 #[test]

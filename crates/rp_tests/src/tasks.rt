@@ -1,6 +1,6 @@
 use crate::compare::{expect_at, expect_eq, expect_text};
 use rp_base::{Action, Fault, NodeId, Operation, Reply, TaskId};
-use rp_codec::{Body, Packet, Party, decode, encode};
+use rp_codec::{Body, Party, decode};
 use rp_tasks::*;
 use std::alloc::Global;
 use std::process::Abort;
@@ -155,22 +155,21 @@ fn the_stream_says_what_is_lost_and_given_on(rt: HostRuntime) {
     gives_what_it_took();
 }
 
-/// The packet of the first task's first call to node 1.
-fn call_packet(rt: &impl Abort) -> Packet {
-    let mut stub = Stub::new(TaskId::first());
-    let from = Party::Task(TaskId::first());
-    let to = Party::Node(NodeId::new(1).expect(rt, "node 1"));
-    let action = call_by(&mut stub).expect(rt, "a call");
-    Packet::checked(from, to, Body::Call { action }).expect(rt, "a right call")
-}
+/// The text of the first task's first call to node 1.
+static CALL: [u8; 21] = [
+    2, 1, 17, 1, 1, 1, 0, 0, 0, 1, 8, 2, 2, 255, 255, 255, 255, 255, 255, 255, 251,
+];
 
 #[test]
 fn a_call_leaves_the_line_as_it_entered_it(rt: HostRuntime) {
-    let packet = call_packet(&rt);
-    let text = encode(rt.alloc(), &packet).expect(&rt, "memory for the text");
     let mut line = empty_line(&rt, rt.alloc());
-    accept(&rt, &mut line, rt.alloc(), 5, &text);
+    accept(&rt, &mut line, rt.alloc(), 5, &CALL);
     let text = line.release_by(0).expect(&rt, "one packet");
     let found = decode(rt.alloc(), &text).expect(&rt, "memory for the packet");
-    expect_eq(&rt, found == Ok(packet), true);
+    let packet = found.expect(&rt, "a packet");
+    let node = Party::Node(NodeId::new(1).expect(&rt, "node 1"));
+    let parties = (packet.from(), packet.to());
+    expect_eq(&rt, parties, (Party::Task(TaskId::first()), node));
+    let action = call_by(&mut Stub::new(TaskId::first())).expect(&rt, "a call");
+    expect_eq(&rt, *packet.body() == Body::Call { action }, true);
 }

@@ -48,6 +48,7 @@ use Rattle.rp_boxes.specs.contracts.node_seat.NodeSeat as NodeSeat
 use Rattle.rp_boxes.specs.contracts.node_seat.NodeSeat.TheInside as node_seat
 use Rattle.rp_boxes.specs.contracts.task_seat.TaskSeat as TaskSeat
 use Rattle.rp_boxes.specs.contracts.task_seat.TaskSeat.TheInside as task_seat
+use Rattle.rp_threads.specs.contracts.loops.Counts as Counts
 use Rattle.rp_threads.specs.contracts.loops.NodeEnd as NodeEnd
 use Rattle.rp_threads.specs.contracts.options.LoopOptions as LoopOptions
 use Rattle.rp_threads.specs.contracts.tasks.TaskCall as TaskCall
@@ -206,16 +207,13 @@ line_send = let i = line_inside in search (sendable, i)
 fault_send : IsSend Fault.the_row
 fault_send = search (crosses, sendable) depth 60 fits 40000
 
+turn_counts_send : IsSend (Counts.the_field).row
+turn_counts_send = search (crosses, sendable) depth 60 fits 40000
+
 pub node_end_send : (M D P : RattleType) (m : machine.Ghosts M.Denot P.Denot) (d : device.Ghosts D.Denot) → IsSend M → IsSend D → IsSend (NodeEnd.the_row M D P m d)
 node_end_send M D P m d s t = recorded_send (NodeEnd.the_field M D P m d).row _ _ (NodeEnd.the_type M D P m d).to_one (struct_send (shape (NodeEnd.the_type M D P m d)) (
   node_seat_send M D P m d s t,
-  (
-    search (crosses, sendable),
-    (
-      search (crosses, sendable),
-      (search (crosses, sendable), (search (crosses, sendable), (search (crosses, sendable), (search (crosses, sendable, fault_send), tt)))),
-    ),
-  ),
+  (search (crosses, sendable, turn_counts_send), (search (crosses, sendable, fault_send), tt)),
 ))
 
 pub task_call_send : IsSend TaskCall.the_row

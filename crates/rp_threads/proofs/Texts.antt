@@ -1,15 +1,16 @@
 -- What a line holds stays the texts of packets that the seat got.
-use Rattle.std.proofs.Common.{◌≡◌, ◌≢◌, ◌⊎◌, ℕ, Some, Result, Ok, Err, List, [], ◌∷◌, ◌++◌, inl, inr, refl, sym, ap, subst, ◌∙◌}
-use Rattle.std.specs.Prelude.{OnOk, OnErr}
+use Rattle.std.proofs.Common.{◌≡◌, ◌≢◌, ◌⊎◌, ℕ, Option, Some, None, Vec, Global, Result, Ok, Err, List, [], ◌∷◌, ◌++◌, inl, inr, refl, sym, ap, subst, ◌∙◌}
+use Rattle.std.specs.Prelude.{OnOk, OnErr, IfSome, IfNone, IsSome, option_map}
 use Rattle.rp_base.specs.Sets.{Has}
 use Rattle.rp_base.specs.declared.fault.Fault.{Fault}
+use Rattle.rp_base.specs.declared.fault.Fault.TheVariants.{OutOfMemory}
 use Rattle.rp_base.proofs.Members.{has_left}
 use Rattle.rp_codec.specs.Message.{Message}
 use Rattle.rp_codec.specs.declared.packet.Party.{Party}
 use Rattle.rp_tasks.specs.Line.{Line, word_of, drawn, accepted, picked, released}
 use Rattle.rp_boxes.specs.Seats.{SeatState, IsFetched}
 use Rattle.rp_threads.specs.Lines.{IsTextAmong, HoldsTextsOf, line_with, given_on, left_of, line_after}
-use Rattle.rp_threads.specs.Turns.{IsBrought}
+use Rattle.rp_threads.specs.Turns.{MayFetch, IsLost}
 
 -- ---- what the line promises of itself
 
@@ -63,10 +64,35 @@ module _ {P : Type 0} (from to : Party) (text : List ℕ) (old new : SeatState P
   accepted_holds after (Ok x) keeps ok err = subst (HoldsTextsOf new.part.got) (sym ok) (taken_holds keeps)
   accepted_holds after (Err e) keeps ok err = subst (HoldsTextsOf new.part.got) (sym err) fetched_holds
 
-pub is_brought : {P A : Type 0} (from to : Party) (text : List ℕ) (old new : SeatState P) (line after : Line) (result : Result A Fault) → IsFetched from to text old new
-    → OnOk result (after ≡ line_with (Some text) line) → OnOk result (IsBrought from to old new line after)
-is_brought from to text old new line after (Ok x) f ok = record { fetched = Some text; fetch = f; takes = ok }
-is_brought from to text old new line after (Err e) f ok = tt
+-- ---- a packet is fetched, or none is
+
+-- the text of the packet that was fetched, if one was
+abbrev pub fetched_text : Option (Vec ℕ Global) → Option (List ℕ)
+fetched_text = option_map (λ (packet : Vec ℕ Global). packet.items)
+
+pub may_fetch : {P : Type 0} (from to : Party) (old new : SeatState P) (found : Option (Vec ℕ Global)) → IfSome found (λ packet. IsFetched from to packet.items old new)
+    → IfNone found (new ≡ old) → MayFetch (fetched_text found) from to old new
+may_fetch from to old new (Some packet) some none = some
+may_fetch from to old new None some none = none
+
+-- the line stays where nothing was fetched
+line_stays : {A : Type 0} (line after : Line) (result : Result A Fault) → OnOk result (after ≡ line) → OnErr result (after ≡ line) → after ≡ line
+line_stays line after (Ok x) ok err = ok
+line_stays line after (Err e) ok err = err
+
+pub fetched_held : {P A : Type 0} (from to : Party) (fetched : Option (List ℕ)) (old new : SeatState P) (line after : Line) (result : Result A Fault) → MayFetch fetched from to old new
+    → OnOk result (after ≡ line_with fetched line) → OnErr result (after ≡ line) → KeepsAccepted → HoldsTextsOf old.part.got line → HoldsTextsOf new.part.got after
+fetched_held {P} from to None old new line after result same ok err keeps holds =
+    subst (λ (s : SeatState P). HoldsTextsOf s.part.got after) (sym same) (subst (HoldsTextsOf old.part.got) (sym (line_stays line after result ok err)) holds)
+fetched_held from to (Some text) old new line after result f ok err keeps holds = accepted_holds from to text old new line f holds after result keeps ok err
+
+none_is_some : (A : Type 0) → IsSome {T = A} None → ⊥
+none_is_some A e = absurd cc
+
+pub is_lost : {P : Type 0} (from to : Party) (found : Option (Vec ℕ Global)) (old new : SeatState P) (line after : Line) (fault : Fault) → MayFetch (fetched_text found) from to old new
+    → after ≡ line → IsSome found → fault ≡ OutOfMemory → IsLost from to old new line after fault
+is_lost from to None old new line after fault may same some only = absurd (none_is_some (Vec ℕ Global) some)
+is_lost from to (Some packet) old new line after fault f same some only = record { packet = packet.items; fetch = f; memory = only; stays = same }
 
 -- ---- a packet is given on
 

@@ -37,7 +37,7 @@ IsLeadAnew part input = (position : ℕ) × IsToLeadAt part position × (input �
 
 module _ {S P : Type 0} (next : S → Action → S) (answers : S → Action → List Answer) (begin : P → S) where
   module _ (from : Party) (lead : Bool) (old new : SeatState P) (line after : Line) where
-    -- The turn of the node was idle, and it led anew: so many packets were sent and lost.
+    -- The turn of the node was idle, and it led anew, and sent and lost these packets.
     pub record IsLedAnew (packets : PacketCounts) : Type 0 where
       pub between : SeatState P
       pub turned : TurnResult

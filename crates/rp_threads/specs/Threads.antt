@@ -6,7 +6,7 @@ use Rattle.rp_base.specs.declared.fault.Fault.TheVariants.{Device}
 use Rattle.rp_base.specs.declared.reply.Answer.{Answer}
 use Rattle.rp_boxes.specs.Seats.{SeatState}
 use Rattle.rp_tasks.specs.Line.{Line, saturating_sum}
-use Rattle.rp_threads.specs.Loops.{IsSameSeat, turns_off}
+use Rattle.rp_threads.specs.Loops.{IsSameSeat, total_of, turns_off}
 use Rattle.rp_threads.specs.Rounds.{NodeAt, before_turns, AreTurns, IsEndedBy}
 use Rattle.rp_threads.specs.Tasks.{TaskAt, before_calls, HasMade}
 use Rattle.rp_threads.specs.TaskRounds.{AreTaskTurns, IsTaskEndedBy}
@@ -18,11 +18,7 @@ use Rattle.rp_threads.specs.declared.tasks.TaskEnd.{TaskEnd}
 abbrev pub end_of : {M D P : Type 0} → NodeAt P → Option Fault → NodeEnd M D P
 end_of last fault = record {
   seat = last.seat;
-  received = last.counts.received;
-  led = last.counts.led;
-  idle = last.counts.idle;
-  skipped = last.counts.skipped;
-  lost = saturating_sum last.counts.lost last.line.lost;
+  counts = record last.counts { lost = saturating_sum last.counts.lost last.line.lost };
   fault = fault;
 }
 
@@ -34,9 +30,9 @@ pub record IsLooped {S M D P : Type 0} (next : S → Action → S) (answers : S 
   pub same : IsSameSeat seat end.seat
   pub turned : end.fault ≡ None → (last : NodeAt P) × (end ≡ end_of last None)
       × AreTurns next answers begin lets heard nodes (before_turns seat line) turns last
-  pub counted : end.fault ≡ None → end.received + end.led + end.idle + end.skipped ≡ turns
-  pub events : end.fault ≡ None → end.seat.part.events ≡ seat.part.events + end.received + end.led
-  pub idle : end.fault ≡ None → end.idle ≤ turns_off (8 + seat.number) turns
+  pub counted : end.fault ≡ None → total_of end.counts ≡ turns
+  pub events : end.fault ≡ None → end.seat.part.events ≡ seat.part.events + end.counts.received + end.counts.led
+  pub idle : end.fault ≡ None → end.counts.idle ≤ turns_off (8 + seat.number) turns
   pub failures : end.fault ≢ Some Device → end.seat.failures ≡ seat.failures
   pub fault : IfSome end.fault (λ fault. (last : NodeAt P) × (end ≡ end_of last (Some fault))
       × IsEndedBy next answers begin lets heard nodes (before_turns seat line) turns last fault)

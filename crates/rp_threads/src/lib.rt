@@ -28,7 +28,7 @@ mod turns;
 
 pub use crossing::{node_seat_crosses, task_seat_crosses};
 pub use gate::{Gate, Open};
-pub use loops::{NodeEnd, node_loop};
+pub use loops::{Counts, NodeEnd, node_loop};
 pub use options::LoopOptions;
 pub use starts::{NodeStart, TaskStart};
 pub use tasks::{TaskCall, TaskEnd, task_loop};

@@ -21,31 +21,26 @@ use rp_store::Device;
 use rp_tasks::FaultLine;
 use std::alloc::Global;
 
-/// A node that made its turns, and how many were of each kind. A turn is skipped where the gate
-/// does not let it pass, or where the node is refused to lead.
+/// A node that made its turns.
 #[derive(Drop)]
 pub struct NodeEnd<M: Machine, D: Device> {
     pub seat: NodeSeat<M, D>,
-    pub received: u64,
-    pub led: u64,
-    pub idle: u64,
-    pub skipped: u64,
-    /// How many packets were lost: on its line since that was made, and, in the turns that were made,
-    /// at boxes that were not empty. It stays at `u64::MAX`.
-    pub lost: u64,
+    /// The packets that are lost in it are also those that were lost on its line since that was made.
+    pub counts: Counts,
     /// Why the node stopped before its last turn.
     pub fault: Option<Fault>,
 }
 
-/// How many turns there were of each kind, and how many packets they lost at boxes that were not
-/// empty.
-#[derive(Clone, Copy)]
-struct Counts {
-    received: u64,
-    led: u64,
-    idle: u64,
-    skipped: u64,
-    lost: u64,
+/// How many turns there were of each kind, and how many packets were lost in them. A turn is skipped
+/// where the gate does not let it pass, or where the node is refused to lead.
+#[derive(Clone, Copy, Debug)]
+pub struct Counts {
+    pub received: u64,
+    pub led: u64,
+    pub idle: u64,
+    pub skipped: u64,
+    /// At boxes that were not empty, in the turns that were made. It stays at `u64::MAX`.
+    pub lost: u64,
 }
 
 impl Counts {
@@ -178,11 +173,7 @@ impl<M: Machine, D: Device> Worker<M, D> {
         let lost = counts.lost.saturating_add(self.line.lost());
         NodeEnd {
             seat: self.seat,
-            received: counts.received,
-            led: counts.led,
-            idle: counts.idle,
-            skipped: counts.skipped,
-            lost,
+            counts: Counts { lost, ..counts },
             fault,
         }
     }

@@ -3,11 +3,8 @@
 ghost use Rattle.std.specs.Prelude.{◌≡◌, ◌+◌, ◌%◌, ◌≤◌};
 ghost use Rattle.rp_threads.specs.Loops.{sender_at, node_at};
 
-use rp_base::{NodeId, TaskId};
+use rp_base::{MOST_TASKS, NodeId, TaskId};
 use rp_codec::Party;
-
-/// How many tasks there are.
-const TASKS: u8 = 8;
 
 /// Whose box a node empties in a turn: those of all nodes, then that of one task, each task in its
 /// turn.
@@ -18,7 +15,7 @@ pub(crate) fn sender(nodes: u8, turn: u64) -> Party
     let round = u64::from(nodes) + 1;
     let place = (turn % round) as u8;
     if place == 0 {
-        let task = (turn / round % u64::from(TASKS)) as u8;
+        let task = (turn / round % u64::from(MOST_TASKS)) as u8;
         Party::Task(TaskId::new(task + 1).unwrap())
     } else {
         Party::Node(NodeId::new(place).unwrap())

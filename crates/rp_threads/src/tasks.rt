@@ -10,11 +10,12 @@ ghost use Rattle.rp_model.specs.Tasks.{Again};
 ghost use Rattle.rp_threads.specs.Lines.{HoldsTextsOf, given_on, line_after};
 ghost use Rattle.rp_threads.specs.TaskRounds.{Hears, Asks, IsRefused, IsTaskTurnOf, IsUnmadeTurn, asked_in, asked_for, heard_by, submitted, with_lost};
 ghost use Rattle.rp_threads.specs.Threads.{IsTaskLooped, task_end_of};
-ghost use Rattle.rp_threads.specs.Turns.{AreSent, IsAllOffered, IsBrought, IsLost, IsOffered};
+ghost use Rattle.rp_threads.specs.Turns.{AreSent, IsAllOffered, IsOffered};
 
 use crate::gate::Gate;
 use crate::options::LoopOptions;
 use crate::rotation::node_in_turn;
+use crate::turns::take_fetched;
 use rp_base::{Fault, NodeId, Operation};
 use rp_boxes::TaskSeat;
 use rp_codec::Party;
@@ -85,27 +86,6 @@ struct Caller<M: Machine> {
     seat: TaskSeat<M>,
     line: FaultLine,
     so_far: Calls,
-}
-
-/// The line takes the packet in the box from a node, if there is one.
-fn bring<M: Machine>(
-    seat: &mut TaskSeat<M>,
-    line: &mut FaultLine,
-    alloc: Global,
-    from: NodeId,
-) -> Result<(), Fault>
-    requires held { HoldsTextsOf seat.old.part.got line.old }
-    ensures held { HoldsTextsOf seat.new.part.got line.new }
-    ensures ok { OnOk result (IsBrought (parties.Node from) (parties.Task seat.old.number)
-        seat.old seat.new line.old line.new) }
-    ensures err { IfErr result (IsLost (parties.Node from) (parties.Task seat.old.number)
-        seat.old seat.new line.old line.new) }
-{
-    gives_what_it_took();
-    match seat.fetch(Party::Node(from)) {
-        Some(packet) => line.take(alloc, packet),
-        None => Ok(()),
-    }
 }
 
 /// The task takes what the line gives on, if it gives something. Whether a call has its reply now.
@@ -247,12 +227,9 @@ impl<M: Machine> Caller<M> {
             (record { seat = self.old.seat; line = self.old.line; so_far = self.old.so_far })
             (record { seat = self.new.seat; line = self.new.line; so_far = self.new.so_far })) }
     {
-        bring(
-            &mut self.seat,
-            &mut self.line,
-            alloc,
-            node_in_turn(nodes, turn),
-        )?;
+        gives_what_it_took();
+        let fetched = self.seat.fetch(Party::Node(node_in_turn(nodes, turn)));
+        take_fetched(&mut self.line, alloc, fetched)?;
         let answered = hear(&mut self.seat, &mut self.line, alloc)?;
         self.so_far.hear(answered, turn);
         let lost = self.ask(alloc, nodes, calls, turn)?;

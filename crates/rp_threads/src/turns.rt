@@ -1,11 +1,12 @@
 //! A node's turn.
 
-ghost use Rattle.std.specs.Prelude.{◌≡◌, ◌⊎◌, IfOk, OnOk, IfErr, OnErr, Bool};
+ghost use Rattle.std.specs.Prelude.{◌≡◌, ◌⊎◌, IfOk, OnOk, IfErr, OnErr, IsSome, Bool, option_map};
+ghost use Rattle.rp_base.specs.declared.fault.Fault.TheVariants.{OutOfMemory};
 ghost use Rattle.rp_codec.specs.declared.packet.Party.TheVariants.{Node};
 ghost use Rattle.rp_rules.specs.Inputs.{IsRightInput};
 ghost use Rattle.rp_boxes.specs.Seats.{IsGot, IsTurn, IsCutTurn, IsNoTurn};
-ghost use Rattle.rp_threads.specs.Lines.{HoldsTextsOf, given_on, line_after};
-ghost use Rattle.rp_threads.specs.Turns.{IsBrought, IsLost, turn_of, Works, Fails, IsEventBy, IsStopBy, IsNodeTurn, IsStoppedTurn};
+ghost use Rattle.rp_threads.specs.Lines.{HoldsTextsOf, given_on, line_after, line_with};
+ghost use Rattle.rp_threads.specs.Turns.{IsLost, turn_of, Works, Fails, IsEventBy, IsStopBy, IsNodeTurn, IsStoppedTurn};
 
 use crate::sends::put_all;
 use rp_base::Fault;
@@ -44,22 +45,19 @@ pub struct TurnResult {
     pub packets: PacketCounts,
 }
 
-/// The line takes the packet in the box from a party, if there is one.
-fn bring<M: Machine, D: Device>(
-    seat: &mut NodeSeat<M, D>,
+/// The line takes the packet that was fetched, if one was. At `OutOfMemory` that packet is gone.
+pub(crate) fn take_fetched(
     line: &mut FaultLine,
     alloc: Global,
-    from: Party,
+    fetched: Option<Vec<u8>>,
 ) -> Result<(), Fault>
-    requires held { HoldsTextsOf seat.old.part.got line.old }
-    ensures held { HoldsTextsOf seat.new.part.got line.new }
-    ensures ok { OnOk result (IsBrought from (Node seat.old.number)
-        seat.old seat.new line.old line.new) }
-    ensures err { IfErr result (IsLost from (Node seat.old.number)
-        seat.old seat.new line.old line.new) }
+    ensures ok { OnOk result (line.new
+        ≡ line_with (option_map (λ packet. packet.items) fetched) line.old) }
+    ensures err { OnErr result (line.new ≡ line.old) }
+    ensures fetched { OnErr result (IsSome fetched) }
+    ensures only { IfErr result (λ fault. fault ≡ OutOfMemory) }
 {
-    gives_what_it_took();
-    match seat.fetch(from) {
+    match fetched {
         Some(packet) => line.take(alloc, packet),
         None => Ok(()),
     }
@@ -158,6 +156,8 @@ pub fn node_turn<M: Machine, D: Device>(
         ⊎ IsStoppedTurn M.next M.answers M.begin
         from lead seat.old seat.new line.old line.new fault) }
 {
-    bring(seat, line, alloc, from)?;
+    gives_what_it_took();
+    let fetched = seat.fetch(from);
+    take_fetched(line, alloc, fetched)?;
     work(seat, line, alloc, lead)
 }

@@ -209,8 +209,8 @@ fn outcome_at<M: Machine, D: Device>(
     let applied = end.seat.applied()?;
     node_step(&mut end.seat, alloc, &Input::Report(Position::first()))?;
     Ok(NodeOutcome {
-        received: end.received,
-        skipped: end.skipped,
+        received: end.counts.received,
+        skipped: end.counts.skipped,
         applied,
         known: hear(audit, alloc, end.seat.number())?,
     })
@@ -266,7 +266,8 @@ where
     let (mut nodes, mut tasks) = run_threads(rt, nodes, tasks, options)?;
     let mut audit = Audit::new(alloc, all.audit);
     let mut stated = Vec::new(alloc);
-    for end in nodes.iter_mut() {
+    for index in 0..nodes.len() {
+        let end = nodes.get_mut(index).ok_or(Fault::BadConfig)?;
         stated.push(outcome_at(end, &mut audit, alloc)?)?;
     }
     audit.look();

@@ -1,11 +1,12 @@
 //! The result of an event: steps of nodes, and stops within them.
 
-ghost use Rattle.std.specs.Prelude.{◌≡◌, Ok, Some, IfOk, IfErr, IsSome, option_copied, option_map};
+ghost use Rattle.std.specs.Prelude.{◌≡◌, Ok, Some, IfOk, IfErr, OnErr, IsSome, option_copied, option_map};
 ghost use Rattle.std.specs.List.{AllByRecursion};
 ghost use Rattle.rp_base.specs.Config.{IsRightConfig};
 ghost use Rattle.rp_base.specs.Sets.{Has};
 ghost use Rattle.rp_codec.specs.Message.{Message, IsPacket};
 ghost use Rattle.rp_codec.specs.declared.packet.Party.TheVariants.{Node, Task};
+ghost use Rattle.rp_codec.specs.Decoding.{IsLongText};
 ghost use Rattle.rp_codec.specs.Text.{text_of};
 ghost use Rattle.rp_model.specs.Effect.{Done, NodeInput, Setting, node_effect};
 ghost use Rattle.rp_model.specs.Parts.{NodePart};
@@ -389,11 +390,13 @@ impl<M: Machine, D: CutDevice> World<M, D> {
     }
 }
 
-/// The number and the reply in the text of a packet, if it is a reply.
+/// The number and the reply in the text of a packet, if it is a reply. Only the text of a report or of
+/// a promise for a range takes memory.
 pub fn read_reply(alloc: Global, text: &[u8]) -> Result<Option<(u32, Reply)>, AllocError>
     // claim: The reply that a packet carries is read from its text; none is read where it carries none
-    ensures { IfOk result (λ stated. (m : Message) → IsPacket m → text.now ≡ text_of m
+    ensures reply { IfOk result (λ stated. (m : Message) → IsPacket m → text.now ≡ text_of m
         → stated ≡ reply_in m.body) }
+    ensures memory { OnErr result (IsLongText text.now) }
 {
     if let Some(sent) = usual_reply(text) {
         return Ok(Some((sent.number, sent.reply)));

@@ -8,7 +8,7 @@ loop-end-preserved g c =
     let nodes = c.args.nodes.now in
     let index = c.loop-end.end-index in
     let within : index < length nodes = omega (arith, c.loop-end-test.true) in
-    ap (λ sum. sum_from sum (map (λ end. end.lost) (drop (index + 1) nodes))) c.saturating_add-sum.ensures
-    ∙ ap (λ end. sum_from (min (c.loop-end.sum + end.lost) 18446744073709551615) (map (λ e. e.lost) (drop (index + 1) nodes))) c.end-item.is
-    ∙ sym (at_drop_more (λ rest. sum_from c.loop-end.sum (map (λ end. end.lost) rest)) nodes index c.end-item.result within)
+    ap (λ sum. sum_from sum (map (λ end. end.counts.lost) (drop (index + 1) nodes))) c.saturating_add-sum.ensures
+    ∙ ap (λ end. sum_from (min (c.loop-end.sum + end.counts.lost) 18446744073709551615) (map (λ e. e.counts.lost) (drop (index + 1) nodes))) c.end-item.is
+    ∙ sym (at_drop_more (λ rest. sum_from c.loop-end.sum (map (λ end. end.counts.lost) rest)) nodes index c.end-item.result within)
     ∙ c.loop-end.invariant

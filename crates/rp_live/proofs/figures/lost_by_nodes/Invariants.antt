@@ -4,4 +4,4 @@ use Rattle.rp_live.specs.Figures.{sum_from}
 use Rattle.rp_live.proofs.figures.lost_by_nodes.Given as goal
 
 abbrev pub invariant-loop-end : goal.invariant-loop-end
-invariant-loop-end g l = sum_from l.sum (map (λ end. end.lost) (drop l.end-index l.nodes)) ≡ sum_from 0 (map (λ end. end.lost) l.nodes)
+invariant-loop-end g l = sum_from l.sum (map (λ end. end.counts.lost) (drop l.end-index l.nodes)) ≡ sum_from 0 (map (λ end. end.counts.lost) l.nodes)

@@ -4,4 +4,4 @@ use Rattle.rp_live.specs.Figures.{sum_from}
 use Rattle.rp_live.proofs.figures.turns_led.Given as goal
 
 abbrev pub invariant-loop-end : goal.invariant-loop-end
-invariant-loop-end g l = sum_from l.sum (map (λ end. end.led) (drop l.end-index l.nodes)) ≡ sum_from 0 (map (λ end. end.led) l.nodes)
+invariant-loop-end g l = sum_from l.sum (map (λ end. end.counts.led) (drop l.end-index l.nodes)) ≡ sum_from 0 (map (λ end. end.counts.led) l.nodes)

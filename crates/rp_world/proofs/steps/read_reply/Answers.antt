@@ -7,14 +7,23 @@ use Rattle.rp_world.specs.Going.{reply_in}
 use Rattle.rp_world.proofs.steps.read_reply.Goals as goal
 
 pub returns-in_default-2 : goal.returns-in_default-2
-returns-in_default-2 c = λ m packet text. absurd (c.in_default-2.not-Ok m (written_read _ _ m c.in_ok-packet.ensures.answer packet text))
+returns-in_default-2 c = record {
+  reply = λ m packet text. absurd (c.in_default-2.not-Ok m (written_read _ _ m c.in_ok-packet.ensures.answer packet text));
+  memory = tt;
+}
 
 pub returns-in-Reply : goal.returns-in-Reply
-returns-in-Reply c = λ m packet text.
-    let same : c.in-Ok.packet ≡ m = read_same _ _ c.in-Ok.packet m c.in_ok-packet.ensures.answer c.in-Ok.is packet text in
-    ap reply_in (sym c.in-Reply.is ∙ c.body.ensures.value ∙ ap (λ (p : Message). p.body) same)
+returns-in-Reply c = record {
+  reply = λ m packet text.
+      let same : c.in-Ok.packet ≡ m = read_same _ _ c.in-Ok.packet m c.in_ok-packet.ensures.answer c.in-Ok.is packet text in
+      ap reply_in (sym c.in-Reply.is ∙ c.body.ensures.value ∙ ap (λ (p : Message). p.body) same);
+  memory = tt;
+}
 
 pub returns-in-Some : goal.returns-in-Some
-returns-in-Some c = λ m packet text.
-    let same : reply_sent c.in-Some.sent ≡ m = read_same _ _ (reply_sent c.in-Some.sent) m c.in-Some.ensures refl packet text in
-    ap (λ (p : Message). reply_in p.body) same
+returns-in-Some c = record {
+  reply = λ m packet text.
+      let same : reply_sent c.in-Some.sent ≡ m = read_same _ _ (reply_sent c.in-Some.sent) m c.in-Some.ensures refl packet text in
+      ap (λ (p : Message). reply_in p.body) same;
+  memory = tt;
+}

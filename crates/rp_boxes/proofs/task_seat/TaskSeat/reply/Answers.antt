@@ -37,7 +37,7 @@ module _ (g : given.Over) (c : In_ok-taken g) where
   done = reply_effect seat.number task c.in_ok-stated.stated
 
   results : task_effect seat.config seat.number task (Take got.0) ≡ Ok done
-  results = reply_results seat.config seat.number task got.0 c.in_ok-stated.stated (c.in_ok-stated.ensures got.0 (c.self.invariant.0.own.got got.0 got.1).0 got.2)
+  results = reply_results seat.config seat.number task got.0 c.in_ok-stated.stated (c.in_ok-stated.ensures.reply got.0 (c.self.invariant.0.own.got got.0 got.1).0 got.2)
 
   is_given : IsTaskInput seat.part.got seat.number (Take got.0)
   is_given =

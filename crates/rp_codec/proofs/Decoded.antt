@@ -195,9 +195,6 @@ decoded bytes answer h e = record {
 pub decoded_packet : (bytes : List ℕ) (packet message : Message) → IsBytes bytes → packet ≡ message → all_of bytes ≡ Ok message → IsDecoded bytes (Ok packet)
 decoded_packet bytes packet message h same e = decoded bytes (Ok packet) h (ap (λ (m : Message). Ok m) same ∙ sym e)
 
-pub decoded_text : (bytes : List ℕ) (packet : Message) → IsBytes bytes → IsPacket packet → bytes ≡ text_of packet → IsDecoded bytes (Ok packet)
-decoded_text bytes packet h is text = decoded bytes (Ok packet) h (sym (ap all_of text ∙ whole_again packet is))
-
 pub decoded_rules : (bytes : List ℕ) (message : Message) → IsBytes bytes → all_of bytes ≡ Ok message → KeepsRules message
 decoded_rules bytes message h e =
     let found = whole_found bytes (Ok message) h (sym e) in

@@ -11,5 +11,4 @@ pub mod PacketLaws
 pub mod Decoded
 pub mod RecordLaws
 pub mod LengthLaws
-pub mod UsualTexts
-pub mod UsualPackets
+pub mod UsualLaws

@@ -1,5 +1,5 @@
 -- The packets of the usual kinds, by the fields that are read from their texts.
-use Rattle.std.specs.Prelude.{None}
+use Rattle.std.specs.Prelude.{◌≡◌, ℕ, List, [], None, Ok}
 use Rattle.rp_base.specs.Number.{IsNode, IsPosition}
 use Rattle.rp_base.specs.Ballot.{IsBallot}
 use Rattle.rp_base.specs.declared.action.Action.{Action}
@@ -7,7 +7,11 @@ use Rattle.rp_base.specs.declared.action.Action.TheVariants as actions
 use Rattle.rp_codec.specs.Message.{Message}
 use Rattle.rp_codec.specs.declared.packet.Body.{Body}
 use Rattle.rp_codec.specs.declared.packet.Body.TheVariants as bodies
+use Rattle.rp_codec.specs.declared.packet.Party.{Party}
 use Rattle.rp_codec.specs.declared.packet.Party.TheVariants.{Node, Task}
+use Rattle.rp_codec.specs.declared.kind.Kind.{Kind}
+use Rattle.rp_codec.specs.declared.version.Version.TheVariants.{V2}
+use Rattle.rp_codec.specs.Reading.{◌>>=◌, Read, placed_vote_at, packet_at, body_at}
 use Rattle.rp_codec.specs.declared.usual_texts.Place.{Place}
 use Rattle.rp_codec.specs.declared.usual_texts.SentCall.{SentCall}
 use Rattle.rp_codec.specs.declared.usual_texts.SentDecision.{SentDecision}
@@ -16,6 +20,22 @@ use Rattle.rp_codec.specs.declared.usual_texts.SentReply.{SentReply}
 -- each number of the place is within its range
 abbrev pub IsPlace : Place → Type 0
 IsPlace place = IsNode place.from × IsNode place.to × IsPosition place.position × IsBallot place.ballot
+
+-- a packet of version 2 and of this kind, from one party to the other: its body is what these bytes are read as
+abbrev pub said_by : Kind → Party → Party → List ℕ → Read Message
+said_by kind from to rest =
+    body_at V2 kind from rest >>= λ body. Ok (record { from = from; to = to; body = body.0 }, body.1)
+
+-- the bytes begin so: after the version, the kind and the parties the rest is left
+abbrev pub IsHead : List ℕ → Kind → Party → Party → List ℕ → Type 0
+IsHead bytes kind from to rest = packet_at bytes ≡ said_by kind from to rest
+
+-- a head, and then a vote to the end
+abbrev pub IsVoteText : List ℕ → Kind → Place → Action → Type 0
+IsVoteText bytes kind place action =
+    (rest : List ℕ) × IsHead bytes kind (Node place.from) (Node place.to) rest
+    × (placed_vote_at V2 rest
+    ≡ Ok (record { position = place.position; vote = record { ballot = place.ballot; action = action } }, []))
 
 -- the packet between the two nodes of a place that says this
 abbrev pub between : Place → Body → Message

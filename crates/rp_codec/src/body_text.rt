@@ -61,7 +61,7 @@ pub(crate) fn read_vote(
 
 #[inline(always)]
 #[tactic(auto, unfolding(crate::specs::Reading::last_at, crate::specs::Reading::last_vote_at))]
-fn read_last(
+pub(crate) fn read_last(
     reader: &mut Reader,
     version: Version,
     below: Ballot,

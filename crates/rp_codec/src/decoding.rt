@@ -17,10 +17,6 @@ use crate::packet::{Body, Packet, Party};
 use crate::party_text::{AUDIT, TASK_BASE};
 use crate::reader::Reader;
 use crate::report_text::list_actions;
-use crate::usual_texts::{
-    Place, usual_accept, usual_accepted, usual_call, usual_decided, usual_prepare, usual_promise,
-    usual_reply,
-};
 use crate::version::Version;
 use crate::votes_text::list_votes;
 use rp_base::{NodeId, PacketReason, TaskId};
@@ -65,7 +61,7 @@ fn read_audit(reader: &mut Reader) -> Result<Party, PacketReason>
 
 #[inline(always)]
 #[tactic(auto, unfolding(crate::specs::Reading::role_at))]
-fn read_from(reader: &mut Reader, kind: Kind) -> Result<Party, PacketReason>
+pub(crate) fn read_from(reader: &mut Reader, kind: Kind) -> Result<Party, PacketReason>
     ensures { Gives result reader.new (role_at (sender_role kind) reader.old) }
 {
     match kind {
@@ -76,7 +72,7 @@ fn read_from(reader: &mut Reader, kind: Kind) -> Result<Party, PacketReason>
 
 #[inline(always)]
 #[tactic(auto, unfolding(crate::specs::Reading::role_at))]
-fn read_to(reader: &mut Reader, kind: Kind) -> Result<Party, PacketReason>
+pub(crate) fn read_to(reader: &mut Reader, kind: Kind) -> Result<Party, PacketReason>
     ensures { Gives result reader.new (role_at (receiver_role kind) reader.old) }
 {
     match kind {
@@ -87,7 +83,7 @@ fn read_to(reader: &mut Reader, kind: Kind) -> Result<Party, PacketReason>
 }
 
 #[inline(always)]
-fn read_version(reader: &mut Reader) -> Result<Version, PacketReason>
+pub(crate) fn read_version(reader: &mut Reader) -> Result<Version, PacketReason>
     ensures { Gives result reader.new (version_at reader.old) }
 {
     let number = reader.byte()?;
@@ -98,7 +94,7 @@ fn read_version(reader: &mut Reader) -> Result<Version, PacketReason>
 }
 
 #[inline(always)]
-fn read_kind(reader: &mut Reader) -> Result<Kind, PacketReason>
+pub(crate) fn read_kind(reader: &mut Reader) -> Result<Kind, PacketReason>
     ensures { Gives result reader.new (kind_at reader.old) }
 {
     let number = reader.byte()?;
@@ -177,13 +173,15 @@ fn listed(alloc: Global, found: Found) -> Result<Packet, AllocError>
     Ok(Packet::new(from, to, body))
 }
 
-/// The same as `decode`, of bytes that are not read in one piece: it reads them field by field, so that
-/// no byte is read twice.
+/// The packet of which the bytes are a text, of version 1 or 2, all of the bytes. Where they are no
+/// packet's text, the reason is the first fault from left to right, by the version that the first
+/// byte says: `Version` where it says neither. Only a report's actions and the votes of a promise for
+/// a range take memory.
 #[inline(never)]
-pub fn decode_fields(
-    alloc: Global,
-    bytes: &[u8],
-) -> Result<Result<Packet, PacketReason>, AllocError>
+pub fn decode(alloc: Global, bytes: &[u8]) -> Result<Result<Packet, PacketReason>, AllocError>
+    // claim: `decode` gives a packet exactly if the bytes are its text of version 1 or 2, else the
+    //   first reason in reading from left to right, by the version that the first byte says; it is
+    //   out of memory only for a report and for a promise for a range
     ensures answer { IfOk result (λ answer. IsDecoded bytes.now answer) }
     ensures memory { OnErr result (IsLongText bytes.now) }
 {
@@ -193,135 +191,6 @@ pub fn decode_fields(
             Ok(Ok(packet))
         }
         Err(reason) => Ok(Err(reason)),
-    }
-}
-
-/// The packet between the two nodes of a place that says this.
-#[inline(always)]
-fn between(place: Place, body: Body) -> Packet
-    requires { MaySay (Node place.from) (Node place.to) body }
-    ensures { result ≡ between place body }
-{
-    Packet::new(Party::Node(place.from), Party::Node(place.to), body)
-}
-
-#[inline(always)]
-fn call_packet(bytes: &[u8]) -> Option<Packet>
-    ensures { IfSome result (λ packet. IsDecoded bytes.now (Ok packet)) }
-{
-    let call = usual_call(bytes)?;
-    let body = Body::Call {
-        action: call.action,
-    };
-    Some(Packet::new(Party::Task(call.task), Party::Node(call.to), body))
-}
-
-#[inline(always)]
-fn prepare_packet(bytes: &[u8]) -> Option<Packet>
-    ensures { IfSome result (λ packet. IsDecoded bytes.now (Ok packet)) }
-{
-    let place = usual_prepare(bytes)?;
-    let body = Body::Prepare {
-        position: place.position,
-        ballot: place.ballot,
-    };
-    Some(between(place, body))
-}
-
-#[inline(always)]
-fn promise_packet(bytes: &[u8]) -> Option<Packet>
-    ensures { IfSome result (λ packet. IsDecoded bytes.now (Ok packet)) }
-{
-    let place = usual_promise(bytes)?;
-    let body = Body::Promise {
-        position: place.position,
-        ballot: place.ballot,
-        last: None,
-    };
-    Some(between(place, body))
-}
-
-#[inline(always)]
-fn accept_packet(bytes: &[u8]) -> Option<Packet>
-    ensures { IfSome result (λ packet. IsDecoded bytes.now (Ok packet)) }
-{
-    let (place, action) = usual_accept(bytes)?;
-    let body = Body::Accept {
-        position: place.position,
-        ballot: place.ballot,
-        action,
-    };
-    Some(between(place, body))
-}
-
-#[inline(always)]
-fn accepted_packet(bytes: &[u8]) -> Option<Packet>
-    ensures { IfSome result (λ packet. IsDecoded bytes.now (Ok packet)) }
-{
-    let (place, action) = usual_accepted(bytes)?;
-    let body = Body::Accepted {
-        position: place.position,
-        ballot: place.ballot,
-        action,
-    };
-    Some(between(place, body))
-}
-
-#[inline(always)]
-fn decided_packet(bytes: &[u8]) -> Option<Packet>
-    ensures { IfSome result (λ packet. IsDecoded bytes.now (Ok packet)) }
-{
-    let decision = usual_decided(bytes)?;
-    let body = Body::Decided {
-        position: decision.position,
-        action: decision.action,
-    };
-    Some(Packet::new(Party::Node(decision.from), Party::Node(decision.to), body))
-}
-
-#[inline(always)]
-fn reply_packet(bytes: &[u8]) -> Option<Packet>
-    ensures { IfSome result (λ packet. IsDecoded bytes.now (Ok packet)) }
-{
-    let sent = usual_reply(bytes)?;
-    let body = Body::Reply {
-        number: sent.number,
-        reply: sent.reply,
-    };
-    Some(Packet::new(Party::Node(sent.from), Party::Task(sent.task), body))
-}
-
-/// The packet of which the bytes are a text, whatever its kind, if it is read in one piece.
-fn any_usual(bytes: &[u8]) -> Option<Packet>
-    ensures { IfSome result (λ packet. IsDecoded bytes.now (Ok packet)) }
-{
-    match Kind::of_text(bytes)? {
-        Kind::Call => call_packet(bytes),
-        Kind::Prepare => prepare_packet(bytes),
-        Kind::Promise => promise_packet(bytes),
-        Kind::Accept => accept_packet(bytes),
-        Kind::Accepted => accepted_packet(bytes),
-        Kind::Decided => decided_packet(bytes),
-        Kind::Reply => reply_packet(bytes),
-        Kind::Ask | Kind::Nack | Kind::Report | Kind::PrepareRange | Kind::PromiseRange => None,
-    }
-}
-
-/// The packet of which the bytes are a text, of version 1 or 2, all of the bytes. Where they are no
-/// packet's text, the reason is the first fault from left to right, by the version that the first
-/// byte says: `Version` where it says neither. Only a report's actions and the votes of a promise for
-/// a range take memory.
-#[inline(always)]
-pub fn decode(alloc: Global, bytes: &[u8]) -> Result<Result<Packet, PacketReason>, AllocError>
-    // claim: `decode` gives a packet exactly if the bytes are its text of version 1 or 2, else the
-    //   first reason in reading from left to right, by the version that the first byte says; it is
-    //   out of memory only for a report and for a promise for a range
-    ensures answer { IfOk result (λ answer. IsDecoded bytes.now answer) }
-    ensures memory { OnErr result (IsLongText bytes.now) }
-{
-    match any_usual(bytes) {
-        Some(packet) => Ok(Ok(packet)),
-        None => decode_fields(alloc, bytes),
     }
 }
 

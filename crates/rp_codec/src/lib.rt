@@ -17,7 +17,7 @@
 //! - `votes_text`: promises for a range as bytes
 //! - `body_text`: bodies as bytes
 //! - `content`: what was read of a packet, before memory is taken for a list
-//! - `usual_texts`: packets of the usual kinds, each read in one piece
+//! - `usual_texts`: packets of the usual kinds, each read by a function of its own
 //! - `usual_encoding`: packets and records of the usual kinds to bytes, each in one piece
 //! - `encoding`: packets to bytes
 //! - `decoding`: bytes to packets
@@ -49,7 +49,7 @@ mod usual_texts;
 mod version;
 mod votes_text;
 
-pub use decoding::{decode, decode_fields, packet_len};
+pub use decoding::{decode, packet_len};
 pub use encoding::{encode, encode_onto, one_text, text_of_packet, two_texts};
 pub use items::{Actions, Items, Votes};
 pub use kind::Kind;

@@ -19,7 +19,7 @@ use rp_base::{Fault, Position, PositionRange};
 use rp_machine::Machine;
 use rp_model::Dropped;
 use rp_outbox::Outbox;
-use rp_rules::{Input, Plan, decide};
+use rp_rules::{Input, Plan, decide, on_text};
 use rp_store::Device;
 use std::alloc::Global;
 use std::mem::replace;
@@ -124,8 +124,11 @@ impl<M: Machine, D: Device> Replica<M, D> {
             self.old self.new out.old.sent out.new.sent result }
     {
         texts_are_packets();
+        if self.has_failed() {
+            return Err(Fault::Failed);
+        }
         let mut plan = Plan::Pass(Dropped::No);
-        self.decide(alloc, &Input::Receive(out.text(place).unwrap()), &mut plan)?;
+        on_text(&self.server, alloc, out.text(place).unwrap(), &mut plan)?;
         self.commit(alloc, out, &plan)?;
         Ok(plan.dropped())
     }
@@ -142,11 +145,11 @@ impl<M: Machine, D: Device> Replica<M, D> {
         self.turn(alloc, &Input::Receive(bytes))
     }
 
-    /// The word to lead at a position, or with none at the least position that is not learned and at
-    /// which no proposal of this node runs but a prepared one. A prepared proposal offers its action.
-    /// Where the position is learned nothing happens. It is refused with `LogFull` above the log or
-    /// 64 positions above the first unlearned one, with `BallotsSpent` where the node has no ballot
-    /// left, and then as `Replica` says.
+    /// The command to lead at a position, or with none at the least position that is not learned
+    /// and at which no proposal of this node runs but a prepared one. A prepared proposal offers
+    /// its action. Where the position is learned nothing happens. It is refused with `LogFull`
+    /// above the log or 64 positions above the first unlearned one, with `BallotsSpent` where the
+    /// node has no ballot left, and then as `Replica` says.
     pub fn lead(&mut self, alloc: Global, choice: Option<Position>) -> Result<Sent, Fault>
         ensures { Answers (effect_of M.next M.answers self.old (inputs.NodeInput.Lead choice))
             self.old self.new result }
@@ -154,24 +157,15 @@ impl<M: Machine, D: Device> Replica<M, D> {
         self.turn(alloc, &Input::Lead(choice))
     }
 
-    /// The word to lead at all positions of a range that are not learned, with one question for all
-    /// of them. Where all are learned nothing happens. It is refused with `LogFull` where one of them
-    /// is above the log or 64 positions above the first unlearned one, with `BallotsSpent` where the
-    /// node has no ballot left, and then as `Replica` says.
+    /// The command to lead at all positions of a range that are not learned, with one question for
+    /// all of them. Where all are learned nothing happens. It is refused with `LogFull` where one
+    /// of them is above the log or 64 positions above the first unlearned one, with `BallotsSpent`
+    /// where the node has no ballot left, and then as `Replica` says.
     pub fn lead_range(&mut self, alloc: Global, range: PositionRange) -> Result<Sent, Fault>
         ensures { Answers (effect_of M.next M.answers self.old
             (inputs.NodeInput.LeadRange range.first range.count)) self.old self.new result }
     {
         self.turn(alloc, &Input::LeadRange(range))
-    }
-
-    /// The word to lead at a position, as `lead` with one.
-    pub fn lead_at(&mut self, alloc: Global, position: Position) -> Result<Sent, Fault>
-        ensures { Answers (effect_of M.next M.answers self.old
-            (inputs.NodeInput.Lead (Some position)))
-            self.old self.new result }
-    {
-        self.turn(alloc, &Input::Lead(Some(position)))
     }
 
     /// The node notes an occurrence of an interrupt's source, 1 to 8 and from 1: it becomes pending

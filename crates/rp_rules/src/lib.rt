@@ -4,12 +4,12 @@
 //! In reading order:
 //! - `input`: what a node may be given
 //! - `plan`: what the rules decided for an input, before anything of it is done
-//! - `rules`: the rule of an input, by its kind and then by the kind of the packet
-//! - `usual`: the rules for a packet of a usual kind, whose fields were read from its text
+//! - `rules`: the rule of an input, by its kind
+//! - `texts`: the rule for a packet's text, by the packet's kind
 //! - `receiving`: the rules for any packet
 //! - `acceptor`, `leader`, `lead`, `ranges`, `learner`, `arrivals`: the rules for a question for a
-//!   promise or a vote, promises, the word to lead at a position or a range, votes and decisions,
-//!   calls and interrupts and ticks
+//!   promise or a vote, promises, the command to lead at a position or a range, votes and
+//!   decisions, calls and interrupts and ticks
 #![tactic(auto)]
 
 mod acceptor;
@@ -22,8 +22,9 @@ mod plan;
 mod ranges;
 mod receiving;
 mod rules;
-mod usual;
+mod texts;
 
 pub use input::Input;
 pub use plan::{CountedPromise, CountedRange, Plan, RangePromise};
 pub use rules::decide;
+pub use texts::on_text;

@@ -1,9 +1,7 @@
-//! What a server decides of an input: by the kind of the input, and then by the kind of the packet.
+//! What a server decides of an input, by its kind.
 
 ghost use Rattle.std.specs.Prelude.{◌≡◌, Ok, IfErr, OnOk};
-ghost use Rattle.rp_codec.specs.Decoding.{IsLongText};
-ghost use Rattle.rp_codec.specs.Reading.{all_of};
-ghost use Rattle.rp_rules.specs.Inputs.{IsLong, IsRightInput, Refuses, input_effect, packet_given, effect_if_given};
+ghost use Rattle.rp_rules.specs.Inputs.{IsLong, IsRightInput, Refuses, input_effect};
 ghost use Rattle.rp_rules.specs.Plans.{turn_of, MayCommit};
 
 use crate::arrivals::{on_interrupt, on_tick};
@@ -11,10 +9,8 @@ use crate::input::Input;
 use crate::lead::on_lead;
 use crate::plan::Plan;
 use crate::ranges::on_lead_range;
-use crate::receiving::on_packet;
-use crate::usual::on_usual_text;
+use crate::texts::on_text;
 use rp_base::Fault;
-use rp_codec::decode_fields;
 use rp_machine::Machine;
 use rp_server::Server;
 use std::alloc::Global;
@@ -37,11 +33,7 @@ pub fn decide<M: Machine>(
         (Refuses (IsLong input.now) (input_effect M.next M.answers server.now input.now)) }
 {
     match *input {
-        Input::Receive(bytes) => {
-            if !on_usual_text(server, bytes, plan) {
-                return on_other_text(server, alloc, bytes, plan);
-            }
-        }
+        Input::Receive(bytes) => return on_text(server, alloc, bytes, plan),
         Input::Lead(choice) => *plan = on_lead(server, choice)?,
         Input::LeadRange(range) => *plan = on_lead_range(server, range)?,
         Input::Interrupt { source, occurrence } => {
@@ -51,27 +43,4 @@ pub fn decide<M: Machine>(
         Input::Report(first) => *plan = Plan::Report(first),
     }
     Ok(())
-}
-
-/// A packet comes that is not read in one piece.
-#[inline(never)]
-fn on_other_text<M: Machine>(
-    server: &Server<M>,
-    alloc: Global,
-    bytes: &[u8],
-    plan: &mut Plan,
-) -> Result<(), Fault>
-    ensures ok { OnOk result (Ok (turn_of M.next M.answers server.now plan.new)
-        ≡ effect_if_given M.next M.answers server.now (packet_given (all_of bytes.now))) }
-    ensures may { OnOk result (MayCommit server.now plan.new) }
-    ensures err { IfErr result (Refuses (IsLongText bytes.now)
-        (effect_if_given M.next M.answers server.now (packet_given (all_of bytes.now)))) }
-{
-    let Ok(read) = decode_fields(alloc, bytes) else {
-        return Err(Fault::OutOfMemory);
-    };
-    match &read {
-        Ok(packet) => on_packet(server, packet, plan),
-        Err(reason) => Err(Fault::BadPacket(*reason)),
-    }
 }

@@ -27,6 +27,12 @@ use Rattle.rp_world.specs.Nodes.{Member, IsNotRefused, setting_at, node_step}
 use Rattle.rp_world.specs.Going.{Goes, reply_in}
 use Rattle.rp_world.proofs.Ending.{stated_of}
 
+-- ---- to whom a message is
+
+pub sent_to : (found : Option Message) (receiver : Party) (node : ℕ) → Some receiver ≡ option_map (λ m. m.to) found → receiver ≡ Node node → (m : Message) × (found ≡ Some m) × (m.to ≡ Node node)
+sent_to (Some m) receiver node e is = let same : receiver ≡ m.to = cc in (m, refl, sym same ∙ is)
+sent_to None receiver node e is = absurd cc
+
 -- ---- packets
 
 all_packets : (ms : List Message) → ((m : Message) → Has m ms → IsPacket m) → AllByRecursion IsPacket ms

@@ -312,33 +312,14 @@ impl<M: Machine, D: CutDevice> World<M, D> {
         let Some(receiver) = self.receiver_of(number) else {
             return Err(Fault::NoSuchMessage);
         };
-        match receiver {
-            Party::Node(node) => self.hears(alloc, number, node, effect),
-            Party::Task(task) => self.give_to_task(alloc, number, task, effect),
+        let node = match receiver {
+            Party::Node(node) => node,
+            Party::Task(task) => return self.give_to_task(alloc, number, task, effect),
             Party::Audit => {
                 *effect = no_effect(self.messages() + 1);
-                Ok(())
+                return Ok(());
             }
-        }
-    }
-
-    /// A message arrives at its node.
-    #[inline(always)]
-    fn hears(
-        &mut self,
-        alloc: Global,
-        number: u64,
-        node: NodeId,
-        effect: &mut Effect,
-    ) -> Result<(), Fault>
-        requires to { (m : Message) × (part_at self.old.world.sent number ≡ Some m)
-            × (m.to ≡ Node node) }
-        ensures answer { AnswersDelivery (setting_of M.next M.answers M.begin self.old)
-            self.old.world number self.new.world (stated result effect.new) }
-        ensures setup { IsSameSetup self.old self.new }
-        ensures failures { CountsDelivery (setting_of M.next M.answers M.begin self.old)
-            self.old.world number self.old.failures self.new.failures result }
-    {
+        };
         let first = self.messages() + 1;
         let Some(node) = self.nodes.get_mut(usize::from(node.get()) - 1) else {
             *effect = no_effect(first);
@@ -398,7 +379,7 @@ pub fn read_reply(alloc: Global, text: &[u8]) -> Result<Option<(u32, Reply)>, Al
         → stated ≡ reply_in m.body) }
     ensures memory { OnErr result (IsLongText text.now) }
 {
-    if let Some(sent) = usual_reply(text) {
+    if let Ok(sent) = usual_reply(text) {
         return Ok(Some((sent.number, sent.reply)));
     }
     let Ok(packet) = decode(alloc, text)? else {

@@ -1,7 +1,9 @@
 use Rattle.std.proofs.Common.{arith}
-use Rattle.rp_codec.proofs.UsualPackets.{accepted_decoded}
+use Rattle.rp_codec.proofs.Steps.{IsBytes}
+use Rattle.rp_codec.proofs.UsualLaws.{head_decoded, accepted_read}
 use Rattle.rp_codec.proofs.usual_texts.usual_accepted.Goals as goal
 
 pub returns : goal.returns
 returns c =
-    accepted_decoded c.args.bytes.now c.in_ok-place.place c.in_ok-place.action (λ i. omega (arith, c.type_inv.bytes i)) c.in_ok-place.ensures.in_range c.in_ok-place.ensures.right c.in_ok-place.ensures.text
+    let bytes : IsBytes c.args.bytes.now = λ i. omega (arith, c.type_inv.bytes i) in
+    head_decoded c.args.bytes.now _ _ _ _ _ bytes c.in_ok-place.ensures.1 (accepted_read _ _ _ c.in_ok-place.ensures.2)

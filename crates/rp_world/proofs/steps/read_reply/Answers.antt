@@ -15,15 +15,15 @@ returns-in_default-2 c = record {
 pub returns-in-Reply : goal.returns-in-Reply
 returns-in-Reply c = record {
   reply = λ m packet text.
-      let same : c.in-Ok.packet ≡ m = read_same _ _ c.in-Ok.packet m c.in_ok-packet.ensures.answer c.in-Ok.is packet text in
+      let same : c.in-Ok-2.packet ≡ m = read_same _ _ c.in-Ok-2.packet m c.in_ok-packet.ensures.answer c.in-Ok-2.is packet text in
       ap reply_in (sym c.in-Reply.is ∙ c.body.ensures.value ∙ ap (λ (p : Message). p.body) same);
   memory = tt;
 }
 
-pub returns-in-Some : goal.returns-in-Some
-returns-in-Some c = record {
+pub returns-in-Ok : goal.returns-in-Ok
+returns-in-Ok c = record {
   reply = λ m packet text.
-      let same : reply_sent c.in-Some.sent ≡ m = read_same _ _ (reply_sent c.in-Some.sent) m c.in-Some.ensures refl packet text in
+      let same : reply_sent c.in-Ok.sent ≡ m = read_same _ _ (reply_sent c.in-Ok.sent) m c.in-Ok.ensures refl packet text in
       ap (λ (p : Message). reply_in p.body) same;
   memory = tt;
 }

@@ -1,37 +1,52 @@
-//! What a server decides that is given a packet of a usual kind: its text is read into fields, and the
-//! rule for it is called with these. Each function says whether the bytes are such a packet's text; where
-//! they are not, it leaves the plan as it is.
+//! What a server decides that is given a packet's text. Each usual kind has a function, which reads the
+//! text into fields and calls the rule with these. It returns whether the bytes are such a packet's
+//! text; where they are not, it leaves the plan as it is.
 
-ghost use Rattle.std.specs.Prelude.{◌≡◌, ◌&&◌, not, nat_lt, true};
+ghost use Rattle.std.specs.Prelude.{◌≡◌, ◌&&◌, not, nat_lt, true, Ok, IfErr, OnOk};
+ghost use Rattle.rp_codec.specs.Decoding.{IsLongText};
+ghost use Rattle.rp_codec.specs.Reading.{all_of};
 ghost use Rattle.rp_codec.specs.declared.packet.Body.TheVariants.{Prepare};
 ghost use Rattle.rp_codec.specs.declared.packet.Party.TheVariants.{Node};
 ghost use Rattle.rp_model.specs.Receiving.{is_for_node, is_node, is_no_node_above};
 ghost use Rattle.rp_model.specs.Says.{says};
 ghost use Rattle.rp_model.specs.declared.effect.Dropped.TheVariants.{Foreign};
 ghost use Rattle.rp_rules.specs.declared.plan.Plan.TheVariants.{Pass};
-ghost use Rattle.rp_rules.specs.Plans.{Decides};
+ghost use Rattle.rp_rules.specs.Inputs.{Refuses, packet_given, effect_if_given};
+ghost use Rattle.rp_rules.specs.Plans.{Decides, MayCommit, turn_of};
 
 use crate::acceptor::{on_accept, on_prepare};
 use crate::arrivals::on_call;
 use crate::leader::on_promise;
 use crate::learner::{on_accepted, on_decided};
 use crate::plan::{CountedPromise, Plan};
-use rp_base::{NodeId, Position};
+use crate::receiving::on_packet;
+use rp_base::{Fault, NodeId, Position};
 use rp_codec::{
-    Kind, Place, usual_accept, usual_accepted, usual_call, usual_decided, usual_prepare,
+    Kind, Place, decode, usual_accept, usual_accepted, usual_call, usual_decided, usual_prepare,
     usual_promise,
 };
 use rp_machine::Machine;
 use rp_model::Dropped;
 use rp_server::Server;
+use std::alloc::Global;
 
-/// A packet comes, as its text: each usual kind has its function, in which reading the packet and the
-/// rule for it are compiled for that kind alone.
+/// A packet comes, as its text: `BadPacket` where the bytes are no packet's, or `OutOfMemory` where a
+/// report or a promise for a range is read. Each usual kind has its function, in which reading the
+/// packet and the rule for it are compiled for that kind alone.
 #[inline(always)]
-pub(crate) fn on_usual_text<M: Machine>(server: &Server<M>, bytes: &[u8], plan: &mut Plan) -> bool
-    ensures { Decides M.next M.answers server.now bytes.now plan.old plan.new result }
+pub fn on_text<M: Machine>(
+    server: &Server<M>,
+    alloc: Global,
+    bytes: &[u8],
+    plan: &mut Plan,
+) -> Result<(), Fault>
+    ensures ok { OnOk result (Ok (turn_of M.next M.answers server.now plan.new)
+        ≡ effect_if_given M.next M.answers server.now (packet_given (all_of bytes.now))) }
+    ensures may { OnOk result (MayCommit server.now plan.new) }
+    ensures err { IfErr result (Refuses (IsLongText bytes.now)
+        (effect_if_given M.next M.answers server.now (packet_given (all_of bytes.now)))) }
 {
-    match Kind::of_text(bytes) {
+    let decided = match Kind::of_text(bytes) {
         Some(Kind::Call) => on_call_text(server, bytes, plan),
         Some(Kind::Prepare) => on_prepare_text(server, bytes, plan),
         Some(Kind::Promise) => on_promise_text(server, bytes, plan),
@@ -39,7 +54,11 @@ pub(crate) fn on_usual_text<M: Machine>(server: &Server<M>, bytes: &[u8], plan: 
         Some(Kind::Accepted) => on_accepted_text(server, bytes, plan),
         Some(Kind::Decided) => on_decided_text(server, bytes, plan),
         _ => false,
+    };
+    if decided {
+        return Ok(());
     }
+    on_other_text(server, alloc, bytes, plan)
 }
 
 /// Whether a packet between these nodes, for a position, is for this node and keeps to the
@@ -64,12 +83,35 @@ fn takes_from_owner<M: Machine>(server: &Server<M>, place: &Place) -> bool
     takes(server, place.from, place.to, place.position) && place.ballot.owner() == place.from
 }
 
+/// A packet comes that no function of a usual kind reads.
+#[inline(never)]
+fn on_other_text<M: Machine>(
+    server: &Server<M>,
+    alloc: Global,
+    bytes: &[u8],
+    plan: &mut Plan,
+) -> Result<(), Fault>
+    ensures ok { OnOk result (Ok (turn_of M.next M.answers server.now plan.new)
+        ≡ effect_if_given M.next M.answers server.now (packet_given (all_of bytes.now))) }
+    ensures may { OnOk result (MayCommit server.now plan.new) }
+    ensures err { IfErr result (Refuses (IsLongText bytes.now)
+        (effect_if_given M.next M.answers server.now (packet_given (all_of bytes.now)))) }
+{
+    let Ok(read) = decode(alloc, bytes) else {
+        return Err(Fault::OutOfMemory);
+    };
+    match &read {
+        Ok(packet) => on_packet(server, packet, plan),
+        Err(reason) => Err(Fault::BadPacket(*reason)),
+    }
+}
+
 /// A task's call comes.
 #[inline(never)]
 fn on_call_text<M: Machine>(server: &Server<M>, bytes: &[u8], plan: &mut Plan) -> bool
     ensures { Decides M.next M.answers server.now bytes.now plan.old plan.new result }
 {
-    let Some(call) = usual_call(bytes) else {
+    let Ok(call) = usual_call(bytes) else {
         return false;
     };
     if call.to != server.me() {
@@ -84,7 +126,7 @@ fn on_call_text<M: Machine>(server: &Server<M>, bytes: &[u8], plan: &mut Plan) -
 fn on_prepare_text<M: Machine>(server: &Server<M>, bytes: &[u8], plan: &mut Plan) -> bool
     ensures { Decides M.next M.answers server.now bytes.now plan.old plan.new result }
 {
-    let Some(place) = usual_prepare(bytes) else {
+    let Ok(place) = usual_prepare(bytes) else {
         return false;
     };
     if !takes_from_owner(server, &place) {
@@ -99,7 +141,7 @@ fn on_prepare_text<M: Machine>(server: &Server<M>, bytes: &[u8], plan: &mut Plan
 fn on_promise_text<M: Machine>(server: &Server<M>, bytes: &[u8], plan: &mut Plan) -> bool
     ensures { Decides M.next M.answers server.now bytes.now plan.old plan.new result }
 {
-    let Some(place) = usual_promise(bytes) else {
+    let Ok(place) = usual_promise(bytes) else {
         return false;
     };
     if !takes(server, place.from, place.to, place.position) {
@@ -122,7 +164,7 @@ fn on_promise_text<M: Machine>(server: &Server<M>, bytes: &[u8], plan: &mut Plan
 fn on_accept_text<M: Machine>(server: &Server<M>, bytes: &[u8], plan: &mut Plan) -> bool
     ensures { Decides M.next M.answers server.now bytes.now plan.old plan.new result }
 {
-    let Some((place, action)) = usual_accept(bytes) else {
+    let Ok((place, action)) = usual_accept(bytes) else {
         return false;
     };
     if !takes_from_owner(server, &place) {
@@ -137,7 +179,7 @@ fn on_accept_text<M: Machine>(server: &Server<M>, bytes: &[u8], plan: &mut Plan)
 fn on_accepted_text<M: Machine>(server: &Server<M>, bytes: &[u8], plan: &mut Plan) -> bool
     ensures { Decides M.next M.answers server.now bytes.now plan.old plan.new result }
 {
-    let Some((place, action)) = usual_accepted(bytes) else {
+    let Ok((place, action)) = usual_accepted(bytes) else {
         return false;
     };
     if !takes(server, place.from, place.to, place.position) {
@@ -152,7 +194,7 @@ fn on_accepted_text<M: Machine>(server: &Server<M>, bytes: &[u8], plan: &mut Pla
 fn on_decided_text<M: Machine>(server: &Server<M>, bytes: &[u8], plan: &mut Plan) -> bool
     ensures { Decides M.next M.answers server.now bytes.now plan.old plan.new result }
 {
-    let Some(decision) = usual_decided(bytes) else {
+    let Ok(decision) = usual_decided(bytes) else {
         return false;
     };
     if !takes(server, decision.from, decision.to, decision.position) {

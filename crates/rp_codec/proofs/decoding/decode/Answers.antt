@@ -3,7 +3,7 @@ use Rattle.rp_codec.specs.Found.{with_body}
 use Rattle.rp_codec.specs.Decoding.{IsLongText}
 use Rattle.rp_codec.proofs.Steps.{IsBytes}
 use Rattle.rp_codec.proofs.Decoded.{decoded, decoded_packet, decoded_rules, long_text}
-use Rattle.rp_codec.proofs.decoding.decode_fields.Goals as goal
+use Rattle.rp_codec.proofs.decoding.decode.Goals as goal
 
 pub listed-requires : goal.listed-requires
 listed-requires c =

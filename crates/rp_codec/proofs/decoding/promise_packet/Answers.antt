@@ -1,9 +1,0 @@
-use Rattle.rp_codec.specs.Usual.{promise_at}
-use Rattle.rp_codec.proofs.UsualPackets.{decoded_rules_of, decoded_same}
-use Rattle.rp_codec.proofs.decoding.promise_packet.Goals as goal
-
-pub between-requires : goal.between-requires
-between-requires c = decoded_rules_of c.args.bytes.now (promise_at c.in_ok-place.place) c.in_ok-place.ensures
-
-pub returns : goal.returns
-returns c = decoded_same c.args.bytes.now c.between.result (promise_at c.in_ok-place.place) c.in_ok-place.ensures c.between.ensures

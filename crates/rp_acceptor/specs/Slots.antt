@@ -51,6 +51,11 @@ pub record Kept : Type 0 where
 abbrev pub nothing_kept : Kept
 nothing_kept = record { promised = 0; last = None }
 
+-- what is kept at a place, nothing where there is none
+abbrev pub kept_or_nothing : Option Kept → Kept
+kept_or_nothing None = nothing_kept
+kept_or_nothing (Some kept) = kept
+
 -- the ballot of a vote, or 0
 abbrev pub ballot_of_vote : Option Vote → ℕ
 ballot_of_vote None = 0

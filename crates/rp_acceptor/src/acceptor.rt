@@ -1,7 +1,7 @@
 //! The acceptor's questions and notes.
 
-ghost use Rattle.std.specs.Prelude.{◌≡◌, ◌≤◌, ◌<◌, [], ◌∷◌, flat_map, IfOk, IfSome, IfNone, OnOk, OnErr};
-ghost use Rattle.rp_base.specs.Ballot.{number_of};
+ghost use Rattle.std.specs.Prelude.{◌≡◌, ◌≤◌, ◌<◌, [], ◌∷◌, flat_map, option_copied, IfOk, IfSome, IfNone, OnOk, OnErr};
+ghost use Rattle.rp_acceptor.specs.Steps.{IsPromised};
 ghost use Rattle.rp_base.specs.Records.{bound_at, last_vote_at};
 ghost use Rattle.rp_base.specs.Ranges.{positions_of};
 ghost use Rattle.rp_base.specs.Sets.{Has};
@@ -9,7 +9,7 @@ ghost use Rattle.rp_acceptor.specs.Noted.{nothing_noted, places_in, HasRoom, res
 ghost use Rattle.rp_base.specs.Voting.{prepare_answer, vote_answer, accept_answer};
 
 use crate::page::{Page, kept_at, make, note};
-use crate::slot::{Slot, index_of_position};
+use crate::slot::{Slot, ballot_of, index_of_position};
 use crate::steps::{Steps, raise_promised, split_ends};
 use rp_base::{
     AcceptAnswer, Action, Ballot, History, Position, PositionRange, PrepareAnswer, Rec, Vote,
@@ -170,14 +170,20 @@ impl Acceptor {
     /// The bound and the last vote at a position.
     #[inline(always)]
     fn slot(&self, position: Position) -> Slot
-        ensures bound { number_of result.bound ≡ bound_at self.now.records position }
-        ensures last { result.last ≡ last_vote_at self.now.records position }
+        ensures bound { result.bound ≡ bound_at self.now.records position }
+        ensures promised { IsPromised result.bound }
+        ensures last { option_copied result.last ≡ last_vote_at self.now.records position }
     {
-        let promised = self.steps.ballot(usize::from(position.get()));
-        let kept = kept_at(&self.pages, index_of_position(position));
-        Slot {
-            bound: Ballot::greater(promised, kept.bound()),
-            last: kept.last(),
+        let promised = self.steps.number(usize::from(position.get()));
+        match kept_at(&self.pages, index_of_position(position)) {
+            Some(kept) => Slot {
+                bound: promised.max(kept.bound_number()),
+                last: kept.last(),
+            },
+            None => Slot {
+                bound: promised,
+                last: None,
+            },
         }
     }
 
@@ -190,11 +196,11 @@ impl Acceptor {
         ensures answer { result ≡ prepare_answer self.now.records position ballot }
     {
         let slot = self.slot(position);
-        match slot.bound {
-            Some(bound) if ballot < bound => PrepareAnswer::Nack(bound),
-            Some(bound) if ballot == bound => PrepareAnswer::Silent,
-            _ => PrepareAnswer::Promise {
-                last: slot.last,
+        match refusing(slot.bound, ballot) {
+            Some(bound) => PrepareAnswer::Nack(bound),
+            None if ballot.get() == slot.bound => PrepareAnswer::Silent,
+            None => PrepareAnswer::Promise {
+                last: slot.last.copied(),
                 rec: Rec::Promised(position, ballot),
             },
         }
@@ -210,38 +216,40 @@ impl Acceptor {
         let slot = self.slot(position);
         match refusing(slot.bound, ballot) {
             Some(bound) => AcceptAnswer::Nack(bound),
-            None => vote(position, ballot, *action, slot.last),
+            None => vote(position, ballot, action, slot.last),
         }
     }
 }
 
-/// The bound, where the ballot lies below it.
+/// The bound of this number, where the ballot lies below it.
 #[inline(always)]
-fn refusing(bound: Option<Ballot>, ballot: Ballot) -> Option<Ballot>
-    ensures below { IfSome result (λ found. (found ≡ number_of bound) × (ballot < found)) }
-    ensures not_below { IfNone result (number_of bound ≤ ballot) }
+fn refusing(bound: u64, ballot: Ballot) -> Option<Ballot>
+    requires { IsPromised bound }
+    ensures below { IfSome result (λ found. (found ≡ bound) × (ballot < found)) }
+    ensures not_below { IfNone result (bound ≤ ballot) }
 {
-    match bound {
-        Some(found) if ballot < found => Some(found),
-        _ => None,
+    if ballot.get() < bound {
+        ballot_of(bound)
+    } else {
+        None
     }
 }
 
 /// What is answered in a ballot that is not below the bound.
 #[inline(always)]
-fn vote(position: Position, ballot: Ballot, action: Action, last: Option<Vote>) -> AcceptAnswer
-    ensures { result ≡ vote_answer position ballot action last }
+fn vote(position: Position, ballot: Ballot, action: &Action, last: Option<&Vote>) -> AcceptAnswer
+    ensures { result ≡ vote_answer position ballot action.now (option_copied last.entry) }
 {
     match last {
         Some(vote) if vote.ballot == ballot => {
-            if vote.action == action {
+            if vote.action == *action {
                 AcceptAnswer::Again
             } else {
                 AcceptAnswer::Silent
             }
         }
         _ => AcceptAnswer::Vote {
-            rec: Rec::Voted(position, ballot, action),
+            rec: Rec::Voted(position, ballot, *action),
         },
     }
 }

@@ -1,10 +1,11 @@
 //! What an acceptor keeps for single positions, in pages, each made when a position of it is first
 //! reserved.
 
-ghost use Rattle.std.specs.Prelude.{◌≡◌, ◌+◌, ◌<◌, ◌≤◌, [], ℕ, length, slice_set, nat_eq, ◌/◌, ◌%◌, OnOk, OnErr, IfOk};
+ghost use Rattle.std.specs.Prelude.{◌≡◌, ◌+◌, ◌<◌, ◌≤◌, [], ℕ, length, slice_set, nat_eq, option_copied, ◌/◌, ◌%◌, OnOk, OnErr, IfOk};
 ghost use Rattle.rp_base.specs.Ballot.{number_of};
 ghost use Rattle.rp_base.specs.Sets.{Has};
-ghost use Rattle.rp_acceptor.specs.Slots.{nothing_kept, bound_of, with_promise, with_vote, with_record, single_in, kept_in_page, page_at, kept_of, HasSlot, HasMore, IsWhole};
+ghost use Rattle.rp_acceptor.specs.Steps.{IsPromised};
+ghost use Rattle.rp_acceptor.specs.Slots.{nothing_kept, kept_or_nothing, bound_of, with_promise, with_vote, with_record, single_in, kept_in_page, page_at, kept_of, HasSlot, HasMore, IsWhole};
 
 use crate::slot::{ballot_of, index_of_position};
 use rp_base::{Ballot, Rec, Vote};
@@ -48,22 +49,30 @@ impl Kept {
 
     /// The last vote.
     #[inline(always)]
-    pub fn last(&self) -> Option<Vote>
-        ensures { result ≡ self.now.last }
+    pub fn last(&self) -> Option<&Vote>
+        ensures { option_copied result ≡ self.now.last }
     {
-        self.last
+        self.last.as_ref()
+    }
+
+    /// The number of the greater of the ballot that was promised and the last vote's, 0 where there
+    /// is neither.
+    #[inline(always)]
+    pub fn bound_number(&self) -> u64
+        ensures value { result ≡ bound_of self.now }
+        ensures promised { IsPromised result }
+    {
+        match &self.last {
+            Some(vote) => self.promised.max(vote.ballot.get()),
+            None => self.promised,
+        }
     }
 
     /// The greater of the ballot that was promised and the last vote's.
-    #[inline(always)]
     pub fn bound(&self) -> Option<Ballot>
         ensures { number_of result ≡ bound_of self.now }
     {
-        let promised = ballot_of(self.promised);
-        match &self.last {
-            Some(vote) => Ballot::greater(promised, Some(vote.ballot)),
-            None => promised,
-        }
+        ballot_of(self.bound_number())
     }
 
     /// Notes a promise: the greatest ballot counts.
@@ -128,15 +137,12 @@ impl Page {
         self.places.is_empty()
     }
 
-    /// What is kept at an offset, nothing past the end.
+    /// What is kept at an offset, where there is a place.
     #[inline(always)]
-    fn kept(&self, offset: usize) -> Kept
-        ensures { result ≡ kept_in_page self.now offset }
+    fn kept(&self, offset: usize) -> Option<&Kept>
+        ensures { kept_or_nothing (option_copied result) ≡ kept_in_page self.now offset }
     {
-        match self.places.get(offset) {
-            Some(kept) => *kept,
-            None => Kept::nothing(),
-        }
+        self.places.get(offset)
     }
 
     /// Notes a promise at an offset.
@@ -160,14 +166,14 @@ impl Page {
     }
 }
 
-/// What is kept at an index, nothing in a page that is absent.
+/// What is kept at an index, where there is a place.
 #[inline(always)]
-pub fn kept_at(pages: &[Page], index: usize) -> Kept
-    ensures { result ≡ kept_of pages.now index }
+pub fn kept_at(pages: &[Page], index: usize) -> Option<&Kept>
+    ensures { kept_or_nothing (option_copied result) ≡ kept_of pages.now index }
 {
     match pages.get(index / PAGE) {
         Some(page) => page.kept(index % PAGE),
-        None => Kept::nothing(),
+        None => None,
     }
 }
 

@@ -115,7 +115,7 @@ fn push(votes: &mut RangeVotes, places: &[Kept], range: PositionRange, first: u8
         if let Some(vote) = places[offset].last() {
             votes.push(PlacedVote {
                 position: range.at(first + offset as u8),
-                vote,
+                vote: *vote,
             });
         }
     }
@@ -138,7 +138,7 @@ fn append(
         if let Some(vote) = places[offset].last() {
             votes.push(PlacedVote {
                 position: range.at(first + offset as u8),
-                vote,
+                vote: *vote,
             })?;
         }
     }

@@ -8,11 +8,11 @@ ghost use Rattle.rp_acceptor.specs.Steps.{IsPromised};
 use rp_base::{Ballot, Position, Rec, Vote};
 use std::marker::Model;
 
-/// The bound at a position and the last vote there.
+/// The number of the bound at a position, 0 where there is none, and the last vote there.
 #[derive(Clone, Copy)]
-pub struct Slot {
-    pub bound: Option<Ballot>,
-    pub last: Option<Vote>,
+pub struct Slot<'a> {
+    pub bound: u64,
+    pub last: Option<&'a Vote>,
 }
 
 /// A promise: its ballot, from a position on and below another.

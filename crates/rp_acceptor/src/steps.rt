@@ -79,17 +79,18 @@ impl Steps {
         }
     }
 
-    /// The ballot that holds at a position.
+    /// The number of the ballot that holds at a position, 0 where none does.
     #[inline(always)]
-    pub fn ballot(&self, position: usize) -> Option<Ballot>
+    pub fn number(&self, position: usize) -> u64
         requires { position < 2 ^ 32 }
-        ensures { number_of result ≡ ballot_at self.now position }
+        ensures value { result ≡ ballot_at self.now position }
+        ensures promised { IsPromised result }
     {
         if self.steps.is_empty() {
-            return None;
+            return 0;
         }
         let count = count_below(&self.steps, position + 1);
-        ballot_before(&self.steps, count)
+        number_before(&self.steps, count)
     }
 
     /// How the ballot compares with those that hold at the positions of a range.

@@ -212,6 +212,7 @@ impl Proposer {
 
     /// What a promise of one of the nodes makes of the proposal at the position, were it noted: its
     /// sender counts once, and `last` is the last vote that it reports. It changes nothing.
+    #[inline(always)]
     pub fn promise(
         &self,
         from: NodeId,
@@ -235,6 +236,7 @@ impl Proposer {
 
     /// Notes a promise of one of the nodes. One that makes a majority begins the second phase, so
     /// there is no second offer. One that comes later, or is stale, changes nothing.
+    #[inline(always)]
     pub fn note_promise(
         &mut self,
         from: NodeId,
@@ -269,6 +271,7 @@ impl Proposer {
     }
 
     /// The position is settled, and the proposal there ends.
+    #[inline(always)]
     pub fn settled(&mut self, position: Position)
         ensures { self.new ≡ settles self.old position }
     {
@@ -368,8 +371,18 @@ fn take_out(proposals: &mut VecDeque<Proposal>, index: usize)
     if index == 0 {
         proposals.pop_front();
     } else {
-        proposals.remove(index);
+        take_out_later(proposals, index);
     }
+}
+
+/// Takes out the proposal at an index, with others moved: not the usual case, so apart from it.
+#[inline(never)]
+fn take_out_later(proposals: &mut VecDeque<Proposal>, index: usize)
+    requires { index < length proposals.old.items }
+    ensures items { proposals.new.items ≡ remove proposals.old.items index }
+    ensures capacity { deque_capacity proposals.new ≡ deque_capacity proposals.old }
+{
+    proposals.remove(index);
 }
 
 /// Ends the proposals that a refusal at a position in a ballot ends.
@@ -383,8 +396,21 @@ fn give_up(proposals: &mut VecDeque<Proposal>, nodes: u8, position: Position, ba
     proposals.retain(|proposal| !proposal.is_given_up(nodes, position, ballot));
 }
 
-/// Where the proposal at a position is.
+/// Where the proposal at a position is. Most questions are about the first.
+#[inline(always)]
 fn index_of_proposal(proposals: &VecDeque<Proposal>, position: Position) -> Option<usize>
+    ensures { result ≡ index_from 0 position proposals.now.items }
+{
+    match proposals.front() {
+        None => None,
+        Some(first) if first.position() == position => Some(0),
+        Some(_) => index_by_search(proposals, position),
+    }
+}
+
+/// Where the proposal at a position is, by a look at each.
+#[inline(never)]
+fn index_by_search(proposals: &VecDeque<Proposal>, position: Position) -> Option<usize>
     ensures { result ≡ index_from 0 position proposals.now.items }
 {
     let (front, back) = proposals.as_slices();

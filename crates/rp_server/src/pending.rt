@@ -81,8 +81,21 @@ impl Pending {
     }
 
     /// Takes out the items that do not stay, once what the log took since n actions were taken are the
-    /// last that were applied to the machine.
+    /// last that were applied to the machine. At most nodes nothing is pending.
+    #[inline(always)]
     pub(crate) fn settle<M: Machine>(&mut self, machine: &Numbered<M>, log: &Log, before: u32)
+        requires { before ≤ length log.now.taken }
+        ensures { let r = outcome M.next M.answers machine.now in self.new
+            ≡ filter (stays r.kept r.given (drop before log.now.taken)) self.old }
+    {
+        if self.len() > 0 {
+            self.settle_each(machine, log, before);
+        }
+    }
+
+    /// Takes out each item that does not stay.
+    #[inline(never)]
+    fn settle_each<M: Machine>(&mut self, machine: &Numbered<M>, log: &Log, before: u32)
         requires { before ≤ length log.now.taken }
         ensures { let r = outcome M.next M.answers machine.now in self.new
             ≡ filter (stays r.kept r.given (drop before log.now.taken)) self.old }

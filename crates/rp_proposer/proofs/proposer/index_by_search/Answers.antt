@@ -3,7 +3,7 @@ use Rattle.std.specs.Prelude.{option_map}
 use Rattle.rp_base.specs.Proposals.{Proposal}
 use Rattle.rp_proposer.specs.Proposing.{index_from}
 use Rattle.rp_proposer.proofs.Places.{index_at, index_front, index_back}
-use Rattle.rp_proposer.proofs.proposer.index_of_proposal.Goals as goal
+use Rattle.rp_proposer.proofs.proposer.index_by_search.Goals as goal
 
 pub overflow_add-result : goal.overflow_add-result
 overflow_add-result c =

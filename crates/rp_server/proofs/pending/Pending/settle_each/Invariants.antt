@@ -2,7 +2,7 @@ use Rattle.std.proofs.Common.{◌≡◌, ◌++◌, take, drop, length, ◌≤◌
 use Rattle.std.specs.Prelude.{filter}
 use Rattle.rp_machine.specs.Numbered.{outcome}
 use Rattle.rp_model.specs.Pending.{most_pending, stays}
-use Rattle.rp_server.proofs.pending.Pending.settle.Given as goal
+use Rattle.rp_server.proofs.pending.Pending.settle_each.Given as goal
 
 -- the items that were not read, and after them those that stay of the others
 abbrev pub invariant-loop : goal.invariant-loop

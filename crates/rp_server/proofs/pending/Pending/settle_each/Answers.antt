@@ -4,8 +4,8 @@ use Rattle.rp_base.specs.declared.action.Action.TheVariants.{Noop}
 use Rattle.rp_machine.specs.Numbered.{outcome}
 use Rattle.rp_model.specs.Pending.{stays}
 use Rattle.rp_server.proofs.Staying.{room_again, turned, has_first}
-use Rattle.rp_server.proofs.pending.Pending.settle.Goals.{in-Some+then-stays, in-Some+else-stays, in_default}
-use Rattle.rp_server.proofs.pending.Pending.settle.Goals as goal
+use Rattle.rp_server.proofs.pending.Pending.settle_each.Goals.{in-Some+then-stays, in-Some+else-stays, in_default}
+use Rattle.rp_server.proofs.pending.Pending.settle_each.Goals as goal
 
 pub push-requires : goal.push-requires
 push-requires g c =

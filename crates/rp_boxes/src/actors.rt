@@ -5,6 +5,7 @@ ghost use Rattle.rp_codec.specs.Message.{Message, IsPacket, IsParty};
 ghost use Rattle.rp_codec.specs.Text.{text_of};
 ghost use Rattle.rp_boxes.specs.Parts.{actor_of};
 
+use rp_base::MOST_NODES;
 use rp_codec::{Party, RECEIVER, party_of};
 
 /// The actor that a party is.
@@ -15,7 +16,7 @@ pub(crate) fn actor_of(party: Party) -> usize
 {
     match party {
         Party::Node(node) => usize::from(node.get()),
-        Party::Task(task) => 7 + usize::from(task.get()),
+        Party::Task(task) => usize::from(MOST_NODES) + usize::from(task.get()),
         Party::Audit => 0,
     }
 }

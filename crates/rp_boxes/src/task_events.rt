@@ -7,9 +7,11 @@ ghost use Rattle.rp_boxes.specs.Plays.{IsNoted};
 ghost use Rattle.rp_boxes.specs.Seats.{IsAtTable};
 ghost use Rattle.rp_boxes.specs.Steps.{IsEvent};
 
+use crate::actors::actor_of;
 use crate::board::{Place, Slots};
 use crate::events::{Fact, note};
 use rp_base::{Action, NodeId, TaskId};
+use rp_codec::Party;
 use rp_machine::Machine;
 use rp_world::Task;
 
@@ -31,7 +33,7 @@ pub(crate) fn note_asking<M: Machine, J: Fact>(
     ensures table { place.new.table_id ≡ place.old.table_id }
     ensures turned { IsNoted J.says (7 + number) place.new.me }
 {
-    note::<M, J>(slots, place, 7 + usize::from(number.get()));
+    note::<M, J>(slots, place, actor_of(Party::Task(number)));
 }
 
 /// The same of an event by which a packet arrived at a task.
@@ -49,5 +51,5 @@ pub(crate) fn note_reply<M: Machine, J: Fact>(
     ensures table { place.new.table_id ≡ place.old.table_id }
     ensures turned { IsNoted J.says (7 + number) place.new.me }
 {
-    note::<M, J>(slots, place, 7 + usize::from(number.get()));
+    note::<M, J>(slots, place, actor_of(Party::Task(number)));
 }

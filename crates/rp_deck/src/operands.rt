@@ -9,7 +9,7 @@ ghost use Rattle.rp_words.specs.Tables.{key_names};
 ghost use Rattle.rp_words.specs.Words.{unread};
 
 use rp_base::{DeckReason, NodeId, Position, TaskId};
-use rp_deck_declarations::Declared;
+use rp_deck_declarations::{Declared, MOST_POSITIONS};
 use rp_words::{Words, place_in};
 
 /// Reads the number of a node.
@@ -36,14 +36,11 @@ pub fn read_task(words: &mut Words<'_>, declared: &Declared) -> Result<TaskId, D
     Ok(TaskId::new(place as u8 + 1).unwrap())
 }
 
-/// The most that the number of a position is.
-const MOST_POSITION: u64 = 65_535;
-
 /// Reads the number of a position.
 pub fn read_position(words: &mut Words<'_>) -> Result<Position, DeckReason>
     ensures { Gives (λ position. (position, unread words.new)) result
         (number_at 1 65535 (unread words.old)) }
 {
-    let number = words.take_number(1, MOST_POSITION)?;
+    let number = words.take_number(1, MOST_POSITIONS)?;
     Ok(Position::new(number as u16).unwrap())
 }

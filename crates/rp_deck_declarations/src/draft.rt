@@ -20,7 +20,7 @@ use crate::deck_program::Task;
 use indexmap::{IndexMap, IndexSet};
 use rp_base::{DeckReason, MOST_OBJECTS, MOST_SOURCES, MOST_TASKS, Position};
 use rp_deck_objects::{Index, ObjectDraft, OperationName};
-use rp_object::{Handler, MOST_TIMERS, Profile};
+use rp_object::{Handler, MOST_PRIORITY, MOST_TIMERS, Profile};
 use rp_words::{
     LineError, TextLine, Words, add_name, declare, is_word, named, read_dotted, take_name_not_in,
     take_new_name,
@@ -33,7 +33,7 @@ const MOST_HANDLERS: usize = MOST_SOURCES as usize;
 const _: () = prove!(MOST_TIMERS == MOST_SOURCES);
 
 /// The most positions that a log has.
-const MOST_POSITIONS: u64 = 65_535;
+pub const MOST_POSITIONS: u64 = 65_535;
 
 /// The first words of declarations that belong to no object.
 const KINDS: [(&[u8], Kind); 7] = [
@@ -180,6 +180,7 @@ impl Draft {
     }
 
     /// Reads a declaration of this kind, after its first word.
+    #[tactic(auto, using(rp_words::proofs::TablesLemmas::map_last), unfolding(crate::specs::Drafts::interrupt_line, crate::specs::Drafts::timer_line))]
     fn read_declaration(
         &mut self,
         alloc: Global,
@@ -197,8 +198,18 @@ impl Draft {
             Kind::Task => self.read_task(alloc, words),
             Kind::Tally => self.read_tally(alloc, words),
             Kind::Object => self.read_object(alloc, words),
-            Kind::Interrupt => self.read_interrupt(alloc, words),
-            Kind::Timer => self.read_timer(alloc, words),
+            // The rest of `interrupt NAME OBJECT.PROCEDURE`.
+            Kind::Interrupt => {
+                let (name, handler) = self.take_handled(words, &self.interrupts)?;
+                declare(alloc, &mut self.interrupts, name, handler)?;
+                Ok(())
+            }
+            // The rest of `timer NAME OBJECT.PROCEDURE`.
+            Kind::Timer => {
+                let (name, handler) = self.take_handled(words, &self.timers)?;
+                declare(alloc, &mut self.timers, name, handler)?;
+                Ok(())
+            }
         }
     }
 
@@ -242,7 +253,7 @@ impl Draft {
             return Err(LineError::Bad(DeckReason::TooMany));
         }
         let name = take_new_name(&mut words, &self.tasks)?;
-        let priority = words.take_number(1, 30)? as u8;
+        let priority = words.take_number(1, u64::from(MOST_PRIORITY))? as u8;
         words.end()?;
         declare(alloc, &mut self.tasks, name, Task { priority })?;
         Ok(())
@@ -283,7 +294,7 @@ impl Draft {
             return Err(LineError::Bad(DeckReason::TooMany));
         }
         let name = take_name_not_in(&mut words, &self.objects)?;
-        let ceiling = words.take_number(1, 30)? as u8;
+        let ceiling = words.take_number(1, u64::from(MOST_PRIORITY))? as u8;
         words.end()?;
         add_name(alloc, &mut self.objects, name)?;
         let name = String::from_str(alloc, name)?;
@@ -306,32 +317,6 @@ impl Draft {
         };
         let object = &mut self.drafts[last];
         object.read_line(alloc, profile, line)?;
-        Ok(())
-    }
-
-    /// Reads the rest of `interrupt NAME OBJECT.PROCEDURE`.
-    #[tactic(auto, using(rp_words::proofs::TablesLemmas::map_last), unfolding(crate::specs::Drafts::interrupt_line))]
-    fn read_interrupt(&mut self, alloc: Global, words: Words<'_>) -> Result<(), LineError>
-        requires { IsDraft self.old }
-        ensures read { Makes (λ _. draft_text self.new) result
-            (interrupt_line (draft_text self.old) (unread words.entry)) }
-        ensures draft { OnOk result (IsDraft self.new × (self.new.nodes ≡ self.old.nodes)) }
-    {
-        let (name, handler) = self.take_handled(words, &self.interrupts)?;
-        declare(alloc, &mut self.interrupts, name, handler)?;
-        Ok(())
-    }
-
-    /// Reads the rest of `timer NAME OBJECT.PROCEDURE`.
-    #[tactic(auto, using(rp_words::proofs::TablesLemmas::map_last), unfolding(crate::specs::Drafts::timer_line))]
-    fn read_timer(&mut self, alloc: Global, words: Words<'_>) -> Result<(), LineError>
-        requires { IsDraft self.old }
-        ensures read { Makes (λ _. draft_text self.new) result
-            (timer_line (draft_text self.old) (unread words.entry)) }
-        ensures draft { OnOk result (IsDraft self.new × (self.new.nodes ≡ self.old.nodes)) }
-    {
-        let (name, handler) = self.take_handled(words, &self.timers)?;
-        declare(alloc, &mut self.timers, name, handler)?;
         Ok(())
     }
 

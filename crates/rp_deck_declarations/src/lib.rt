@@ -14,3 +14,4 @@ mod program;
 
 pub use deck_program::{DeckProgram, Task};
 pub use declarations::{Declared, read_declarations};
+pub use draft::MOST_POSITIONS;

@@ -20,5 +20,6 @@ pub use laws::{
 };
 pub use objects::Objects;
 pub use program::{
-    Declarations, Handler, MOST_TIMERS, ObjectDeclaration, Profile, Program, TimingEvent,
+    Declarations, Handler, MOST_PRIORITY, MOST_TIMERS, ObjectDeclaration, Profile, Program,
+    TimingEvent,
 };

@@ -126,11 +126,14 @@ impl ObjectDeclaration {
     }
 }
 
+/// The highest priority of a task, and the highest ceiling of an object.
+pub const MOST_PRIORITY: u8 = 30;
+
 /// Whether a priority or a ceiling is 1 to 30.
 fn is_priority(number: u8) -> bool
     ensures { IsTrue result ↔ IsPriority number }
 {
-    matches!(number, 1..=30)
+    matches!(number, 1..=MOST_PRIORITY)
 }
 
 /// Whether each whole number lies in its range.

@@ -87,7 +87,7 @@ package RP is
    --  Nodes and tasks by handle
    --
    --  The caller keeps the handle. The node or the task that it keeps is the library's, from Open until
-   --  the handle is closed or opened anew. A handle that is never closed leaks it.
+   --  the handle is closed or opened again. A handle that is never closed leaks it.
 
    type Node is limited private;
    type Task_Stub is limited private;

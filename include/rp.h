@@ -78,7 +78,7 @@ uint8_t rp_run_deck(const uint8_t *deck, size_t count, bool traced, uint8_t *ans
 /* ---- Nodes and tasks by handle
  *
  * The caller keeps the handle. The node or the task that it keeps is the library's, from rp_node_open or
- * rp_task_open until the handle is closed or opened anew. A handle that is never closed leaks it. */
+ * rp_task_open until the handle is closed or opened again. A handle that is never closed leaks it. */
 
 /* The value of a handle that is closed. */
 #define RP_CLOSED {false, NULL}

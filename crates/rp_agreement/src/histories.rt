@@ -1,4 +1,4 @@
-//! Nodes agree in every history, whatever stops, is cut short or starts again.
+//! Nodes agree in every history, whatever stops, is cut within a step or starts again.
 
 ghost use Rattle.std.specs.Prelude.{◌≡◌, ℕ, pos, Some, List, length};
 ghost use Rattle.rp_base.specs.Records.{applied_of};

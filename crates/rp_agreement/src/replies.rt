@@ -94,9 +94,9 @@ pub fn events_keep_replies<M: Machine>()
         → IsKeptWorld setting after }
 {}
 
-/// Every history, whatever stops, is cut short or starts again, leads to a world that keeps the
-/// replies to tasks. There the kth reply that a task took answers its kth call, and is an answer
-/// that the order gives to it.
+/// Every history, whatever stops, is cut within a step or starts again, leads to a world that keeps
+/// the replies to tasks. There the kth reply that a task took answers its kth call, and is an
+/// answer that the order gives to it.
 pub fn replies_follow_the_order<M: Machine>()
     // claim: The kth reply that a task took is the answer in the order to its kth call, in every
     //   history

@@ -84,7 +84,7 @@ pub enum Fault {
     /// The device's failure count rose in this call.
     #[error("Device")]
     Device,
-    /// The device failed before, and was not opened anew.
+    /// The device failed before, and was not opened again.
     #[error("Failed")]
     Failed,
     /// The bytes are no packet.
@@ -172,7 +172,7 @@ pub enum WriteFault {
     OutOfMemory,
     /// The device's failure count rose in this call.
     Device,
-    /// The device failed before, and was not opened anew.
+    /// The device failed before, and was not opened again.
     Failed,
 }
 

@@ -1,4 +1,4 @@
--- What is said of a node's part once a turn of its replica is counted (no public clause names it).
+-- What holds of a node's part once a turn of its replica is counted (no public clause names it).
 use Rattle.std.specs.Prelude.{◌≡◌, ℕ, Some, Ok}
 use Rattle.rp_base.specs.declared.record.Rec.{Rec}
 use Rattle.rp_model.specs.Effect.{Setting, Done, NodeInput, node_effect, cut_effect}

@@ -22,8 +22,8 @@ pub record IsMoment {S : Type 0} (s : Setting S) (view : View) (table : State Sl
   pub seat : ℕ
   pub sees : get_elem? table.views seat ≡ some view
 
--- The seat of an actor may try a box that goes from one actor to another: it holds none of this kind, and where it
--- finds another word there than this one, that is said of what it knows.
+-- The seat of an actor may try a box that goes from one actor to another: it holds none of this kind, and if the box
+-- has another word than this one, this fact holds of the part that it knows.
 pub record MayClaim {S : Type 0} (s : Setting S) (table mine : TableId) (actor from to : ℕ) (me : Sight)
     (holds : Part → List ℕ)
     (word : ℕ)

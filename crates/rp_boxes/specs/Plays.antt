@@ -45,7 +45,7 @@ pub record Took (b : ℕ) (old : Sight) (found : ℕ) (new : Sight) : Type 0 whe
   pub hit : found ≡ 2 → IsTaken b old new
   pub miss : found ≢ 2 → new ≡ old
 
--- The box that was filled goes back with its slot, and of the part of its sender this is said.
+-- The box that was filled goes back with its slot, and this fact holds of the part of its sender.
 pub record IsPublished (says : Part → Type 0) (k : ℕ) (old new : Sight) : Type 0 where
   pub part : Part
   pub is : new ≡ ((k, part) ∷ [], rest old.1)
@@ -62,7 +62,7 @@ pub record IsPutBy (from to : ℕ) (bytes : List ℕ) (old new : Part) : Type 0 
 abbrev pub Cleared : Sight → Sight → Type 0
 Cleared old new = new ≡ (on_first emptied old.0, rest old.1)
 
--- an event happened, of which this is said
+-- an event of the actor happened, and this fact holds of its part
 pub record IsNoted (says : Part → Type 0) (k : ℕ) (new : Sight) : Type 0 where
   pub part : Part
   pub is : new ≡ alone k part

@@ -31,7 +31,7 @@ const FULL: u64 = 2;
 /// Its receiver takes the packet out.
 const EMPTYING: u64 = 3;
 
-/// The sender claims a box that is empty, and of one that is not this is said.
+/// The sender claims a box that is empty. If it is not, the fact `J` holds of the sender's part.
 struct Claim<J> {
     of: PhantomData<J>,
 }
@@ -45,7 +45,7 @@ impl<J: Fact> Play<Option<Vec<u8>>, Known> for Claim<J> {
         × (found ≢ 0 → J.says (part_in old.0)) };
 }
 
-/// The sender lets go of a box that it has filled, and of its part this is said.
+/// The sender lets go of a box that it has filled, and the fact `J` holds of the sender's part.
 struct Publish<J> {
     of: PhantomData<J>,
 }
@@ -57,7 +57,7 @@ impl<J: Fact> Play<Option<Vec<u8>>, Known> for Publish<J> {
     ghost then = { λ step old found new. IsPublished J.says (actor_in old.0) old new };
 }
 
-/// The receiver claims a box that is full, and of one that is not this is said.
+/// The receiver claims a box that is full. If it is not, the fact `J` holds of the receiver's part.
 struct Take<J> {
     of: PhantomData<J>,
 }
@@ -80,7 +80,8 @@ impl Play<Option<Vec<u8>>, Known> for Clear {
     ghost then = { λ step old found new. Cleared old new };
 }
 
-/// Claims the box to another actor, if it is empty. Of one that is not, what its caller picks is so.
+/// Claims the box to another actor, if it is empty. If it is not, the fact that the caller chose
+/// holds of the actor's part.
 fn claim_empty<M: Machine, J: Fact>(
     slots: &Slots<M>,
     place: &mut Place,
@@ -99,9 +100,9 @@ fn claim_empty<M: Machine, J: Fact>(
     slots.compare_exchange::<Claim<J>>(place, 16 * from + to, EMPTY, FILLING) == EMPTY
 }
 
-/// Puts a packet that the actor sent into the box that it claimed, and lets go of it. The buffer that
-/// was in the box, if there was one. What its caller picks is so of the actor's part then, which has
-/// put that packet.
+/// Puts a packet that the actor sent into the box that it claimed, and lets go of it. The buffer
+/// that was in the box, if there was one. The fact that the caller chose then holds of the actor's
+/// part, which has put that packet.
 fn deliver<M: Machine, J: Fact>(
     slots: &Slots<M>,
     place: &mut Place,
@@ -173,7 +174,8 @@ pub(crate) fn fill<M: Machine>(
     Ok(deliver::<M, Brand>(slots, place, from, to, packet))
 }
 
-/// Claims the box from another actor, if it is full. Of one that is not, what its caller picks is so.
+/// Claims the box from another actor, if it is full. If it is not, the fact that the caller chose
+/// holds of the actor's part.
 fn claim_full<M: Machine, J: Fact>(
     slots: &Slots<M>,
     place: &mut Place,

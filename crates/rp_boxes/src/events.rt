@@ -12,7 +12,7 @@ use atomic_table::Play;
 use rp_machine::Machine;
 use std::marker::{Brand, PhantomData};
 
-/// What is said of an actor's part once its event happened. Each call picks it.
+/// A fact that holds of an actor's part once its event happened. Each call chooses it.
 pub(crate) trait Fact {
     ghost use Rattle.rp_boxes.specs.Parts.{Part};
 
@@ -35,8 +35,8 @@ impl<J: Fact> Play<Option<Vec<u8>>, Known> for Turns<J> {
     ghost then = { λ step old found new. IsNoted J.says (actor_in old.0) new };
 }
 
-/// Counts an event of the actor whose part the place knows: it becomes some part of which this is
-/// said.
+/// Counts an event of the actor whose part the place knows: it becomes some part of which the fact
+/// that the caller chose holds.
 pub(crate) fn note<M: Machine, J: Fact>(slots: &Slots<M>, place: &mut Place, actor: usize)
     requires table { place.old.table_id ≡ slots.now.table_id }
     requires sized { IsSized slots.now.table_id }

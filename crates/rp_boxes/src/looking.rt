@@ -12,7 +12,7 @@ use atomic_table::Play;
 use rp_machine::Machine;
 use std::marker::PhantomData;
 
-/// Nothing happened, and this is so of the first part that the seat knows.
+/// Nothing happened, and the fact `J` holds of the first part that the seat knows.
 struct Looks<J> {
     of: PhantomData<J>,
 }
@@ -24,7 +24,8 @@ impl<J: Fact> Play<Option<Vec<u8>>, Known> for Looks<J> {
     ghost then = { λ step old found new. (new ≡ old) × J.says (part_in old.0) };
 }
 
-/// Looks at the table. What is so in each world of which the seat's view is a piece is so.
+/// Looks at the table. The fact that the caller chose has to follow from each world of which the
+/// seat's view is a piece; then it holds of the first part that the seat knows.
 pub(crate) fn look<M: Machine, J: Fact>(slots: &Slots<M>, place: &mut Place)
     requires table { place.old.table_id ≡ slots.now.table_id }
     requires sized { IsSized slots.now.table_id }

@@ -40,7 +40,7 @@ abbrev pub CallByHandle : Option ActorKind → List ℕ → Option Actor → Opt
 CallByHandle (Some kind) request old new before after ended = HandleAnswers kind request old new before after ended
 CallByHandle None request old new before after ended = (ended ≡ None) × (new ≡ old) × (after ≡ before)
 
--- the number of an answer: 0, that of the refusal, or 68 if the handle keeps none of that kind
+-- the number of an answer: 0, that of the refusal, or `RP_WRONG_HANDLE` if the handle keeps none of that kind
 abbrev pub answer_code : Option (Result Lengths Refusal) → ℕ
 answer_code None = 68
 answer_code (Some (Ok lengths)) = 0

@@ -25,7 +25,8 @@ pub(crate) fn code_of_opening(refusal: Option<Refusal>) -> u8
     }
 }
 
-/// The number of an answer: 0, that of its refusal, or 68 if the handle keeps none of that kind.
+/// The number of an answer: 0, that of its refusal, or `RP_WRONG_HANDLE` if the handle keeps none
+/// of that kind.
 pub(crate) fn code_of_answer(ended: &Option<Result<Lengths, Refusal>>) -> u8
     ensures { result ≡ answer_code ended.now }
 {

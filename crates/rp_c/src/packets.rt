@@ -33,9 +33,9 @@ fn put_length(bytes: &[u8], count: &mut usize) -> Status
     }
 }
 
-/// Whether the bytes are one packet, all of them. `BadPacket` where they are not: then the number of
-/// the reason is written, 1 too short, 2 too long, 3 unknown version, 4 unknown kind, 5 wrong field.
-/// `OutOfMemory` only for a report. Otherwise nothing is written.
+/// Whether the bytes are one packet, all of them. `BadPacket` where they are not: then the number
+/// of the reason is written (`reason_number`). `OutOfMemory` only for a report. Otherwise nothing
+/// is written.
 #[unsafe(no_mangle)]
 pub extern "C" fn rp_packet_check(alloc: Global, bytes: &[u8], reason: &mut u8) -> u8
     // claim: A C caller learns whether its bytes are one packet, and else the one reason

@@ -24,7 +24,7 @@ pub enum Status {
 }
 
 impl Status {
-    /// Its number: 0, the number of the fault of its name, or 64.
+    /// Its number: 0, the number of the fault of its name, or that of `ShortAnswer`.
     pub fn code(self) -> u8
         ensures { result ≡ status_code self }
     {

@@ -1,4 +1,4 @@
--- The drawing of a sketch (this project's own).
+-- The drawing of a sketch.
 use Rattle.std.specs.Prelude.{◌≡◌, ℕ, ◌+◌, ◌-◌, ◌*◌, ◌/◌, ◌≤◌, nat_eq, Option, Some, None, List, [], ◌∷◌, ◌++◌}
 use Rattle.std.specs.Prelude.{codes, flat_map, length, if◌then◌else◌}
 use Rattle.rp_drawing.specs.Elements.{curve_text}

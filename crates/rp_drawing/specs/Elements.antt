@@ -1,4 +1,4 @@
--- The elements of a drawing as text (this project's own).
+-- The elements of a drawing as text.
 use Rattle.std.specs.Prelude.{ℕ, List, ◌++◌, codes, decimal, string_bytes}
 use Rattle.rp_drawing.specs.declared.elements.Curve.{Curve}
 use Rattle.rp_drawing.specs.declared.elements.Dash.{Dash}

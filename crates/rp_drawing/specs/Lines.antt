@@ -1,5 +1,4 @@
--- What a drawing has beside its arrows: its head, its lanes, and the lines of its moments (this
--- project's own).
+-- What a drawing has beside its arrows: its head, its lanes, and the lines of its moments.
 use Rattle.std.specs.Prelude.{ℕ, ◌+◌, ◌-◌, ◌^◌, ◌==◌, nat_lt, Option, Some, None, List, [], ◌∷◌}
 use Rattle.std.specs.Prelude.{◌++◌, codes, decimal, if◌then◌else◌, string_len}
 use Rattle.rp_drawing.specs.Elements.{dash_text, upright_text, words_text}

@@ -1,4 +1,4 @@
--- Where lanes and lines are on a page (this project's own).
+-- Where lanes and lines are on a page.
 use Rattle.std.specs.Prelude.{ℕ, ◌+◌, ◌*◌, nat_le, if◌then◌else◌}
 
 -- the lane of this place, from 0, of n lanes

@@ -1,4 +1,4 @@
--- How the elements of a drawing look (this project's own).
+-- How the elements of a drawing look.
 use Rattle.std.specs.List.{concat}
 use Rattle.std.specs.Prelude.{ℕ, List, [], ◌∷◌, codes}
 

@@ -1,5 +1,5 @@
 -- The ways of the messages of a run: each from the moment in which it was sent to the one in which it was settled, and
--- none upwards (this project's own).
+-- none upwards.
 use Rattle.std.specs.Prelude.{◌≡◌, ℕ, zero, suc, ◌-◌, ◌<◌, ◌≤◌, Bool, true, false, nat_eq, Option, Some, None, List, []}
 use Rattle.std.specs.Prelude.{◌∷◌, length, map, slice_get, unwrap_or}
 use Rattle.rp_drawing.specs.declared.sketch.Arrival.{Arrival}

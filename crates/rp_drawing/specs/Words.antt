@@ -1,4 +1,4 @@
--- Words within a drawing (this project's own).
+-- Words within a drawing.
 use Rattle.std.specs.Prelude.{ℕ, ◌≤◌, ◌≢◌}
 
 -- a byte of printed ASCII that begins no element and no entity: neither `<` nor `&`

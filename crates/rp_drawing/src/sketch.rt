@@ -49,7 +49,7 @@ pub struct Moment {
     pub ending: Option<Ending>,
 }
 
-/// What the mark of a moment stands for.
+/// What the mark of a moment means.
 #[derive(Clone, Copy)]
 pub enum Kind {
     /// An actor acts.

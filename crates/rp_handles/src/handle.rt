@@ -30,7 +30,9 @@ impl Model for Handle {
     ghost use Rattle.rp_handles.specs.contracts.actor.Actor.{the_row};
     ghost use Rattle.rp_handles.specs.Owning.{kept_at};
 
-    ghost also_owns = { λ h. kept_at (ghosts.dealloc_token (record { memory = record { seal = tt } })) the_row h.at h.kept };
+    ghost also_owns = { λ h.
+        kept_at (ghosts.dealloc_token (record { memory = record { seal = tt } }))
+        the_row h.at h.kept };
 }
 
 /// A handle that keeps nothing.

@@ -1,5 +1,5 @@
 -- What the sketch of a cluster's run says of its history: which messages were sent in each moment, and which one was
--- settled there, and how (this project's own).
+-- settled there, and how.
 use Rattle.std.specs.Prelude.{◌≡◌, ℕ, ◌^◌, ◌≤◌, Option, Some, None, List, [], ◌∷◌, length, map, drop}
 use Rattle.rp_codec.specs.Message.{Message}
 use Rattle.rp_codec.specs.declared.packet.Party.{Party}

@@ -1,4 +1,4 @@
--- Which packets are drawn, on which lanes, and in which colour (this project's own).
+-- Which packets are drawn, on which lanes, and in which colour.
 use Rattle.std.specs.Prelude.{ℕ, ◌+◌, ◌-◌, ◌%◌, Bool, true, false, ◌&&◌, nat_eq, if◌then◌else◌, Option, Some, None}
 use Rattle.rp_base.specs.Ballot.{owner_of, round_of}
 use Rattle.rp_base.specs.Ranges.{is_covered}

@@ -92,7 +92,7 @@ impl Happened {
         })
     }
 
-    /// What its mark stands for.
+    /// What its mark means.
     fn kind(&self) -> Kind {
         match self.event {
             Event::Stop(_) => Kind::Stop,

@@ -37,7 +37,7 @@ KnowsAll known applied =
 
 module _ {S P : Type 0} (next : S → Action → S) (answers : S → Action → List Answer) (begin : P → S) where
   -- How the nodes and the tasks of a program reached their ends: all had their seats at one table, the nodes noted
-  -- the interrupts and ticks among the events, and then each made its turns over the line of its party, and the tasks
+  -- the interrupts and ticks among the events, and then each made its turns over the link of its party, and the tasks
   -- the calls among the events.
   pub record HasRun (config : Config) (program : P) (events : List Event) (seed turns : ℕ)
       (audit : SeatState P) (nodes : List (NodeEnd S Memory P)) (tasks : List (TaskEnd S P)) : Type 0 where

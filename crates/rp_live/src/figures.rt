@@ -17,7 +17,7 @@ pub struct Figures {
     pub answered: u64,
     /// The turn of its task in which the last reply came, or 0.
     pub last_reply: u64,
-    /// How many packets were lost on lines and at boxes that were not empty.
+    /// How many packets were lost on links and at boxes that were not empty.
     pub lost: u64,
     /// In how many turns nodes led: each begins a ballot.
     pub led: u64,

@@ -3,7 +3,7 @@
 //!
 //! In reading order:
 //! - `options`: how a program is run in threads
-//! - `lines`: the faulty line of a node or a task
+//! - `lines`: the faulty link of a node or a task
 //! - `calls`: the calls of a task
 //! - `starts`: seats are made, and those of nodes and tasks are made ready to run
 //! - `notes`: what nodes note before they run

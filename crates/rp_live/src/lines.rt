@@ -1,4 +1,4 @@
-//! The faulty line of a node or a task.
+//! The faulty link of a node or a task.
 
 ghost use Rattle.std.specs.Prelude.{◌≡◌, IfOk, IsOkUnless};
 ghost use Rattle.rp_live.specs.Lines.{line_seed, party_line};
@@ -8,7 +8,7 @@ use rp_codec::{Party, party_number};
 use rp_tasks::FaultLine;
 use std::alloc::Global;
 
-/// The seed of a party's line.
+/// The seed of a party's link.
 fn seed_for(seed: u32, party: Party) -> [u8; 32]
     ensures { result ≡ line_seed seed party }
 {
@@ -22,7 +22,7 @@ fn seed_for(seed: u32, party: Party) -> [u8; 32]
     bytes
 }
 
-/// The line of a party: its words are those of the run's seed and the party.
+/// The link of a party: its words are those of the run's seed and the party.
 pub(crate) fn line_for(alloc: Global, seed: u32, party: Party) -> Result<FaultLine, Fault>
     ensures line { IfOk result (λ line. line ≡ party_line seed party) }
     ensures only { IsOkUnless result Fault.OutOfMemory }

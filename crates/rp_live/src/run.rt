@@ -68,7 +68,7 @@ fn audited<M: Machine, D: InfallibleDevice>(
 }
 
 /// The nodes of a program, over devices in memory, and its eight tasks make their turns in threads
-/// of their own, over lines that lose packets, repeat them and change their order, as the words of
+/// of their own, over links that lose packets, repeat them and change their order, as the words of
 /// the seed say. Before that the interrupts and the ticks among the events are noted, in
 /// order, each at its node; its other events are the calls of the tasks. Afterwards the audit reads
 /// the logs of all nodes, and all look at the table as one. Which replies come, and how much is

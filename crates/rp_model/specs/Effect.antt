@@ -47,7 +47,7 @@ pub record Done (P : Type 0) : Type 0 where
 abbrev pub goes_on_as : {P : Type 0} → P → Done P
 goes_on_as part = record { part = part; written = None; sends = []; dropped = No; taken = None; opened = None }
 
--- what a node may be given: a packet, the word to lead at a position or the least free one, the word to lead at n
+-- what a node may be given: a packet, the command to lead at a position or the least free one, the command to lead at n
 -- positions from one on, an interrupt of a source, a tick, or the wish to report
 pub data NodeInput : Type 0 where
   Receive : Message → NodeInput

@@ -19,7 +19,7 @@ use Rattle.rp_codec.specs.declared.packet.Body.TheVariants as bodies
 use Rattle.rp_model.specs.Parts.{TaskPart}
 use Rattle.rp_model.specs.Effect.{Done, goes_on_as}
 
--- what a task may be given: a call to make and the node to ask, the word to ask a node again, or a packet
+-- what a task may be given: a call to make and the node to ask, the command to ask a node again, or a packet
 pub data TaskInput : Type 0 where
   Submit : ℕ → ℕ → Operation → ℤ → TaskInput
   Again : ℕ → TaskInput

@@ -43,7 +43,7 @@ pub(crate) fn request_of(bytes: &[u8]) -> Option<Request<'_>>
     }
 }
 
-/// The word to lead, at a position of two bytes or at the least free one.
+/// The command to lead, at a position of two bytes or at the least free one.
 fn lead_of(operands: &[u8]) -> Option<Request<'static>>
     ensures asked { option_map asked result ≡ lead_asked operands.now }
     ensures right { IfSome result IsRightRequest }
@@ -100,7 +100,7 @@ fn report_of(operands: &[u8]) -> Option<Request<'static>>
     Some(Request::Step(Input::Report(first)))
 }
 
-/// The word to lead in a range: its first position, two bytes, and how many it has, one byte.
+/// The command to lead in a range: its first position, two bytes, and how many it has, one byte.
 fn range_of(operands: &[u8]) -> Option<Request<'static>>
     ensures asked { option_map asked result ≡ range_asked operands.now }
     ensures right { IfSome result IsRightRequest }

@@ -7,10 +7,10 @@ use rp_base::{Position, PositionRange};
 pub enum Input<'a> {
     /// The text of a packet, as it came.
     Receive(&'a [u8]),
-    /// The word to lead at a position, or at the least one that is not learned and at which no
+    /// The command to lead at a position, or at the least one that is not learned and at which no
     /// proposal of the node runs but a prepared one.
     Lead(Option<Position>),
-    /// The word to ask once for promises at all unlearned positions of a range.
+    /// The command to ask once for promises at all unlearned positions of a range.
     LeadRange(PositionRange),
     /// An occurrence, from 1, of an interrupt's source, 1 to 8.
     Interrupt { source: u8, occurrence: u32 },

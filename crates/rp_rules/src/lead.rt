@@ -1,4 +1,4 @@
-//! The word to lead, at a position or at the least free one: what a server decides.
+//! The command to lead, at a position or at the least free one: what a server decides.
 
 ghost use Rattle.std.specs.Prelude.{◌≡◌, ◌<◌, ◌≤◌, ◌^◌, true, IfNone, IfSome, IfOk, IfErr, Ok, Err};
 ghost use Rattle.rp_model.specs.Effect as inputs;
@@ -12,10 +12,10 @@ use rp_base::{Fault, Position};
 use rp_machine::Machine;
 use rp_server::Server;
 
-/// The word to lead at a position, or with none at the least position that is not learned and at
-/// which no proposal of this node runs but a prepared one. Where the position is learned nothing happens. It is
-/// refused with `LogFull` above the log or 64 positions above the first unlearned one, with
-/// `BallotsSpent` where the node has no ballot left.
+/// The command to lead at a position, or with none at the least position that is not learned and at
+/// which no proposal of this node runs but a prepared one. Where the position is learned nothing
+/// happens. It is refused with `LogFull` above the log or 64 positions above the first unlearned
+/// one, with `BallotsSpent` where the node has no ballot left.
 pub(crate) fn on_lead<M: Machine>(
     server: &Server<M>,
     choice: Option<Position>,

@@ -20,9 +20,9 @@ use rp_model::Dropped;
 use rp_proposer::Progress;
 use rp_server::Server;
 
-/// The word to lead at a position. Where it is learned nothing happens, and a prepared proposal
-/// there offers its action. It is refused with `LogFull` above the log or 64 positions above the first unlearned one, with `BallotsSpent`
-/// where the node has no ballot left.
+/// The command to lead at a position. Where it is learned nothing happens, and a prepared proposal
+/// there offers its action. It is refused with `LogFull` above the log or 64 positions above the
+/// first unlearned one, with `BallotsSpent` where the node has no ballot left.
 pub(crate) fn on_lead_at<M: Machine>(server: &Server<M>, position: Position) -> Result<Plan, Fault>
     ensures ok { IfOk result (λ plan. Ok (turn_of M.next M.answers server.now plan)
         ≡ effect_of M.next M.answers server.now (inputs.NodeInput.Lead (Some position))) }
@@ -63,7 +63,7 @@ fn prepared_action<M: Machine>(
     }
 }
 
-/// The word to lead at a position within reach at which nothing is learned or prepared.
+/// The command to lead at a position within reach at which nothing is learned or prepared.
 fn on_lead_anew<M: Machine>(server: &Server<M>, position: Position) -> Result<Plan, Fault>
     requires unlearned { is_some (learned_at server.now.records position) ≡ false }
     requires reach { is_out_of_reach server.now.config.max_positions server.now.records position

@@ -1,5 +1,5 @@
 //! Where a node's records are kept: devices, and the store that writes records to one. A record
-//! whose write was cut short by a stop is a torn tail, which opening truncates.
+//! whose write was interrupted by a stop is a torn tail, which opening truncates.
 //!
 //! In reading order:
 //! - `device`: what a store asks of the device under it

@@ -16,7 +16,7 @@ pub record Line : Type 0 where
   pub words : ChaCha
   pub lost : ℕ
 
--- a line that holds nothing and has lost nothing, its words those of the seed
+-- a link that holds nothing and has lost nothing, its words those of the seed
 abbrev pub line_of : List ℕ → Line
 line_of seed = record { held = []; words = of_seed seed; lost = 0 }
 
@@ -24,7 +24,7 @@ line_of seed = record { held = []; words = of_seed seed; lost = 0 }
 abbrev pub word_of : Line → ℕ
 word_of line = (next_word 10 line.words).0
 
--- the line once this word is drawn
+-- the link once this word is drawn
 abbrev pub drawn : Line → Line
 drawn line = record line { words = (next_word 10 line.words).1 }
 
@@ -38,7 +38,7 @@ copies_of word = if nat_lt (word % 16) 2 then 0 else if nat_lt (word % 16) 4 the
 abbrev pub lost_of : ℕ → ℕ → ℕ
 lost_of copies held = if nat_eq copies 0 then 1 else held + copies - 16
 
--- the line once it took a packet: the copies are after what is held, and what finds no place among 16 is lost
+-- the link once it took a packet: the copies are after what is held, and what finds no place among 16 is lost
 abbrev pub accepted : ℕ → List ℕ → Line → Line
 accepted word packet line = record line {
   held = take 16 (line.held ++ replicate (copies_of word) packet);
@@ -49,6 +49,6 @@ accepted word packet line = record line {
 abbrev pub picked : ℕ → Line → Option (List ℕ)
 picked word line = slice_get line.held (word % length line.held)
 
--- the line without it
+-- the link without it
 abbrev pub released : ℕ → Line → Line
 released word line = record line { held = remove line.held (word % length line.held) }

@@ -1,8 +1,8 @@
-//! What a task keeps of its calls, and a line that loses packets.
+//! What a task keeps of its calls, and a link that loses packets.
 //!
 //! In reading order:
 //! - `stub`: what a task keeps of its calls
-//! - `line`: a line that loses packets, doubles them and changes their order
+//! - `line`: a link that loses packets, doubles them and changes their order
 #![tactic(auto)]
 
 mod line;

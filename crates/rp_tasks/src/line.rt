@@ -1,4 +1,4 @@
-//! A line that loses packets, doubles them and changes their order.
+//! A link that loses packets, doubles them and changes their order.
 
 ghost use Rattle.std.specs.Prelude.{◌≡◌, ◌≢◌, ◌⊎◌, ℕ, ◌+◌, ◌-◌, List, [], ◌∷◌, ◌++◌, length, take, Some, option_map, IfOk, OnOk, OnErr, IsOkUnless};
 ghost use Rattle.rp_base.specs.Sets.{Has};
@@ -12,16 +12,16 @@ use std::alloc::Global;
 use std::marker::Model;
 use std::snapshot::Snapshot;
 
-/// How many packets a line holds at most.
+/// How many packets a link holds at most.
 const ROOM: usize = 16;
 
 /// Of n cases of a word a packet is lost in two, and doubled in two.
 const CASES: u32 = 16;
 
-/// How many buffers a line keeps for second copies.
+/// How many buffers a link keeps for second copies.
 const MOST_SPARES: usize = 4;
 
-/// A faulty line over the texts of packets. It holds at most 16, and a word of 32 bits says what
+/// A faulty link over the texts of packets. It holds at most 16, and a word of 32 bits says what
 /// becomes of each that it is given, or which it gives on. The words come from a seed, so that
 /// the same faults can be had again. The next word is computed before it is used, so that memory for
 /// a second copy is asked for only where that word wants one.
@@ -58,7 +58,7 @@ impl Model for FaultLine {
 }
 
 impl FaultLine {
-    /// An empty line whose words are the stream of this seed. It makes its room of 16 packets here,
+    /// An empty link whose words are the stream of this seed. It makes its room of 16 packets here,
     /// or answers `OutOfMemory`.
     pub fn new(alloc: Global, seed: [u8; 32]) -> Result<Self, Fault>
         ensures opened { IfOk result (λ line. line ≡ line_of seed) }
@@ -77,7 +77,7 @@ impl FaultLine {
         })
     }
 
-    /// How many copies were lost since the line was made: a packet that its word loses counts once,
+    /// How many copies were lost since the link was made: a packet that its word loses counts once,
     /// and each copy for which there is no place counts once. The count stays at `u64::MAX`.
     pub fn lost(&self) -> u64
         ensures { result ≡ self.now.lost }
@@ -105,7 +105,7 @@ impl FaultLine {
 
     /// Takes a packet by a word. Of the word modulo 16, 0 and 1 lose the packet, 2 and 3 hold it
     /// twice, and the rest once; a copy that finds no place among 16 is lost. `OutOfMemory` leaves
-    /// the line as it was.
+    /// the link as it was.
     pub fn accept_by(&mut self, alloc: Global, word: u32, packet: &[u8]) -> Result<(), Fault>
         ensures ok { OnOk result (self.new ≡ accepted word packet.now self.old) }
         ensures err { OnErr result (self.new ≡ self.old) }
@@ -116,7 +116,7 @@ impl FaultLine {
     }
 
     /// Takes a packet by the next word of the stream, as `accept_by` does. `OutOfMemory` comes
-    /// before the word is drawn, and leaves the line as it was.
+    /// before the word is drawn, and leaves the link as it was.
     pub fn accept(&mut self, alloc: Global, packet: &[u8]) -> Result<(), Fault>
         ensures ok { OnOk result
             (self.new ≡ accepted (word_of self.old) packet.now (drawn self.old)) }
@@ -210,7 +210,7 @@ impl FaultLine {
         Ok(())
     }
 
-    /// A copy is lost: it is counted, and the line keeps its buffer if it has few.
+    /// A copy is lost: it is counted, and the link keeps its buffer if it has few.
     fn lose(&mut self, packet: Vec<u8>)
         ensures { self.new ≡ record self.old { lost = saturating_sum self.old.lost 1 } }
     {
@@ -237,7 +237,7 @@ impl FaultLine {
     }
 }
 
-/// A line gives on only what it took: what it holds was held before or is the packet accepted, what
+/// A link gives on only what it took: what it holds was held before or is the packet accepted, what
 /// a word picks was held, and what is held after a release was held before.
 pub fn gives_what_it_took()
     // claim: A faulty link passes on only what it took

@@ -9,11 +9,11 @@ use Rattle.rp_tasks.specs.Line.{Line, word_of, drawn, accepted, picked, released
 abbrev pub IsTextAmong : List Message → List ℕ → Type 0
 IsTextAmong packets text = (m : Message) × Has m packets × (text ≡ text_of m)
 
--- Every packet that the line holds is the text of one of these.
+-- Every packet that the link holds is the text of one of these.
 pub record HoldsTextsOf (packets : List Message) (line : Line) : Type 0 where
   pub each : (text : List ℕ) → Has text line.held → IsTextAmong packets text
 
--- the line once it took what was fetched, if a packet was
+-- the link once it took what was fetched, if a packet was
 abbrev pub line_with : Option (List ℕ) → Line → Line
 line_with None line = line
 line_with (Some text) line = accepted (word_of line) text (drawn line)
@@ -22,7 +22,7 @@ line_with (Some text) line = accepted (word_of line) text (drawn line)
 abbrev pub given_on : Line → Option (List ℕ)
 given_on line = picked (word_of line) line
 
--- the line once it gave that on; where it holds nothing it stays, and no word is drawn
+-- the link once it gave that on; where it holds nothing it stays, and no word is drawn
 abbrev pub left_of : List (List ℕ) → Line → Line
 left_of [] line = line
 left_of (text ∷ others) line = released (word_of line) (drawn line)

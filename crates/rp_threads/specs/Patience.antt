@@ -1,4 +1,4 @@
--- When a node leads anew (this project's own).
+-- When a node leads anew.
 use Rattle.std.specs.Prelude.{ℕ, ◌+◌, ◌-◌, ◌*◌, ◌^◌, Bool, ◌&&◌, ◌||◌, nat_eq, nat_le, min, if◌then◌else◌}
 use Rattle.rp_threads.specs.declared.patience.Patience.{Patience}
 

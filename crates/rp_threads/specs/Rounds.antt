@@ -31,7 +31,7 @@ pub record IsToLeadAt (part : Part) (position : ℕ) : Type 0 where
   pub next : position ≡ applied + 1
   pub pending : HasPending part
 
--- the word to lead there
+-- the command to lead there
 abbrev pub IsLeadAnew : Part → Input → Type 0
 IsLeadAnew part input = (position : ℕ) × IsToLeadAt part position × (input ≡ Lead (Some position))
 
@@ -70,7 +70,7 @@ module _ {S P : Type 0} (next : S → Action → S) (answers : S → Action → 
     IsMadeOrSkipped heard passes None = ((passes ≡ false) × (new ≡ old) × (after ≡ line))
         ⊎ ((passes ≡ true) × (fault : Fault) × (is_refusal fault ≡ true) × IsUnmade fault × heard 0)
 
--- where a node's loop is: its seat, its line, how many turns of each kind it made, and how many packets these lost at
+-- where a node's loop is: its seat, its link, how many turns of each kind it made, and how many packets these lost at
 -- boxes
 pub record NodeAt (P : Type 0) : Type 0 where
   pub seat : SeatState P

@@ -23,7 +23,7 @@ use Rattle.rp_threads.specs.declared.tasks.TaskCall.{TaskCall}
 
 -- ---- a reply
 
--- the task takes what the line gives on, if it gives something: whether a call has its reply now
+-- the task takes what the link gives on, if it gives something: whether a call has its reply now
 abbrev pub Hears : {P : Type 0} → Option (List ℕ) → SeatState P → SeatState P → Bool → Type 0
 Hears None old new answered = (new ≡ old) × (answered ≡ false)
 Hears (Some text) old new answered =
@@ -110,7 +110,7 @@ module _ {P : Type 0} (nodes : ℕ) (calls : List TaskCall) where
     pub gives : line ≡ line_after full
     pub counts : so_far ≡ heard_by answered turn old.so_far
 
-  -- The turn was not made: what the line gave on is lost, since memory ran out.
+  -- The turn was not made: what the link gave on is lost, since memory ran out.
   pub record IsUnheard (turn : ℕ) (old new : TaskAt P) (fault : Fault) : Type 0 where
     pub full : Line
     pub brought : IsBrought (Node (node_at nodes turn)) (Task old.seat.number) old.seat new.seat old.line full

@@ -46,7 +46,7 @@ pub record HasMade {P : Type 0} (calls : List TaskCall) (seat : SeatState P) (ma
   pub count : length task.replies + (if waits then 1 else 0) ≡ made
   pub waiting : Waits seat.number calls made waits task.outstanding
 
--- where a task's loop is: its seat, its line, how many calls it made, and how many packets its turns lost at boxes
+-- where a task's loop is: its seat, its link, how many calls it made, and how many packets its turns lost at boxes
 pub record TaskAt (P : Type 0) : Type 0 where
   pub seat : SeatState P
   pub line : Line

@@ -14,7 +14,7 @@ use Rattle.rp_threads.specs.declared.loops.NodeEnd.{NodeEnd}
 use Rattle.rp_threads.specs.declared.tasks.TaskCall.{TaskCall}
 use Rattle.rp_threads.specs.declared.tasks.TaskEnd.{TaskEnd}
 
--- the end of a node's loop that is there: its packets that were lost are those at boxes and those on its line
+-- the end of a node's loop that is there: its packets that were lost are those at boxes and those on its link
 abbrev pub end_of : {M D P : Type 0} → NodeAt P → Option Fault → NodeEnd M D P
 end_of last fault = record {
   seat = last.seat;
@@ -22,7 +22,7 @@ end_of last fault = record {
   fault = fault;
 }
 
--- A loop of n turns, of the node of this seat among n and over this line, had this end: without a fault all turns
+-- A loop of n turns, of the node of this seat among n and over this link, had this end: without a fault all turns
 -- from 1 on were made or skipped, one after the other, else one of them was not made, by that fault.
 pub record IsLooped {S M D P : Type 0} (next : S → Action → S) (answers : S → Action → List Answer) (begin : P → S)
     (lets : ℕ → ℕ → Bool) (heard : ℕ → ℕ → ℕ → Type 0) (nodes turns : ℕ) (seat : SeatState P) (line : Line)
@@ -37,7 +37,7 @@ pub record IsLooped {S M D P : Type 0} (next : S → Action → S) (answers : S 
   pub fault : IfSome end.fault (λ fault. (last : NodeAt P) × (end ≡ end_of last (Some fault))
       × IsEndedBy next answers begin lets heard nodes (before_turns seat line) turns last fault)
 
--- the end of a task's loop that is there: its packets that were lost are those at boxes and those on its line
+-- the end of a task's loop that is there: its packets that were lost are those at boxes and those on its link
 abbrev pub task_end_of : {M P : Type 0} → TaskAt P → Option Fault → TaskEnd M P
 task_end_of last fault = record {
   seat = last.seat;
@@ -47,7 +47,7 @@ task_end_of last fault = record {
   fault = fault;
 }
 
--- A loop of n turns, of the task of this seat with these calls among n nodes and over this line, had this end:
+-- A loop of n turns, of the task of this seat with these calls among n nodes and over this link, had this end:
 -- without a fault all turns from 1 on were made, one after the other, else one was not made, by that fault.
 pub record IsTaskLooped {S M P : Type 0} (next : S → Action → S) (answers : S → Action → List Answer) (begin : P → S)
     (gate_heard : ℕ → ℕ → Type 0) (nodes turns : ℕ) (calls : List TaskCall) (seat : SeatState P) (line : Line)

@@ -31,13 +31,13 @@ abbrev pub MayFetch : {P : Type 0} → Option (List ℕ) → Party → Party →
 MayFetch None from to old new = new ≡ old
 MayFetch (Some text) from to old new = IsFetched from to text old new
 
--- The line took what was fetched, if a packet was.
+-- The link took what was fetched, if a packet was.
 pub record IsBrought {P : Type 0} (from to : Party) (old new : SeatState P) (line after : Line) : Type 0 where
   pub fetched : Option (List ℕ)
   pub fetch : MayFetch fetched from to old new
   pub takes : after ≡ line_with fetched line
 
--- A packet was fetched, and the line was out of memory to take it: it is lost, and the line stays.
+-- A packet was fetched, and the link was out of memory to take it: it is lost, and the link stays.
 pub record IsLost {P : Type 0} (from to : Party) (old new : SeatState P) (line after : Line)
     (fault : Fault) : Type 0 where
   pub packet : List ℕ
@@ -51,7 +51,7 @@ pub record IsLost {P : Type 0} (from to : Party) (old new : SeatState P) (line a
 abbrev pub no_packets : PacketCounts
 no_packets = record { sent = 0; lost = 0 }
 
--- the node receives what the line gives on, or else leads where it is to
+-- the node receives what the link gives on, or else leads where it is to
 abbrev pub turn_of : Option (List ℕ) → Bool → Turn
 turn_of (Some text) lead = Received
 turn_of None true = Led
@@ -66,7 +66,7 @@ IsReceipt text (Interrupt source occurrence) = ⊥
 IsReceipt text (Tick now) = ⊥
 IsReceipt text (Report first) = ⊥
 
--- the input is the word to lead at the least position that is free for it
+-- the input is the command to lead at the least position that is free for it
 abbrev pub IsLead : Input → Type 0
 IsLead input = input ≡ Lead None
 
@@ -155,7 +155,7 @@ module _ {S P : Type 0} (next : S → Action → S) (answers : S → Action → 
     pub why : IsCutTurn next answers begin old input new fault
         ⊎ (IsNoTurn next answers begin old input new fault ⊎ IsUnsent old input new fault)
 
-  -- what the turn does to the seat, by what the line gives on and whether the node is to lead
+  -- what the turn does to the seat, by what the link gives on and whether the node is to lead
   abbrev pub Works : Option (List ℕ) → Bool → SeatState P → SeatState P → PacketCounts → Type 0
   Works (Some text) lead old new packets = IsEventBy (IsReceipt text) old new packets
   Works None true old new packets = IsEventBy IsLead old new packets
@@ -167,7 +167,7 @@ module _ {S P : Type 0} (next : S → Action → S) (answers : S → Action → 
   Fails None true old new fault = IsStopBy IsLead old new fault
   Fails None false old new fault = ⊥
 
-  -- One event or none: the line takes what is fetched, and what it then gives on is received. Where it holds
+  -- One event or none: the link takes what is fetched, and what it then gives on is received. Where it holds
   -- nothing, the node leads if it is to, and is else idle.
   pub record IsNodeTurn (from : Party) (lead : Bool) (old new : SeatState P) (line after : Line) (turned : TurnResult)
       : Type 0 where
@@ -178,7 +178,7 @@ module _ {S P : Type 0} (next : S → Action → S) (answers : S → Action → 
     pub works : Works (given_on full) lead between new turned.packets
     pub gives : after ≡ line_after full
 
-  -- The step after that was cut, or was none; the packet that the line gave on is lost.
+  -- The step after that was cut, or was none; the packet that the link gave on is lost.
   pub record IsStoppedTurn (from : Party) (lead : Bool) (old new : SeatState P) (line after : Line) (fault : Fault)
       : Type 0 where
     pub between : SeatState P

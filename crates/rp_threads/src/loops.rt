@@ -25,7 +25,8 @@ use std::alloc::Global;
 #[derive(Drop)]
 pub struct NodeEnd<M: Machine, D: Device> {
     pub seat: NodeSeat<M, D>,
-    /// The packets that are lost in it are also those that were lost on its line since that was made.
+    /// The packets that are lost in it are also those that were lost on its link since that was
+    /// made.
     pub counts: Counts,
     /// Why the node stopped before its last turn.
     pub fault: Option<Fault>,
@@ -82,7 +83,7 @@ fn refuses_to_lead(fault: Fault) -> bool
     }
 }
 
-/// A node at its work: its seat, the line that its packets come through, and how patient it is.
+/// A node at its work: its seat, the link that its packets come through, and how patient it is.
 #[derive(Drop)]
 struct Worker<M: Machine, D: Device> {
     seat: NodeSeat<M, D>,

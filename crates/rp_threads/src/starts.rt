@@ -18,15 +18,15 @@ use std::marker::PhantomData;
 use std::snapshot::Snapshot;
 use std::thread::{Promise, PromisedHandle, Scope};
 
-/// A node that is to run in a thread of its own, and the line that its packets come through.
+/// A node that is to run in a thread of its own, and the link that its packets come through.
 #[derive(Drop)]
 pub struct NodeStart<M: Machine, D: Device> {
     pub seat: NodeSeat<M, D>,
     pub line: FaultLine,
 }
 
-/// A task that is to run in a thread of its own, with the calls that it is to make and the line that
-/// its packets come through.
+/// A task that is to run in a thread of its own, with the calls that it is to make and the link
+/// that its packets come through.
 #[derive(Drop)]
 pub struct TaskStart<M: Machine> {
     pub seat: TaskSeat<M>,
@@ -34,7 +34,7 @@ pub struct TaskStart<M: Machine> {
     pub line: FaultLine,
 }
 
-/// The thread of a node guarantees what `node_loop` promises of its seat and line, of n nodes and n
+/// The thread of a node guarantees what `node_loop` promises of its seat and link, of n nodes and n
 /// turns.
 #[derive(Drop)]
 pub(crate) struct NodeGuarantee<M: Machine, D: Device, G: Gate> {
@@ -52,7 +52,7 @@ impl<M: Machine, D: Device, G: Gate> Promise<NodeEnd<M, D>> for NodeGuarantee<M,
         guarantee.nodes guarantee.turns guarantee.seat.value guarantee.line.value end };
 }
 
-/// The thread of a task guarantees what `task_loop` promises of its seat, calls and line, of n
+/// The thread of a task guarantees what `task_loop` promises of its seat, calls and link, of n
 /// nodes and n turns.
 #[derive(Drop)]
 pub(crate) struct TaskGuarantee<M: Machine, G: Gate> {

@@ -43,8 +43,8 @@ pub struct TaskEnd<M: Machine> {
     pub made: usize,
     /// The turn in which its last reply came, or 0.
     pub last_reply: u64,
-    /// How many packets were lost: on its line since that was made, and, in the turns that were made,
-    /// at boxes that were not empty. It stays at `u64::MAX`.
+    /// How many packets were lost: on its link since that was made, and, in the turns that were
+    /// made, at boxes that were not empty. It stays at `u64::MAX`.
     pub lost: u64,
     /// Why the task stopped before its last turn.
     pub fault: Option<Fault>,
@@ -80,7 +80,7 @@ impl Calls {
     }
 }
 
-/// A task at its work: its seat, the line that its packets come through, and its calls so far.
+/// A task at its work: its seat, the link that its packets come through, and its calls so far.
 #[derive(Drop)]
 struct Caller<M: Machine> {
     seat: TaskSeat<M>,
@@ -88,7 +88,7 @@ struct Caller<M: Machine> {
     so_far: Calls,
 }
 
-/// The task takes what the line gives on, if it gives something. Whether a call has its reply now.
+/// The task takes what the link gives on, if it gives something. Whether a call has its reply now.
 fn hear<M: Machine>(
     seat: &mut TaskSeat<M>,
     line: &mut FaultLine,
@@ -214,7 +214,7 @@ impl<M: Machine> Caller<M> {
         Ok(lost)
     }
 
-    /// A turn of a task: it fetches from a node through its line, takes what is given on, and then
+    /// A turn of a task: it fetches from a node through its link, takes what is given on, and then
     /// asks.
     fn turn(&mut self, alloc: Global, nodes: u8, calls: &[TaskCall], turn: u64) -> Result<(), Fault>
         requires nodes { (1 ≤ nodes) × (nodes ≤ 7) }
@@ -239,7 +239,7 @@ impl<M: Machine> Caller<M> {
 }
 
 /// Turns of a task, as many as the options say. In each it fetches from one of the nodes 1 to
-/// `nodes`, in rotation, through its line, and takes the reply that the line may give on. It makes
+/// `nodes`, in rotation, through its link, and takes the reply that the link may give on. It makes
 /// its calls in order, the first in the first turn and each other once the one before has its reply;
 /// while it waits it asks the next node again in every 16th turn. A fault ends the loop:
 /// `OutOfMemory`, `NumbersSpent` where no number is left for the next call, or `BadConfig` where

@@ -45,7 +45,7 @@ pub struct TurnResult {
     pub packets: PacketCounts,
 }
 
-/// The line takes the packet that was fetched, if one was. At `OutOfMemory` that packet is gone.
+/// The link takes the packet that was fetched, if one was. At `OutOfMemory` that packet is gone.
 pub(crate) fn take_fetched(
     line: &mut FaultLine,
     alloc: Global,
@@ -92,7 +92,7 @@ pub fn node_step<M: Machine, D: Device>(
     })
 }
 
-/// The node receives what the line gives on, or else leads where it is to.
+/// The node receives what the link gives on, or else leads where it is to.
 fn work<M: Machine, D: Device>(
     seat: &mut NodeSeat<M, D>,
     line: &mut FaultLine,
@@ -132,11 +132,12 @@ fn work<M: Machine, D: Device>(
     }
 }
 
-/// A turn of a node: the line takes the packet in the box from a party, if there is one, and the
-/// node receives what the line then gives on. Where the line holds nothing, the node leads if it is
-/// to, and is else idle. The packets that it sends go into their boxes; one whose box is not empty is
-/// lost. At a fault the packet that was fetched is lost if memory ran out for it, and else the one that
-/// the line gave on; where memory ran out for the copy of a packet that was sent, the step was made.
+/// A turn of a node: the link takes the packet in the box from a party, if there is one, and the
+/// node receives what the link then gives on. If the link is empty, the node leads if it is to, and
+/// is else idle. The packets that it sends go into their boxes; one whose box is not empty is lost.
+/// At a fault the packet that was fetched is lost if memory ran out for it, and else the one that
+/// the link gave on; where memory ran out for the copy of a packet that was sent, the step was
+/// made.
 pub fn node_turn<M: Machine, D: Device>(
     seat: &mut NodeSeat<M, D>,
     line: &mut FaultLine,

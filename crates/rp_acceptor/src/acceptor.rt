@@ -72,7 +72,7 @@ impl Acceptor {
     }
 
     /// The acceptor that notes these records in order, with room at each position at which one of
-    /// them counts. `OutOfMemory` comes only where one of them is a promise or a vote, and then
+    /// them counts. `OutOfMemory` comes only if one of them is a promise or a vote, and then
     /// there is no acceptor.
     pub fn restore(alloc: Global, records: &[Rec]) -> Result<Self, AllocError>
         // claim (restored): An acceptor that is restored is the one that noted the records in order
@@ -110,7 +110,7 @@ impl Acceptor {
     }
 
     /// Makes room, so that records at this position can be noted, however many. `OutOfMemory` comes
-    /// only where there was no room yet, and then nothing has changed.
+    /// only if there was no room yet, and then nothing has changed.
     #[inline(always)]
     pub fn reserve(&mut self, position: Position) -> Result<(), AllocError>
         // claim: Room is made only at the position or the range asked for, and a refusal changes
@@ -126,7 +126,7 @@ impl Acceptor {
     }
 
     /// Makes room, so that votes at this position can be noted, however many; it takes none for
-    /// promises. `OutOfMemory` comes only where there was no room yet, and then nothing has
+    /// promises. `OutOfMemory` comes only if there was no room yet, and then nothing has
     /// changed.
     #[inline(always)]
     pub fn reserve_vote(&mut self, position: Position) -> Result<(), AllocError>
@@ -141,7 +141,7 @@ impl Acceptor {
     }
 
     /// Makes room, so that promises for this range can be noted, however many: two steps at most.
-    /// `OutOfMemory` comes only where there was no room yet, and then nothing has changed.
+    /// `OutOfMemory` comes only if there was no room yet, and then nothing has changed.
     pub fn reserve_range(&mut self, range: PositionRange) -> Result<(), AllocError>
         // claim as Acceptor::reserve
         ensures ok { OnOk result (self.new ≡ reserves_range self.old range) }
@@ -221,7 +221,7 @@ impl Acceptor {
     }
 }
 
-/// The bound of this number, where the ballot lies below it.
+/// The bound of this number, if the ballot lies below it.
 #[inline(always)]
 fn refusing(bound: u64, ballot: Ballot) -> Option<Ballot>
     requires { IsPromised bound }

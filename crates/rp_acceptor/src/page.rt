@@ -16,7 +16,7 @@ use std::marker::Model;
 pub const PAGE: usize = 64;
 
 /// What is kept for one position: the number of the greatest ballot that was promised for it alone, 0
-/// where none was, and the last vote there.
+/// if none was, and the last vote there.
 #[derive(Clone, Copy)]
 pub struct Kept {
     promised: u64,
@@ -55,7 +55,7 @@ impl Kept {
         self.last.as_ref()
     }
 
-    /// The number of the greater of the ballot that was promised and the last vote's, 0 where there
+    /// The number of the greater of the ballot that was promised and the last vote's, 0 if there
     /// is neither.
     #[inline(always)]
     pub fn bound_number(&self) -> u64
@@ -95,7 +95,7 @@ impl Kept {
     }
 }
 
-/// What is kept for 64 positions in a row, or nothing where no position of them was reserved.
+/// What is kept for 64 positions in a row, or nothing if no position of them was reserved.
 #[derive(Drop)]
 pub struct Page {
     places: Vec<Kept>,
@@ -137,7 +137,7 @@ impl Page {
         self.places.is_empty()
     }
 
-    /// What is kept at an offset, where there is a place.
+    /// What is kept at an offset, if there is a place.
     #[inline(always)]
     fn kept(&self, offset: usize) -> Option<&Kept>
         ensures { kept_or_nothing (option_copied result) ≡ kept_in_page self.now offset }
@@ -166,7 +166,7 @@ impl Page {
     }
 }
 
-/// What is kept at an index, where there is a place.
+/// What is kept at an index, if there is a place.
 #[inline(always)]
 pub fn kept_at(pages: &[Page], index: usize) -> Option<&Kept>
     ensures { kept_or_nothing (option_copied result) ≡ kept_of pages.now index }
@@ -227,7 +227,7 @@ pub fn make(pages: &mut Vec<Page>, alloc: Global, index: usize) -> Result<(), Al
 {
     let number = index / PAGE;
     if is_absent(pages, number) {
-        make_anew(pages, alloc, number)
+        make_page(pages, alloc, number)
     } else {
         Ok(())
     }
@@ -235,7 +235,7 @@ pub fn make(pages: &mut Vec<Page>, alloc: Global, index: usize) -> Result<(), Al
 
 /// Makes the page of this number, which is absent. Refused for memory, each place stays.
 #[inline(never)]
-fn make_anew(pages: &mut Vec<Page>, alloc: Global, number: usize) -> Result<(), AllocError>
+fn make_page(pages: &mut Vec<Page>, alloc: Global, number: usize) -> Result<(), AllocError>
     requires { length (page_at pages.old.items number) ≡ 0 }
     ensures more { HasMore pages.old.items pages.new.items }
     ensures made { OnOk result (length (page_at pages.new.items number) ≡ 64) }

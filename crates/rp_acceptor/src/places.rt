@@ -78,7 +78,7 @@ impl<'a> Places<'a> {
         votes
     }
 
-    /// The votes in a vector, which takes no memory where there are none.
+    /// The votes in a vector, which takes no memory if there are none.
     pub fn to_vec(&self, alloc: Global) -> Result<Vec<PlacedVote>, AllocError>
         ensures votes { IfOk result (λ votes. votes.items ≡ self.now.votes) }
         ensures full { OnErr result (¬ (self.now.votes ≡ [])) }
@@ -122,7 +122,7 @@ fn push(votes: &mut RangeVotes, places: &[Kept], range: PositionRange, first: u8
 }
 
 /// Adds the votes at places to those of a vector, the first place that of an index of the range. It
-/// takes memory only where there is a vote.
+/// takes memory only if there is a vote.
 fn append(
     votes: &mut Vec<PlacedVote>,
     places: &[Kept],

@@ -42,7 +42,7 @@ impl Acceptor {
         self.steps.compare(range, ballot).combined(single)
     }
 
-    /// The last votes at the positions of the range, in a vector, which takes no memory where there
+    /// The last votes at the positions of the range, in a vector, which takes no memory if there
     /// are none.
     pub fn list_last_votes(
         &self,

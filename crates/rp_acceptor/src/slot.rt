@@ -8,7 +8,7 @@ ghost use Rattle.rp_acceptor.specs.Steps.{IsPromised};
 use rp_base::{Ballot, Position, Rec, Vote};
 use std::marker::Model;
 
-/// The number of the bound at a position, 0 where there is none, and the last vote there.
+/// The number of the bound at a position, 0 if there is none, and the last vote there.
 #[derive(Clone, Copy)]
 pub struct Slot<'a> {
     pub bound: u64,
@@ -49,7 +49,7 @@ pub fn stretch_in(rec: &Rec) -> Option<Stretch>
     }
 }
 
-/// The ballot of this number, or none where it is 0.
+/// The ballot of this number, or none if it is 0.
 #[inline(always)]
 pub fn ballot_of(number: u64) -> Option<Ballot>
     requires { IsPromised number }

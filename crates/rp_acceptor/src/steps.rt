@@ -18,7 +18,7 @@ use std::marker::Model;
 /// How many of the last steps are read before all are searched: a promise for a range adds two.
 const NEAR_END: usize = 4;
 
-/// From a position on the ballot of this number is promised, or nothing is where it is 0: so a step
+/// From a position on the ballot of this number is promised, or nothing is if it is 0: so a step
 /// takes 16 bytes.
 #[derive(Drop)]
 struct Step {
@@ -79,7 +79,7 @@ impl Steps {
         }
     }
 
-    /// The number of the ballot that holds at a position, 0 where none does.
+    /// The number of the ballot that holds at a position, 0 if none does.
     #[inline(always)]
     pub fn number(&self, position: usize) -> u64
         requires { position < 2 ^ 32 }
@@ -158,7 +158,7 @@ fn ballot_before(steps: &[Step], count: usize) -> Option<Ballot>
     ballot_of(number_before(steps, count))
 }
 
-/// Its number, or 0 where nothing is promised.
+/// Its number, or 0 if nothing is promised.
 fn number_before(steps: &[Step], count: usize) -> u64
     requires { count ≤ length steps.now }
     ensures value { result ≡ ballot_before 0 steps.now count }

@@ -7,8 +7,8 @@ use rp_machine::Machine;
 use rp_store::InfallibleDevice;
 
 impl<M: Machine, D: InfallibleDevice> Replica<M, D> {
-    /// The device has not failed, where such a device never does. It does nothing: what it promises is
-    /// for contracts.
+    /// The device has not failed, as such a device never does. It does nothing: its contract is for
+    /// the proofs of its callers.
     pub fn never_failed(&self)
         ensures { self.now.disk.failures ≡ 0 }
     {

@@ -42,7 +42,7 @@ pub fn texts_are_packets()
 {}
 
 /// What is opened over a device is what a restart makes of the stopped part that the device keeps;
-/// and where it holds no other records, it reports how many the part has.
+/// and if it holds no other records, it reports how many the part has.
 pub fn opening_is_a_restart<M: Machine>()
     // claim: What is opened is what a restart makes of what the device keeps, in whichever versions
     //   it holds it; the count of records is the part's where the device holds no others

@@ -46,7 +46,7 @@ impl<M: Machine, D: Device> Replica<M, D> {
     /// Opens a device for a node of the configuration: it reads the records, truncates what is torn
     /// after them, skips those above the log, and runs by the others. Nothing is proposed, heard or
     /// pending. Refused with `OutOfMemory`, after which the device may be read, truncated and
-    /// synced, or with `Device` where the device failed.
+    /// synced, or with `Device` if the device failed.
     pub fn open(
         alloc: Global,
         node: NodeId,

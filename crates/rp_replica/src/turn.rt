@@ -26,7 +26,7 @@ use std::mem::replace;
 
 impl<M: Machine, D: Device> Replica<M, D> {
     /// What the step of an input does, or why there is no step: as `rp_rules` says, or `Failed` after
-    /// the device failed. It writes the plan where its caller holds it, so that no plan is copied.
+    /// the device failed. It writes the plan to `plan`, so that none is copied.
     #[inline(always)]
     pub(crate) fn decide(&self, alloc: Global, input: &Input, plan: &mut Plan) -> Result<(), Fault>
         requires right { IsRightInput input.now }
@@ -44,8 +44,8 @@ impl<M: Machine, D: Device> Replica<M, D> {
     }
 
     /// One step of the node: at most one record is written, and the packets are given out once it is
-    /// stable. Refused with `BadPacket` where the bytes of a packet are none's text, with `BallotsSpent`
-    /// or `LogFull` where the node cannot lead, with `OutOfMemory`: then nothing has changed. After
+    /// stable. Refused with `BadPacket` if the bytes are no packet's text, with `BallotsSpent`
+    /// or `LogFull` if the node cannot lead, with `OutOfMemory`: then nothing has changed. After
     /// `Device` the device has failed, and each further step is refused with `Failed`.
     pub fn turn(&mut self, alloc: Global, input: &Input) -> Result<Sent, Fault>
         requires right { IsRightInput input.now }
@@ -133,7 +133,7 @@ impl<M: Machine, D: Device> Replica<M, D> {
         Ok(plan.dropped())
     }
 
-    /// A packet comes, as its text. Refused with `BadPacket` where the bytes are no packet's text, and
+    /// A packet comes, as its text. Refused with `BadPacket` if the bytes are no packet's text, and
     /// otherwise as `Replica` says. A packet that is for another node, from a node or for a position
     /// beyond the configuration, or in a ballot that its sender does not own, is dropped, and nothing
     /// happens.
@@ -147,8 +147,8 @@ impl<M: Machine, D: Device> Replica<M, D> {
 
     /// The command to lead at a position, or with none at the least position that is not learned
     /// and at which no proposal of this node runs but a prepared one. A prepared proposal offers
-    /// its action. Where the position is learned nothing happens. It is refused with `LogFull`
-    /// above the log or 64 positions above the first unlearned one, with `BallotsSpent` where the
+    /// its action. If the position is learned nothing happens. It is refused with `LogFull`
+    /// above the log or 64 positions above the first unlearned one, with `BallotsSpent` if the
     /// node has no ballot left, and then as `Replica` says.
     pub fn lead(&mut self, alloc: Global, choice: Option<Position>) -> Result<Sent, Fault>
         ensures { Answers (effect_of M.next M.answers self.old (inputs.NodeInput.Lead choice))
@@ -158,9 +158,9 @@ impl<M: Machine, D: Device> Replica<M, D> {
     }
 
     /// The command to lead at all positions of a range that are not learned, with one question for
-    /// all of them. Where all are learned nothing happens. It is refused with `LogFull` where one
+    /// all of them. If all are learned nothing happens. It is refused with `LogFull` if one
     /// of them is above the log or 64 positions above the first unlearned one, with `BallotsSpent`
-    /// where the node has no ballot left, and then as `Replica` says.
+    /// if the node has no ballot left, and then as `Replica` says.
     pub fn lead_range(&mut self, alloc: Global, range: PositionRange) -> Result<Sent, Fault>
         ensures { Answers (effect_of M.next M.answers self.old
             (inputs.NodeInput.LeadRange range.first range.count)) self.old self.new result }
@@ -169,7 +169,7 @@ impl<M: Machine, D: Device> Replica<M, D> {
     }
 
     /// The node notes an occurrence of an interrupt's source, 1 to 8 and from 1: it becomes pending
-    /// unless it or a higher one counted, and is dropped where 32 items are pending.
+    /// unless it or a higher one counted, and is dropped if 32 items are pending.
     pub fn interrupt(&mut self, alloc: Global, source: u8, occurrence: u32) -> Result<Sent, Fault>
         requires right { IsRight (actions.Interrupt source occurrence) }
         ensures { Answers (effect_of M.next M.answers self.old
@@ -179,7 +179,7 @@ impl<M: Machine, D: Device> Replica<M, D> {
         self.turn(alloc, &Input::Interrupt { source, occurrence })
     }
 
-    /// The node notes a tick of the clock: it becomes pending, and is dropped where 32 items are
+    /// The node notes a tick of the clock: it becomes pending, and is dropped if 32 items are
     /// pending.
     pub fn tick(&mut self, alloc: Global, now: u32) -> Result<Sent, Fault>
         ensures { Answers (effect_of M.next M.answers self.old (inputs.NodeInput.Tick now))

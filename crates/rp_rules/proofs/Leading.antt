@@ -16,12 +16,7 @@ use Rattle.rp_model.specs.Leader.{least_free, is_out_of_reach, leads_at, on_lead
 use Rattle.rp_server.proofs.FreePlaces.{least_is_unlearned}
 
 module _ {S : Type 0} (next : S → Action → S) (answers : S → Action → List Answer) (begin : S) (config : Config) (me : ℕ) (records : List Rec) (running : Running) where
-  -- it is the word to lead at the least free one
-  pub lead_at_least : (i : ℕ) → i ≡ least_free config.nodes records running.proposals
-      → on_lead next answers begin config me records running (Some i) ≡ on_lead next answers begin config me records running None
-  lead_at_least i is = ap (λ (j : ℕ). on_lead next answers begin config me records running (Some j)) is
-
-  -- which is refused out of reach
+  -- out of reach the command to lead at the least free position is refused
   pub lead_out : is_out_of_reach config.max_positions records (least_free config.nodes records running.proposals) ≡ true
       → on_lead next answers begin config me records running None ≡ Err LogFull
   lead_out out =

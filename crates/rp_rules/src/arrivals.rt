@@ -15,7 +15,7 @@ use rp_model::{Dropped, RightAction};
 use rp_server::Server;
 
 /// The node notes an occurrence of an interrupt's source, 1 to 8 and from 1: it becomes pending
-/// unless it or a higher one counted, and is dropped where 32 items are pending.
+/// unless it or a higher one counted, and is dropped if 32 items are pending.
 pub(crate) fn on_interrupt<M: Machine>(
     server: &Server<M>,
     source: u8,
@@ -36,7 +36,7 @@ pub(crate) fn on_interrupt<M: Machine>(
     }
 }
 
-/// The node notes a tick of the clock: it becomes pending, and is dropped where 32 items are
+/// The node notes a tick of the clock: it becomes pending, and is dropped if 32 items are
 /// pending.
 pub(crate) fn on_tick<M: Machine>(server: &Server<M>, now: u32, plan: &mut Plan)
     ensures turn { turn_of M.next M.answers server.now plan.new

@@ -1,6 +1,7 @@
 //! The command to lead, at a position or at the least free one: what a server decides.
 
-ghost use Rattle.std.specs.Prelude.{◌≡◌, ◌<◌, ◌≤◌, ◌^◌, true, IfNone, IfSome, IfOk, IfErr, Ok, Err};
+ghost use Rattle.std.specs.Prelude.{◌≡◌, ◌<◌, ◌≤◌, ◌^◌, true, IfNone, IfSome, IfOk, IfErr, Some, Ok, Err};
+ghost use Rattle.rp_base.specs.declared.fault.Fault.TheVariants.{LogFull};
 ghost use Rattle.rp_model.specs.Effect as inputs;
 ghost use Rattle.rp_model.specs.Leader.{is_free_position, is_out_of_reach, least_free};
 ghost use Rattle.rp_rules.specs.Plans.{turn_of, MayCommit};
@@ -13,9 +14,9 @@ use rp_machine::Machine;
 use rp_server::Server;
 
 /// The command to lead at a position, or with none at the least position that is not learned and at
-/// which no proposal of this node runs but a prepared one. Where the position is learned nothing
+/// which no proposal of this node runs but a prepared one. If the position is learned nothing
 /// happens. It is refused with `LogFull` above the log or 64 positions above the first unlearned
-/// one, with `BallotsSpent` where the node has no ballot left.
+/// one, with `BallotsSpent` if the node has no ballot left.
 pub(crate) fn on_lead<M: Machine>(
     server: &Server<M>,
     choice: Option<Position>,
@@ -26,11 +27,23 @@ pub(crate) fn on_lead<M: Machine>(
     ensures err { IfErr result (λ fault. Err fault
         ≡ effect_of M.next M.answers server.now (inputs.NodeInput.Lead choice)) }
 {
-    match choice {
+    match position_to_lead(server, choice) {
         Some(position) => on_lead_at(server, position),
-        None => match server.least_free() {
-            Some(position) => on_lead_at(server, position),
-            None => Err(Fault::LogFull),
-        },
+        None => Err(Fault::LogFull),
+    }
+}
+
+/// The position that the command names, or else the least free one, if that is within reach.
+#[inline(always)]
+fn position_to_lead<M: Machine>(server: &Server<M>, choice: Option<Position>) -> Option<Position>
+    ensures some { IfSome result (λ position.
+        effect_of M.next M.answers server.now (inputs.NodeInput.Lead (Some position))
+        ≡ effect_of M.next M.answers server.now (inputs.NodeInput.Lead choice)) }
+    ensures none { IfNone result (Err LogFull
+        ≡ effect_of M.next M.answers server.now (inputs.NodeInput.Lead choice)) }
+{
+    match choice {
+        Some(position) => Some(position),
+        None => server.least_free(),
     }
 }

@@ -20,9 +20,10 @@ use rp_model::Dropped;
 use rp_proposer::Progress;
 use rp_server::Server;
 
-/// The command to lead at a position. Where it is learned nothing happens, and a prepared proposal
+/// The command to lead at a position. If it is learned nothing happens, and a prepared proposal
 /// there offers its action. It is refused with `LogFull` above the log or 64 positions above the
-/// first unlearned one, with `BallotsSpent` where the node has no ballot left.
+/// first unlearned one, with `BallotsSpent` if the node has no ballot left.
+#[inline(always)]
 pub(crate) fn on_lead_at<M: Machine>(server: &Server<M>, position: Position) -> Result<Plan, Fault>
     ensures ok { IfOk result (λ plan. Ok (turn_of M.next M.answers server.now plan)
         ≡ effect_of M.next M.answers server.now (inputs.NodeInput.Lead (Some position))) }
@@ -41,12 +42,12 @@ pub(crate) fn on_lead_at<M: Machine>(server: &Server<M>, position: Position) -> 
             let action = prepared_action(server, position, reported);
             Ok(Plan::OfferPrepared(position, ballot, action))
         }
-        None => on_lead_anew(server, position),
+        None => on_lead_unprepared(server, position),
     }
 }
 
 /// What a prepared proposal at the position offers: the action of the highest vote that its
-/// promises report, or one of its own where they report none.
+/// promises report, or one of its own if they report none.
 fn prepared_action<M: Machine>(
     server: &Server<M>,
     position: Position,
@@ -64,7 +65,7 @@ fn prepared_action<M: Machine>(
 }
 
 /// The command to lead at a position within reach at which nothing is learned or prepared.
-fn on_lead_anew<M: Machine>(server: &Server<M>, position: Position) -> Result<Plan, Fault>
+fn on_lead_unprepared<M: Machine>(server: &Server<M>, position: Position) -> Result<Plan, Fault>
     requires unlearned { is_some (learned_at server.now.records position) ≡ false }
     requires reach { is_out_of_reach server.now.config.max_positions server.now.records position
         ≡ false }

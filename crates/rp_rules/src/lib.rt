@@ -6,7 +6,7 @@
 //! - `plan`: what the rules decided for an input, before anything of it is done
 //! - `rules`: the rule of an input, by its kind
 //! - `texts`: the rule for a packet's text, by the packet's kind
-//! - `receiving`: the rules for any packet
+//! - `packets`: the rules for any packet
 //! - `acceptor`, `leader`, `lead`, `ranges`, `learner`, `arrivals`: the rules for a question for a
 //!   promise or a vote, promises, the command to lead at a position or a range, votes and
 //!   decisions, calls and interrupts and ticks
@@ -18,9 +18,9 @@ mod input;
 mod lead;
 mod leader;
 mod learner;
+mod packets;
 mod plan;
 mod ranges;
-mod receiving;
 mod rules;
 mod texts;
 

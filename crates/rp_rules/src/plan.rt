@@ -60,7 +60,7 @@ pub enum Plan {
     /// A proposal begins at each unlearned position of a range.
     LeadRange(PositionRange, Ballot),
     /// A prepared proposal offers an action to all: that of the highest vote that its promises
-    /// report, or one of its own where they report none.
+    /// report, or one of its own if they report none.
     OfferPrepared(Position, Ballot, Action),
     /// A promise counts, and makes no majority.
     Count(CountedPromise),

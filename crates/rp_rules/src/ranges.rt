@@ -16,9 +16,9 @@ use rp_machine::Machine;
 use rp_model::Dropped;
 use rp_server::Server;
 
-/// The command to lead at all unlearned positions of a range. Where all are learned nothing
-/// happens. It is refused with `LogFull` where one of its positions is above the log or 64
-/// positions above the first unlearned one, with `BallotsSpent` where the node has no ballot left.
+/// The command to lead at all unlearned positions of a range. If all are learned nothing
+/// happens. It is refused with `LogFull` if one of its positions is above the log or 64
+/// positions above the first unlearned one, with `BallotsSpent` if the node has no ballot left.
 pub(crate) fn on_lead_range<M: Machine>(
     server: &Server<M>,
     range: PositionRange,

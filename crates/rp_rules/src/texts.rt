@@ -1,6 +1,6 @@
 //! What a server decides that is given a packet's text. Each usual kind has a function, which reads the
 //! text into fields and calls the rule with these. It returns whether the bytes are such a packet's
-//! text; where they are not, it leaves the plan as it is.
+//! text; if they are not, it leaves the plan as it is.
 
 ghost use Rattle.std.specs.Prelude.{◌≡◌, ◌&&◌, not, nat_lt, true, Ok, IfErr, OnOk};
 ghost use Rattle.rp_codec.specs.Decoding.{IsLongText};
@@ -18,8 +18,8 @@ use crate::acceptor::{on_accept, on_prepare};
 use crate::arrivals::on_call;
 use crate::leader::on_promise;
 use crate::learner::{on_accepted, on_decided};
+use crate::packets::on_packet;
 use crate::plan::{CountedPromise, Plan};
-use crate::receiving::on_packet;
 use rp_base::{Fault, NodeId, Position};
 use rp_codec::{
     Kind, Place, decode, usual_accept, usual_accepted, usual_call, usual_decided, usual_prepare,
@@ -30,7 +30,7 @@ use rp_model::Dropped;
 use rp_server::Server;
 use std::alloc::Global;
 
-/// A packet comes, as its text: `BadPacket` where the bytes are no packet's, or `OutOfMemory` where a
+/// A packet comes, as its text: `BadPacket` if the bytes are no packet's, or `OutOfMemory` if a
 /// report or a promise for a range is read. Each usual kind has its function, in which reading the
 /// packet and the rule for it are compiled for that kind alone.
 #[inline(always)]

@@ -8,17 +8,17 @@
 //! - `proposer`, `own_action`: the proposals that it leads, the positions at which it may lead, and
 //!   the action that a proposal takes as its own
 //! - `learner`: votes that are heard
-//! - `learning`, `applying`, `window`, `pending`: an action that is learned, applied in order and
+//! - `learn`, `apply`, `window`, `pending`: an action that is learned, applied in order and
 //!   answered; the learner's window, which follows the log; the items that wait to be proposed
 //! - `report`: what is applied, for a report
 //! - `heard`: the votes that were heard, which memory does not hold
 #![tactic(auto)]
 
 mod acceptor;
-mod applying;
+mod apply;
 mod heard;
+mod learn;
 mod learner;
-mod learning;
 mod own_action;
 mod pending;
 mod proposer;
@@ -28,5 +28,5 @@ mod server;
 mod window;
 
 pub use acceptor::record_in_range;
-pub use learning::Decision;
+pub use learn::Decision;
 pub use server::Server;

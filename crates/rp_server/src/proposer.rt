@@ -55,7 +55,7 @@ impl<M: Machine> Server<M> {
         }
     }
 
-    /// The least free position, where it is within reach. It looks at 64 positions at most: below the
+    /// The least free position, if it is within reach. It looks at 64 positions at most: below the
     /// first unlearned one none is free.
     pub fn least_free(&self) -> Option<Position>
         ensures some { IfSome result (λ position. position

@@ -9,7 +9,7 @@ ghost use Rattle.rp_log.specs.Recorded.{LearnedAlike};
 ghost use Rattle.rp_model.specs.Parts.{fresh_running};
 ghost use Rattle.rp_server.specs.Invariant.{IsLearner, AllInLog};
 
-use crate::applying::apply_ready;
+use crate::apply::apply_ready;
 use crate::heard::Heard;
 use crate::pending::Pending;
 use crate::server::Server;

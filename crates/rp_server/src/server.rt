@@ -125,7 +125,7 @@ impl<M: Machine> Server<M> {
         Ok(self.machine.machine().image(alloc)?)
     }
 
-    /// The last occurrence of a source, 1 to 8, that counted, 0 where none did.
+    /// The last occurrence of a source, 1 to 8, that counted, 0 if none did.
     pub fn last_occurrence(&self, source: u8) -> u32
         requires { IsIndex source }
         ensures { result ≡ last_occurrence source
@@ -134,7 +134,7 @@ impl<M: Machine> Server<M> {
         self.machine.last_occurrence(source)
     }
 
-    /// The number of the task's last call that counted, 0 where none did.
+    /// The number of the task's last call that counted, 0 if none did.
     pub fn last_number(&self, task: TaskId) -> u32
         ensures { result ≡ last_number task
             (kept_of M.next M.answers self.now.begin (applied_of self.now.records)) }
@@ -165,7 +165,8 @@ impl<M: Machine> Server<M> {
         }
     }
 
-    /// Each record may be sent and written again. It does nothing: what it promises is for contracts.
+    /// Each record may be sent and written again. It does nothing: its contract is for the proofs of
+    /// its callers.
     #[inline(always)]
     pub fn has_right_records(&self)
         ensures { AllByRecursion IsRightRecord self.now.records }

@@ -1,7 +1,7 @@
 use Rattle.std.proofs.Common.{◌≡◌, ◌+◌, ◌*◌, ◌≤◌, take, length, ◌++◌}
 use Rattle.rp_model.specs.Pending.{replies_to}
 use Rattle.rp_outbox.specs.Packets.{longest_text}
-use Rattle.rp_server.proofs.applying.reply_to.Given as goal
+use Rattle.rp_server.proofs.apply.reply_to.Given as goal
 
 -- the replies to the answers so far are among the packets
 abbrev pub invariant-loop-answer : goal.invariant-loop-answer

@@ -13,7 +13,7 @@ ghost use Rattle.rp_server.specs.Applying.{learns_alone, decided_packets};
 ghost use Rattle.rp_server.specs.State.{server_after};
 
 use crate::acceptor::write;
-use crate::applying::apply_and_reply;
+use crate::apply::apply_and_reply;
 use crate::server::Server;
 use crate::window::follow;
 use rp_base::{Action, Position, Rec, WriteFault};
@@ -96,7 +96,7 @@ impl<M: Machine> Server<M> {
         Ok(())
     }
 
-    /// The first unlearned position, where a learned one lies above it.
+    /// The first unlearned position, if a learned one lies above it.
     pub fn missing_position(&self) -> Option<Position>
         ensures { result ≡ missing_position self.now.records }
     {

@@ -3,7 +3,7 @@ use Rattle.rp_base.specs.declared.reply.Answer.{Answer}
 use Rattle.rp_model.specs.Pending.{replies_to}
 use Rattle.rp_outbox.specs.Packets.{longest_text}
 use Rattle.rp_server.proofs.Replying.{room_left, replied_more}
-use Rattle.rp_server.proofs.applying.apply_and_reply.Goals as goal
+use Rattle.rp_server.proofs.apply.apply_and_reply.Goals as goal
 
 pub reply_to-requires : goal.reply_to-requires
 reply_to-requires g c =

@@ -2,7 +2,7 @@ use Rattle.std.proofs.Common.{◌≡◌, Option, Some, List, [], ◌∷◌, ◌+
 use Rattle.std.specs.Option.{option_map}
 use Rattle.rp_base.specs.declared.action.Action.{Action}
 use Rattle.rp_server.proofs.Replying.{applies_one}
-use Rattle.rp_server.proofs.applying.apply_next.Goals as goal
+use Rattle.rp_server.proofs.apply.apply_next.Goals as goal
 
 same_list : (xs ys : List Action) → Some xs ≡ Some ys → xs ≡ ys
 same_list xs ys e = cc

@@ -7,8 +7,8 @@ use Rattle.rp_model.specs.Pending.{replies_to}
 use Rattle.rp_model.proofs.Replying.{replies_one_more, replies_no_more}
 use Rattle.rp_outbox.specs.Packets.{Sending}
 use Rattle.rp_server.proofs.Replying.{first_replies}
-use Rattle.rp_server.proofs.applying.reply_to.Goals.{then-awaits, else-awaits}
-use Rattle.rp_server.proofs.applying.reply_to.Goals as goal
+use Rattle.rp_server.proofs.apply.reply_to.Goals.{then-awaits, else-awaits}
+use Rattle.rp_server.proofs.apply.reply_to.Goals as goal
 
 pub reply-requires-clause-room : goal.reply-requires-clause-room
 reply-requires-clause-room c =

@@ -1,5 +1,5 @@
 use Rattle.std.proofs.Common.{◌≡◌, ◌-◌, length}
-use Rattle.rp_server.proofs.applying.apply_ready.Given as goal
+use Rattle.rp_server.proofs.apply.apply_ready.Given as goal
 
 abbrev pub invariant-loop-answers : goal.invariant-loop-answers
 invariant-loop-answers g l =

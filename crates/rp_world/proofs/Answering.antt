@@ -15,6 +15,7 @@ use Rattle.rp_model.specs.Answers.{IsLeft, FailsBy, Steps, Happen}
 use Rattle.rp_world.specs.Failures.{RisesOnly, AreCounted}
 use Rattle.rp_world.specs.Going.{Fails, Answers, AnswersRestart, AnswersStop, Counts, no_cut, stated}
 use Rattle.rp_world.specs.Steps.{Setup, IsSameSetup, setting_of}
+use Rattle.rp_world.proofs.Reports.{as_fault}
 
 module _ {S : Type 0} (s : Setting S) (w : World) (event : Event) (new : World) (cut : ℕ → Result Transition Fault)
     (left : new ≡ w → IsLeft w event new) (So : Result Effect Fault → Type 0) (fails : (fault : Fault) → So (Err fault) → Fails cut new fault → FailsBy s w event new) where
@@ -35,9 +36,9 @@ module _ {S : Type 0} (s : Setting S) (w new : World) (answer : Result Effect Fa
   none_fails fault so fails = absurd (let resulted = fails.resulted in cc)
 
   -- whatever a device failed at was so
-  why_so : (why : Type 0) (node : Option ℕ) (before after : List ℕ) (fault : Fault) → fault ≡ Device → Counts why node before after (let r : Result Effect Fault = Err fault in r) → why
+  why_so : (why : Type 0) (node : Option ℕ) (before after : List ℕ) (fault : Fault) → fault ≡ Device → Counts why node before after (as_fault fault) → why
   why_so why node before after fault device counts =
-      let so : why × RisesOnly node before after = subst (λ (f : Fault). Counts why node before after (let r : Result Effect Fault = Err f in r)) device counts in
+      let so : why × RisesOnly node before after = subst (λ (f : Fault). Counts why node before after (as_fault f)) device counts in
       so.0
 
   pub submitted : (task node object : ℕ) (operation : _) (arg : _) → Answers w (event_effect s w (Submit task node object operation arg)) no_cut new answer → Steps s w (Submit task node object operation arg) new answer
@@ -102,7 +103,7 @@ no_device w effect new (Err fault) none is =
       | inl refused ↦ subst NoDevice refused.resulted none
       | inr other ↦
           elim other [
-            | inl runs_out ↦ subst (λ (f : Fault). NoDevice (let r : Result Effect Fault = Err f in r)) (let same : OutOfMemory ≡ fault = cc in same) tt
+            | inl runs_out ↦ subst (λ (f : Fault). NoDevice (as_fault f)) (let same : OutOfMemory ≡ fault = cc in same) tt
             | inr failed ↦ absurd (let resulted = failed.resulted in cc)
           ]
     ]

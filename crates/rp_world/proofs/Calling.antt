@@ -1,6 +1,6 @@
 -- The results of a task's calls in the world.
 use Rattle.std.proofs.Common.{◌≡◌, ℕ, suc, ◌+◌, ◌-◌, ◌^◌, ◌<◌, ◌≤◌, Bool, true, false, if◌then◌else◌, Option, Some, None, Result, Ok, Err, List, [], ◌∷◌, ◌++◌, length, slice_set, inl, inr, refl, sym, ap, subst, ◌∙◌, arith}
-use Rattle.std.specs.Prelude.{ℤ, nat_le, nat_lt, not, ◌||◌, ◌&&◌, FitsSigned, IsErrAnd, min}
+use Rattle.std.specs.Prelude.{ℤ, nat_le, nat_lt, not, ◌||◌, ◌&&◌, FitsSigned, IsErrAnd}
 use Rattle.std.specs.Int.{w64}
 use Rattle.std.proofs.lemmas.Bool.{and_parts, leb-true, leb-false, both_ways, lt-ltb, le-ltb}
 use Rattle.std.proofs.lemmas.List.{append-nil}
@@ -13,21 +13,21 @@ use Rattle.rp_base.specs.declared.config.Config.{Config}
 use Rattle.rp_base.specs.declared.fault.Fault.{Fault}
 use Rattle.rp_base.specs.declared.fault.Fault.TheVariants.{OutOfMemory, BadConfig, NumbersSpent}
 use Rattle.rp_codec.specs.Message.{Message, IsCallBy}
-use Rattle.rp_store.specs.Disk.{Disk}
 use Rattle.rp_model.specs.Answers.{Describes}
 use Rattle.rp_model.specs.Effect.{Done, goes_on_as}
 use Rattle.rp_model.specs.Parts.{TaskPart}
 use Rattle.rp_model.specs.Tasks.{TaskInput, Submit, Again, asks, next_call, may_call, calls_if, asks_again, task_effect}
 use Rattle.rp_model.specs.World.{World, Transition, part_at, with_part, task_done, task_done_if, task_takes}
-use Rattle.rp_model.specs.declared.effect.Dropped.TheVariants.{No}
 use Rattle.rp_model.specs.declared.effect.Effect.{Effect}
 use Rattle.rp_world.specs.Callers.{Caller}
 use Rattle.rp_world.specs.Going.{Goes, Answers, no_cut}
+use Rattle.rp_world.specs.Steps.{Setup}
 use Rattle.rp_outbox.specs.Packets.{Sending}
-use Rattle.rp_world.specs.Shape.{world_of, IsWorld}
-use Rattle.rp_world.specs.declared.node.Node.{Node}
-use Rattle.rp_world.proofs.Moving.{part_same, task_here, number_here, tasks_moved}
+use Rattle.rp_world.proofs.Fields.{Fields, as_seen, first_seen, world, world_with, made_of}
+use Rattle.rp_world.proofs.Lists.{part_same}
+use Rattle.rp_world.proofs.Moving.{task_here, number_here, tasks_moved}
 use Rattle.rp_world.proofs.Placing.{Found}
+use Rattle.rp_world.proofs.Reports.{at_err, describes_of, stated_count}
 
 -- ---- what a task may call
 
@@ -73,17 +73,7 @@ made config task node part object operation arg None fits =
     let few : length part.replies < 2 ^ 32 - 1 = leb-false (2 ^ 32 - 1) (length part.replies) left in
     (refl, call_right task (suc (length part.replies)) object operation arg (omega (arith, few)) fits (neither (nat_lt config.nodes node) (is_right call) allowed))))
 
--- ---- what is reported
-
--- an effect that reports n messages and nothing else
-abbrev pub stated_of : ℕ → ℕ → Effect
-stated_of first sent = record { first = first; sent = sent; dropped = No; taken = None; opened = None }
-
--- an answer that is this fault
-at_fault : (w new : World) (effect : Result Transition Fault) (cut : ℕ → Result Transition Fault) (fault : Fault) (r : Result Effect Fault) → IsErrAnd r (λ e. e ≡ fault)
-    → Answers w effect cut new (let f : Result Effect Fault = Err fault in f) → Answers w effect cut new r
-at_fault w new effect cut fault (Ok stated) is answers = absurd is
-at_fault w new effect cut fault (Err e) is answers = subst (λ (f : Fault). Answers w effect cut new (let x : Result Effect Fault = Err f in x)) (sym is) answers
+-- ---- the effects
 
 -- no task may ask a node above the last
 pub above : (config : Config) (w : World) (me node : ℕ) (o : Option TaskPart) → config.nodes < node → task_takes config w me (Again node) o ≡ Err BadConfig
@@ -91,136 +81,151 @@ above config w me node None over = refl
 above config w me node (Some part) over =
     ap (λ (b : Bool). let r : Result (Done TaskPart) Fault = if b then Err BadConfig else Ok (asks_again me node part part.outstanding) in task_done_if w me r) (lt-ltb config.nodes node over)
 
-module _ {S D P : Type 0} (disk : D → Disk) (config : Config) (begin : S) (nodes : List (Node S D P)) (tasks : List Caller) (messages : Sending)
-    {i me : ℕ} {t : Caller} (found : Found tasks i me t) where
-  abbrev most : ℕ
-  most = config.max_positions
-
+module _ {S D P : Type 0} (f : Fields S D P) (at : Found f.tasks) where
   abbrev w : World
-  w = world_of disk most nodes tasks messages
+  w = world f
 
   abbrev whole : TaskInput → Result Transition Fault
-  whole input = task_takes config w me input (part_at w.tasks me)
+  whole input = task_takes f.config w at.me input (part_at w.tasks at.me)
 
-  whole_is : (input : TaskInput) (result : Result (Done TaskPart) Fault) → task_effect config me t.part input ≡ result → whole input ≡ task_done_if w me result
-  whole_is input result is = ap (task_takes config w me input) (task_here disk config begin nodes tasks i me found.placed t found.here) ∙ ap (task_done_if w me) is
+  abbrev effect : TaskInput → Result (Done TaskPart) Fault
+  effect input = task_effect f.config at.me at.it.part input
 
-  stays : (later : Sending) → later.sent ≡ messages.sent → world_of disk most nodes tasks later ≡ w
-  stays later sent = ap (λ (ms : List Message). let x : World = record { nodes = w.nodes; tasks = w.tasks; sent = ms } in x) sent
+  -- the same of the cluster that the caller saw
+  abbrev seen : TaskInput → Setup P → Result Transition Fault
+  seen input v = task_takes v.config v.world at.me input (part_at v.world.tasks at.me)
 
-  describes : (done : Done TaskPart) (stated : Effect) → (count : ℕ) → stated ≡ stated_of (length w.sent + 1) count → count ≡ min (length done.sends) (2 ^ 32 - 1) → done.dropped ≡ No → done.taken ≡ None → done.opened ≡ None
-      → Describes (length w.sent) (task_done w me done) stated
-  describes done stated count is counted dropped taken opened = record {
-    first = ap (λ (e : Effect). e.first) is;
-    count = ap (λ (e : Effect). e.sent) is ∙ counted;
-    dropped = ap (λ (e : Effect). e.dropped) is ∙ sym dropped;
-    taken = ap (λ (e : Effect). e.taken) is ∙ sym taken;
-    opened = ap (λ (e : Effect). e.opened) is ∙ sym opened;
-  }
+  whole_is : (input : TaskInput) (result : Result (Done TaskPart) Fault) → effect input ≡ result → whole input ≡ task_done_if w at.me result
+  whole_is input result is = ap (task_takes f.config w at.me input) (task_here f at) ∙ ap (task_done_if w at.me) is
 
-  -- the input takes effect
-  goes : (input : TaskInput) (done : Done TaskPart) (new : Caller) (later : Sending) (stated : Effect) → task_effect config me t.part input ≡ Ok done → new.part ≡ done.part → later.sent ≡ messages.sent ++ done.sends
-      → Describes (length w.sent) (task_done w me done) stated → Goes w (whole input) (world_of disk most nodes (slice_set tasks i new) later) stated
-  goes input done new later stated resulted part sent describes = record {
-    transition = task_done w me done;
-    resulted = whole_is input (Ok done) resulted;
-    world = ap (λ (ps : List TaskPart). let x : World = record { nodes = w.nodes; tasks = ps; sent = later.sent } in x)
-        (tasks_moved disk config begin nodes tasks i me found.placed t found.here new ∙ ap (with_part w.tasks me) part)
-        ∙ ap (λ (ms : List Message). let x : World = record { nodes = w.nodes; tasks = with_part w.tasks me done.part; sent = ms } in x) sent;
-    describes = describes;
-  }
+  stays : (later : Sending) → later.sent ≡ f.messages.sent → world_with f f.nodes f.tasks later ≡ w
+  stays later sent = ap (λ (ms : List Message). made_of w.nodes w.tasks ms) sent
+
+  -- the input takes effect, and n messages are sent
+  goes : (input : TaskInput) (done : Done TaskPart) (new : Caller) (later : Sending) {first : ℕ} {stated : Effect} (count : ℕ) → effect input ≡ Ok done → new.part ≡ done.part → later.sent ≡ f.messages.sent ++ done.sends
+      → first ≡ length f.was.world.sent → stated ≡ stated_count (first + 1) count → Describes (length w.sent) (task_done w at.me done) (stated_count (length w.sent + 1) count)
+      → Goes f.was.world (seen input f.was) (world_with f f.nodes (slice_set f.tasks at.place new) later) stated
+  goes input done new later {stated = stated} count resulted part sent first_is is describes =
+      as_seen f (λ v. Goes v.world (seen input v) (world_with f f.nodes (slice_set f.tasks at.place new) later) stated)
+      (record {
+        transition = task_done w at.me done;
+        resulted = whole_is input (Ok done) resulted;
+        world = ap (λ (ps : List TaskPart). made_of w.nodes ps later.sent) (tasks_moved f at new ∙ ap (with_part w.tasks at.me) part)
+            ∙ ap (λ (ms : List Message). made_of w.nodes (with_part w.tasks at.me done.part) ms) sent;
+        describes = describes_of (is ∙ ap (λ (k : ℕ). stated_count (k + 1) count) (first_seen f first_is)) describes;
+      })
 
   -- it is refused
-  refused : (input : TaskInput) (fault : Fault) (r : Result Effect Fault) → task_effect config me t.part input ≡ Err fault → IsErrAnd r (λ e. e ≡ fault) → Answers w (whole input) no_cut w r
-  refused input fault r resulted is = at_fault w w (whole input) no_cut fault r is (inl (record { resulted = whole_is input (Err fault) resulted; unchanged = refl }))
+  refused : (input : TaskInput) (fault : Fault) (r : Result Effect Fault) → effect input ≡ Err fault → IsErrAnd r (λ e. e ≡ fault) → Answers w (whole input) no_cut w r
+  refused input fault r resulted is =
+      at_err (λ x. Answers w (whole input) no_cut w x) fault r is (inl (record { resulted = whole_is input (Err fault) resulted; unchanged = refl }))
 
   -- memory runs out for it
-  runs_out : (input : TaskInput) (done : Done TaskPart) (later : Sending) (r : Result Effect Fault) → task_effect config me t.part input ≡ Ok done → later.sent ≡ messages.sent → IsErrAnd r (λ e. e ≡ OutOfMemory)
-      → Answers w (whole input) no_cut (world_of disk most nodes tasks later) r
+  runs_out : (input : TaskInput) (done : Done TaskPart) (later : Sending) (r : Result Effect Fault) → effect input ≡ Ok done → later.sent ≡ f.messages.sent → IsErrAnd r (λ e. e ≡ OutOfMemory)
+      → Answers f.was.world (seen input f.was) no_cut (world_with f f.nodes f.tasks later) r
   runs_out input done later r resulted sent is =
-      at_fault w (world_of disk most nodes tasks later) (whole input) no_cut OutOfMemory r is
-      (inr (inl (record { memory = refl; intended = task_done w me done; resulted = whole_is input (Ok done) resulted; unchanged = stays later sent })))
+      as_seen f (λ v. Answers v.world (seen input v) no_cut (world_with f f.nodes f.tasks later) r)
+      (at_err (λ x. Answers w (whole input) no_cut (world_with f f.nodes f.tasks later) x) OutOfMemory r is
+      (inr (inl (record { memory = refl; intended = task_done w at.me done; resulted = whole_is input (Ok done) resulted; unchanged = stays later sent }))))
 
   -- the task is at its place
-  to_same : (Q : List Caller → Type 0) → Q tasks → Q (slice_set tasks i t)
-  to_same Q q = subst Q (sym (part_same tasks i t found.here)) q
+  to_same : (Q : List Caller → Type 0) → Q f.tasks → Q (slice_set f.tasks at.place at.it)
+  to_same Q q = subst Q (sym (part_same f.tasks at.place at.it at.here)) q
 
-  from_same : (Q : List Caller → Type 0) → Q (slice_set tasks i t) → Q tasks
-  from_same Q q = subst Q (part_same tasks i t found.here) q
+  from_same : (Q : List Caller → Type 0) → Q (slice_set f.tasks at.place at.it) → Q f.tasks
+  from_same Q q = subst Q (part_same f.tasks at.place at.it at.here) q
 
-  -- ---- a call
+-- ---- a call
 
-  module _ (is : IsWorld disk config begin nodes tasks) (node object : ℕ) (operation : Operation) (arg : ℤ) (fits : FitsSigned w64 arg) {z : ℤ} (arg_is : z ≡ arg)
-      {answer : Result Action Fault} (answered : answer ≡ may_call config node t.part (next_call t.task t.part object operation z) t.part.outstanding) where
-    number : t.task ≡ me
-    number = number_here disk config begin nodes tasks i me found.placed t found.here is
+-- the call that a task is to make, the number that was read for its argument, and what the task answered
+pub record Asks (config : Config) (t : Caller) : Type 0 where
+  pub node : ℕ
+  pub object : ℕ
+  pub operation : Operation
+  pub arg : ℤ
+  pub read : ℤ
+  pub fits : FitsSigned w64 arg
+  pub is_read : read ≡ arg
+  pub answer : Result Action Fault
+  pub answered : answer ≡ may_call config node t.part (next_call t.task t.part object operation read) t.part.outstanding
 
-    abbrev next : Action
-    next = next_call t.task t.part object operation arg
+abbrev pub asks_of : (config : Config) (t : Caller) (node object : ℕ) (operation : Operation) {arg read : ℤ} {answer : Result Action Fault} → (FitsSigned w64 arg → read ≡ arg) → FitsSigned w64 arg
+    → answer ≡ may_call config node t.part (next_call t.task t.part object operation read) t.part.outstanding → Asks config t
+asks_of config t node object operation {arg = arg} {read = read} {answer = answer} is_read fits answered =
+    record { node = node; object = object; operation = operation; arg = arg; read = read; fits = fits; is_read = is_read fits; answer = answer; answered = answered }
 
-    abbrev may : Result Action Fault
-    may = may_call config node t.part next t.part.outstanding
+module _ {S D P : Type 0} (f : Fields S D P) (at : Found f.tasks) (asked : Asks f.config at.it) where
+  abbrev next : Action
+  next = next_call at.it.task at.it.part asked.object asked.operation asked.arg
 
-    may_is : (r : Result Action Fault) → answer ≡ r → may ≡ r
-    may_is r is_so = ap (λ (x : ℤ). may_call config node t.part (next_call t.task t.part object operation x) t.part.outstanding) (sym arg_is) ∙ sym answered ∙ is_so
+  may_is : (r : Result Action Fault) → asked.answer ≡ r → may_call f.config asked.node at.it.part next at.it.part.outstanding ≡ r
+  may_is r is_so =
+      ap (λ (x : ℤ). may_call f.config asked.node at.it.part (next_call at.it.task at.it.part asked.object asked.operation x) at.it.part.outstanding) (sym asked.is_read) ∙ sym asked.answered ∙ is_so
 
-    abbrev input : TaskInput
-    input = Submit node object operation arg
+  abbrev input : TaskInput
+  input = Submit asked.node asked.object asked.operation asked.arg
 
-    effect_is : (r : Result Action Fault) → answer ≡ r → task_effect config me t.part input ≡ calls_if me node t.part r
-    effect_is r is_so = ap (calls_if me node t.part) (subst (λ (k : ℕ). may_call config node t.part (next_call k t.part object operation arg) t.part.outstanding ≡ r) number (may_is r is_so))
+  effect_is : (r : Result Action Fault) → asked.answer ≡ r → effect f at input ≡ calls_if at.me asked.node at.it.part r
+  effect_is r is_so =
+      ap (calls_if at.me asked.node at.it.part)
+      (subst (λ (k : ℕ). may_call f.config asked.node at.it.part (next_call k at.it.part asked.object asked.operation asked.arg) at.it.part.outstanding ≡ r) (number_here f at) (may_is r is_so))
 
-    pub may_not : (fault : Fault) (r : Result Effect Fault) → answer ≡ Err fault → IsErrAnd r (λ e. e ≡ fault) → Answers w (whole input) no_cut (world_of disk most nodes (slice_set tasks i t) messages) r
-    may_not fault r is_so at = to_same (λ ts. Answers w (whole input) no_cut (world_of disk most nodes ts messages) r) (refused input fault r (effect_is (Err fault) is_so) at)
+  pub may_not : (fault : Fault) (r : Result Effect Fault) → asked.answer ≡ Err fault → IsErrAnd r (λ e. e ≡ fault)
+      → Answers f.was.world (seen f at input f.was) no_cut (world_with f f.nodes (slice_set f.tasks at.place at.it) f.messages) r
+  may_not fault r is_so is =
+      as_seen f (λ v. Answers v.world (seen f at input v) no_cut (world_with f f.nodes (slice_set f.tasks at.place at.it) f.messages) r)
+      (to_same f at (λ ts. Answers (world f) (whole f at input) no_cut (world_with f f.nodes ts f.messages) r) (refused f at input fault r (effect_is (Err fault) is_so) is))
 
-    module _ (call : Action) (is_so : answer ≡ Ok call) where
-      made_so : (call ≡ next) × IsRight next
-      made_so = subst (IsMadeIf next) (may_is (Ok call) is_so) (made config t.task node t.part object operation arg t.part.outstanding fits)
+  module _ {call : Action} (is_so : asked.answer ≡ Ok call) where
+    made_so : (call ≡ next) × IsRight next
+    made_so = subst (IsMadeIf next) (may_is (Ok call) is_so) (made f.config at.it.task asked.node at.it.part asked.object asked.operation asked.arg at.it.part.outstanding asked.fits)
 
-      pub call_own : IsCallBy me call
-      call_own = subst (IsCallBy me) (sym made_so.0) number
+    pub call_own : IsCallBy at.me call
+    call_own = subst (IsCallBy at.me) (sym made_so.0) (number_here f at)
 
-      pub call_is_right : IsRight call
-      call_is_right = subst IsRight (sym made_so.0) made_so.1
+    pub call_is_right : IsRight call
+    call_is_right = subst IsRight (sym made_so.0) made_so.1
 
-      abbrev done : Done TaskPart
-      done = record (goes_on_as (record t.part { outstanding = Some call })) { sends = asks me node call ∷ [] }
+    abbrev done : Done TaskPart
+    done = record (goes_on_as (record at.it.part { outstanding = Some call })) { sends = asks at.me asked.node call ∷ [] }
 
-      pub call_runs_out : (later : Sending) (r : Result Effect Fault) → later.sent ≡ messages.sent → IsErrAnd r (λ e. e ≡ OutOfMemory)
-          → Answers w (whole input) no_cut (world_of disk most nodes (slice_set tasks i t) later) r
-      call_runs_out later r sent at = to_same (λ ts. Answers w (whole input) no_cut (world_of disk most nodes ts later) r) (runs_out input done later r (effect_is (Ok call) is_so) sent at)
+    pub call_runs_out : (later : Sending) (r : Result Effect Fault) → later.sent ≡ f.messages.sent → IsErrAnd r (λ e. e ≡ OutOfMemory)
+        → Answers f.was.world (seen f at input f.was) no_cut (world_with f f.nodes (slice_set f.tasks at.place at.it) later) r
+    call_runs_out later r sent is =
+        to_same f at (λ ts. Answers f.was.world (seen f at input f.was) no_cut (world_with f f.nodes ts later) r) (runs_out f at input done later r (effect_is (Ok call) is_so) sent is)
 
-      pub called : (new : Caller) (later : Sending) (stated : Effect) → new.part ≡ record t.part { outstanding = Some (next_call t.task t.part object operation z) }
-          → later.sent ≡ messages.sent ++ asks me node call ∷ [] → stated ≡ stated_of (length w.sent + 1) 1 → Goes w (whole input) (world_of disk most nodes (slice_set tasks i new) later) stated
-      called new later stated part sent is_stated =
-          let calls : next_call t.task t.part object operation z ≡ call = ap (next_call t.task t.part object operation) arg_is ∙ sym made_so.0 in
-          goes input done new later stated (effect_is (Ok call) is_so) (part ∙ ap (λ (c : Action). let p : TaskPart = record t.part { outstanding = Some c } in p) calls) sent
-          (describes done stated 1 is_stated refl refl refl refl)
+    pub called : (new : Caller) (later : Sending) {first : ℕ} {stated : Effect} → new.part ≡ record at.it.part { outstanding = Some (next_call at.it.task at.it.part asked.object asked.operation asked.read) }
+        → later.sent ≡ f.messages.sent ++ asks at.me asked.node call ∷ [] → first ≡ length f.was.world.sent → stated ≡ stated_count (first + 1) 1
+        → Goes f.was.world (seen f at input f.was) (world_with f f.nodes (slice_set f.tasks at.place new) later) stated
+    called new later part sent first_is is =
+        let calls : next_call at.it.task at.it.part asked.object asked.operation asked.read ≡ call = ap (next_call at.it.task at.it.part asked.object asked.operation) asked.is_read ∙ sym made_so.0 in
+        goes f at input done new later 1 (effect_is (Ok call) is_so) (part ∙ ap (λ (c : Action). let p : TaskPart = record at.it.part { outstanding = Some c } in p) calls) sent first_is is
+        (record { first = refl; count = refl; dropped = refl; taken = refl; opened = refl })
 
-  -- ---- a call asked for again
+-- ---- a call asked for again
 
-  module _ (node : ℕ) where
-    module _ (within : node ≤ config.nodes) where
-      again_is : (o : Option Action) → t.part.outstanding ≡ o → task_effect config me t.part (Again node) ≡ Ok (asks_again me node t.part o)
-      again_is o is =
-          ap (λ (b : Bool). let r : Result (Done TaskPart) Fault = if b then Err BadConfig else Ok (asks_again me node t.part t.part.outstanding) in r) (le-ltb config.nodes node within)
-          ∙ ap (λ (p : Option Action). let r : Result (Done TaskPart) Fault = Ok (asks_again me node t.part p) in r) is
+module _ {S D P : Type 0} (f : Fields S D P) (at : Found f.tasks) {node : ℕ} (within : node ≤ f.config.nodes) where
+  again_is : (o : Option Action) → at.it.part.outstanding ≡ o → effect f at (Again node) ≡ Ok (asks_again at.me node at.it.part o)
+  again_is o is =
+      ap (λ (b : Bool). let r : Result (Done TaskPart) Fault = if b then Err BadConfig else Ok (asks_again at.me node at.it.part at.it.part.outstanding) in r) (le-ltb f.config.nodes node within)
+      ∙ ap (λ (p : Option Action). let r : Result (Done TaskPart) Fault = Ok (asks_again at.me node at.it.part p) in r) is
 
-      pub asks_nothing : t.part.outstanding ≡ None → (stated : Effect) → stated ≡ stated_of (length w.sent + 1) 0 → Goes w (whole (Again node)) w stated
-      asks_nothing none stated is_stated =
-          from_same (λ ts. Goes w (whole (Again node)) (world_of disk most nodes ts messages) stated)
-          (goes (Again node) (goes_on_as t.part) t messages stated (again_is None none) refl (sym (append-nil messages.sent)) (describes (goes_on_as t.part) stated 0 is_stated refl refl refl refl))
+  pub asks_nothing : at.it.part.outstanding ≡ None → {first : ℕ} {stated : Effect} → first ≡ length f.was.world.sent → stated ≡ stated_count (first + 1) 0
+      → Goes f.was.world (seen f at (Again node) f.was) f.was.world stated
+  asks_nothing none {stated = stated} first_is is =
+      subst (λ (x : World). Goes f.was.world (seen f at (Again node) f.was) x stated) (ap (λ (v : Setup P). v.world) f.view_is)
+      (from_same f at (λ ts. Goes f.was.world (seen f at (Again node) f.was) (world_with f f.nodes ts f.messages) stated)
+      (goes f at (Again node) (goes_on_as at.it.part) at.it f.messages 0 (again_is None none) refl (sym (append-nil f.messages.sent)) first_is is
+      (record { first = refl; count = refl; dropped = refl; taken = refl; opened = refl })))
 
-      module _ (call : Action) (waits : t.part.outstanding ≡ Some call) where
-        abbrev asked : Done TaskPart
-        asked = asks_again me node t.part (Some call)
+  module _ {call : Action} (waits : at.it.part.outstanding ≡ Some call) where
+    pub again_runs_out : (later : Sending) (r : Result Effect Fault) → later.sent ≡ f.messages.sent → IsErrAnd r (λ e. e ≡ OutOfMemory)
+        → Answers f.was.world (seen f at (Again node) f.was) no_cut (world_with f f.nodes f.tasks later) r
+    again_runs_out later r sent is = runs_out f at (Again node) (asks_again at.me node at.it.part (Some call)) later r (again_is (Some call) waits) sent is
 
-        pub again_runs_out : (later : Sending) (r : Result Effect Fault) → later.sent ≡ messages.sent → IsErrAnd r (λ e. e ≡ OutOfMemory)
-            → Answers w (whole (Again node)) no_cut (world_of disk most nodes tasks later) r
-        again_runs_out later r sent at = runs_out (Again node) asked later r (again_is (Some call) waits) sent at
-
-        pub asks_more : (later : Sending) (stated : Effect) → later.sent ≡ messages.sent ++ asks me node call ∷ [] → stated ≡ stated_of (length w.sent + 1) 1
-            → Goes w (whole (Again node)) (world_of disk most nodes tasks later) stated
-        asks_more later stated sent is_stated =
-            from_same (λ ts. Goes w (whole (Again node)) (world_of disk most nodes ts later) stated)
-            (goes (Again node) asked t later stated (again_is (Some call) waits) refl sent (describes asked stated 1 is_stated refl refl refl refl))
+    pub asks_more : (later : Sending) {first : ℕ} {stated : Effect} → later.sent ≡ f.messages.sent ++ asks at.me node call ∷ [] → first ≡ length f.was.world.sent → stated ≡ stated_count (first + 1) 1
+        → Goes f.was.world (seen f at (Again node) f.was) (world_with f f.nodes f.tasks later) stated
+    asks_more later {stated = stated} sent first_is is =
+        from_same f at (λ ts. Goes f.was.world (seen f at (Again node) f.was) (world_with f f.nodes ts later) stated)
+        (goes f at (Again node) (asks_again at.me node at.it.part (Some call)) at.it later 1 (again_is (Some call) waits) refl sent first_is is
+        (record { first = refl; count = refl; dropped = refl; taken = refl; opened = refl }))

@@ -4,7 +4,6 @@ use Rattle.std.specs.Prelude.{IfOk, IfErr, IsSome}
 use Rattle.std.proofs.lemmas.List.{length-map}
 use Rattle.std.proofs.lemmas.Option.{slice_get_past}
 use Rattle.rp_base.specs.Number.{in_range}
-use Rattle.rp_base.specs.declared.config.Config.{Config}
 use Rattle.rp_base.specs.Ranges.{Range, range_of}
 use Rattle.rp_base.specs.declared.fault.Fault.{Fault}
 use Rattle.rp_base.specs.declared.fault.Fault.TheVariants.{NotRunning, BadConfig, NoSuchMessage, LogFull, Device}
@@ -14,21 +13,22 @@ use Rattle.rp_codec.specs.declared.packet.Party.{Party}
 use Rattle.rp_codec.specs.declared.packet.Party.TheVariants.{Node, Task, Audit}
 use Rattle.rp_model.specs.Effect as nodes
 use Rattle.rp_model.specs.Effect.{Setting, NodeInput, node_effect, effect_while, turn_done_if, cut_if}
-use Rattle.rp_model.specs.Events.{Step, Deliver, LeadRange}
+use Rattle.rp_model.specs.declared.event.Step.{Step as Taken}
+use Rattle.rp_model.specs.Events.{Deliver, LeadRange, step_of}
 use Rattle.rp_model.specs.Leader.{on_lead_range}
 use Rattle.rp_model.specs.Parts.{NodePart, Running}
-use Rattle.rp_model.specs.World.{World, part_at, cut_step, node_named, receiver_of, node_takes, node_done_if, node_is_cut, hearing_is_cut, arrival_is_cut, delivery_is_cut, arrival_writes, delivery_writes}
+use Rattle.rp_model.specs.World.{World, part_at, cut_step, node_named, receiver_of, node_takes, node_done_if, node_is_cut, hearing_is_cut, arrival_is_cut, delivery_is_cut, arrival_writes, delivery_writes, node_writes, step_writes, stepping}
 use Rattle.rp_rules.specs.Inputs.{given_by}
 use Rattle.rp_rules.specs.declared.input.Input.{Input}
 use Rattle.rp_rules.specs.declared.input.Input.TheVariants as inputs
 use Rattle.rp_store.specs.Disk.{Disk}
 use Rattle.rp_world.specs.Choosing.{AreNodesOf, IsOf, IsOfNone, IsRefused}
-use Rattle.rp_world.specs.Callers.{Caller}
-use Rattle.rp_outbox.specs.Packets.{Sending}
 use Rattle.rp_world.specs.Nodes.{Represents, member_of}
-use Rattle.rp_world.specs.Shape.{IsWorld, part_by, world_of}
+use Rattle.rp_world.specs.Shape.{part_by}
 use Rattle.rp_world.specs.declared.node.Node.{Node as OneNode}
+use Rattle.rp_world.proofs.Fields.{Fields, IsKept, as_seen, world}
 use Rattle.rp_world.proofs.Moving.{no_node, part_here, represents_here}
+use Rattle.rp_world.proofs.Placing.{Found}
 
 there_is : {A : Type 0} (xs : List A) (i : ℕ) → i < length xs → (x : A) × (slice_get xs i ≡ Some x)
 there_is {A = A} [] i within = absurd (omega (arith, within))
@@ -48,10 +48,30 @@ pub no_text : (p : Option Message) → (let o : Option (List ℕ) = None in o �
 no_text None is = refl
 no_text (Some m) is = absurd cc
 
--- there is no such node, to which no message goes
-pub of_no_node : {S : Type 0} (s : Setting S) (w : World) (step : Step) (me : ℕ) (given : NodeInput) → ((kept : ℕ) → cut_step s w step kept ≡ node_is_cut s w me given kept (part_at w.nodes me))
-    → length w.nodes < me → IsOfNone s w step BadConfig
-of_no_node s w step me given is past = record { cut = λ kept. is kept ∙ ap (node_is_cut s w me given kept) (part_past w.nodes me past); reason = λ same. cc }
+-- the node of this number is to make a step that is no delivery
+module _ {S : Type 0} (s : Setting S) (w : World) {step taken : Taken} {node : ℕ × Input} {me : ℕ} {input : Input} (step_is : step ≡ taken) (node_is : node ≡ (me, input)) (given : NodeInput)
+    (cut : (kept : ℕ) → cut_step s w (step_of taken) kept ≡ node_is_cut s w me given kept (part_at w.nodes me)) where
+  -- there is none
+  pub none_chosen : length w.nodes < node.0 → IsOfNone s w (step_of step) BadConfig
+  none_chosen past =
+      let none = part_past w.nodes me (subst (λ (pair : ℕ × Input). length w.nodes < pair.0) node_is past) in
+      subst (λ (x : Taken). IsOfNone s w (step_of x) BadConfig) (sym step_is)
+      (record { cut = λ kept. cut kept ∙ ap (node_is_cut s w me given kept) none; reason = λ same. cc })
+
+  -- it is one of these
+  pub one_chosen : given_by input ≡ Ok given → step_writes s w (step_of taken) ≡ node_writes s me given (part_at w.nodes me) → stepping w (step_of taken) ≡ Some me → node.0 ≤ length w.nodes
+      → IsOf s w (step_of step) node.0 node.1
+  one_chosen gives writes its_node within =
+      subst (λ (pair : ℕ × Input). IsOf s w (step_of step) pair.0 pair.1) (sym node_is)
+      (subst (λ (x : Taken). IsOf s w (step_of x) me input) (sym step_is)
+      (record {
+        given = given;
+        gives = gives;
+        within = subst (λ (pair : ℕ × Input). pair.0 ≤ length w.nodes) node_is within;
+        cut = cut;
+        writes = writes;
+        node = its_node;
+      }))
 
 module _ {S : Type 0} (s : Setting S) (w : World) (number : ℕ) where
   -- there is no such message
@@ -93,32 +113,34 @@ module _ {S : Type 0} (s : Setting S) (w : World) (number : ℕ) where
 -- ---- the nodes of a world
 
 -- the nodes as they lie in memory are those of their world
-pub nodes_of : {S D P : Type 0} (disk : D → Disk) (config : Config) (begin : S) (nodes : List (OneNode S D P)) (tasks : List Caller) (messages : Sending) (lent : List (OneNode S D P))
-    → lent ≡ nodes → IsWorld disk config begin nodes tasks → AreNodesOf disk begin lent (world_of disk config.max_positions nodes tasks messages)
-nodes_of disk config begin nodes tasks messages lent same kept = record {
-  config = config;
-  tasks = tasks;
-  kept = subst (λ (l : List (OneNode _ _ _)). IsWorld disk config begin l tasks) (sym same) kept;
-  parts = ap (map (part_by disk config.max_positions)) (sym same);
+pub nodes_of : {S D P : Type 0} (f : Fields S D P) {lent : List (OneNode S D P)} → lent ≡ f.nodes → AreNodesOf f.disk (f.start f.program) lent (world f)
+nodes_of f same = record {
+  config = f.config;
+  tasks = f.tasks;
+  kept = subst (λ l. IsKept f l f.tasks) (sym same) f.kept;
+  parts = ap (map (part_by f.disk f.config.max_positions)) (sym same);
 }
+
+-- and of the world that the caller saw
+pub nodes_seen : {S D P : Type 0} (f : Fields S D P) {lent : List (OneNode S D P)} → lent ≡ f.nodes → AreNodesOf f.disk (f.start f.was.program) lent f.was.world
+nodes_seen f {lent = lent} same = as_seen f (λ v. AreNodesOf f.disk (f.start v.program) lent v.world) (nodes_of f same)
 
 module _ {S D P : Type 0} (disk : D → Disk) (begin : S) (nodes : List (OneNode S D P)) (w : World) (are : AreNodesOf disk begin nodes w) where
   pub as_many : length w.nodes ≡ length nodes
   as_many = ap length are.parts ∙ length-map nodes (part_by disk are.config.max_positions)
 
-  module _ (i me : ℕ) (placed : suc i ≡ me) where
-    pub none_among : length nodes ≤ i → part_at w.nodes me ≡ None
-    none_among past = ap (λ (l : List NodePart). part_at l me) are.parts ∙ no_node disk are.config begin nodes are.tasks i me placed (slice_get_past nodes i past)
+  pub none_among : {i me : ℕ} → suc i ≡ me → length nodes ≤ i → part_at w.nodes me ≡ None
+  none_among {i = i} {me = me} placed past = ap (λ (l : List NodePart). part_at l me) are.parts ∙ no_node disk are.config.max_positions nodes placed (slice_get_past nodes i past)
 
-    module _ (n : OneNode S D P) (here : slice_get nodes i ≡ Some n) where
-      abbrev its_part : NodePart
-      its_part = part_by disk are.config.max_positions n
+  module _ (at : Found nodes) where
+    abbrev its_part : NodePart
+    its_part = part_by disk are.config.max_positions at.it
 
-      pub one_among : part_at w.nodes me ≡ Some its_part
-      one_among = ap (λ (l : List NodePart). part_at l me) are.parts ∙ part_here disk are.config begin nodes are.tasks i me placed n here
+    pub one_among : part_at w.nodes at.me ≡ Some its_part
+    one_among = ap (λ (l : List NodePart). part_at l at.me) are.parts ∙ part_here disk are.config.max_positions nodes at
 
-      pub represents_among : Represents disk (member_of me are.config begin) n its_part
-      represents_among = represents_here disk are.config begin nodes are.tasks i me placed n here are.kept
+    pub represents_among : Represents disk (member_of at.me are.config begin) at.it its_part
+    represents_among = represents_here are.kept at
 
 -- ---- the word to lead at a range
 

@@ -1,5 +1,5 @@
 -- How often the device of a node failed, after a step of it.
-use Rattle.std.proofs.Common.{◌≡◌, ◌≢◌, ℕ, suc, ◌<◌, Option, Some, None, Result, Ok, Err, List, map, option_map, slice_get, slice_set, inl, inr, refl, sym, ap, subst, ◌∙◌}
+use Rattle.std.proofs.Common.{◌≡◌, ◌≢◌, ℕ, ◌<◌, Option, Some, None, Result, Ok, Err, List, option_map, slice_get, slice_set, inl, inr, refl, sym, ap, subst, ◌∙◌}
 use Rattle.std.specs.Prelude.{IsSome}
 use Rattle.rp_base.specs.declared.action.Action.{Action}
 use Rattle.rp_base.specs.declared.fault.Fault.{Fault}
@@ -10,11 +10,10 @@ use Rattle.rp_base.specs.declared.reply.Answer.{Answer}
 use Rattle.rp_codec.specs.Message.{Message}
 use Rattle.rp_codec.specs.Reading.{all_of}
 use Rattle.rp_store.specs.Disk.{Disk}
-use Rattle.rp_model.specs.Effect.{Setting, NodeInput, node_effect}
-use Rattle.rp_model.specs.Parts.{NodePart, Turn}
+use Rattle.rp_model.specs.Effect.{Setting, NodeInput}
+use Rattle.rp_model.specs.Parts.{Turn}
 use Rattle.rp_codec.specs.declared.packet.Party.{Party}
 use Rattle.rp_model.specs.declared.effect.Dropped.{Dropped}
-use Rattle.rp_model.specs.declared.effect.Effect.{Effect}
 use Rattle.rp_model.specs.World.{World, part_at, with_part, written_by, node_named, receiver_of, node_writes, arrival_writes, delivery_writes}
 use Rattle.rp_model.proofs.Devices.{NoDevice, input_is, turn_is}
 use Rattle.rp_replica.specs.declared.cut.NotCut.{NotCut}
@@ -29,18 +28,24 @@ use Rattle.rp_replica.specs.Opening.{IsRefusedOpening}
 use Rattle.rp_replica.specs.Turning.{AnswersOnto, TurnsOnto, Stops, StopsIf, IsRefused}
 use Rattle.rp_world.specs.Failures.{RisesAt}
 use Rattle.rp_world.specs.Going.{Counts}
-use Rattle.rp_world.specs.Nodes.{Member, Represents, NotTaken, failures_in, IsCounted, setting_at, node_step}
+use Rattle.rp_world.specs.Nodes.{NotTaken, failures_in, IsCounted, node_step}
 use Rattle.rp_world.specs.declared.node.Node.{Node}
-use Rattle.rp_world.proofs.Moving.{get_map, set_map, set_same}
+use Rattle.rp_world.proofs.Fields.{Fields, counts_of, member, setting, world}
+use Rattle.rp_world.proofs.Lists.{get_map, set_map, set_same}
+use Rattle.rp_world.proofs.Messages.{SentTo}
+use Rattle.rp_world.proofs.Moving.{part, is_here, represents_now}
+use Rattle.rp_world.proofs.Placing.{Found}
+use Rattle.rp_world.proofs.Represented.{NodeRuns}
+use Rattle.rp_world.proofs.Reports.{as_fault, as_turn_fault}
 
 -- ---- one device
 
 -- a fault that is none of the device leaves the count
-pub not_device : (k : ℕ) (fault : Fault) → fault ≢ Device → IsCounted k k (let r : Result Dropped Fault = Err fault in r)
+pub not_device : (k : ℕ) (fault : Fault) → fault ≢ Device → IsCounted k k (as_turn_fault fault)
 not_device k Device none = absurd (none refl)
 not_device k _ none = refl
 
-pub none_counted : (why : Type 0) (me : Option ℕ) (failures : List ℕ) (fault : Fault) → fault ≢ Device → Counts why me failures failures (let r : Result Effect Fault = Err fault in r)
+pub none_counted : (why : Type 0) (me : Option ℕ) (failures : List ℕ) (fault : Fault) → fault ≢ Device → Counts why me failures failures (as_fault fault)
 none_counted why me failures Device none = absurd (none refl)
 none_counted why me failures _ none = refl
 
@@ -67,7 +72,7 @@ module _ {S : Type 0} (next : S → Action → S) (answers : S → Action → Li
   input_so (Tick now) = tt
   input_so (Report first) = tt
 
-  stops_counted : (new : ReplicaState S) (written : Option Rec) (fault : Fault) → Stops written old new fault → IsCounted old.disk.failures new.disk.failures (let r : Result Dropped Fault = Err fault in r)
+  stops_counted : (new : ReplicaState S) (written : Option Rec) (fault : Fault) → Stops written old new fault → IsCounted old.disk.failures new.disk.failures (as_turn_fault fault)
   stops_counted new written OutOfMemory stops = ap (λ (h : ReplicaState S). h.disk.failures) stops.0
   stops_counted new written Device stops = stops.0.disk.cause
   stops_counted new written Failed stops = ap (λ (h : ReplicaState S). h.disk.failures) stops.0
@@ -86,13 +91,13 @@ module _ {S : Type 0} (next : S → Action → S) (answers : S → Action → Li
   )
 
   by_refusal : (new : ReplicaState S) (refusal fault : Fault) → (let r : Result Turn Fault = Err refusal in NoDevice r) → IsRefused refusal old new fault
-      → IsCounted old.disk.failures new.disk.failures (let r : Result Dropped Fault = Err fault in r)
+      → IsCounted old.disk.failures new.disk.failures (as_turn_fault fault)
   by_refusal new refusal fault none refused =
       let is = refused_counted new refusal fault none refused in
-      subst (λ (k : ℕ). IsCounted k new.disk.failures (let r : Result Dropped Fault = Err fault in r)) is.1
-      (subst (λ (k : ℕ). IsCounted is.0 k (let r : Result Dropped Fault = Err fault in r)) is.2 (not_device is.0 fault is.3))
+      subst (λ (k : ℕ). IsCounted k new.disk.failures (as_turn_fault fault)) is.1
+      (subst (λ (k : ℕ). IsCounted is.0 k (as_turn_fault fault)) is.2 (not_device is.0 fault is.3))
 
-  by_effect : (new : ReplicaState S) (effect : Result Turn Fault) → NoDevice effect → (fault : Fault) → StopsIf effect old new fault → IsCounted old.disk.failures new.disk.failures (let r : Result Dropped Fault = Err fault in r)
+  by_effect : (new : ReplicaState S) (effect : Result Turn Fault) → NoDevice effect → (fault : Fault) → StopsIf effect old new fault → IsCounted old.disk.failures new.disk.failures (as_turn_fault fault)
   by_effect new (Ok turn) none fault stops = stops_counted new turn.written fault stops
   by_effect new (Err refusal) none fault stops = by_refusal new refusal fault none stops
 
@@ -102,7 +107,7 @@ module _ {S : Type 0} (next : S → Action → S) (answers : S → Action → Li
     goes_counted (Err refusal) dropped turns = absurd turns
 
     -- a turn
-    pub turn_counted : (effect : Result Turn Fault) → NoDevice effect → (answer : Result Dropped Fault) → AnswersOnto effect old new before after answer → IsCounted old.disk.failures new.disk.failures answer
+    turn_counted : (effect : Result Turn Fault) → NoDevice effect → (answer : Result Dropped Fault) → AnswersOnto effect old new before after answer → IsCounted old.disk.failures new.disk.failures answer
     turn_counted effect none (Ok dropped) turns = goes_counted effect dropped turns
     turn_counted effect none (Err fault) stops = by_effect new effect none fault stops.0
 
@@ -111,7 +116,7 @@ module _ {S : Type 0} (next : S → Action → S) (answers : S → Action → Li
   cut_counted_by (Err refusal) kept d cuts = absurd cuts
 
   -- a cut
-  pub cut_counted : (input : Input) (kept : ℕ) (d : Disk) → CutsIf (input_effect next answers old input) kept old d → d.failures ≡ old.disk.failures
+  cut_counted : (input : Input) (kept : ℕ) (d : Disk) → CutsIf (input_effect next answers old input) kept old d → d.failures ≡ old.disk.failures
   cut_counted input kept d cuts = cut_counted_by (input_effect next answers old input) kept d cuts
 
   module _ {D : Type 0} (P : Type 0) (disk : D → Disk) where
@@ -120,74 +125,103 @@ module _ {S : Type 0} (next : S → Action → S) (answers : S → Action → Li
     fails_by (Err refusal) device fails = absurd fails
 
     -- where the device failed
-    pub cut_failed : (input : Input) (device : D) → IsNotCutIf disk (input_effect next answers old input) old (let r : NotCut S D P = DeviceFailed device in r) → old.disk.failures < (disk device).failures
+    cut_failed : (input : Input) (device : D) → IsNotCutIf disk (input_effect next answers old input) old (let r : NotCut S D P = DeviceFailed device in r) → old.disk.failures < (disk device).failures
     cut_failed input device fails = fails_by (input_effect next answers old input) device fails
 
     refused_by : (effect : Result Turn Fault) → NoDevice effect → (fault : Fault) (new : ReplicaState S) → IsNotCutIf disk effect old (let r : NotCut S D P = Refused fault new in r)
-        → IsCounted old.disk.failures new.disk.failures (let r : Result Dropped Fault = Err fault in r)
+        → IsCounted old.disk.failures new.disk.failures (as_turn_fault fault)
     refused_by (Ok turn) none fault new stops = stops_counted new turn.written fault stops.0
     refused_by (Err refusal) none fault new stops = by_refusal new refusal fault none stops
 
     -- where it is refused
-    pub cut_refused : (input : Input) (fault : Fault) (new : ReplicaState S) → IsNotCutIf disk (input_effect next answers old input) old (let r : NotCut S D P = Refused fault new in r)
-        → IsCounted old.disk.failures new.disk.failures (let r : Result Dropped Fault = Err fault in r)
+    cut_refused : (input : Input) (fault : Fault) (new : ReplicaState S) → IsNotCutIf disk (input_effect next answers old input) old (let r : NotCut S D P = Refused fault new in r)
+        → IsCounted old.disk.failures new.disk.failures (as_turn_fault fault)
     cut_refused input fault new stops = refused_by (input_effect next answers old input) (input_so input) fault new stops
 
+-- the counts of a node that runs
+module _ {S D P : Type 0} (r : NodeRuns S D P) where
+  -- after a turn
+  pub turn_counts : (new : ReplicaState S) (sent later : List Message) (effect : Result Turn Fault) → NoDevice effect → (answer : Result Dropped Fault) → AnswersOnto effect r.replica new sent later answer
+      → IsCounted (failures_in r.disk r.node) new.disk.failures answer
+  turn_counts new sent later effect none answer turns =
+      subst (λ n. IsCounted (failures_in r.disk n) new.disk.failures answer) (sym r.is) (turn_counted r.next r.answers r.replica new sent later effect none answer turns)
+
+  module _ (input : Input) where
+    -- a step that was cut
+    pub cut_counts : (kept : ℕ) (device : D) → CutsIf (input_effect r.next r.answers r.replica input) kept r.replica (r.disk device) → (r.disk device).failures ≡ failures_in r.disk r.node
+    cut_counts kept device cuts = cut_counted r.next r.answers r.replica input kept (r.disk device) cuts ∙ ap (failures_in r.disk) (sym r.is)
+
+    -- one within which the device failed
+    pub failed_counts : (device : D) → IsNotCutIf r.disk (input_effect r.next r.answers r.replica input) r.replica (let n : NotCut S D P = DeviceFailed device in n) → failures_in r.disk r.node < (r.disk device).failures
+    failed_counts device fails = subst (λ n. failures_in r.disk n < (r.disk device).failures) (sym r.is) (cut_failed r.next r.answers r.replica P r.disk input device fails)
+
+    -- one that is refused
+    pub refused_counts : (fault : Fault) (new : ReplicaState S) → IsNotCutIf r.disk (input_effect r.next r.answers r.replica input) r.replica (let n : NotCut S D P = Refused fault new in n)
+        → (let a : Result Unit Fault = Err fault in IsCounted (failures_in r.disk r.node) new.disk.failures a)
+    refused_counts fault new stops =
+        subst (λ n. let a : Result Unit Fault = Err fault in IsCounted (failures_in r.disk n) new.disk.failures a) (sym r.is) (cut_refused r.next r.answers r.replica P r.disk input fault new stops)
+
 -- an opening that is refused
-pub opening_counted : (old new : Disk) (fault : Fault) → IsRefusedOpening old fault new → IsCounted old.failures new.failures (let r : Result Dropped Fault = Err fault in r)
+pub opening_counted : (old new : Disk) (fault : Fault) → IsRefusedOpening old fault new → IsCounted old.failures new.failures (as_turn_fault fault)
 opening_counted old new OutOfMemory why = elim why [ inl same ↦ same.failures | inr opened ↦ opened.2.failures ]
 opening_counted old new Device why = why.1
 opening_counted old new _ why = absurd why
 
 -- ---- all devices
 
-module _ {S D P : Type 0} (disk : D → Disk) (nodes : List (Node S D P)) (i me : ℕ) (placed : suc i ≡ me) (n : Node S D P) (here : slice_get nodes i ≡ Some n) (new : Node S D P) where
+module _ {S D P : Type 0} (f : Fields S D P) (at : Found f.nodes) (new : Node S D P) where
   abbrev before : List ℕ
-  before = map (failures_in disk) nodes
+  before = counts_of f f.nodes
 
   abbrev after : List ℕ
-  after = map (failures_in disk) (slice_set nodes i new)
+  after = counts_of f (slice_set f.nodes at.place new)
 
-  was_here : slice_get before i ≡ Some (failures_in disk n)
-  was_here = get_map (failures_in disk) nodes i ∙ ap (λ (o : Option (Node S D P)). option_map (failures_in disk) o) here
+  was_here : slice_get before at.place ≡ Some (failures_in f.disk at.it)
+  was_here = get_map (failures_in f.disk) f.nodes at.place ∙ ap (λ (o : Option (Node S D P)). option_map (failures_in f.disk) o) at.here
 
   -- the count of one node is as before
-  pub same_counts : failures_in disk new ≡ failures_in disk n → after ≡ before
+  pub same_counts : failures_in f.disk new ≡ failures_in f.disk at.it → after ≡ before
   same_counts same =
-      set_map (failures_in disk) nodes i new ∙ ap (slice_set before i) same ∙ set_same before i (failures_in disk n) was_here
+      set_map (failures_in f.disk) f.nodes at.place new ∙ ap (slice_set before at.place) same
+      ∙ set_same before at.place (failures_in f.disk at.it) was_here
 
-  rises_at : failures_in disk n < failures_in disk new → RisesAt me before after
+  pub same_seen : failures_in f.disk new ≡ failures_in f.disk at.it → after ≡ f.was.failures
+  same_seen same = same_counts same ∙ ap (λ v. v.failures) f.view_is
+
+  rises_at : failures_in f.disk at.it < failures_in f.disk new → RisesAt at.me before after
   rises_at rose = record {
-    before = failures_in disk n;
-    after = failures_in disk new;
-    was = subst (λ (k : ℕ). part_at before k ≡ Some (failures_in disk n)) placed was_here;
+    before = failures_in f.disk at.it;
+    after = failures_in f.disk new;
+    was = subst (λ (k : ℕ). part_at before k ≡ Some (failures_in f.disk at.it)) at.placed was_here;
     rose = rose;
-    others = set_map (failures_in disk) nodes i new ∙ subst (λ (k : ℕ). slice_set before i (failures_in disk new) ≡ with_part before k (failures_in disk new)) placed refl;
+    others = set_map (failures_in f.disk) f.nodes at.place new
+        ∙ subst (λ (k : ℕ). slice_set before at.place (failures_in f.disk new) ≡ with_part before k (failures_in f.disk new)) at.placed refl;
   }
 
   -- or higher, where the device failed
-  pub counts : (why : Type 0) (fault : Fault) → (fault ≡ Device → why) → IsCounted (failures_in disk n) (failures_in disk new) (let r : Result Dropped Fault = Err fault in r)
-      → Counts why (Some me) before after (let r : Result Effect Fault = Err fault in r)
+  pub counts : (why : Type 0) (fault : Fault) → (fault ≡ Device → why) → IsCounted (failures_in f.disk at.it) (failures_in f.disk new) (as_turn_fault fault)
+      → Counts why (Some at.me) before after (as_fault fault)
   counts why Device so counted = (so refl, rises_at counted)
   counts why _ so counted = same_counts counted
 
-  module _ (member : Member S) (part : NodePart) (represents : Represents disk member n part) (next : S → Action → S) (answers : S → Action → List Answer) (input : NodeInput) where
-    -- the device failed where a record was written
-    pub writes : (fault : Fault) → NotTaken disk member n new (node_step next answers member input) fault → fault ≡ Device → IsSome (written_by (node_effect (setting_at next answers member) member.me part input))
-    writes fault not_taken device =
-        elim (not_taken part represents) [
-          | inl refused ↦ absurd (subst NoDevice (refused.0 ∙ ap Err device) (input_is (setting_at next answers member) member.me part input))
-          | inr other ↦
-              elim other [
-                | inl memory ↦ absurd (let same : OutOfMemory ≡ Device = sym memory.0 ∙ device in cc)
-                | inr failed ↦ subst (λ r. IsSome (written_by r)) (sym failed.3) failed.5
-              ]
-        ]
+  -- the device failed where a record was written
+  pub writes : (input : NodeInput) (fault : Fault) → NotTaken f.disk (member f at.me) at.it new (node_step f.next f.answers (member f at.me) input) fault → fault ≡ Device
+      → IsSome (node_writes (setting f) at.me input (part_at (world f).nodes at.me))
+  writes input fault not_taken device =
+      subst (λ o. IsSome (node_writes (setting f) at.me input o)) (sym (is_here f at))
+      (elim (not_taken (part f at) (represents_now f at)) [
+        | inl refused ↦ absurd (subst NoDevice (refused.0 ∙ ap Err device) (input_is (setting f) at.me (part f at) input))
+        | inr other ↦
+            elim other [
+              | inl memory ↦ absurd (let same : OutOfMemory ≡ Device = sym memory.0 ∙ device in cc)
+              | inr failed ↦ subst (λ r. IsSome (written_by r)) (sym failed.3) failed.5
+            ]
+      ])
 
 -- a delivery to a node is a step of that node
-module _ {S : Type 0} (s : Setting S) (w : World) (me number : ℕ) (m : Message) (sent : part_at w.sent number ≡ Some m) (to : m.to ≡ Party.Node me) (fault : Fault) (before after : List ℕ) where
-  pub heard_counts : (let r : Result Effect Fault = Err fault in Counts (IsSome (node_writes s me (NodeInput.Receive m) (part_at w.nodes me))) (Some me) before after r)
-      → (let r : Result Effect Fault = Err fault in Counts (IsSome (delivery_writes s w (part_at w.sent number))) (receiver_of (part_at w.sent number)) before after r)
+module _ {S : Type 0} (s : Setting S) (w : World) {number me : ℕ} (m : SentTo w.sent number (Party.Node me)) (fault : Fault) (before after : List ℕ) where
+  pub heard_counts : Counts (IsSome (node_writes s me (NodeInput.Receive m.packet) (part_at w.nodes me))) (Some me) before after (as_fault fault)
+      → Counts (IsSome (delivery_writes s w (part_at w.sent number))) (receiver_of (part_at w.sent number)) before after (as_fault fault)
   heard_counts is =
-      subst (λ (o : Option Message). let r : Result Effect Fault = Err fault in Counts (IsSome (delivery_writes s w o)) (receiver_of o) before after r) (sym sent)
-      (subst (λ (party : Party). let r : Result Effect Fault = Err fault in Counts (IsSome (arrival_writes s w m party)) (node_named party) before after r) (sym to) is)
+      subst (λ (o : Option Message). Counts (IsSome (delivery_writes s w o)) (receiver_of o) before after (as_fault fault)) (sym m.found)
+      (subst (λ (party : Party). Counts (IsSome (arrival_writes s w m.packet party)) (node_named party) before after (as_fault fault)) (sym m.is_to) is)

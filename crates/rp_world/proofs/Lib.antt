@@ -1,6 +1,11 @@
+pub mod Lists
+pub mod Placing
+pub mod Reports
+pub mod Messages
 pub mod Represented
 pub mod Turning
 pub mod Resting
+pub mod Fields
 pub mod Moving
 pub mod Answering
 pub mod Sounding
@@ -12,7 +17,6 @@ pub mod Asked
 pub mod Fresh
 pub mod Failing
 pub mod Choosing
-pub mod Placing
 pub mod Leaving
 pub mod Stepping
 pub mod Replied

@@ -1,122 +1,93 @@
 -- What the world answers where the step of one of its nodes is cut.
-use Rattle.std.proofs.Common.{◌≡◌, ℕ, suc, ◌+◌, ◌<◌, Some, None, Result, Ok, Err, List, length, map, slice_get, slice_set, refl, sym, ap, subst, ◌∙◌, arith}
-use Rattle.std.specs.Prelude.{IfOk, IfErr, IsSome, get_or, insert, remove}
+use Rattle.std.proofs.Common.{◌≡◌, ℕ, suc, ◌+◌, ◌<◌, None, Some, Result, Ok, Err, length, map, slice_set, refl, sym, ap, subst, ◌∙◌, arith}
+use Rattle.std.specs.Prelude.{IfOk, IfErr, IsSome}
 use Rattle.std.proofs.lemmas.List.{length-map}
-use Rattle.rp_base.specs.declared.action.Action.{Action}
-use Rattle.rp_base.specs.declared.reply.Answer.{Answer}
-use Rattle.rp_base.specs.declared.config.Config.{Config}
 use Rattle.rp_base.specs.declared.fault.Fault.{Fault}
 use Rattle.rp_base.specs.declared.fault.Fault.TheVariants.{Device}
-use Rattle.rp_store.specs.Disk.{Disk}
 use Rattle.rp_model.specs.declared.effect.Effect.{Effect}
-use Rattle.rp_model.specs.Effect.{Setting, NodeInput, node_effect, cut_if}
+use Rattle.rp_model.specs.Effect.{NodeInput, node_effect, cut_if}
 use Rattle.rp_model.specs.Events.{Step}
-use Rattle.rp_model.specs.Parts.{NodePart}
-use Rattle.rp_model.specs.World.{World, part_at, cut_step, node_done_if, node_is_cut, node_writes, step_writes, stepping}
-use Rattle.rp_outbox.specs.Packets.{Sending}
+use Rattle.rp_model.specs.World.{cut_step, node_done_if, node_is_cut, step_writes, stepping}
 use Rattle.rp_rules.specs.Inputs.{given_by}
 use Rattle.rp_rules.specs.declared.input.Input.{Input}
-use Rattle.rp_world.specs.Callers.{Caller}
-use Rattle.rp_world.specs.Choosing.{AreNodesOf, IsOf}
+use Rattle.rp_world.specs.Choosing.{IsOf}
 use Rattle.rp_world.specs.Going.{Answers, Counts}
-use Rattle.rp_world.specs.Nodes.{Member, member_of, IsCounted, IsCutBy, NotTaken, failures_in, node_step, setting_at}
-use Rattle.rp_world.specs.Shape.{part_by, world_of, IsWorld}
-use Rattle.rp_world.specs.declared.node.Node.{Node}
-use Rattle.rp_world.proofs.Choosing.{nodes_of}
-use Rattle.rp_world.proofs.Moving.{here_of, put_back, part_here, represents_here}
-use Rattle.rp_world.proofs.Failing.{counts, same_counts, writes}
-use Rattle.rp_world.proofs.Ending.{stated_of, still, cut_so, not_cut, left_by_cut}
+use Rattle.rp_world.specs.Nodes.{Member, IsCounted, IsCutBy, NotTaken, failures_in, node_step}
+use Rattle.rp_world.specs.Shape.{part_by}
+use Rattle.rp_world.specs.Steps.{Setup}
+use Rattle.rp_world.proofs.Ending.{still, cut_so, not_cut, left_by_cut}
+use Rattle.rp_world.proofs.Failing.{counts, same_seen, writes}
+use Rattle.rp_world.proofs.Fields.{Fields, IsKept, as_seen, counts_of, first_seen, member, setting, world, world_with, setting_by}
+use Rattle.rp_world.proofs.Moving.{part, is_here}
+use Rattle.rp_world.proofs.Placing.{Changed}
+use Rattle.rp_world.proofs.Reports.{as_fault, stated_of}
 
 -- what is answered, by what the node says: an effect that reports nothing, or the fault
 abbrev pub IsStated : ℕ → Result Unit Fault → Result Effect Fault → Type 0
 IsStated first (Ok done) r = r ≡ Ok (stated_of first None)
 IsStated first (Err fault) r = r ≡ Err fault
 
-module _ {S D P : Type 0} (disk : D → Disk) (config : Config) (begin : S) (nodes : List (Node S D P)) (tasks : List Caller) (messages : Sending) (is : IsWorld disk config begin nodes tasks)
-    (next : S → Action → S) (answers : S → Action → List Answer) (step : Step) (me : ℕ) (from : Input) (lent : List (Node S D P)) (same : lent ≡ nodes)
-    (chosen : (s : Setting S) (w : World) → w.sent ≡ messages.sent → AreNodesOf disk s.begin lent w → IsOf s w step me from) (i : ℕ) (placed : suc i ≡ me) where
-  abbrev w : World
-  w = world_of disk config.max_positions nodes tasks messages
+pub stated_ok : {first : ℕ} {answer : Result Unit Fault} {r : Result Effect Fault} {done : Unit} {effect : Effect} → answer ≡ Ok done → r ≡ Ok effect → effect ≡ stated_of first None → IsStated first answer r
+stated_ok {first = first} {r = r} is result effect = subst (λ a. IsStated first a r) (sym is) (result ∙ ap Ok effect)
 
-  abbrev member : Member S
-  member = member_of me config begin
+pub stated_err : (first : ℕ) {answer : Result Unit Fault} {r : Result Effect Fault} {fault : Fault} → answer ≡ Err fault → r ≡ Err fault → IsStated first answer r
+stated_err first {r = r} is result = subst (λ a. IsStated first a r) (sym is) result
 
-  abbrev s : Setting S
-  s = setting_at next answers member
+-- there is such a node
+pub within : {S D P : Type 0} (f : Fields S D P) {step : Step} {i me : ℕ} {input : Input} → IsOf (setting f) (world f) step me input → suc i ≡ me → i < length f.nodes
+within f one placed = omega (arith, one.within, length-map f.nodes (part_by f.disk f.config.max_positions), placed)
 
-  one : IsOf s w step me from
-  one = chosen s w refl (nodes_of disk config begin nodes tasks messages lent same is)
+module _ {S D P : Type 0} (f : Fields S D P) (change : Changed f.nodes) {step : Step} {input : Input} (one : IsOf (setting f) (world f) step change.at.me input) (kept : ℕ) where
+  abbrev me : ℕ
+  me = change.at.me
 
-  -- there is such a node
-  pub within : i < length nodes
-  within = omega (arith, one.within, length-map nodes (part_by disk config.max_positions), placed)
+  abbrev Cuts : Unit {0} → Type 0
+  Cuts done = (m : Member S) (given : NodeInput) → given_by input ≡ Ok given → IsCutBy f.disk m change.at.it change.new kept (node_step f.next f.answers m given)
 
-  module _ (n new : Node S D P) (found : n ≡ get_or nodes i n) (rest nodes' : List (Node S D P)) (removed : rest ≡ remove nodes i) (back : nodes' ≡ insert rest i new) where
-    abbrev part : NodePart
-    part = part_by disk config.max_positions n
+  abbrev CutsNot : Fault → Type 0
+  CutsNot fault = (m : Member S) (given : NodeInput) → given_by input ≡ Ok given → NotTaken f.disk m change.at.it change.new (node_step f.next f.answers m given) fault
 
-    here : slice_get nodes i ≡ Some n
-    here = here_of nodes i n within found
+  -- the cluster is kept
+  pub still_cut : (answer : Result Unit Fault) → IfOk answer Cuts → IfErr answer CutsNot → IsKept f change.after f.tasks
+  still_cut answer ok err = still f change (left_by_cut f change kept input one.gives answer ok err)
 
-    put : nodes' ≡ slice_set nodes i new
-    put = back ∙ ap (λ (l : List (Node S D P)). insert l i new) removed ∙ put_back nodes i new within
+  cut_here : (k : ℕ) → cut_step (setting f) (world f) step k ≡ node_done_if (world f) me (cut_if k (part f change.at) (node_effect (setting f) me (part f change.at) one.given))
+  cut_here k = one.cut k ∙ ap (node_is_cut (setting f) (world f) me one.given k) (is_here f change.at)
 
-    is_here : part_at w.nodes me ≡ Some part
-    is_here = part_here disk config begin nodes tasks i me placed n here
+  -- what a cluster answers to the cut, and what it counts
+  abbrev Answered : Result Effect Fault → Setup P → Type 0
+  Answered r v = let s = setting_by f v in Answers v.world (cut_step s v.world step kept) (λ less. cut_step s v.world step less) (world_with f change.after f.tasks f.messages) r
 
-    module _ (kept : ℕ) where
-      abbrev Cuts : Unit {0} → Type 0
-      Cuts done = (p : Member S) (v : NodeInput) → given_by from ≡ Ok v → IsCutBy disk p n new kept (node_step next answers p v)
+  abbrev Counted : Result Effect Fault → Setup P → Type 0
+  Counted r v = let s = setting_by f v in Counts (IsSome (step_writes s v.world step)) (stepping v.world step) v.failures (counts_of f change.after) r
 
-      abbrev CutsNot : Fault → Type 0
-      CutsNot fault = (p : Member S) (v : NodeInput) → given_by from ≡ Ok v → NotTaken disk p n new (node_step next answers p v) fault
+  -- what is answered is so
+  pub answers_cut : (answer : Result Unit Fault) → IfOk answer Cuts → IfErr answer CutsNot → {first : ℕ} → first ≡ length f.was.world.sent → (r : Result Effect Fault) → IsStated (first + 1) answer r → Answered r f.was
+  answers_cut (Ok done) ok err {first = first} first_is r is_stated =
+      subst (λ x. Answered x f.was) (sym is_stated)
+      (as_seen f (Answered (Ok (stated_of (first + 1) None)))
+      (cut_so f change one.given kept (ok (member f me) one.given one.gives) (cut_step (setting f) (world f) step kept) (cut_here kept) (stated_of (first + 1) None)
+      (ap (λ (k : ℕ). stated_of (k + 1) None) (first_seen f first_is))))
+  answers_cut (Err fault) ok err first_is r is_stated =
+      subst (λ x. Answered x f.was) (sym is_stated)
+      (as_seen f (Answered (as_fault fault))
+      (not_cut f change one.given kept fault (err (member f me) one.given one.gives) (cut_step (setting f) (world f) step kept) (λ less. cut_step (setting f) (world f) step less) cut_here refl))
 
-      -- the cluster is kept
-      pub still_cut : (answer : Result Unit Fault) → IfOk answer Cuts → IfErr answer CutsNot → IsWorld disk config begin nodes' tasks
-      still_cut answer ok err =
-          still disk config begin nodes tasks messages is i me placed n here new nodes' put
-          (left_by_cut disk config begin nodes tasks messages is i me placed n here new nodes' put next answers one.given kept from one.gives answer ok err)
+  is_after : counts_of f change.after ≡ counts_of f (slice_set f.nodes change.at.place change.new)
+  is_after = ap (map (failures_in f.disk)) change.put
 
-      cut_here : (k : ℕ) → cut_step s w step k ≡ node_done_if w me (cut_if k part (node_effect s me part one.given))
-      cut_here k = one.cut k ∙ ap (node_is_cut s w me one.given k) is_here
+  wrote : (fault : Fault) → CutsNot fault → fault ≡ Device → IsSome (step_writes (setting f) (world f) step)
+  wrote fault err device = subst IsSome (sym one.writes) (writes f change.at change.new one.given fault (err (member f me) one.given one.gives) device)
 
-      abbrev Answered : Result Effect Fault → Type 0
-      Answered r = Answers w (cut_step s w step kept) (λ less. cut_step s w step less) (world_of disk config.max_positions nodes' tasks messages) r
-
-      -- what is answered is so
-      pub answers_cut : (answer : Result Unit Fault) → IfOk answer Cuts → IfErr answer CutsNot → (first : ℕ) → first ≡ length w.sent → (r : Result Effect Fault) → IsStated (first + 1) answer r → Answered r
-      answers_cut (Ok done) ok err first first_is r is_stated =
-          subst Answered (sym is_stated)
-          (cut_so disk config begin nodes tasks messages is i me placed n here new nodes' put next answers one.given kept (ok member one.given one.gives) (cut_step s w step kept) (cut_here kept) (stated_of (first + 1) None)
-          (ap (λ (k : ℕ). stated_of (k + 1) None) first_is))
-      answers_cut (Err fault) ok err first first_is r is_stated =
-          subst Answered (sym is_stated)
-          (not_cut disk config begin nodes tasks messages is i me placed n here new nodes' put next answers one.given kept fault (err member one.given one.gives) (cut_step s w step kept) (λ less. cut_step s w step less) cut_here refl)
-
-      abbrev was : List ℕ
-      was = map (failures_in disk) nodes
-
-      abbrev after : List ℕ
-      after = map (failures_in disk) nodes'
-
-      is_after : after ≡ map (failures_in disk) (slice_set nodes i new)
-      is_after = ap (map (failures_in disk)) put
-
-      abbrev Counted : Result Effect Fault → Type 0
-      Counted r = Counts (IsSome (step_writes s w step)) (stepping w step) was after r
-
-      wrote : (fault : Fault) → CutsNot fault → fault ≡ Device → IsSome (step_writes s w step)
-      wrote fault err device =
-          subst IsSome (sym one.writes)
-          (subst (λ o. IsSome (node_writes s me one.given o)) (sym is_here)
-          (writes disk nodes i me placed n here new member part (represents_here disk config begin nodes tasks i me placed n here is) next answers one.given fault (err member one.given one.gives) device))
-
-      -- and so is what is counted
-      pub counts_cut : (answer : Result Unit Fault) → IfErr answer CutsNot → IsCounted (failures_in disk n) (failures_in disk new) answer → (first : ℕ) (r : Result Effect Fault) → IsStated first answer r → Counted r
-      counts_cut (Ok done) err counted first r is_stated =
-          subst Counted (sym is_stated) (is_after ∙ same_counts disk nodes i me placed n here new counted)
-      counts_cut (Err fault) err counted first r is_stated =
-          subst Counted (sym is_stated)
-          (subst (λ who. Counts (IsSome (step_writes s w step)) who was after (let x : Result Effect Fault = Err fault in x)) (sym one.node)
-          (subst (λ l. Counts (IsSome (step_writes s w step)) (Some me) was l (let x : Result Effect Fault = Err fault in x)) (sym is_after)
-          (counts disk nodes i me placed n here new (IsSome (step_writes s w step)) fault (wrote fault err) counted)))
+  -- and so is what is counted
+  pub counts_cut : (answer : Result Unit Fault) → IfErr answer CutsNot → IsCounted (failures_in f.disk change.at.it) (failures_in f.disk change.new) answer → (first : ℕ) (r : Result Effect Fault) → IsStated first answer r
+      → Counted r f.was
+  counts_cut (Ok done) err counted first r is_stated =
+      subst (λ x. Counted x f.was) (sym is_stated) (is_after ∙ same_seen f change.at change.new counted)
+  counts_cut (Err fault) err counted first r is_stated =
+      let why = IsSome (step_writes (setting f) (world f) step) in
+      subst (λ x. Counted x f.was) (sym is_stated)
+      (as_seen f (Counted (as_fault fault))
+      (subst (λ who. Counts why who (counts_of f f.nodes) (counts_of f change.after) (as_fault fault)) (sym one.node)
+      (subst (λ l. Counts why (Some me) (counts_of f f.nodes) l (as_fault fault)) (sym is_after)
+      (counts f change.at change.new why fault (wrote fault err) counted))))

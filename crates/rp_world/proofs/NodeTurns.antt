@@ -1,145 +1,145 @@
 -- What the world answers where one of its nodes made a turn: given an input, or a message that is for it.
-use Rattle.std.proofs.Common.{◌≡◌, ℕ, suc, ◌+◌, ◌≤◌, Some, None, Result, Err, List, length, map, slice_get, slice_set, refl, sym, ap, subst, ◌∙◌}
+use Rattle.std.proofs.Common.{◌≡◌, ℕ, suc, ◌+◌, ◌-◌, ◌≤◌, None, Some, Result, Ok, Err, List, length, slice_get, slice_set, refl, ap, ◌∙◌}
 use Rattle.std.specs.Prelude.{IsSome, IsErrAnd}
-use Rattle.rp_base.specs.declared.action.Action.{Action}
-use Rattle.rp_base.specs.declared.config.Config.{Config}
 use Rattle.rp_base.specs.declared.fault.Fault.{Fault}
-use Rattle.rp_base.specs.declared.reply.Answer.{Answer}
 use Rattle.rp_codec.specs.Message.{Message}
 use Rattle.rp_codec.specs.declared.packet.Party.{Party}
-use Rattle.rp_store.specs.Disk.{Disk}
 use Rattle.rp_model.specs.declared.effect.Dropped.{Dropped}
 use Rattle.rp_model.specs.declared.effect.Effect.{Effect}
-use Rattle.rp_model.specs.Effect.{Setting, NodeInput}
+use Rattle.rp_model.specs.Effect.{NodeInput}
 use Rattle.rp_model.specs.Parts.{NodePart}
-use Rattle.rp_model.specs.World.{World, Transition, part_at, node_takes, node_is_cut, node_writes, receiver_of, delivers, delivery_is_cut, delivery_writes}
+use Rattle.rp_model.specs.World.{World, Transition, part_at, node_takes, node_is_cut, node_writes, node_done_if, nothing_happens, delivers}
 use Rattle.rp_outbox.specs.Packets.{Sending}
-use Rattle.rp_world.specs.Callers.{Caller}
-use Rattle.rp_world.specs.Going.{Goes, Answers, Counts, stated}
-use Rattle.rp_world.specs.Nodes.{Member, member_of, Represents, GoesBy, NotTaken, DescribesSending, IsCounted, failures_in, setting_at, node_step}
-use Rattle.rp_world.specs.Shape.{part_by, world_of, IsWorld}
+use Rattle.rp_world.specs.Going.{Goes, Answers, AnswersDelivery, Counts, CountsDelivery, stated}
+use Rattle.rp_world.specs.Nodes.{Member, Represents, GoesBy, NotTaken, DescribesSending, IsCounted, failures_in, node_step}
+use Rattle.rp_world.specs.Steps.{Setup}
 use Rattle.rp_world.specs.declared.node.Node.{Node}
-use Rattle.rp_world.proofs.Moving.{part_here, represents_here, nodes_stay}
-use Rattle.rp_world.proofs.Ending.{none_here, stated_of}
+use Rattle.rp_world.proofs.Ending.{none_here}
 use Rattle.rp_world.proofs.Failing.{counts, heard_counts, writes}
+use Rattle.rp_world.proofs.Fields.{Fields, IsKept, as_seen, counts_of, first_seen, made_of, member, now, setting, setting_by, world, world_with}
 use Rattle.rp_world.proofs.Hearing.{nothing_goes, heard_by_none, heard_resting, heard_running, cut_heard}
-use Rattle.rp_world.proofs.Taking as taking
-use Rattle.rp_world.proofs.Taking.{at_err, stated_sent}
+use Rattle.rp_world.proofs.Messages.{SentTo, at_place}
+use Rattle.rp_world.proofs.Moving.{part, is_here, represents_now, nodes_stay}
+use Rattle.rp_world.proofs.Placing.{Found}
+use Rattle.rp_world.proofs.Reports.{at_err, stated_of, stated_sent, as_fault, as_turn_fault}
+use Rattle.rp_world.proofs.Taking.{still_turned, still_refused, sent_more, turned, not_turned, takes_is, cut_is}
 
--- the number of the next message, and how many there are, as a turn reports them
-pub counted_from : (sent : List Message) (was : World) (first count : ℕ) (dropped : Dropped) → sent ≡ was.sent → first ≡ length was.sent → (later : List Message) → count ≡ length later
-    → (effect : Effect) → effect ≡ stated_sent (first + 1) count dropped → effect ≡ stated_sent (length sent + 1) (length later) dropped
-counted_from sent was first count dropped same first_is later count_is effect is =
-    is ∙ ap (λ (k : ℕ). stated_sent (k + 1) count dropped) (first_is ∙ ap length (sym same)) ∙ ap (λ (k : ℕ). stated_sent (length sent + 1) k dropped) count_is
+-- the effect reports the number of the next message, and how many there are
+counted_from : {S D P : Type 0} (f : Fields S D P) (dropped : Dropped) (later : Sending) {first count : ℕ} {effect : Effect} → first ≡ length f.was.world.sent → count ≡ length later.sent
+    → effect ≡ stated_sent (first + 1) count dropped → effect ≡ stated_sent (length f.messages.sent + 1) (length later.sent) dropped
+counted_from f dropped later {count = count} first_is count_is is =
+    is ∙ ap (λ (k : ℕ). stated_sent (k + 1) count dropped) (first_seen f first_is) ∙ ap (λ (k : ℕ). stated_sent (length f.messages.sent + 1) k dropped) count_is
 
-module _ {S D P : Type 0} (disk : D → Disk) (config : Config) (begin : S) (nodes : List (Node S D P)) (tasks : List Caller) (messages : Sending) (is : IsWorld disk config begin nodes tasks)
-    (next : S → Action → S) (answers : S → Action → List Answer) (i me : ℕ) (placed : suc i ≡ me) where
-  abbrev w : World
-  w = world_of disk config.max_positions nodes tasks messages
+-- ---- a node that is given an input
 
-  abbrev member : Member S
-  member = member_of me config begin
+module _ {S D P : Type 0} (f : Fields S D P) (at : Found f.nodes) (new : Node S D P) (input : NodeInput) where
+  abbrev after : Sending → World
+  after later = world_with f (slice_set f.nodes at.place new) f.tasks later
 
-  abbrev s : Setting S
-  s = setting_at next answers member
+  -- what a cluster answers to the input, and what it counts
+  abbrev takes : Setup P → Result Transition Fault
+  takes v = node_takes (setting_by f v) v.world at.me input (part_at v.world.nodes at.me)
 
-  module _ (n : Node S D P) (here : slice_get nodes i ≡ Some n) where
-    abbrev part : NodePart
-    part = part_by disk config.max_positions n
+  abbrev Answered : Sending → Result Effect Fault → Setup P → Type 0
+  Answered later r v = Answers v.world (takes v) (λ kept. node_is_cut (setting_by f v) v.world at.me input kept (part_at v.world.nodes at.me)) (after later) r
 
-    is_here : part_at w.nodes me ≡ Some part
-    is_here = part_here disk config begin nodes tasks i me placed n here
+  abbrev Counted : {A : Type 0} → Result A Fault → Setup P → Type 0
+  Counted r v = Counts (IsSome (node_writes (setting_by f v) at.me input (part_at v.world.nodes at.me))) (Some at.me) v.failures (counts_of f (slice_set f.nodes at.place new)) r
 
-    so : Represents disk member n part
-    so = represents_here disk config begin nodes tasks i me placed n here is
+  pub goes_given : (dropped : Dropped) (later : Sending) → GoesBy f.disk (member f at.me) at.it new (node_step f.next f.answers (member f at.me) input) (DescribesSending f.messages.sent later.sent) dropped
+      → {first count : ℕ} {effect : Effect} → first ≡ length f.was.world.sent → count ≡ length later.sent → effect ≡ stated_sent (first + 1) count dropped → Goes f.was.world (takes f.was) (after later) effect
+  goes_given dropped later by {effect = effect} first_is count_is is =
+      as_seen f (λ v. Goes v.world (takes v) (after later) effect)
+      (turned f at new input dropped later by (takes (now f)) (takes_is f at new input) effect (counted_from f dropped later first_is count_is is))
 
-    module _ (new : Node S D P) (input : NodeInput) where
-      module _ (dropped : Dropped) (later : Sending) (by : GoesBy disk member n new (node_step next answers member input) (DescribesSending messages.sent later.sent) dropped) where
-        -- a turn keeps the cluster
-        pub still_turned : IsWorld disk config begin (slice_set nodes i new) tasks
-        still_turned =
-            taking.still disk config begin nodes tasks messages is i me placed n here new next answers input
-            (taking.turned_left disk config begin nodes tasks messages is i me placed n here new next answers input dropped later by)
+  module _ (fault : Fault) (by : NotTaken f.disk (member f at.me) at.it new (node_step f.next f.answers (member f at.me) input) fault) where
+    pub counts_refused : IsCounted (failures_in f.disk at.it) (failures_in f.disk new) (as_turn_fault fault) → Counted (as_fault fault) (now f)
+    counts_refused counted = counts f at new (IsSome (node_writes (setting f) at.me input (part_at (world f).nodes at.me))) fault (writes f at new input fault by) counted
 
-        -- and no message is lost
-        pub more : length messages.sent ≤ length later.sent
-        more = taking.sent_more disk config begin nodes tasks messages is i me placed n here new next answers input dropped later by
+    module _ (r : Result Unit Fault) (refuses : IsErrAnd r (λ e. e ≡ fault)) where
+      pub answers_given : (later : Sending) → later.sent ≡ f.messages.sent → (effect : Effect) → Answered later (stated r effect) f.was
+      answers_given later same effect =
+          at_err (λ x. Answered later (stated x effect) f.was) fault r refuses
+          (as_seen f (Answered later (as_fault fault)) (not_turned f at new input fault by later same _ _ (takes_is f at new input) (cut_is f at new input)))
 
-        pub goes_given : (effect : Effect) → effect ≡ stated_sent (length w.sent + 1) (length later.sent) dropped
-            → Goes w (node_takes s w me input (part_at w.nodes me)) (world_of disk config.max_positions (slice_set nodes i new) tasks later) effect
-        goes_given effect is_effect =
-            taking.given_ok disk config begin nodes tasks messages is i me placed n here new next answers input dropped later by effect is_effect
+      pub counts_given : IsCounted (failures_in f.disk at.it) (failures_in f.disk new) (as_turn_fault fault) → Counted r f.was
+      counts_given counted = at_err (λ x. Counted x f.was) fault r refuses (as_seen f (Counted (as_fault fault)) (counts_refused counted))
 
-      module _ (fault : Fault) (by : NotTaken disk member n new (node_step next answers member input) fault) where
-        -- so does one that was not taken
-        pub still_refused : IsWorld disk config begin (slice_set nodes i new) tasks
-        still_refused =
-            taking.still disk config begin nodes tasks messages is i me placed n here new next answers input
-            (taking.not_turned_left disk config begin nodes tasks messages is i me placed n here new next answers input fault by)
+-- ---- a message that is for it
 
-        counts_refused : IsCounted (failures_in disk n) (failures_in disk new) (let r : Result Dropped Fault = Err fault in r)
-            → (let r : Result Effect Fault = Err fault in
-            Counts (IsSome (node_writes s me input (part_at w.nodes me))) (Some me) (map (failures_in disk) nodes) (map (failures_in disk) (slice_set nodes i new)) r)
-        counts_refused counted =
-            counts disk nodes i me placed n here new (IsSome (node_writes s me input (part_at w.nodes me))) fault
-            (λ device. subst (λ o. IsSome (node_writes s me input o)) (sym is_here) (writes disk nodes i me placed n here new member part so next answers input fault by device)) counted
+module _ {S D P : Type 0} (f : Fields S D P) (number : ℕ) where
+  abbrev heard : Setup P → Result Transition Fault
+  heard v = delivers (setting_by f v) v.world (part_at v.world.sent number)
 
-        module _ (r : Result Effect Fault) (refuses : IsErrAnd r (λ f. f ≡ fault)) where
-          pub answers_given : (later : Sending) → later.sent ≡ messages.sent
-              → Answers w (node_takes s w me input (part_at w.nodes me)) (λ kept. node_is_cut s w me input kept (part_at w.nodes me)) (world_of disk config.max_positions (slice_set nodes i new) tasks later) r
-          answers_given later same =
-              at_err (λ x. Answers w (node_takes s w me input (part_at w.nodes me)) (λ kept. node_is_cut s w me input kept (part_at w.nodes me)) (world_of disk config.max_positions (slice_set nodes i new) tasks later) x)
-              fault r refuses (taking.given_err disk config begin nodes tasks messages is i me placed n here new next answers input later same fault by)
+-- a message that changes nothing
+nothing_heard : {S D P : Type 0} (f : Fields S D P) (number : ℕ) (after : World) {first : ℕ} {effect : Effect} → heard f number (now f) ≡ Ok (nothing_happens (world f)) → after ≡ world f → first ≡ length f.was.world.sent
+    → effect ≡ stated_of (first + 1) None → Goes f.was.world (heard f number f.was) after effect
+nothing_heard f number after {effect = effect} is same first_is is_effect =
+    as_seen f (λ v. Goes v.world (heard f number v) after effect)
+    (nothing_goes (world f) (heard f number (now f)) after effect is same (is_effect ∙ ap (λ (k : ℕ). stated_of (k + 1) None) (first_seen f first_is)))
 
-          pub counts_given : IsCounted (failures_in disk n) (failures_in disk new) (let x : Result Dropped Fault = Err fault in x)
-              → Counts (IsSome (node_writes s me input (part_at w.nodes me))) (Some me) (map (failures_in disk) nodes) (map (failures_in disk) (slice_set nodes i new)) r
-          counts_given counted =
-              at_err (λ x. Counts (IsSome (node_writes s me input (part_at w.nodes me))) (Some me) (map (failures_in disk) nodes) (map (failures_in disk) (slice_set nodes i new)) x)
-              fault r refuses (counts_refused counted)
+-- there is no node of this number
+pub goes_past : {S D P : Type 0} (f : Fields S D P) {number i me : ℕ} → SentTo f.messages.sent number (Party.Node me) → suc i ≡ me → length f.nodes ≤ i
+    → {first : ℕ} {effect : Effect} → first ≡ length f.was.world.sent → effect ≡ stated_of (first + 1) None → Goes f.was.world (heard f number f.was) (world f) effect
+goes_past f {number = number} m placed past first_is is = nothing_heard f number (world f) (heard_by_none (setting f) (world f) m (none_here f placed past)) refl first_is is
 
-  -- ---- a message that is for it
+module _ {S D P : Type 0} (f : Fields S D P) (at : Found f.nodes) {number : ℕ} (m : SentTo f.messages.sent number (Party.Node at.me)) where
+  abbrev with_node : Node S D P → Sending → World
+  with_node new later = world_with f (slice_set f.nodes at.place new) f.tasks later
 
-  module _ (number : ℕ) (packet : Message) (sent : part_at messages.sent number ≡ Some packet) (to : packet.to ≡ Party.Node me) where
-    abbrev heard : Result Transition Fault
-    heard = delivers s w (part_at w.sent number)
+  abbrev input : NodeInput
+  input = NodeInput.Receive m.packet
 
-    -- there is none of this number
-    pub goes_past : length nodes ≤ i → (effect : Effect) → effect ≡ stated_of (length w.sent + 1) None → Goes w heard w effect
-    goes_past past effect is_effect =
-        nothing_goes w heard w effect (heard_by_none s w me number packet sent to (none_here disk config begin nodes tasks messages i me placed past)) refl is_effect
+  -- it is stopped
+  pub goes_resting : ((member : Member S) (p : NodePart) → Represents f.disk member at.it p → p.running ≡ None)
+      → {first : ℕ} {effect : Effect} → first ≡ length f.was.world.sent → effect ≡ stated_of (first + 1) None → Goes f.was.world (heard f number f.was) (with_node at.it f.messages) effect
+  goes_resting rests first_is is =
+      nothing_heard f number (with_node at.it f.messages) (heard_resting (setting f) (world f) m (part f at) (is_here f at) (rests (member f at.me) (part f at) (represents_now f at)))
+      (ap (λ (ps : List NodePart). made_of ps (world f).tasks (world f).sent) (nodes_stay f at at.it (represents_now f at))) first_is is
 
-    module _ (n : Node S D P) (here : slice_get nodes i ≡ Some n) where
-      abbrev part' : NodePart
-      part' = part_by disk config.max_positions n
+  abbrev Runs : Type 0
+  Runs = (member : Member S) (p : NodePart) → Represents f.disk member at.it p → IsSome p.running
 
-      -- it is stopped
-      pub goes_resting : ((m : Member S) (p : NodePart) → Represents disk m n p → p.running ≡ None)
-          → (effect : Effect) → effect ≡ stated_of (length w.sent + 1) None → Goes w heard (world_of disk config.max_positions (slice_set nodes i n) tasks messages) effect
-      goes_resting rests effect is_effect =
-          nothing_goes w heard (world_of disk config.max_positions (slice_set nodes i n) tasks messages) effect
-          (heard_resting s w me number packet sent to part' (is_here n here) (rests member part' (so n here)))
-          (ap (λ (ps : List NodePart). let x : World = record { nodes = ps; tasks = w.tasks; sent = w.sent } in x) (nodes_stay disk config begin nodes tasks i me placed n here n (so n here))) is_effect
+  its_turn : Runs → heard f number (now f) ≡ node_done_if (world f) at.me (node_step f.next f.answers (member f at.me) input (part f at))
+  its_turn runs = heard_running (setting f) (world f) m (part f at) (is_here f at) (runs (member f at.me) (part f at) (represents_now f at))
 
-      module _ (runs : (m : Member S) (p : NodePart) → Represents disk m n p → IsSome p.running) (new : Node S D P) where
-        -- it runs, and takes it
-        pub goes_heard : (dropped : Dropped) (later : Sending) → GoesBy disk member n new (node_step next answers member (NodeInput.Receive packet)) (DescribesSending messages.sent later.sent) dropped
-            → (effect : Effect) → effect ≡ stated_sent (length w.sent + 1) (length later.sent) dropped → Goes w heard (world_of disk config.max_positions (slice_set nodes i new) tasks later) effect
-        goes_heard dropped later by effect is_effect =
-            taking.turned disk config begin nodes tasks messages is i me placed n here new next answers (NodeInput.Receive packet) dropped later by heard
-            (heard_running s w me number packet sent to part' (is_here n here) (runs member part' (so n here))) effect is_effect
+  -- it takes the message
+  module _ (new : Node S D P) (dropped : Dropped) (later : Sending)
+      (by : (member : Member S) (packet : Message) → slice_get f.messages.sent (number - 1) ≡ Some packet
+      → GoesBy f.disk member at.it new (node_step f.next f.answers member (NodeInput.Receive packet)) (DescribesSending f.messages.sent later.sent) dropped) where
+    pub still_heard : IsKept f (slice_set f.nodes at.place new) f.tasks
+    still_heard = still_turned f at new input dropped later (by (member f at.me) m.packet (at_place m))
 
-        -- or does not
-        pub answers_heard : (fault : Fault) → NotTaken disk member n new (node_step next answers member (NodeInput.Receive packet)) fault → (later : Sending) → later.sent ≡ messages.sent
-            → (effect : Effect) (r : Result Unit Fault) → IsErrAnd r (λ f. f ≡ fault)
-            → Answers w heard (λ kept. delivery_is_cut s w (part_at w.sent number) kept) (world_of disk config.max_positions (slice_set nodes i new) tasks later) (stated r effect)
-        answers_heard fault by later same effect r refuses =
-            at_err (λ x. Answers w heard (λ kept. delivery_is_cut s w (part_at w.sent number) kept) (world_of disk config.max_positions (slice_set nodes i new) tasks later) (stated x effect)) fault r refuses
-            (taking.not_turned disk config begin nodes tasks messages is i me placed n here new next answers (NodeInput.Receive packet) later same fault by heard (λ kept. delivery_is_cut s w (part_at w.sent number) kept)
-            (heard_running s w me number packet sent to part' (is_here n here) (runs member part' (so n here))) (cut_heard s w me number packet sent to part' (is_here n here)))
+    pub more_heard : length f.messages.sent ≤ length later.sent
+    more_heard = sent_more f at new input dropped later (by (member f at.me) m.packet (at_place m))
 
-      pub counts_heard : (new : Node S D P) (fault : Fault) → NotTaken disk member n new (node_step next answers member (NodeInput.Receive packet)) fault
-          → IsCounted (failures_in disk n) (failures_in disk new) (let x : Result Dropped Fault = Err fault in x) → (r : Result Unit Fault) → IsErrAnd r (λ f. f ≡ fault)
-          → Counts (IsSome (delivery_writes s w (part_at w.sent number))) (receiver_of (part_at w.sent number)) (map (failures_in disk) nodes) (map (failures_in disk) (slice_set nodes i new)) r
-      counts_heard new fault by counted r refuses =
-          at_err (λ x. Counts (IsSome (delivery_writes s w (part_at w.sent number))) (receiver_of (part_at w.sent number)) (map (failures_in disk) nodes) (map (failures_in disk) (slice_set nodes i new)) x) fault r refuses
-          (heard_counts s w me number packet sent to fault (map (failures_in disk) nodes) (map (failures_in disk) (slice_set nodes i new)) (counts_refused n here new (NodeInput.Receive packet) fault by counted))
+    pub goes_heard : Runs → {first count : ℕ} {effect : Effect} → first ≡ length f.was.world.sent → count ≡ length later.sent → effect ≡ stated_sent (first + 1) count dropped
+        → Goes f.was.world (heard f number f.was) (with_node new later) effect
+    goes_heard runs {effect = effect} first_is count_is is =
+        as_seen f (λ v. Goes v.world (heard f number v) (with_node new later) effect)
+        (turned f at new input dropped later (by (member f at.me) m.packet (at_place m)) (heard f number (now f)) (its_turn runs) effect (counted_from f dropped later first_is count_is is))
+
+  -- or does not
+  module _ (new : Node S D P) (fault : Fault)
+      (by : (member : Member S) (packet : Message) → slice_get f.messages.sent (number - 1) ≡ Some packet → NotTaken f.disk member at.it new (node_step f.next f.answers member (NodeInput.Receive packet)) fault) where
+    abbrev IsAnswered : Sending → Result Effect Fault → Setup P → Type 0
+    IsAnswered later r v = AnswersDelivery (setting_by f v) v.world number (with_node new later) r
+
+    abbrev HasCounted : Result Unit Fault → Setup P → Type 0
+    HasCounted r v = CountsDelivery (setting_by f v) v.world number v.failures (counts_of f (slice_set f.nodes at.place new)) r
+
+    pub still_unheard : IsKept f (slice_set f.nodes at.place new) f.tasks
+    still_unheard = still_refused f at new input fault (by (member f at.me) m.packet (at_place m))
+
+    module _ (r : Result Unit Fault) (refuses : IsErrAnd r (λ e. e ≡ fault)) where
+      pub answers_heard : Runs → (later : Sending) → later.sent ≡ f.messages.sent → (effect : Effect) → IsAnswered later (stated r effect) f.was
+      answers_heard runs later same effect =
+          at_err (λ x. IsAnswered later (stated x effect) f.was) fault r refuses
+          (as_seen f (IsAnswered later (as_fault fault))
+          (not_turned f at new input fault (by (member f at.me) m.packet (at_place m)) later same _ _ (its_turn runs) (cut_heard (setting f) (world f) m (part f at) (is_here f at))))
+
+      pub counts_heard : IsCounted (failures_in f.disk at.it) (failures_in f.disk new) (as_turn_fault fault) → HasCounted r f.was
+      counts_heard counted =
+          at_err (λ x. HasCounted x f.was) fault r refuses
+          (as_seen f (λ v. HasCounted (let x : Result Unit Fault = Err fault in x) v)
+          (heard_counts (setting f) (world f) m fault (counts_of f f.nodes) (counts_of f (slice_set f.nodes at.place new)) (counts_refused f at new input fault (by (member f at.me) m.packet (at_place m)) counted)))

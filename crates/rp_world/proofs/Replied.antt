@@ -1,72 +1,82 @@
 -- A task hears a message: what it takes of it, and what this is for the world.
-use Rattle.std.proofs.Common.{◌≡◌, ℕ, ◌+◌, Option, Some, None, Result, Ok, Err, List, slice_set, inl, inr, refl, sym, ap, subst, ◌∙◌, length}
+use Rattle.std.proofs.Common.{◌≡◌, ℕ, ◌+◌, ◌≤◌, Option, Some, None, Result, Ok, Err, List, length, slice_set, inl, inr, refl, sym, ap, subst, ◌∙◌}
 use Rattle.std.specs.Prelude.{IfOk, OnErr}
-use Rattle.rp_base.specs.declared.config.Config.{Config}
 use Rattle.rp_base.specs.declared.fault.Fault.{Fault}
 use Rattle.rp_base.specs.declared.fault.Fault.TheVariants.{OutOfMemory}
 use Rattle.rp_base.specs.declared.reply.Answer.{Answer}
 use Rattle.rp_base.specs.declared.reply.Reply.{Reply}
-use Rattle.rp_codec.specs.Message.{Message}
-use Rattle.rp_codec.specs.declared.packet.Party.TheVariants.{Task}
-use Rattle.rp_store.specs.Disk.{Disk}
-use Rattle.rp_outbox.specs.Packets.{Sending}
+use Rattle.rp_codec.specs.declared.packet.Party.{Party}
 use Rattle.rp_model.specs.declared.effect.Dropped.TheVariants.{No}
 use Rattle.rp_model.specs.declared.effect.Effect.{Effect}
-use Rattle.rp_model.specs.Effect.{Setting}
 use Rattle.rp_model.specs.Parts.{TaskPart}
 use Rattle.rp_model.specs.Tasks.{takes_reply}
-use Rattle.rp_model.specs.World.{World, Transition, part_at, with_part, delivers}
+use Rattle.rp_model.specs.World.{World, with_part}
 use Rattle.rp_world.specs.Callers.{Caller}
-use Rattle.rp_world.specs.Going.{Answers, reply_in}
-use Rattle.rp_world.specs.Shape.{world_of, IsWorld}
-use Rattle.rp_world.specs.declared.node.Node.{Node}
-use Rattle.rp_world.proofs.Moving.{task_here, number_here, tasks_moved, tasks_stay}
-use Rattle.rp_world.proofs.Hearing.{reply_results, takes_it}
+use Rattle.rp_world.specs.Going.{AnswersDelivery, reply_in}
+use Rattle.rp_world.proofs.Fields.{Fields, as_seen, first_seen, setting, world, world_with, setting_by}
+use Rattle.rp_world.proofs.Hearing.{no_reply, reply_results, takes_it}
+use Rattle.rp_world.proofs.Messages.{SentTo}
+use Rattle.rp_world.proofs.Moving.{task_at, task_here, number_here, tasks_moved, tasks_stay}
 use Rattle.rp_world.proofs.Placing.{Found}
+use Rattle.rp_world.proofs.Reports.{stated_of}
 
-module _ {S D P : Type 0} (disk : D → Disk) (config : Config) (begin : S) (nodes : List (Node S D P)) (tasks : List Caller) (messages : Sending) (world : IsWorld disk config begin nodes tasks)
-    {i me : ℕ} {t : Caller} (found : Found tasks i me t) (new : Caller)
-    (s : Setting S) (number : ℕ) (m : Message) (sent : part_at messages.sent number ≡ Some m) (to : m.to ≡ Task me) (n : ℕ) (reply : Reply) where
+-- it is no reply, and changes nothing
+pub heard_no_reply : {S D P : Type 0} (f : Fields S D P) {number task : ℕ} (m : SentTo f.messages.sent number (Party.Task task)) → (1 ≤ task) × (task ≤ 8) → reply_in m.packet.body ≡ None
+    → {first : ℕ} {effect : Effect} → first ≡ length f.was.world.sent → effect ≡ stated_of (first + 1) None
+    → AnswersDelivery (setting_by f f.was) f.was.world number f.was.world (let r : Result Effect Fault = Ok effect in r)
+heard_no_reply f {number = number} {task = task} m range none {effect = effect} first_is is =
+    let at = task_at f task range in
+    as_seen f (λ v. AnswersDelivery (setting_by f v) v.world number v.world (let r : Result Effect Fault = Ok effect in r))
+    (no_reply (setting f) (world f) m at.0 at.1 effect none at.2 (is ∙ ap (λ (k : ℕ). stated_of (k + 1) None) (first_seen f first_is)))
+
+module _ {S D P : Type 0} (f : Fields S D P) (at : Found f.tasks) (new : Caller) {number : ℕ} (m : SentTo f.messages.sent number (Party.Task at.me)) where
   abbrev w : World
-  w = world_of disk config.max_positions nodes tasks messages
+  w = world f
 
   abbrev after : World
-  after = world_of disk config.max_positions nodes (slice_set tasks i new) messages
+  after = world_with f f.nodes (slice_set f.tasks at.place new) f.messages
 
   abbrev with_tasks : List TaskPart → World
   with_tasks ts = record { nodes = w.nodes; tasks = ts; sent = w.sent }
 
-  here : part_at w.tasks me ≡ Some t.part
-  here = task_here disk config begin nodes tasks i me found.placed t found.here
+  abbrev Answered : Result Effect Fault → Type 0
+  Answered r = AnswersDelivery (setting_by f f.was) f.was.world number after r
 
-  number_is : t.task ≡ me
-  number_is = number_here disk config begin nodes tasks i me found.placed t found.here world
+  seen : (r : Result Effect Fault) → AnswersDelivery (setting f) w number after r → Answered r
+  seen r is = as_seen f (λ v. AnswersDelivery (setting_by f v) v.world number after r) is
 
   -- it took the reply, or ignored it
-  pub took_reply : {E : Type 0} (result : Result (Option Answer) E) {taken : Option Answer} {first : ℕ} {stated : Effect} {r : Result Effect Fault} (cut : ℕ → Result Transition Fault) → result ≡ Ok taken → r ≡ Ok stated
-      → reply_in m.body ≡ Some (n, reply) → IfOk result (λ a. new ≡ record t { part = (takes_reply t.task t.part n reply).part }) → IfOk result (λ a. a ≡ (takes_reply t.task t.part n reply).taken)
-      → first ≡ length messages.sent → stated ≡ (let e : Effect = record { first = first + 1; sent = 0; dropped = No; taken = taken; opened = None } in e) → Answers w (delivers s w (part_at w.sent number)) cut after r
-  took_reply {E = E} result {taken = taken} {first = first} {stated = stated} {r = r} cut is returned is_reply part takes first_is stated_is =
-      let ok = subst (λ a. IfOk a (λ a. new ≡ record t { part = (takes_reply t.task t.part n reply).part })) is part in
-      let took = subst (λ a. IfOk a (λ a. a ≡ (takes_reply t.task t.part n reply).taken)) is takes in
-      let moved : after ≡ with_tasks (with_part w.tasks me (takes_reply me t.part n reply).part) =
-      ap with_tasks
-      (tasks_moved disk config begin nodes tasks i me found.placed t found.here new
-      ∙ ap (with_part w.tasks me) (ap (λ (k : Caller). k.part) ok ∙ ap (λ (k : ℕ). (takes_reply k t.part n reply).part) number_is)) in
-      subst (Answers w (delivers s w (part_at w.sent number)) cut after) (sym returned)
-      (takes_it s w me number m sent to t.part here n reply is_reply after taken stated moved (took ∙ ap (λ (k : ℕ). (takes_reply k t.part n reply).taken) number_is)
-      (stated_is ∙ ap (λ (k : ℕ). let e : Effect = record { first = k + 1; sent = 0; dropped = No; taken = taken; opened = None } in e) first_is))
+  module _ {n : ℕ} {reply : Reply} (is_reply : reply_in m.packet.body ≡ Some (n, reply)) where
+    abbrev Part : Option Answer → Type 0
+    Part taken = new ≡ record at.it { part = (takes_reply at.it.task at.it.part n reply).part }
+
+    abbrev Takes : Option Answer → Type 0
+    Takes taken = taken ≡ (takes_reply at.it.task at.it.part n reply).taken
+
+    pub took_reply : {E : Type 0} {result : Result (Option Answer) E} {taken : Option Answer} {first : ℕ} {stated : Effect} {r : Result Effect Fault} → result ≡ Ok taken → r ≡ Ok stated → IfOk result Part → IfOk result Takes
+        → first ≡ length f.was.world.sent → stated ≡ (let e : Effect = record { first = first + 1; sent = 0; dropped = No; taken = taken; opened = None } in e) → Answered r
+    took_reply {taken = taken} {stated = stated} is returned part takes first_is stated_is =
+        let ok = subst (λ a. IfOk a Part) is part in
+        let took = subst (λ a. IfOk a Takes) is takes in
+        let moved : after ≡ with_tasks (with_part w.tasks at.me (takes_reply at.me at.it.part n reply).part) =
+        ap with_tasks
+        (tasks_moved f at new
+        ∙ ap (with_part w.tasks at.me) (ap (λ (k : Caller). k.part) ok ∙ ap (λ (k : ℕ). (takes_reply k at.it.part n reply).part) (number_here f at))) in
+        subst Answered (sym returned)
+        (seen (Ok stated)
+        (takes_it (setting f) w m at.it.part (task_here f at) n reply is_reply after taken stated moved (took ∙ ap (λ (k : ℕ). (takes_reply k at.it.part n reply).taken) (number_here f at))
+        (stated_is ∙ ap (λ (k : ℕ). let e : Effect = record { first = k + 1; sent = 0; dropped = No; taken = taken; opened = None } in e) (first_seen f first_is))))
 
   -- memory ran out for it
-  pub not_taken : {E : Type 0} (result : Result (Option Answer) E) {e : E} {r : Result Effect Fault} (cut : ℕ → Result Transition Fault) → result ≡ Err e → r ≡ Err OutOfMemory → OnErr result (new ≡ t)
-      → Answers w (delivers s w (part_at w.sent number)) cut after r
-  not_taken {E = E} result {e = e} {r = r} cut is returned err =
-      let same = subst (λ a. OnErr a (new ≡ t)) is err in
-      let results = reply_results s w me number m sent to t.part here in
-      subst (Answers w (delivers s w (part_at w.sent number)) cut after) (sym returned)
+  pub not_taken : {E : Type 0} {result : Result (Option Answer) E} {e : E} {r : Result Effect Fault} → result ≡ Err e → r ≡ Err OutOfMemory → OnErr result (new ≡ at.it) → Answered r
+  not_taken is returned err =
+      let same = subst (λ a. OnErr a (new ≡ at.it)) is err in
+      let results = reply_results (setting f) w m at.it.part (task_here f at) in
+      subst Answered (sym returned)
+      (seen (Err OutOfMemory)
       (inr (inl (record {
         memory = refl;
         intended = results.0;
         resulted = results.1;
-        unchanged = ap with_tasks (tasks_stay disk config begin nodes tasks i me found.placed t found.here new (ap (λ (k : Caller). k.part) same));
-      })))
+        unchanged = ap with_tasks (tasks_stay f at new (ap (λ (k : Caller). k.part) same));
+      }))))

@@ -1,10 +1,12 @@
 -- What represents a node's part once it stops or starts again.
 use Rattle.std.proofs.Common.{◌≡◌, ℕ, min, Bool, true, false, Result, Ok, Err, Option, Some, List, [], length, take, inl, inr, refl, sym, ap, subst, ◌∙◌, arith}
 use Rattle.std.proofs.lemmas.List.{length-take}
+use Rattle.rp_base.specs.declared.action.Action.{Action}
 use Rattle.rp_base.specs.declared.config.Config.{Config}
 use Rattle.rp_base.specs.declared.fault.Fault.{Fault}
 use Rattle.rp_base.specs.declared.fault.Fault.TheVariants.{OutOfMemory, Device}
 use Rattle.rp_base.specs.declared.record.Rec.{Rec}
+use Rattle.rp_base.specs.declared.reply.Answer.{Answer}
 use Rattle.rp_store.specs.Disk.{Disk}
 use Rattle.rp_store.specs.Records.{records_text, AreTextsOf, AreRecordsOf}
 use Rattle.rp_store.proofs.Whole.{texts_long, whole_long, alone, no_records, same_reading}
@@ -17,6 +19,7 @@ use Rattle.rp_replica.specs.Opening.{Opens, IsRefusedOpening}
 use Rattle.rp_replica.specs.Kept.{HoldsPart, HoldsOnly, HoldsItsRecords}
 use Rattle.std.specs.Prelude.{IfOk, IfErr}
 use Rattle.rp_world.specs.declared.node.Node.{Node}
+use Rattle.rp_world.specs.declared.node.Node.TheVariants.{Running, Stopped}
 use Rattle.rp_world.specs.Nodes.{Member, RunsAs, RestsAs, RepresentsWhile, Represents, GoesBy, IsLeftTorn, DescribesOpened, stored_length}
 
 -- ---- a replica that runs, or has failed
@@ -33,6 +36,25 @@ module _ {S : Type 0} (member : Member S) (replica : ReplicaState S) (part : Nod
 
   pub as_resting : replica.failed ≡ true → RepresentsWhile member replica part replica.failed → RestsAs member.config.max_positions replica.disk part
   as_resting failed is = subst (RepresentsWhile member replica part) failed is
+
+-- a node whose replica has not failed, and the machine that it runs
+pub record NodeRuns (S D P : Type 0) : Type 0 where
+  pub disk : D → Disk
+  pub next : S → Action → S
+  pub answers : S → Action → List Answer
+  pub node : Node S D P
+  pub replica : ReplicaState S
+  pub is : node ≡ Running replica
+  pub working : replica.failed ≡ false
+
+abbrev pub node_runs : {S D P : Type 0} {node : Node S D P} {replica : ReplicaState S} {failed : Bool} (disk : D → Disk) (next : S → Action → S) (answers : S → Action → List Answer)
+    → node ≡ Running replica → failed ≡ replica.failed → failed ≡ false → NodeRuns S D P
+node_runs {node = node} {replica = replica} disk next answers is failed_is works =
+    record { disk = disk; next = next; answers = answers; node = node; replica = replica; is = is; working = sym failed_is ∙ works }
+
+-- it runs as the part that it represents
+pub runs_as : {S D P : Type 0} (r : NodeRuns S D P) (member : Member S) (part : NodePart) → Represents r.disk member r.node part → RunsAs member r.replica part
+runs_as r member part is = as_running member r.replica part r.working (subst (λ n. Represents r.disk member n part) r.is is)
 
 -- what is so whatever was answered
 pub if_err : {A : Type 0} {So : Type 0} (answer : Result A Fault) → So → IfErr answer (λ fault. So)
@@ -139,6 +161,17 @@ stops_as {S = S} member replica disk part runs holds only = (
 -- a replica that runs goes on
 pub goes_on_running : {S : Type 0} (member : Member S) (replica : ReplicaState S) (part : NodePart) → RunsAs member replica part → restart_part part ≡ goes_on_as part
 goes_on_running member replica part runs = ap (restart_while part) (ap (λ (p : NodePart). p.running) runs.known)
+
+-- a node that rests on its device: one whose replica has failed, or that is stopped
+pub rests_failed : {S D P : Type 0} (disk : D → Disk) (member : Member S) {node : Node S D P} {replica : ReplicaState S} {failed : Bool} {device : Disk} → node ≡ Running replica → failed ≡ replica.failed → failed ≡ true → device ≡ replica.disk
+    → (part : NodePart) → Represents disk member node part → RestsAs member.config.max_positions device part
+rests_failed disk member {replica = replica} is failed_is failed same part represents_it =
+    subst (λ (d : Disk). RestsAs member.config.max_positions d part) (sym same)
+    (as_resting member replica part (sym failed_is ∙ failed) (subst (λ n. Represents disk member n part) is represents_it))
+
+pub rests_stopped : {S D P : Type 0} (disk : D → Disk) (member : Member S) {node : Node S D P} {device : D} → node ≡ Stopped device
+    → (part : NodePart) → Represents disk member node part → RestsAs member.config.max_positions (disk device) part
+rests_stopped disk member is part represents_it = subst (λ n. Represents disk member n part) is represents_it
 
 -- a node that starts over the device that it rested on
 module _ {S D P : Type 0} (disk : D → Disk) (member : Member S) (old new : Node S D P) (device : Disk)

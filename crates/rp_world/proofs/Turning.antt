@@ -16,7 +16,7 @@ use Rattle.rp_codec.proofs.RecordLaws.{has_latest}
 use Rattle.rp_store.proofs.Whole.{texts_end}
 use Rattle.rp_model.specs.Parts.{NodePart}
 use Rattle.rp_model.specs.Parts.{Turn, with_record}
-use Rattle.rp_model.specs.Effect.{Receive, Setting, Done, NodeInput, running_effect, turn_done, turn_done_if, node_effect, cut_part, stop_part}
+use Rattle.rp_model.specs.Effect.{Setting, Done, NodeInput, running_effect, turn_done, turn_done_if, node_effect, cut_part, stop_part}
 use Rattle.rp_model.specs.declared.effect.Dropped.{Dropped}
 use Rattle.rp_replica.specs.declared.sent.Sent.{Sent}
 use Rattle.rp_replica.specs.State.{ReplicaState, part_of, setting_of, with_text, after_turn}
@@ -31,7 +31,7 @@ use Rattle.rp_replica.specs.declared.cut.NotCut.TheVariants.{Failed as DeviceFai
 use Rattle.rp_world.specs.declared.node.Node.{Node}
 use Rattle.rp_world.specs.declared.node.Node.TheVariants.{Running, Stopped}
 use Rattle.rp_world.specs.Nodes.{Member, RunsAs, RestsAs, setting_at, node_step, IsNotRefused, RepresentsWhile, Represents, GoesBy, IsCutBy, NotTaken, DescribesSent, DescribesSending}
-use Rattle.rp_world.proofs.Represented.{represents, represents_failed, as_running}
+use Rattle.rp_world.proofs.Represented.{NodeRuns, represents, represents_failed, runs_as}
 
 some_of : {A : Type 0} (o : Option A) (x : A) → o ≡ Some x → IsSome o
 some_of {A = A} o x is = subst IsSome (sym is) refl
@@ -111,41 +111,48 @@ module _ {S : Type 0} (next : S → Action → S) (answers : S → Action → Li
 pub false_true : {b : Bool} → b ≡ false → b ≡ true → ⊥
 false_true one other = absurd cc
 
-module _ {S : Type 0} (D P : Type 0) (next : S → Action → S) (answers : S → Action → List Answer) (disk : D → Disk) (input : NodeInput) (old : ReplicaState S) (working : old.failed ≡ false) where
-  -- the node before
-  abbrev before : Node S D P
-  before = Running old
+-- ---- a step of a node that runs
 
-  taken_by : (new : ReplicaState S) (sent later : List Message) (dropped : Dropped) → TurnsOnto (effect_of next answers old input) old new sent later dropped → (member : Member S)
-      → GoesBy disk member before (Running new) (node_step next answers member input) (DescribesSending sent later) dropped
+module _ {S D P : Type 0} (r : NodeRuns S D P) (input : NodeInput) where
+  abbrev old : ReplicaState S
+  old = r.replica
+
+  abbrev effect : Result Turn Fault
+  effect = effect_of r.next r.answers r.replica input
+
+  abbrev step : Member S → NodePart → Result (Done NodePart) Fault
+  step member part = node_step r.next r.answers member input part
+
+  taken_by : (new : ReplicaState S) (sent later : List Message) (dropped : Dropped) → TurnsOnto effect old new sent later dropped → (member : Member S)
+      → GoesBy r.disk member r.node (Running new) (step member) (DescribesSending sent later) dropped
   taken_by new sent later dropped turns member part is =
-      let t = taken_onto next answers member old part (as_running member old part working is) input new sent later dropped (effect_of next answers old input) refl turns in
+      let t = taken_onto r.next r.answers member old part (runs_as r member part is) input new sent later dropped effect refl turns in
       (t.0, t.1, represents member new t.0.part t.2, t.3)
 
-  module _ (member : Member S) (part : NodePart) (is : RepresentsWhile member old part old.failed) where
+  module _ (member : Member S) (part : NodePart) (is : Represents r.disk member r.node part) where
     runs : RunsAs member old part
-    runs = as_running member old part working is
+    runs = runs_as r member part is
 
     -- how the step was not taken, and left the node so
     abbrev NotTakenHere : Node S D P → Fault → Type 0
     NotTakenHere n fault =
-        ((node_step next answers member input part ≡ Err fault) × Represents disk member n part)
-        ⊎ (((fault ≡ OutOfMemory) × IsNotRefused (node_step next answers member input part) × Represents disk member n part)
-        ⊎ ((fault ≡ Device) × (kept : ℕ) × (done : Done NodePart) × (node_step next answers member input part ≡ Ok done) × Represents disk member n (cut_part kept part done.written) × IsSome done.written))
+        ((step member part ≡ Err fault) × Represents r.disk member n part)
+        ⊎ (((fault ≡ OutOfMemory) × IsNotRefused (step member part) × Represents r.disk member n part)
+        ⊎ ((fault ≡ Device) × (kept : ℕ) × (done : Done NodePart) × (step member part ≡ Ok done) × Represents r.disk member n (cut_part kept part done.written) × IsSome done.written))
 
-    pub not_refused : (turn : Turn) → effect_of next answers old input ≡ Ok turn → node_step next answers member input part ≡ Ok (turn_done part turn)
-    not_refused turn resulted = same_effect next answers member old part runs input ∙ ap (turn_done_if part) resulted
+    not_refused : (turn : Turn) → effect ≡ Ok turn → step member part ≡ Ok (turn_done part turn)
+    not_refused turn resulted = same_effect r.next r.answers member old part runs input ∙ ap (turn_done_if part) resulted
 
     -- what some cut of the turn leaves on the device
-    pub rests_cut : (turn : Turn) (kept : ℕ) (d : Disk) → HoldsCut kept old d turn.written
+    rests_cut : (turn : Turn) (kept : ℕ) (d : Disk) → HoldsCut kept old d turn.written
         → RestsAs member.config.max_positions d (cut_part kept part (turn_done part turn).written)
-    rests_cut turn kept d holds = is_cut next answers member old part runs kept turn.written d holds
+    rests_cut turn kept d holds = is_cut r.next r.answers member old part runs kept turn.written d holds
 
     module _ (new : ReplicaState S) where
       stays_so : new ≡ old → RepresentsWhile member new part new.failed
-      stays_so same = subst (λ (h : ReplicaState S). RepresentsWhile member h part h.failed) (sym same) is
+      stays_so same = subst (λ (h : ReplicaState S). RepresentsWhile member h part h.failed) (sym same) (represents member old part runs)
 
-      fails_so : (turn : Turn) → effect_of next answers old input ≡ Ok turn → FailsAt turn.written old new → NotTakenHere (Running new) Device
+      fails_so : (turn : Turn) → effect ≡ Ok turn → FailsAt turn.written old new → NotTakenHere (Running new) Device
       fails_so turn resulted fails =
           let kept = fails.holds.0 in
           inr (inr (
@@ -157,107 +164,66 @@ module _ {S : Type 0} (D P : Type 0) (next : S → Action → S) (answers : S �
             some_of turn.written fails.rec fails.is,
           ))
 
-      stops_so : (turn : Turn) → effect_of next answers old input ≡ Ok turn → (fault : Fault) → Stops turn.written old new fault → NotTakenHere (Running new) fault
+      stops_so : (turn : Turn) → effect ≡ Ok turn → (fault : Fault) → Stops turn.written old new fault → NotTakenHere (Running new) fault
       stops_so turn resulted OutOfMemory stops = inr (inl (refl, subst IsNotRefused (sym (not_refused turn resulted)) tt, stays_so stops.0))
       stops_so turn resulted Device stops = fails_so turn resulted stops.0
-      stops_so turn resulted Failed stops = absurd (false_true working stops.1)
+      stops_so turn resulted Failed stops = absurd (false_true r.working stops.1)
       stops_so turn resulted _ stops = absurd stops
 
-      refused_so : (refusal fault : Fault) → effect_of next answers old input ≡ Err refusal → IsRefused refusal old new fault → NotTakenHere (Running new) fault
+      refused_so : (refusal fault : Fault) → effect ≡ Err refusal → IsRefused refusal old new fault → NotTakenHere (Running new) fault
       refused_so refusal fault resulted stops =
           elim stops.1 [
             | inl stated ↦
-                let refuses : node_step next answers member input part ≡ Err fault = same_effect next answers member old part runs input ∙ ap (turn_done_if part) resulted ∙ ap Err (sym stated.0) in
+                let refuses : step member part ≡ Err fault = same_effect r.next r.answers member old part runs input ∙ ap (turn_done_if part) resulted ∙ ap Err (sym stated.0) in
                 inl (refuses, stays_so stops.0)
-            | inr gone ↦ absurd (false_true working gone.1)
+            | inr gone ↦ absurd (false_true r.working gone.1)
           ]
 
-      by_effect : (effect : Result Turn Fault) → effect_of next answers old input ≡ effect → (fault : Fault) → StopsIf effect old new fault → NotTakenHere (Running new) fault
+      by_effect : (e : Result Turn Fault) → effect ≡ e → (fault : Fault) → StopsIf e old new fault → NotTakenHere (Running new) fault
       by_effect (Ok turn) resulted fault stops = stops_so turn resulted fault stops
       by_effect (Err refusal) resulted fault stops = refused_so refusal fault resulted stops
 
     -- a step that was cut
-    pub cut_by : (effect : Result Turn Fault) → effect_of next answers old input ≡ effect → (kept : ℕ) (device : D) → CutsIf effect kept old (disk device)
-        → (done : Done NodePart) × (node_step next answers member input part ≡ Ok done) × RestsAs member.config.max_positions (disk device) (cut_part kept part done.written)
-    cut_by (Ok turn) resulted kept device cuts = (turn_done part turn, not_refused turn resulted, rests_cut turn kept (disk device) cuts.holds)
+    cut_by : (e : Result Turn Fault) → effect ≡ e → (kept : ℕ) (device : D) → CutsIf e kept old (r.disk device)
+        → (done : Done NodePart) × (step member part ≡ Ok done) × RestsAs member.config.max_positions (r.disk device) (cut_part kept part done.written)
+    cut_by (Ok turn) resulted kept device cuts = (turn_done part turn, not_refused turn resulted, rests_cut turn kept (r.disk device) cuts.holds)
     cut_by (Err refusal) resulted kept device cuts = absurd cuts
 
     -- or was not
-    pub fails_in_cut : (effect : Result Turn Fault) → effect_of next answers old input ≡ effect → (device : D) → IsNotCutIf disk effect old (let r : NotCut S D P = DeviceFailed device in r) → NotTakenHere (Stopped device) Device
+    fails_in_cut : (e : Result Turn Fault) → effect ≡ e → (device : D) → IsNotCutIf r.disk e old (let n : NotCut S D P = DeviceFailed device in n) → NotTakenHere (Stopped device) Device
     fails_in_cut (Ok turn) resulted device fails =
         let kept = fails.holds.0 in
-        inr (inr (refl, kept, turn_done part turn, not_refused turn resulted, rests_cut turn kept (disk device) fails.holds.1, some_of turn.written fails.rec fails.is))
+        inr (inr (refl, kept, turn_done part turn, not_refused turn resulted, rests_cut turn kept (r.disk device) fails.holds.1, some_of turn.written fails.rec fails.is))
     fails_in_cut (Err refusal) resulted device fails = absurd fails
 
-    pub refused_cut : (effect : Result Turn Fault) → effect_of next answers old input ≡ effect → (fault : Fault) (new : ReplicaState S) → IsNotCutIf disk effect old (let r : NotCut S D P = Refused fault new in r) → NotTakenHere (Running new) fault
+    refused_cut : (e : Result Turn Fault) → effect ≡ e → (fault : Fault) (new : ReplicaState S) → IsNotCutIf r.disk e old (let n : NotCut S D P = Refused fault new in n) → NotTakenHere (Running new) fault
     refused_cut (Ok turn) resulted fault new stops = by_effect new (Ok turn) resulted fault stops.0
     refused_cut (Err refusal) resulted fault new stops = refused_so new refusal fault resulted stops
 
   -- a step that was not taken
-  not_answered : (new : ReplicaState S) (fault : Fault) → StopsIf (effect_of next answers old input) old new fault
-      → (member : Member S) → NotTaken disk member before (Running new) (node_step next answers member input) fault
-  not_answered new fault stops = λ member part is. by_effect member part is new (effect_of next answers old input) refl fault stops
+  not_answered : (new : ReplicaState S) (fault : Fault) → StopsIf effect old new fault → (member : Member S) → NotTaken r.disk member r.node (Running new) (step member) fault
+  not_answered new fault stops = λ member part is. by_effect member part is new effect refl fault stops
 
-  -- what was answered
-  module _ (new : ReplicaState S) (sent later : List Message) where
-    pub answered_ok : (answer : Result Dropped Fault) → AnswersOnto (effect_of next answers old input) old new sent later answer
-        → IfOk answer (λ dropped. (member : Member S) → GoesBy disk member before (Running new) (node_step next answers member input) (DescribesSending sent later) dropped)
-    answered_ok (Ok dropped) turns = taken_by new sent later dropped turns
-    answered_ok (Err fault) turns = tt
+-- ---- what was answered to each input of which this is so
 
-    pub answered_err : (answer : Result Dropped Fault) → AnswersOnto (effect_of next answers old input) old new sent later answer
-        → IfErr answer (λ fault. (member : Member S) → NotTaken disk member before (Running new) (node_step next answers member input) fault)
-    answered_err (Ok dropped) stops = tt
-    answered_err (Err fault) stops = not_answered new fault stops.0
+module _ {S D P : Type 0} (r : NodeRuns S D P) {A : Type 0} (input : A → NodeInput) (Q : A → Type 0) (new : ReplicaState S) (sent later : List Message) where
+  abbrev pub Each : Result Dropped Fault → Type 0
+  Each answer = (a : A) → Q a → AnswersOnto (effect_of r.next r.answers r.replica (input a)) r.replica new sent later answer
+
+  pub each_ok : (answer : Result Dropped Fault) → Each answer
+      → IfOk answer (λ dropped. (member : Member S) (a : A) → Q a → GoesBy r.disk member r.node (Running new) (node_step r.next r.answers member (input a)) (DescribesSending sent later) dropped)
+  each_ok (Ok dropped) each = λ member a q. taken_by r (input a) new sent later dropped (each a q) member
+  each_ok (Err fault) each = tt
+
+  pub each_err : (answer : Result Dropped Fault) → Each answer
+      → IfErr answer (λ fault. (member : Member S) (a : A) → Q a → NotTaken r.disk member r.node (Running new) (node_step r.next r.answers member (input a)) fault)
+  each_err (Ok dropped) each = tt
+  each_err (Err fault) each = λ member a q. let stops = each a q in not_answered r (input a) new fault stops.0 member
 
 -- nothing was sent where it was not taken
 pub unsent : {S : Type 0} (effect : Result Turn Fault) (old new : ReplicaState S) (sent later : List Message) (answer : Result Dropped Fault) → AnswersOnto effect old new sent later answer → OnErr answer (later ≡ sent)
 unsent effect old new sent later (Ok dropped) turns = tt
 unsent effect old new sent later (Err fault) stops = stops.1
-
--- the same of an input that gives this to the node
-module _ {S : Type 0} (D P : Type 0) (next : S → Action → S) (answers : S → Action → List Answer) (disk : D → Disk) (old : ReplicaState S) (working : old.failed ≡ false) (input : Input) where
-  abbrev was : Node S D P
-  was = Running old
-
-  same_input : (given : NodeInput) → given_by input ≡ Ok given → input_effect next answers old input ≡ effect_of next answers old given
-  same_input given is = ap (effect_if_given next answers old) is
-
-  so_given : (new : ReplicaState S) (sent later : List Message) (answer : Result Dropped Fault) → AnswersOnto (input_effect next answers old input) old new sent later answer → (given : NodeInput) → given_by input ≡ Ok given
-      → AnswersOnto (effect_of next answers old given) old new sent later answer
-  so_given new sent later answer answered given is = subst (λ (r : Result Turn Fault). AnswersOnto r old new sent later answer) (same_input given is) answered
-
-  pub turned_ok : (new : ReplicaState S) (sent later : List Message) (answer : Result Dropped Fault) → AnswersOnto (input_effect next answers old input) old new sent later answer
-      → IfOk answer (λ dropped. (member : Member S) (given : NodeInput) → given_by input ≡ Ok given → GoesBy disk member was (Running new) (node_step next answers member given) (DescribesSending sent later) dropped)
-  turned_ok new sent later (Ok dropped) answered = λ member given is.
-      let went : Result Dropped Fault = Ok dropped in
-      answered_ok D P next answers disk given old working new sent later went (so_given new sent later went answered given is) member
-  turned_ok new sent later (Err fault) answered = tt
-
-  pub turned_err : (new : ReplicaState S) (sent later : List Message) (answer : Result Dropped Fault) → AnswersOnto (input_effect next answers old input) old new sent later answer
-      → IfErr answer (λ fault. (member : Member S) (given : NodeInput) → given_by input ≡ Ok given → NotTaken disk member was (Running new) (node_step next answers member given) fault)
-  turned_err new sent later (Ok dropped) answered = tt
-  turned_err new sent later (Err fault) answered = λ member given is.
-      let went : Result Dropped Fault = Err fault in
-      answered_err D P next answers disk given old working new sent later went (so_given new sent later went answered given is) member
-
-  -- a step that was cut, or was not
-  pub is_cut_so : (kept : ℕ) (device : D) → CutsIf (input_effect next answers old input) kept old (disk device)
-      → (member : Member S) (given : NodeInput) → given_by input ≡ Ok given → IsCutBy disk member was (Stopped device) kept (node_step next answers member given)
-  is_cut_so kept device cuts member given gives part represents_now =
-      cut_by D P next answers disk given old working member part represents_now (effect_of next answers old given) refl kept device (subst (λ (r : Result Turn Fault). CutsIf r kept old (disk device)) (same_input given gives) cuts)
-
-  pub failed_in_cut : (device : D) → IsNotCutIf disk (input_effect next answers old input) old (let r : NotCut S D P = DeviceFailed device in r)
-      → (member : Member S) (given : NodeInput) → given_by input ≡ Ok given → NotTaken disk member was (Stopped device) (node_step next answers member given) Device
-  failed_in_cut device fails member given gives part represents_now =
-      fails_in_cut D P next answers disk given old working member part represents_now (effect_of next answers old given) refl device
-      (subst (λ (r : Result Turn Fault). IsNotCutIf disk r old (let n : NotCut S D P = DeviceFailed device in n)) (same_input given gives) fails)
-
-  pub refused_in_cut : (fault : Fault) (new : ReplicaState S) → IsNotCutIf disk (input_effect next answers old input) old (let r : NotCut S D P = Refused fault new in r)
-      → (member : Member S) (given : NodeInput) → given_by input ≡ Ok given → NotTaken disk member was (Running new) (node_step next answers member given) fault
-  refused_in_cut fault new stops member given gives part represents_now =
-      refused_cut D P next answers disk given old working member part represents_now (effect_of next answers old given) refl fault new
-      (subst (λ (r : Result Turn Fault). IsNotCutIf disk r old (let n : NotCut S D P = Refused fault new in n)) (same_input given gives) stops)
 
 -- a message that was sent is at each place below the last
 pub got_at : (ms : List Message) (place : ℕ) → place < length ms → (m : Message) × (slice_get ms place ≡ Some m)
@@ -265,18 +231,30 @@ got_at [] place less = absurd (omega (arith, less))
 got_at (m ∷ ms) zero less = (m, refl)
 got_at (m ∷ ms) (suc k) less = got_at ms k (omega (arith, less))
 
--- the same of the packet of a place among those that were sent
-module _ {S : Type 0} (D P : Type 0) (next : S → Action → S) (answers : S → Action → List Answer) (disk : D → Disk) (old : ReplicaState S) (working : old.failed ≡ false) (new : ReplicaState S) (sent later : List Message) (place : ℕ) where
-  -- what was answered to each packet that is there
-  abbrev pub EachHeard : Result Dropped Fault → Type 0
-  EachHeard answer = (m : Message) → slice_get sent place ≡ Some m → AnswersOnto (effect_of next answers old (Receive m)) old new sent later answer
+-- ---- an input that gives this to the node
 
-  pub heard_ok : (answer : Result Dropped Fault) → EachHeard answer
-      → IfOk answer (λ dropped. (member : Member S) (m : Message) → slice_get sent place ≡ Some m → GoesBy {D = D} {P = P} disk member (Running old) (Running new) (node_step next answers member (Receive m)) (DescribesSending sent later) dropped)
-  heard_ok (Ok dropped) each = λ member m at. let went : Result Dropped Fault = Ok dropped in answered_ok D P next answers disk (Receive m) old working new sent later went (each m at) member
-  heard_ok (Err fault) each = tt
+module _ {S D P : Type 0} (r : NodeRuns S D P) (input : Input) where
+  same_input : (given : NodeInput) → given_by input ≡ Ok given → input_effect r.next r.answers r.replica input ≡ effect_of r.next r.answers r.replica given
+  same_input given is = ap (effect_if_given r.next r.answers r.replica) is
 
-  pub heard_err : (answer : Result Dropped Fault) → EachHeard answer
-      → IfErr answer (λ fault. (member : Member S) (m : Message) → slice_get sent place ≡ Some m → NotTaken {D = D} {P = P} disk member (Running old) (Running new) (node_step next answers member (Receive m)) fault)
-  heard_err (Ok dropped) each = tt
-  heard_err (Err fault) each = λ member m at. let went : Result Dropped Fault = Err fault in answered_err D P next answers disk (Receive m) old working new sent later went (each m at) member
+  pub each_given : (new : ReplicaState S) (sent later : List Message) (answer : Result Dropped Fault) → AnswersOnto (input_effect r.next r.answers r.replica input) r.replica new sent later answer
+      → Each r (λ given. given) (λ given. given_by input ≡ Ok given) new sent later answer
+  each_given new sent later answer answered given is = subst (λ (t : Result Turn Fault). AnswersOnto t r.replica new sent later answer) (same_input given is) answered
+
+  -- a step that was cut, or was not
+  pub is_cut_so : (kept : ℕ) (device : D) → CutsIf (input_effect r.next r.answers r.replica input) kept r.replica (r.disk device)
+      → (member : Member S) (given : NodeInput) → given_by input ≡ Ok given → IsCutBy r.disk member r.node (Stopped device) kept (node_step r.next r.answers member given)
+  is_cut_so kept device cuts member given gives part is =
+      cut_by r given member part is (effect_of r.next r.answers r.replica given) refl kept device (subst (λ (t : Result Turn Fault). CutsIf t kept r.replica (r.disk device)) (same_input given gives) cuts)
+
+  pub failed_in_cut : (device : D) → IsNotCutIf r.disk (input_effect r.next r.answers r.replica input) r.replica (let n : NotCut S D P = DeviceFailed device in n)
+      → (member : Member S) (given : NodeInput) → given_by input ≡ Ok given → NotTaken r.disk member r.node (Stopped device) (node_step r.next r.answers member given) Device
+  failed_in_cut device fails member given gives part is =
+      fails_in_cut r given member part is (effect_of r.next r.answers r.replica given) refl device
+      (subst (λ (t : Result Turn Fault). IsNotCutIf r.disk t r.replica (let n : NotCut S D P = DeviceFailed device in n)) (same_input given gives) fails)
+
+  pub refused_in_cut : (fault : Fault) (new : ReplicaState S) → IsNotCutIf r.disk (input_effect r.next r.answers r.replica input) r.replica (let n : NotCut S D P = Refused fault new in n)
+      → (member : Member S) (given : NodeInput) → given_by input ≡ Ok given → NotTaken r.disk member r.node (Running new) (node_step r.next r.answers member given) fault
+  refused_in_cut fault new stops member given gives part is =
+      refused_cut r given member part is (effect_of r.next r.answers r.replica given) refl fault new
+      (subst (λ (t : Result Turn Fault). IsNotCutIf r.disk t r.replica (let n : NotCut S D P = Refused fault new in n)) (same_input given gives) stops)

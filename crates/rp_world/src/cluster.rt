@@ -39,9 +39,9 @@ use rp_store::{CutDevice, Device, InfallibleDevice};
 use std::alloc::Global;
 use std::marker::Model;
 
-/// Nodes that keep a machine alike, each over a device of its own, eight tasks that call it, and the
-/// messages between them. A message is sent once and stays, so that it may be delivered late, again,
-/// or never.
+/// Nodes that replicate a machine, each over its own device, eight tasks that call it, and the
+/// messages between them. A message that was sent is kept, so it may be delivered late, again or
+/// never.
 #[derive(Drop)]
 pub struct Cluster<M: Machine, D: CutDevice> {
     world: World<M, D>,
@@ -67,8 +67,8 @@ pub fn are_empty<D: Device>(devices: &[D]) -> bool
 }
 
 impl<M: Machine, D: CutDevice> Cluster<M, D> {
-    /// The opening world: all nodes run, and nothing was called or sent. `BadConfig` where a number is
-    /// outside its limits, where there are not as many devices as nodes, or where one is not empty.
+    /// The opening world: all nodes run, and nothing was called or sent. `BadConfig` if a number is
+    /// outside its limits, if there are not as many devices as nodes, or if one is not empty.
     /// Refused, the program and the devices are dropped.
     pub fn new(
         alloc: Global,
@@ -119,14 +119,14 @@ impl<M: Machine, D: CutDevice> Cluster<M, D> {
         }
     }
 
-    /// The same, which writes the effect where its caller holds it, so that none is copied; if it is
-    /// refused, what is there is of no meaning. Refused, it changes nothing:
+    /// The same, but writes the effect to `effect`, so that none is copied; if the step is refused,
+    /// what is there has no meaning. Refused, it changes nothing:
     /// `NotRunning` for a stopped node or a cut of none, `NoSuchMessage` for a number above the
     /// last, `TaskBusy` while the task's last call has no answer, `LogFull` and `BallotsSpent` for
     /// a leader, `NumbersSpent` for a task's last number, `BadConfig` for a node above the last, a
     /// call that is not right or a range that is not of 1 to 64 positions, and `OutOfMemory`.
-    /// `Device` where a node's device fails: the node is stopped then within the step; one that was
-    /// to start again stays stopped, and some of its torn bytes may be gone, as they may be after
+    /// `Device` if a node's device fails: then the node is stopped within the step; one that was to
+    /// start again stays stopped, and some of its torn bytes may be gone, as they may be after
     /// `OutOfMemory`.
     #[inline(never)]
     pub fn step_into(
@@ -157,10 +157,10 @@ impl<M: Machine, D: CutDevice> Cluster<M, D> {
     }
 
     /// The steps of these events one after another, up to the first that is refused. Whatever they
-    /// are, nodes agree, before the run and after it, and what they have applied begins one order:
-    /// the calls of a task that count in it are those that the task made, in order, each reply that
-    /// a task got is the answer to its call, and each such call takes effect at one place, no other
-    /// at two. What was decided before the run is decided after it.
+    /// are, nodes agree, before the run and after it, and what each has applied is a prefix of one
+    /// order: the calls of a task that count in it are those that the task made, in order, each
+    /// reply that a task got is the answer to its call, and each such call takes effect at one
+    /// place, no other at two. What was decided before the run is decided after it.
     pub fn run(&mut self, alloc: Global, events: &[Event]) -> Result<(), Refused>
         // claim (run): A run makes its steps one after another, and returns the place of the first
         //   that was refused; failure counts stay but for a device that failed there
@@ -197,7 +197,7 @@ impl<M: Machine, D: CutDevice> Cluster<M, D> {
         ran
     }
 
-    /// The same, by what was sent before the run and after it.
+    /// The same, without the consequences; what was sent before the run is sent after it.
     fn run_all(&mut self, alloc: Global, events: &[Event]) -> Result<(), Refused>
         ensures run { IsRun M.next M.answers M.begin self.old events.now self.new result }
         ensures sent { AllSent self.old.world.sent self.new.world.sent }
@@ -211,19 +211,19 @@ impl<M: Machine, D: CutDevice> Cluster<M, D> {
         Ok(())
     }
 
-    /// The cluster's world satisfies the invariant by which nodes agree and replies are the
-    /// order's. It does nothing: what it promises is for contracts.
+    /// The cluster's world satisfies the invariant from which agreement and the replies follow. It
+    /// does nothing: its contract is for the callers' proofs.
     fn is_kept(&self)
         ensures { IsCluster (setting_of M.next M.answers M.begin self.now) self.now.world }
     {
         let _ = self.world.messages();
     }
 
-    /// What is so of every cluster, whatever happened to it: at a position one action at most is
-    /// decided, whether votes are counted in what was sent or in what nodes wrote; in one ballot one
-    /// action is offered at a position; what a node has applied begins the order, with none left out;
-    /// and a node has written the promise, the vote and the decision that it sent. It does nothing:
-    /// what it promises is for contracts.
+    /// What holds of every cluster, whatever happened to it: at most one action is decided at a
+    /// position, whether votes are counted in what was sent or in what nodes wrote; in one ballot
+    /// at most one action is offered at a position; what a node has applied is a prefix of the
+    /// order; and a node has written the promise, the vote and the decision that it sent. It does
+    /// nothing: its contract is for the callers' proofs.
     pub fn agrees(&self)
         // claim: Of every cluster, at any moment: at a position one action at most is decided,
         //   counted in packets or in records, and in one ballot one is offered; each node applied a
@@ -265,7 +265,8 @@ impl<M: Machine, D: CutDevice> Cluster<M, D> {
         self.world.messages()
     }
 
-    /// The text of the message of this number, from 1: `decode` reads the packet back. `NoSuchMessage` where there is none.
+    /// The text of the message of this number, from 1, which `decode` reads back. `NoSuchMessage`
+    /// if there is none.
     pub fn message(&self, alloc: Global, number: u64) -> Result<Vec<u8>, Fault>
         // claim: A message is returned as its text
         ensures text { IfOk result (λ text. IfSome (part_at self.now.world.sent number)
@@ -323,7 +324,7 @@ impl<M: Machine, D: CutDevice> Cluster<M, D> {
 }
 
 impl<M: Machine, D: CutDevice + InfallibleDevice> Cluster<M, D> {
-    /// No device has failed, where such devices never do. What it promises is for contracts.
+    /// No device has failed, since such devices never do. Its contract is for the callers' proofs.
     pub fn never_failed(&self)
         // claim: Over devices that never fail, as memory is, no failure is counted, so no step
         //   returns `Device`

@@ -79,7 +79,7 @@ pub(crate) fn of_step(first: u64, count: u64, dropped: Dropped) -> Effect
 {
     Effect {
         first,
-        sent: u32::try_from(count + 1 - first).unwrap_or(u32::MAX),
+        sent: (count + 1 - first).min(u64::from(u32::MAX)) as u32,
         dropped,
         taken: None,
         opened: None,

@@ -27,5 +27,5 @@ pub use cluster::{Cluster, are_empty};
 pub use effect::{Refused, no_effect};
 pub use headline::histories_are_ordered;
 pub use rp_model::{Dropped, Effect, Event, Interrupt, Step};
-pub use steps::read_reply;
+pub use steps::decode_reply;
 pub use task::Task;

@@ -1,4 +1,4 @@
-//! The result of an event: steps of nodes, and stops within them.
+//! The steps of nodes, whole or cut, and the function that makes the step of each event.
 
 ghost use Rattle.std.specs.Prelude.{◌≡◌, Ok, Some, IfOk, IfErr, OnErr, IsSome, option_copied, option_map};
 ghost use Rattle.std.specs.List.{AllByRecursion};
@@ -45,7 +45,7 @@ pub(crate) fn text_of_number(messages: &Outbox, number: u64) -> Option<&[u8]>
 }
 
 impl<M: Machine, D: CutDevice> World<M, D> {
-    /// The result of an event, written where its caller holds it.
+    /// Makes the step of an event, and writes its effect to `effect`.
     #[inline(never)]
     pub(crate) fn step_into(
         &mut self,
@@ -59,22 +59,6 @@ impl<M: Machine, D: CutDevice> World<M, D> {
         ensures step { IsStep M.next M.answers M.begin self.old event.now self.new
             (stated result effect.new) }
     {
-        match self.step(alloc, event) {
-            Ok(made) => {
-                *effect = made;
-                Ok(())
-            }
-            Err(fault) => Err(fault),
-        }
-    }
-
-    /// The result of an event.
-    pub(crate) fn step(&mut self, alloc: Global, event: &Event) -> Result<Effect, Fault>
-        requires config { IsRightConfig self.old.config }
-        requires ranged { IsRangedWorld self.old.config.nodes self.old.world }
-        requires event { IsEvent (event_of event.now) }
-        ensures step { IsStep M.next M.answers M.begin self.old event.now self.new result }
-    {
         match *event {
             Event::Submit {
                 task,
@@ -82,17 +66,31 @@ impl<M: Machine, D: CutDevice> World<M, D> {
                 object,
                 operation,
                 arg,
-            } => self.submit(task, node, object, operation, arg),
-            Event::Again { task, node } => self.again(task, node),
-            Event::Node(step) => self.makes(alloc, step),
-            Event::Cut { step, kept } => self.cuts(alloc, step, kept),
-            Event::Stop(node) => self.stop(node),
-            Event::Restart(node) => self.restart(alloc, node),
+            } => write_effect(self.submit(task, node, object, operation, arg), effect),
+            Event::Again { task, node } => write_effect(self.again(task, node), effect),
+            Event::Node(step) => self.makes(alloc, step, effect),
+            Event::Cut { step, kept } => write_effect(self.cuts(alloc, step, kept), effect),
+            Event::Stop(node) => write_effect(self.stop(node), effect),
+            Event::Restart(node) => write_effect(self.restart(alloc, node), effect),
         }
     }
 }
 
-/// What an interrupt gives to a node.
+/// Writes an effect that was returned to `effect`.
+#[inline(always)]
+fn write_effect(answer: Result<Effect, Fault>, effect: &mut Effect) -> Result<(), Fault>
+    ensures { stated result effect.new ≡ answer }
+{
+    match answer {
+        Ok(made) => {
+            *effect = made;
+            Ok(())
+        }
+        Err(fault) => Err(fault),
+    }
+}
+
+/// An interrupt as the input of a node.
 fn input_of(interrupt: Interrupt) -> Input<'static>
     ensures right { IsRightInput result }
     ensures given { given_by result
@@ -105,14 +103,15 @@ fn input_of(interrupt: Interrupt) -> Input<'static>
 }
 
 impl<M: Machine, D: CutDevice> World<M, D> {
-    /// A node makes a step: refused as one that is given an input, or as a delivery.
-    pub(crate) fn makes(&mut self, alloc: Global, step: Step) -> Result<Effect, Fault>
+    /// A node makes a step. Refused as `deliver` is, or as `gives`.
+    fn makes(&mut self, alloc: Global, step: Step, effect: &mut Effect) -> Result<(), Fault>
         requires config { IsRightConfig self.old.config }
         requires ranged { IsRangedWorld self.old.config.nodes self.old.world }
         requires step { events.IsStep (step_of step) }
         ensures answer { let setting = setting_of M.next M.answers M.begin self.old in
             Answers self.old.world (step_effect setting self.old.world (step_of step))
-            (λ kept. cut_step setting self.old.world (step_of step) kept) self.new.world result }
+            (λ kept. cut_step setting self.old.world (step_of step) kept) self.new.world
+            (stated result effect.new) }
         ensures setup { IsSameSetup self.old self.new }
         ensures failures { let setting = setting_of M.next M.answers M.begin self.old in
             Counts (IsSome (step_writes setting self.old.world (step_of step)))
@@ -120,23 +119,30 @@ impl<M: Machine, D: CutDevice> World<M, D> {
     {
         events_keep_ranges::<M>();
         match step {
-            Step::Deliver(number) => self.delivered(alloc, number),
-            Step::Lead { node, position } => self.gives(alloc, node, &Input::Lead(position)),
+            Step::Deliver(number) => self.deliver(alloc, number, effect),
+            Step::Lead { node, position } => self.gives(
+                alloc,
+                node,
+                &Input::Lead(position),
+                effect,
+            ),
             Step::LeadRange { node, first, count } => {
                 match Self::range_for(&self.nodes, node, first, count) {
-                    Ok(range) => self.gives(alloc, node, &Input::LeadRange(range)),
+                    Ok(range) => self.gives(alloc, node, &Input::LeadRange(range), effect),
                     Err(fault) => Err(fault),
                 }
             }
-            Step::Interrupt { node, interrupt } => { self.gives(alloc, node, &input_of(interrupt)) }
-            Step::Tick { node, now } => self.gives(alloc, node, &Input::Tick { now }),
-            Step::Report { node, first } => self.gives(alloc, node, &Input::Report(first)),
+            Step::Interrupt { node, interrupt } => {
+                self.gives(alloc, node, &input_of(interrupt), effect)
+            }
+            Step::Tick { node, now } => self.gives(alloc, node, &Input::Tick { now }, effect),
+            Step::Report { node, first } => self.gives(alloc, node, &Input::Report(first), effect),
         }
     }
 
-    /// A node stops within a step, where n bytes of its record are kept. Refused as the step, and
-    /// with `NotRunning` where it is a delivery to no node that runs; `Device` where the device
-    /// fails within it.
+    /// A node stops within a step, and n bytes of the step's record are kept. Refused as the step
+    /// itself, or with `NotRunning` for a delivery to no running node; `Device` if the device fails
+    /// within the step.
     #[inline(never)]
     pub(crate) fn cuts(&mut self, alloc: Global, step: Step, kept: u64) -> Result<Effect, Fault>
         requires ranged { IsRangedWorld self.old.config.nodes self.old.world }
@@ -162,9 +168,9 @@ impl<M: Machine, D: CutDevice> World<M, D> {
         }
     }
 
-    /// Which of these nodes makes a step, and what it is given. `NoSuchMessage` above the last
-    /// message, `NotRunning` where a message is for no node of these, `BadConfig` above the last node,
-    /// and as `range_for` where there is no range to lead at.
+    /// Which of these nodes makes a step, and the input of the step. `NoSuchMessage` above the last
+    /// message, `NotRunning` for a message to none of these nodes, `BadConfig` above the last node,
+    /// and as `range_for` if there is no range to lead at.
     fn chosen<'a>(
         messages: &'a Outbox,
         nodes: &[node::Node<M, D>],
@@ -206,9 +212,9 @@ impl<M: Machine, D: CutDevice> World<M, D> {
         Ok((node, input))
     }
 
-    /// The range at which one of these nodes is to lead. `BadConfig` above the last node, `NotRunning`
-    /// where the node is stopped; then `BadConfig` unless the count is 1 to 64, and `LogFull` where the
-    /// last position would be above 65,535.
+    /// The range at which one of these nodes is to lead. `BadConfig` above the last node,
+    /// `NotRunning` if the node is stopped; then `BadConfig` unless the count is 1 to 64, and
+    /// `LogFull` if the last position would be above 65,535.
     fn range_for(
         nodes: &[node::Node<M, D>],
         node: NodeId,
@@ -234,10 +240,16 @@ impl<M: Machine, D: CutDevice> World<M, D> {
     }
 
     /// A node is given an input that comes from no message. `BadConfig` above the last node,
-    /// `NotRunning` where the node is stopped, `LogFull` or `BallotsSpent` where it cannot lead, or
-    /// refused for memory: nothing changes. `Device` where its device fails: then it is stopped.
+    /// `NotRunning` if the node is stopped, `LogFull` or `BallotsSpent` if it cannot lead, or out
+    /// of memory: nothing changes. `Device` if its device fails: then it is stopped.
     #[inline(always)]
-    fn gives(&mut self, alloc: Global, node: NodeId, input: &Input<'_>) -> Result<Effect, Fault>
+    fn gives(
+        &mut self,
+        alloc: Global,
+        node: NodeId,
+        input: &Input<'_>,
+        effect: &mut Effect,
+    ) -> Result<(), Fault>
         requires right { IsRightInput input.now }
         requires given { (given : NodeInput) × (given_by input.now ≡ Ok given) }
         requires sends { (given : NodeInput) (part : NodePart) (done : Done NodePart)
@@ -250,7 +262,7 @@ impl<M: Machine, D: CutDevice> World<M, D> {
             (node_takes setting self.old.world node given (part_at self.old.world.nodes node))
             (λ kept. node_is_cut setting self.old.world node given kept
             (part_at self.old.world.nodes node))
-            self.new.world result }
+            self.new.world (stated result effect.new) }
         ensures setup { IsSameSetup self.old self.new }
         ensures failures { (given : NodeInput) → given_by input.now ≡ Ok given
             → let setting = setting_of M.next M.answers M.begin self.old in
@@ -262,12 +274,13 @@ impl<M: Machine, D: CutDevice> World<M, D> {
             return Err(Fault::BadConfig);
         };
         let dropped = node.turn(alloc, &mut self.messages, input)?;
-        Ok(of_step(first, self.messages(), dropped))
+        *effect = of_step(first, self.messages(), dropped);
+        Ok(())
     }
 
-    /// To whom the message of this number is, from 1.
+    /// The receiver of the message of this number, from 1.
     #[inline(always)]
-    fn receiver_of(&self, number: u64) -> Option<Party>
+    fn receiver_of_number(&self, number: u64) -> Option<Party>
         requires ranged { IsRangedWorld self.now.config.nodes self.now.world }
         ensures { result ≡ option_map (λ m. m.to) (part_at self.now.world.sent number) }
     {
@@ -275,26 +288,9 @@ impl<M: Machine, D: CutDevice> World<M, D> {
         Some(receiver_of(text))
     }
 
-    /// A message is taken by whom it is for; by none where that is no node that runs and no task.
-    /// `NoSuchMessage` above the last one, or refused for memory: nothing changes. `Device` where the
+    /// A message is taken by its receiver, or by nobody if that is no running node and no task.
+    /// `NoSuchMessage` above the last one, or out of memory: nothing changes. `Device` if the
     /// device of its node fails: then the node is stopped.
-    #[inline(never)]
-    pub(crate) fn delivered(&mut self, alloc: Global, number: u64) -> Result<Effect, Fault>
-        requires ranged { IsRangedWorld self.old.config.nodes self.old.world }
-        ensures answer { AnswersDelivery (setting_of M.next M.answers M.begin self.old)
-            self.old.world number self.new.world result }
-        ensures setup { IsSameSetup self.old self.new }
-        ensures failures { CountsDelivery (setting_of M.next M.answers M.begin self.old)
-            self.old.world number self.old.failures self.new.failures result }
-    {
-        let mut effect = no_effect(0);
-        match self.deliver(alloc, number, &mut effect) {
-            Ok(()) => Ok(effect),
-            Err(fault) => Err(fault),
-        }
-    }
-
-    /// The same, which writes the effect where its caller holds it.
     #[inline(always)]
     pub(crate) fn deliver(
         &mut self,
@@ -309,7 +305,7 @@ impl<M: Machine, D: CutDevice> World<M, D> {
         ensures failures { CountsDelivery (setting_of M.next M.answers M.begin self.old)
             self.old.world number self.old.failures self.new.failures result }
     {
-        let Some(receiver) = self.receiver_of(number) else {
+        let Some(receiver) = self.receiver_of_number(number) else {
             return Err(Fault::NoSuchMessage);
         };
         let node = match receiver {
@@ -354,7 +350,7 @@ impl<M: Machine, D: CutDevice> World<M, D> {
     {
         let first = self.messages() + 1;
         let text = self.text(number).unwrap();
-        let Ok(reply) = read_reply(alloc, text) else {
+        let Ok(reply) = decode_reply(alloc, text) else {
             return Err(Fault::OutOfMemory);
         };
         let Some((number, reply)) = reply else {
@@ -371,9 +367,9 @@ impl<M: Machine, D: CutDevice> World<M, D> {
     }
 }
 
-/// The number and the reply in the text of a packet, if it is a reply. Only the text of a report or of
+/// Decodes the number and the reply of a packet, if it is a reply. Only the text of a report or of
 /// a promise for a range takes memory.
-pub fn read_reply(alloc: Global, text: &[u8]) -> Result<Option<(u32, Reply)>, AllocError>
+pub fn decode_reply(alloc: Global, text: &[u8]) -> Result<Option<(u32, Reply)>, AllocError>
     // claim: The reply that a packet carries is read from its text; none is read where it carries none
     ensures reply { IfOk result (λ stated. (m : Message) → IsPacket m → text.now ≡ text_of m
         → stated ≡ reply_in m.body) }

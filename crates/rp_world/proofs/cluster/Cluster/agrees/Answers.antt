@@ -10,44 +10,28 @@ use Rattle.rp_agreement.specs.Worlds.{node_in}
 use Rattle.rp_world.proofs.Sounding.{part_is_there, promiser_there}
 use Rattle.rp_world.proofs.cluster.Cluster.agrees.Goals as goal
 
-pub returns-clause-decided : goal.returns-clause-decided
-returns-clause-decided g c =
+pub returns : goal.returns
+returns g c =
     let now = c.args.self.now in
-    c.decisions_are_one.ensures.decided now.config.nodes (node_in now.world.nodes) now.world.sent c.is_kept.ensures.kept.kept.sound
-
-pub returns-clause-cast : goal.returns-clause-cast
-returns-clause-cast g c =
-    let now = c.args.self.now in
-    c.decisions_are_one.ensures.cast now.config.nodes (node_in now.world.nodes) now.world.sent c.is_kept.ensures.kept.kept.sound
-
-pub returns-clause-offered : goal.returns-clause-offered
-returns-clause-offered g c =
-    let now = c.args.self.now in
-    c.offers_are_one.ensures now.config.nodes (node_in now.world.nodes) now.world.sent c.is_kept.ensures.kept.kept.sound
-
-pub returns-clause-applied : goal.returns-clause-applied
-returns-clause-applied g c = λ order is x part here.
-    let now = c.args.self.now in
-    subst (λ (a : NodePart). Begins (applied_of a.records) order) (ap (λ (o : Option NodePart). unwrap_or o fresh_node) here)
-    (c.applied_lists_begin_the_order.ensures now.config.nodes (node_in now.world.nodes) now.world.sent c.is_kept.ensures.kept.kept.sound order is x)
-
-pub returns-clause-promised : goal.returns-clause-promised
-returns-clause-promised g c = λ x i b last stated.
-    let now = c.args.self.now in
+    let n = now.config.nodes in
+    let node = node_in now.world.nodes in
+    let sent = now.world.sent in
     let kept = c.is_kept.ensures.kept in
-    let member = promiser_there now.config.nodes (node_in now.world.nodes) now.world.sent kept.kept.sound x i b last stated in
-    (node_in now.world.nodes x, part_is_there now.world now.config.nodes x kept.size member, c.packets_say_so.ensures.written now.config.nodes (node_in now.world.nodes) now.world.sent kept.kept.sound x i b last stated)
-
-pub returns-clause-voted : goal.returns-clause-voted
-returns-clause-voted g c = λ x i b v stated.
-    let now = c.args.self.now in
-    let kept = c.is_kept.ensures.kept in
-    let member = c.packets_say_so.ensures.members now.config.nodes (node_in now.world.nodes) now.world.sent kept.kept.sound x (Accepted i b v) (Node stated.0, stated.1) in
-    (node_in now.world.nodes x, part_is_there now.world now.config.nodes x kept.size member, c.packets_say_so.ensures.said now.config.nodes (node_in now.world.nodes) now.world.sent kept.kept.sound x (Accepted i b v) (Node stated.0, stated.1))
-
-pub returns-clause-learned : goal.returns-clause-learned
-returns-clause-learned g c = λ x i v stated.
-    let now = c.args.self.now in
-    let kept = c.is_kept.ensures.kept in
-    let member = c.packets_say_so.ensures.members now.config.nodes (node_in now.world.nodes) now.world.sent kept.kept.sound x (Decided i v) stated in
-    (node_in now.world.nodes x, part_is_there now.world now.config.nodes x kept.size member, c.packets_say_so.ensures.said now.config.nodes (node_in now.world.nodes) now.world.sent kept.kept.sound x (Decided i v) stated)
+    let sound = kept.kept.sound in
+    record {
+      decided = c.decisions_are_one.ensures.decided n node sent sound;
+      cast = c.decisions_are_one.ensures.cast n node sent sound;
+      offered = c.offers_are_one.ensures n node sent sound;
+      applied = λ order is x part here.
+          subst (λ (a : NodePart). Begins (applied_of a.records) order) (ap (λ (o : Option NodePart). unwrap_or o fresh_node) here)
+          (c.applied_lists_begin_the_order.ensures n node sent sound order is x);
+      promised = λ x i b last says.
+          let member = promiser_there n node sent sound x i b last says in
+          (node x, part_is_there now.world n x kept.size member, c.packets_say_so.ensures.written n node sent sound x i b last says);
+      voted = λ x i b v says.
+          let member = c.packets_say_so.ensures.members n node sent sound x (Accepted i b v) (Node says.0, says.1) in
+          (node x, part_is_there now.world n x kept.size member, c.packets_say_so.ensures.said n node sent sound x (Accepted i b v) (Node says.0, says.1));
+      learned = λ x i v says.
+          let member = c.packets_say_so.ensures.members n node sent sound x (Decided i v) says in
+          (node x, part_is_there now.world n x kept.size member, c.packets_say_so.ensures.said n node sent sound x (Decided i v) says);
+    }

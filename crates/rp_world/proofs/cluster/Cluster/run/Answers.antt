@@ -7,30 +7,19 @@ use Rattle.rp_world.proofs.Answering.{same_setting}
 use Rattle.rp_world.proofs.Sounding.{agree, ordered}
 use Rattle.rp_world.proofs.cluster.Cluster.run.Goals as goal
 
-pub returns-clause-agree : goal.returns-clause-agree
-returns-clause-agree g c =
+pub returns : goal.returns
+returns g c =
     let m = g.M.Machine in
     let old = c.args.self.now in
     let new = c.run_all-ran.new.self in
-    let same = same_setting m.next m.answers m.begin old new c.run_all-ran.ensures.run.setup in
+    let ran = c.run_all-ran.ensures in
+    let same = same_setting m.next m.answers m.begin old new ran.run.setup in
     let later = subst (λ (s : Setting g.row.M.Denot). IsKeptWorld s new.world) same c.is_kept-2.ensures.kept in
-    agree m.next m.answers m.image (m.begin old.program) old.config.nodes c.applied_lists_are_alike.ensures (c.states_are_alike.ensures (m.begin old.program)) old.world new.world c.is_kept.ensures.kept.kept.sound
-    later.kept.sound c.run_all-ran.ensures.sent
-
-pub returns-clause-ordered : goal.returns-clause-ordered
-returns-clause-ordered g c =
-    let m = g.M.Machine in
-    let old = c.args.self.now in
-    let new = c.run_all-ran.new.self in
-    let s = setting_of m.next m.answers m.begin old in
-    let same = same_setting m.next m.answers m.begin old new c.run_all-ran.ensures.run.setup in
-    ordered s c.the_order_exists.ensures c.applied_lists_begin_the_order.ensures (c.replies_answer_calls_that_count.ensures old.config old.program) (c.calls_count_in_order.ensures old.config old.program)
-    (c.only_made_calls_count.ensures old.config old.program)
-    (c.a_call_has_one_place.ensures (m.begin old.program)) new.world
-    (subst (λ (t : Setting g.row.M.Denot). IsKeptWorld t new.world) same c.is_kept-2.ensures.kept)
-
-pub returns-clause-decided : goal.returns-clause-decided
-returns-clause-decided g c =
-    let old = c.args.self.now in
-    let new = c.run_all-ran.new.self in
-    c.decisions_stay.ensures old.config.nodes old.world.sent new.world.sent c.run_all-ran.ensures.sent
+    record {
+      run = ran.run;
+      agree = agree m.next m.answers m.image (m.begin old.program) old.config.nodes c.applied_lists_are_alike.ensures (c.states_are_alike.ensures (m.begin old.program)) old.world new.world
+          c.is_kept.ensures.kept.kept.sound later.kept.sound ran.sent;
+      ordered = ordered (setting_of m.next m.answers m.begin old) c.the_order_exists.ensures c.applied_lists_begin_the_order.ensures (c.replies_answer_calls_that_count.ensures old.config old.program)
+          (c.calls_count_in_order.ensures old.config old.program) (c.only_made_calls_count.ensures old.config old.program) (c.a_call_has_one_place.ensures (m.begin old.program)) new.world later;
+      decided = c.decisions_stay.ensures old.config.nodes old.world.sent new.world.sent ran.sent;
+    }

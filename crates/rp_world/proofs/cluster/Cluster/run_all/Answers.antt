@@ -8,7 +8,7 @@ use Rattle.rp_model.specs.Answers.{Steps, Happen, IsFaulted}
 use Rattle.rp_model.specs.World.{node_of}
 use Rattle.rp_base.specs.declared.fault.Fault.{Fault}
 use Rattle.rp_world.specs.Failures.{AreCounted}
-use Rattle.rp_world.proofs.Moving.{here_of}
+use Rattle.rp_world.proofs.Lists.{here_of}
 use Rattle.rp_world.specs.Steps.{setting_of}
 use Rattle.rp_world.specs.Runs.{LeadsTo}
 use Rattle.rp_world.proofs.Answering.{happen_more, same_setting}

@@ -5,10 +5,8 @@ use Rattle.rp_world.proofs.node.Node.stored.Goals as goal
 
 pub returns-in-Running : goal.returns-in-Running
 returns-in-Running g c = λ member part is.
-    let disk = g.D.Device.disk in
-    c.stored.ensures ∙ length_of member c.in-Running.replica part (subst (λ n. Represents disk member n part) c.in-Running.is is)
+    c.stored.ensures ∙ length_of member c.in-Running.replica part (subst (λ n. Represents g.D.Device.disk member n part) c.in-Running.is is)
 
 pub returns-in-Stopped : goal.returns-in-Stopped
 returns-in-Stopped g c = λ member part is.
-    let disk = g.D.Device.disk in
-    c.len.ensures ∙ resting_length _ _ part (subst (λ n. Represents disk member n part) c.in-Stopped.is is)
+    c.len.ensures ∙ resting_length _ _ part (subst (λ n. Represents g.D.Device.disk member n part) c.in-Stopped.is is)

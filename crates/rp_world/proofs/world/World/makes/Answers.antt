@@ -1,46 +1,64 @@
-use Rattle.std.proofs.Common.{inl, refl, sym, ap, subst, ◌∙◌}
+use Rattle.std.proofs.Common.{◌≡◌, ℕ, Some, Result, Ok, List, inl, refl, sym, ap, subst, ◌∙◌}
 use Rattle.std.specs.Prelude.{IsSome}
+use Rattle.rp_base.specs.declared.action.Action.{Action}
+use Rattle.rp_base.specs.declared.fault.Fault.{Fault}
+use Rattle.rp_base.specs.declared.reply.Answer.{Answer}
+use Rattle.rp_model.specs.declared.effect.Effect.{Effect}
 use Rattle.rp_model.specs.Effect as inputs
-use Rattle.rp_model.specs.Effect.{NodeInput, node_effect}
+use Rattle.rp_model.specs.Effect.{Setting, Done, NodeInput, node_effect}
 use Rattle.rp_model.specs.Events as events
-use Rattle.rp_model.specs.Events.{step_of}
-use Rattle.rp_model.specs.World.{node_done, node_done_if, node_takes, step_effect, cut_step, step_writes, stepping}
-use Rattle.rp_world.specs.Choosing.{AreNodesOf}
-use Rattle.rp_world.specs.Going.{Answers, Counts}
-use Rattle.rp_world.specs.Steps.{setting_of}
-use Rattle.rp_world.proofs.Choosing.{nodes_of}
+use Rattle.rp_model.specs.Events.{Step, step_of}
+use Rattle.rp_model.specs.Parts.{NodePart}
+use Rattle.rp_model.specs.World.{World, part_at, node_done, node_done_if, node_takes, step_effect, cut_step, step_writes, stepping}
+use Rattle.rp_world.specs.Going.{Answers, Counts, stated}
+use Rattle.rp_world.specs.Steps.{Setup, IsSameSetup, setting_of}
+use Rattle.rp_world.proofs.Choosing.{nodes_seen}
 use Rattle.rp_world.proofs.Failing.{none_counted}
-use Rattle.rp_world.proofs.Hearing.{sends_are, same_input}
+use Rattle.rp_world.proofs.Fields.{fields_of, setting_by}
+use Rattle.rp_world.proofs.Hearing.{same_input}
+use Rattle.rp_world.proofs.Messages.{sends_are}
 use Rattle.rp_world.proofs.world.World.makes.Goals as goal
+
+-- what a cluster answers to a step, and what it counts
+module _ {S P : Type 0} (next : S → Action → S) (answers : S → Action → List Answer) (start : P → S) (was new : Setup P) (result : Result Unit Fault) (effect : Effect) where
+  abbrev IsMade : Step → Type 0
+  IsMade step =
+      let s = setting_of next answers start was in
+      record {
+        answer : Answers was.world (step_effect s was.world step) (λ kept. cut_step s was.world step kept) new.world (stated result effect);
+        setup : IsSameSetup was new;
+        failures : Counts (IsSome (step_writes s was.world step)) (stepping was.world step) was.failures new.failures result;
+      }
+
+-- the result of a step that gives a node this input
+result_of : {S : Type 0} (s : Setting S) (w : World) (step : Step) (me : ℕ) (input : NodeInput) {given : NodeInput} {part : NodePart} {done : Done NodePart} → step_effect s w step ≡ node_takes s w me input (part_at w.nodes me)
+    → (let a : Result NodeInput Fault = Ok input in let b : Result NodeInput Fault = Ok given in a ≡ b) → part_at w.nodes me ≡ Some part → node_effect s me part given ≡ Ok done → step_effect s w step ≡ Ok (node_done w me done)
+result_of s w step me input {given = given} {part = part} whole is here resulted =
+    whole ∙ ap (node_takes s w me input) here ∙ ap (λ (i : NodeInput). node_done_if w me (node_effect s me part i)) (same_input input given is) ∙ ap (node_done_if w me) resulted
 
 pub gives-requires-clause-given : goal.gives-requires-clause-given
 gives-requires-clause-given g c = ((inputs.Lead c.in-Lead.position), refl)
 
 pub gives-requires-clause-sends : goal.gives-requires-clause-sends
 gives-requires-clause-sends g c = λ given part done is here resulted.
-    let m = g.M.Machine in
     let was = c.args.self.now in
-    let s = setting_of m.next m.answers m.begin was in
     let me = c.in-Lead.node in
-    let same = same_input (inputs.Lead c.in-Lead.position) given is in
-    let range = subst (λ step. events.IsStep (step_of step)) c.in-Lead.is c.requires.step in
-    let effect = ap (node_takes s was.world me (inputs.Lead c.in-Lead.position)) here ∙ ap (λ (input : NodeInput). node_done_if was.world me (node_effect s me part input)) same ∙ ap (node_done_if was.world me) resulted in
-    sends_are was.world.sent done.sends (c.events_keep_ranges.ensures.effect was.config was.program was.world (events.Makes (events.Lead c.in-Lead.node c.in-Lead.position)) (node_done was.world me done) c.requires.config c.requires.ranged range effect).packets
+    let step = events.Lead me c.in-Lead.position in
+    let range = subst (λ s. events.IsStep (step_of s)) c.in-Lead.is c.requires.step in
+    let results = result_of (setting_of g.M.Machine.next g.M.Machine.answers g.M.Machine.begin was) was.world step me (inputs.Lead c.in-Lead.position) refl is here resulted in
+    sends_are was.world.sent done.sends (c.events_keep_ranges.ensures.effect was.config was.program was.world (events.Makes step) (node_done was.world me done) c.requires.config c.requires.ranged range results).packets
 
 pub gives-requires-in-Ok-clause-given : goal.gives-requires-in-Ok-clause-given
 gives-requires-in-Ok-clause-given g c = (inputs.LeadRange c.in-LeadRange.first c.in-LeadRange.count, c.in-Ok.ensures.ok)
 
 pub gives-requires-in-Ok-clause-sends : goal.gives-requires-in-Ok-clause-sends
 gives-requires-in-Ok-clause-sends g c = λ given part done is here resulted.
-    let m = g.M.Machine in
     let was = c.args.self.now in
-    let s = setting_of m.next m.answers m.begin was in
     let me = c.in-LeadRange.node in
-    let leads = inputs.LeadRange c.in-LeadRange.first c.in-LeadRange.count in
-    let same = same_input leads given (sym c.in-Ok.ensures.ok ∙ is) in
-    let range = subst (λ step. events.IsStep (step_of step)) c.in-LeadRange.is c.requires.step in
-    let effect = ap (node_takes s was.world me leads) here ∙ ap (λ (input : NodeInput). node_done_if was.world me (node_effect s me part input)) same ∙ ap (node_done_if was.world me) resulted in
-    sends_are was.world.sent done.sends (c.events_keep_ranges.ensures.effect was.config was.program was.world (events.Makes (events.LeadRange me c.in-LeadRange.first c.in-LeadRange.count)) (node_done was.world me done) c.requires.config c.requires.ranged range effect).packets
+    let step = events.LeadRange me c.in-LeadRange.first c.in-LeadRange.count in
+    let range = subst (λ s. events.IsStep (step_of s)) c.in-LeadRange.is c.requires.step in
+    let results = result_of (setting_of g.M.Machine.next g.M.Machine.answers g.M.Machine.begin was) was.world step me (inputs.LeadRange c.in-LeadRange.first c.in-LeadRange.count) refl (sym c.in-Ok.ensures.ok ∙ is) here resulted in
+    sends_are was.world.sent done.sends (c.events_keep_ranges.ensures.effect was.config was.program was.world (events.Makes step) (node_done was.world me done) c.requires.config c.requires.ranged range results).packets
 
 pub gives-requires-in-Tick-clause-given : goal.gives-requires-in-Tick-clause-given
 gives-requires-in-Tick-clause-given g c = ((inputs.Tick c.in-Tick.now), refl)
@@ -50,85 +68,52 @@ gives-requires-in-Report-clause-given g c = ((inputs.Report c.in-Report.first), 
 
 pub gives-requires-in-Report-clause-sends : goal.gives-requires-in-Report-clause-sends
 gives-requires-in-Report-clause-sends g c = λ given part done is here resulted.
-    let m = g.M.Machine in
     let was = c.args.self.now in
-    let s = setting_of m.next m.answers m.begin was in
     let me = c.in-Report.node in
-    let same = same_input (inputs.Report c.in-Report.first) given is in
-    let range = subst (λ step. events.IsStep (step_of step)) c.in-Report.is c.requires.step in
-    let effect = ap (node_takes s was.world me (inputs.Report c.in-Report.first)) here ∙ ap (λ (input : NodeInput). node_done_if was.world me (node_effect s me part input)) same ∙ ap (node_done_if was.world me) resulted in
-    sends_are was.world.sent done.sends (c.events_keep_ranges.ensures.effect was.config was.program was.world (events.Makes (events.Report c.in-Report.node c.in-Report.first)) (node_done was.world me done) c.requires.config c.requires.ranged range effect).packets
+    let step = events.Report me c.in-Report.first in
+    let range = subst (λ s. events.IsStep (step_of s)) c.in-Report.is c.requires.step in
+    let results = result_of (setting_of g.M.Machine.next g.M.Machine.answers g.M.Machine.begin was) was.world step me (inputs.Report c.in-Report.first) refl is here resulted in
+    sends_are was.world.sent done.sends (c.events_keep_ranges.ensures.effect was.config was.program was.world (events.Makes step) (node_done was.world me done) c.requires.config c.requires.ranged range results).packets
 
-pub returns-in-Deliver-clause-answer : goal.returns-in-Deliver-clause-answer
-returns-in-Deliver-clause-answer g c = subst (λ step. Answers c.args.self.now.world (step_effect (setting_of g.M.Machine.next g.M.Machine.answers g.M.Machine.begin c.args.self.now) c.args.self.now.world (step_of step)) (λ kept. cut_step (setting_of g.M.Machine.next g.M.Machine.answers g.M.Machine.begin c.args.self.now) c.args.self.now.world (step_of step) kept) c.delivered.new.self.world c.delivered.result) (sym c.in-Deliver.is) (c.delivered.ensures.answer)
+pub returns-in-Deliver : goal.returns-in-Deliver
+returns-in-Deliver g c =
+    subst (λ step. IsMade g.M.Machine.next g.M.Machine.answers g.M.Machine.begin c.args.self.now c.deliver.new.self c.deliver.result c.deliver.new.effect (step_of step)) (sym c.in-Deliver.is)
+    (record { answer = c.deliver.ensures.answer; setup = c.deliver.ensures.setup; failures = c.deliver.ensures.failures })
 
-pub returns-in-Lead-clause-answer : goal.returns-in-Lead-clause-answer
-returns-in-Lead-clause-answer g c = subst (λ step. Answers c.args.self.now.world (step_effect (setting_of g.M.Machine.next g.M.Machine.answers g.M.Machine.begin c.args.self.now) c.args.self.now.world (step_of step)) (λ kept. cut_step (setting_of g.M.Machine.next g.M.Machine.answers g.M.Machine.begin c.args.self.now) c.args.self.now.world (step_of step) kept) c.gives.new.self.world c.gives.result) (sym c.in-Lead.is) (c.gives.ensures.answer (inputs.Lead c.in-Lead.position) refl)
+pub returns-in-Lead : goal.returns-in-Lead
+returns-in-Lead g c =
+    let given = inputs.Lead c.in-Lead.position in
+    subst (λ step. IsMade g.M.Machine.next g.M.Machine.answers g.M.Machine.begin c.args.self.now c.gives.new.self c.gives.result c.gives.new.effect (step_of step)) (sym c.in-Lead.is)
+    (record { answer = c.gives.ensures.answer given refl; setup = c.gives.ensures.setup; failures = c.gives.ensures.failures given refl })
 
-pub returns-in-Tick-clause-answer : goal.returns-in-Tick-clause-answer
-returns-in-Tick-clause-answer g c = subst (λ step. Answers c.args.self.now.world (step_effect (setting_of g.M.Machine.next g.M.Machine.answers g.M.Machine.begin c.args.self.now) c.args.self.now.world (step_of step)) (λ kept. cut_step (setting_of g.M.Machine.next g.M.Machine.answers g.M.Machine.begin c.args.self.now) c.args.self.now.world (step_of step) kept) c.gives-in-Tick.new.self.world c.gives-in-Tick.result) (sym c.in-Tick.is) (c.gives-in-Tick.ensures.answer (inputs.Tick c.in-Tick.now) refl)
+pub returns-in-Tick : goal.returns-in-Tick
+returns-in-Tick g c =
+    let given = inputs.Tick c.in-Tick.now in
+    let made = c.gives-in-Tick in
+    subst (λ step. IsMade g.M.Machine.next g.M.Machine.answers g.M.Machine.begin c.args.self.now made.new.self made.result made.new.effect (step_of step)) (sym c.in-Tick.is)
+    (record { answer = made.ensures.answer given refl; setup = made.ensures.setup; failures = made.ensures.failures given refl })
 
-pub returns-in-Report-clause-answer : goal.returns-in-Report-clause-answer
-returns-in-Report-clause-answer g c = subst (λ step. Answers c.args.self.now.world (step_effect (setting_of g.M.Machine.next g.M.Machine.answers g.M.Machine.begin c.args.self.now) c.args.self.now.world (step_of step)) (λ kept. cut_step (setting_of g.M.Machine.next g.M.Machine.answers g.M.Machine.begin c.args.self.now) c.args.self.now.world (step_of step) kept) c.gives-in-Report.new.self.world c.gives-in-Report.result) (sym c.in-Report.is) (c.gives-in-Report.ensures.answer (inputs.Report c.in-Report.first) refl)
+pub returns-in-Report : goal.returns-in-Report
+returns-in-Report g c =
+    let given = inputs.Report c.in-Report.first in
+    let made = c.gives-in-Report in
+    subst (λ step. IsMade g.M.Machine.next g.M.Machine.answers g.M.Machine.begin c.args.self.now made.new.self made.result made.new.effect (step_of step)) (sym c.in-Report.is)
+    (record { answer = made.ensures.answer given refl; setup = made.ensures.setup; failures = made.ensures.failures given refl })
 
-pub returns-in-Lead-clause-failures : goal.returns-in-Lead-clause-failures
-returns-in-Lead-clause-failures g c =
-    let m = g.M.Machine in
-    let was = c.args.self.now in
-    let s = setting_of m.next m.answers m.begin was in
-    subst (λ step. Counts (IsSome (step_writes s was.world (step_of step))) (stepping was.world (step_of step)) was.failures c.gives.new.self.failures c.gives.result) (sym c.in-Lead.is)
-    (c.gives.ensures.failures (inputs.Lead c.in-Lead.position) refl)
+pub returns-in-Ok : goal.returns-in-Ok
+returns-in-Ok g c =
+    let given = inputs.LeadRange c.in-LeadRange.first c.in-LeadRange.count in
+    let made = c.gives-in-Ok in
+    subst (λ step. IsMade g.M.Machine.next g.M.Machine.answers g.M.Machine.begin c.args.self.now made.new.self made.result made.new.effect (step_of step)) (sym c.in-LeadRange.is)
+    (record { answer = made.ensures.answer given c.in-Ok.ensures.ok; setup = made.ensures.setup; failures = made.ensures.failures given c.in-Ok.ensures.ok })
 
-pub returns-in-Tick-clause-failures : goal.returns-in-Tick-clause-failures
-returns-in-Tick-clause-failures g c =
-    let m = g.M.Machine in
-    let was = c.args.self.now in
-    let s = setting_of m.next m.answers m.begin was in
-    subst (λ step. Counts (IsSome (step_writes s was.world (step_of step))) (stepping was.world (step_of step)) was.failures c.gives-in-Tick.new.self.failures c.gives-in-Tick.result) (sym c.in-Tick.is)
-    (c.gives-in-Tick.ensures.failures (inputs.Tick c.in-Tick.now) refl)
-
-pub returns-in-Report-clause-failures : goal.returns-in-Report-clause-failures
-returns-in-Report-clause-failures g c =
-    let m = g.M.Machine in
-    let was = c.args.self.now in
-    let s = setting_of m.next m.answers m.begin was in
-    subst (λ step. Counts (IsSome (step_writes s was.world (step_of step))) (stepping was.world (step_of step)) was.failures c.gives-in-Report.new.self.failures c.gives-in-Report.result) (sym c.in-Report.is)
-    (c.gives-in-Report.ensures.failures (inputs.Report c.in-Report.first) refl)
-
-pub returns-in-Ok-clause-answer : goal.returns-in-Ok-clause-answer
-returns-in-Ok-clause-answer g c =
-    let m = g.M.Machine in
-    let was = c.args.self.now in
-    let s = setting_of m.next m.answers m.begin was in
-    subst (λ step. Answers was.world (step_effect s was.world (step_of step)) (λ kept. cut_step s was.world (step_of step) kept) c.gives-in-Ok.new.self.world c.gives-in-Ok.result) (sym c.in-LeadRange.is)
-    (c.gives-in-Ok.ensures.answer (inputs.LeadRange c.in-LeadRange.first c.in-LeadRange.count) c.in-Ok.ensures.ok)
-
-pub returns-in-Ok-clause-failures : goal.returns-in-Ok-clause-failures
-returns-in-Ok-clause-failures g c =
-    let m = g.M.Machine in
-    let was = c.args.self.now in
-    let s = setting_of m.next m.answers m.begin was in
-    subst (λ step. Counts (IsSome (step_writes s was.world (step_of step))) (stepping was.world (step_of step)) was.failures c.gives-in-Ok.new.self.failures c.gives-in-Ok.result) (sym c.in-LeadRange.is)
-    (c.gives-in-Ok.ensures.failures (inputs.LeadRange c.in-LeadRange.first c.in-LeadRange.count) c.in-Ok.ensures.ok)
-
-pub returns-in-Err-clause-answer : goal.returns-in-Err-clause-answer
-returns-in-Err-clause-answer g c =
-    let m = g.M.Machine in
-    let was = c.args.self.now in
-    let inside = c.self.inside in
-    let disk = g.D.Device.disk in
-    let s = setting_of m.next m.answers m.begin was in
-    let are = nodes_of disk inside.config (m.begin inside.program) inside.nodes.items inside.tasks.items inside.messages c.deref.result.now c.deref.ensures.value c.self.invariant in
-    let refused = c.in-Err.ensures.err s was.world (subst (λ v. AreNodesOf disk (m.begin v.program) c.deref.result.now v.world) c.self.view_is are) in
-    inl (record { resulted = ap (λ step. step_effect s was.world (step_of step)) c.in-LeadRange.is ∙ refused.whole; unchanged = refl })
-
-pub returns-in-Err-clause-failures : goal.returns-in-Err-clause-failures
-returns-in-Err-clause-failures g c =
-    let m = g.M.Machine in
-    let was = c.args.self.now in
-    let inside = c.self.inside in
-    let disk = g.D.Device.disk in
-    let s = setting_of m.next m.answers m.begin was in
-    let are = nodes_of disk inside.config (m.begin inside.program) inside.nodes.items inside.tasks.items inside.messages c.deref.result.now c.deref.ensures.value c.self.invariant in
-    let refused = c.in-Err.ensures.err s was.world (subst (λ v. AreNodesOf disk (m.begin v.program) c.deref.result.now v.world) c.self.view_is are) in
-    none_counted _ _ was.failures c.in-Err.fault refused.none.reason
+pub returns-in-Err : goal.returns-in-Err
+returns-in-Err g c =
+    let f = fields_of g.M.Machine.next g.M.Machine.answers g.M.Machine.begin c.self.inside.messages c.self.invariant c.self.view_is in
+    let s = setting_by f f.was in
+    let refused = c.in-Err.ensures.err s f.was.world (nodes_seen f c.deref.ensures.value) in
+    record {
+      answer = inl (record { resulted = ap (λ step. step_effect s f.was.world (step_of step)) c.in-LeadRange.is ∙ refused.whole; unchanged = refl });
+      setup = record { config = refl; program = refl };
+      failures = none_counted _ _ f.was.failures c.in-Err.fault refused.none.reason;
+    }

@@ -4,7 +4,7 @@ use Rattle.rp_codec.specs.Message.{Message}
 use Rattle.rp_codec.specs.Usual.{reply_sent}
 use Rattle.rp_codec.proofs.Decoded.{written_read, read_same}
 use Rattle.rp_world.specs.Going.{reply_in}
-use Rattle.rp_world.proofs.steps.read_reply.Goals as goal
+use Rattle.rp_world.proofs.steps.decode_reply.Goals as goal
 
 pub returns-in_default-2 : goal.returns-in_default-2
 returns-in_default-2 c = record {

@@ -1,0 +1,86 @@
+-- Each event's answer is a step of the world, and the counts of failures are as it says.
+use Rattle.std.proofs.Common.{sym, ap, subst}
+use Rattle.std.specs.Prelude.{ℤ, IsSome}
+use Rattle.std.specs.Int.{w64}
+use Rattle.std.proofs.lemmas.Int.{to_z-of_z}
+use Rattle.rp_model.specs.Events.{Submit, Again, Stop, Restart, IsEvent, event_of, step_of}
+use Rattle.rp_model.specs.World.{event_effect, step_writes, stepping}
+use Rattle.rp_world.specs.Going.{Answers, no_cut, stated}
+use Rattle.rp_world.specs.Steps.{IsStep, setting_of}
+use Rattle.rp_world.proofs.Answering.{submitted, asked, stopped, restarted, as_answers, counts_stated}
+use Rattle.rp_world.proofs.Stepping.{stepped_as, without_device, made_whole, made_cut}
+use Rattle.rp_world.proofs.world.World.step_into.Goals as goal
+
+pub returns-in-Submit : goal.returns-in-Submit
+returns-in-Submit g c =
+    let m = g.M.Machine in
+    let old = c.args.self.now in
+    let s = setting_of m.next m.answers m.begin old in
+    let v = c.in-Submit in
+    let made = c.submit in
+    let range = subst (λ e. IsEvent (event_of e)) v.is c.requires.event in
+    let answer : Answers old.world (event_effect s old.world (Submit v.task v.node v.object v.operation v.arg)) no_cut made.new.self.world made.result =
+    subst (λ (z : ℤ). Answers old.world (event_effect s old.world (Submit v.task v.node v.object v.operation z)) no_cut made.new.self.world made.result) (to_z-of_z w64 v.arg range.4) made.ensures.answer in
+    record {
+      step = subst (IsStep m.next m.answers m.begin old c.args.event.now made.new.self) (sym c.write_effect.ensures)
+          (without_device m.next m.answers m.begin old made.new.self c.args.event.now made.result made.ensures.setup (Submit v.task v.node v.object v.operation v.arg) (ap event_of v.is)
+          (submitted s old.world made.new.self.world made.result v.task v.node v.object v.operation v.arg answer) answer made.ensures.failures);
+    }
+
+pub returns-in-Again : goal.returns-in-Again
+returns-in-Again g c =
+    let m = g.M.Machine in
+    let old = c.args.self.now in
+    let v = c.in-Again in
+    let made = c.again in
+    record {
+      step = subst (IsStep m.next m.answers m.begin old c.args.event.now made.new.self) (sym c.write_effect-in-Again.ensures)
+          (without_device m.next m.answers m.begin old made.new.self c.args.event.now made.result made.ensures.setup (Again v.task v.node) (ap event_of v.is)
+          (asked (setting_of m.next m.answers m.begin old) old.world made.new.self.world made.result v.task v.node made.ensures.answer) made.ensures.answer made.ensures.failures);
+    }
+
+pub returns-in-Node : goal.returns-in-Node
+returns-in-Node g c =
+    let m = g.M.Machine in
+    let old = c.args.self.now in
+    let s = setting_of m.next m.answers m.begin old in
+    let step = step_of c.in-Node.step in
+    let made = c.makes in
+    let counts = counts_stated (IsSome (step_writes s old.world step)) (stepping old.world step) old.failures made.new.self.failures made.result made.new.effect made.ensures.failures in
+    record {
+      step = made_whole m.next m.answers m.begin old made.new.self c.args.event.now (stated made.result made.new.effect) made.ensures.setup step counts (ap event_of c.in-Node.is) made.ensures.answer;
+    }
+
+pub returns-in-Cut : goal.returns-in-Cut
+returns-in-Cut g c =
+    let m = g.M.Machine in
+    let made = c.cuts in
+    record {
+      step = subst (IsStep m.next m.answers m.begin c.args.self.now c.args.event.now made.new.self) (sym c.write_effect-in-Cut.ensures)
+          (made_cut m.next m.answers m.begin c.args.self.now made.new.self c.args.event.now made.result made.ensures.setup (step_of c.in-Cut.step) made.ensures.failures c.in-Cut.kept (ap event_of c.in-Cut.is) made.ensures.answer);
+    }
+
+pub returns-in-Stop : goal.returns-in-Stop
+returns-in-Stop g c =
+    let m = g.M.Machine in
+    let old = c.args.self.now in
+    let s = setting_of m.next m.answers m.begin old in
+    let v = c.in-Stop in
+    let made = c.stop in
+    record {
+      step = subst (IsStep m.next m.answers m.begin old c.args.event.now made.new.self) (sym c.write_effect-in-Stop.ensures)
+          (without_device m.next m.answers m.begin old made.new.self c.args.event.now made.result made.ensures.setup (Stop v.node) (ap event_of v.is)
+          (stopped s old.world made.new.self.world made.result v.node made.ensures.answer) (as_answers old.world (event_effect s old.world (Stop v.node)) made.new.self.world made.result made.ensures.answer) made.ensures.failures);
+    }
+
+pub returns-in-Restart : goal.returns-in-Restart
+returns-in-Restart g c =
+    let m = g.M.Machine in
+    let old = c.args.self.now in
+    let v = c.in-Restart in
+    let made = c.restart in
+    record {
+      step = subst (IsStep m.next m.answers m.begin old c.args.event.now made.new.self) (sym c.write_effect-in-Restart.ensures)
+          (stepped_as m.next m.answers m.begin old made.new.self c.args.event.now made.result made.ensures.setup (Restart v.node) (ap event_of v.is)
+          (restarted (setting_of m.next m.answers m.begin old) old.world made.new.self.world made.result v.node made.ensures.answer) made.ensures.failures);
+    }

@@ -1,5 +1,5 @@
 -- What the audit learns of the order from a world.
-use Rattle.std.proofs.Common.{◌≡◌, ℕ, suc, ◌+◌, ◌-◌, Option, Some, None, Vec, List, [], ◌∷◌, take, drop, slice_get, inl, refl, sym, ap, subst, arith}
+use Rattle.std.proofs.Common.{◌≡◌, ℕ, ◌+◌, ◌-◌, Option, Some, None, Vec, List, [], ◌∷◌, take, drop, slice_get, inl, refl, sym, subst, arith}
 use Rattle.std.specs.Prelude.{IfSome, IfNone}
 use Rattle.std.specs.declared.alloc.Global.{Global}
 use Rattle.rp_base.specs.Sets.{Has}
@@ -10,22 +10,19 @@ use Rattle.rp_codec.specs.declared.packet.Party.{Party}
 use Rattle.rp_codec.specs.declared.packet.Party.TheVariants.{Audit}
 use Rattle.rp_model.specs.Effect.{Setting}
 use Rattle.rp_model.specs.Facts.{IsOrder}
-use Rattle.rp_model.specs.Parts.{NodePart, TaskPart}
+use Rattle.rp_model.specs.Parts.{NodePart}
 use Rattle.rp_base.specs.declared.reply.Answer.{Answer}
-use Rattle.rp_machine.specs.Places.{HasReply}
-use Rattle.rp_agreement.specs.Answered.{named}
 use Rattle.rp_agreement.specs.Computed.{order_of}
 use Rattle.rp_agreement.specs.Order.{Begins}
 use Rattle.rp_agreement.specs.Sound.{IsReported, IsSound}
 use Rattle.rp_agreement.specs.Asked.{Says}
 use Rattle.rp_boxes.specs.Audits.{ReportSays, AreAllReported, known_of, report}
 use Rattle.rp_boxes.specs.Looks.{IsWorldOf, WasSent}
-use Rattle.rp_boxes.specs.Meeting.{ReportOneOrder, AreOfOneOrder}
-use Rattle.rp_boxes.specs.Parts.{Part, View, task_of}
-use Rattle.rp_boxes.specs.Rule.{node_among, task_among, all_sent}
+use Rattle.rp_boxes.specs.OneOrder.{ReportOneOrder, AreOfOneOrder}
+use Rattle.rp_boxes.specs.Parts.{Part, View}
+use Rattle.rp_boxes.specs.Rule.{node_among, all_sent}
 use Rattle.rp_boxes.specs.Seats.{SeatState, setting_at}
 use Rattle.rp_boxes.proofs.Listed.{at_taken, at_dropped, begins_by}
-use Rattle.rp_boxes.proofs.TaskOrder.{RepliesFollow}
 
 -- the laws of the order and of reports
 abbrev pub OrderExists : Type 0
@@ -47,12 +44,12 @@ module _ {S : Type 0} (s : Setting S) (view : View) (parts : ℕ → Part) (worl
   order = order_of s.config.nodes (all_sent parts 16)
 
   -- what was reported to the audit is in the order
-  stated_at : OrderExists → ReportsFollow → (part : Part) → Has (0, part) view → (node k : ℕ) (action : Action) → ReportSays part node k action → slice_get order k ≡ Some action
+  stated_at : OrderExists → ReportsFollow → (part : Part) → Has (0, part) view → (node k : ℕ) (action : Action) → ReportSays part.got node k action → slice_get order k ≡ Some action
   stated_at exists follow part here node k action stated =
       let packet = report node stated.first stated.applied stated.actions in
-      let got : Has packet (parts 0).got = subst (λ (p : Part). Has packet p.got) (sym (world.knows 0 part here).0) stated.got in
-      let sent = (world.gets 0 (omega arith) packet got).1 in
-      let reported = follow s.config.nodes (node_among parts) (all_sent parts 16) world.good.kept.sound order (exists s.config.nodes (all_sent parts 16))
+      let got : Has packet (parts 0).got = subst (λ (p : Part). Has packet p.got) (sym (world.knows 0 part here).0) stated.among in
+      let sent = (world.is.gets 0 (omega arith) packet got).1 in
+      let reported = follow s.config.nodes (node_among parts) (all_sent parts 16) world.is.good.kept.sound order (exists s.config.nodes (all_sent parts 16))
       node stated.first stated.applied stated.actions (Audit, sent) in
       let cut = drop (stated.first - 1) (take stated.applied order) in
       let among : slice_get (take (report_len stated.first stated.applied) cut) stated.at ≡ Some action =
@@ -68,14 +65,6 @@ module _ {S : Type 0} (s : Setting S) (view : View) (parts : ℕ → Part) (worl
   pub known_begins : OrderExists → ReportsFollow → (part : Part) → Has (0, part) view → (known : List (List Action)) → AreAllReported part known
       → (node : ℕ) → Begins (known_of known node) order
   known_begins exists follow part here known are = begin_one part known are (record { order = order; describes = stated_at exists follow part here })
-
-  -- each reply of a task is the order's answer to its call
-  pub replies_answer : RepliesFollow s → (number : ℕ) (part : Part) → Has (7 + number, part) view → (k : ℕ) (answer : Answer) → slice_get (task_of part.role).replies k ≡ Some answer
-      → HasReply s.next s.answers s.begin order (named number (suc k)) answer
-  replies_answer follow number part here =
-      let task : task_among parts number ≡ task_of part.role = ap (λ (p : Part). task_of p.role) (world.knows (7 + number) part here).0 in
-      subst (λ (t : TaskPart). (k : ℕ) (answer : Answer) → slice_get t.replies k ≡ Some answer → HasReply s.next s.answers s.begin order (named number (suc k)) answer) task
-      (follow (node_among parts) (task_among parts) (all_sent parts 16) world.good.kept number)
 
 -- once the audit got a packet, or none
 module _ {S P : Type 0} (next : S → Action → S) (answers : S → Action → List Answer) (begin : P → S) (exists : OrderExists) (follow : ReportsFollow) (from : Party) (old new : SeatState P) where

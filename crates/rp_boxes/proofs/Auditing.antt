@@ -1,8 +1,8 @@
 -- What the audit knows is reported by the reports that it got.
-use Rattle.std.proofs.Common.{◌≡◌, ℕ, zero, suc, ◌+◌, ◌-◌, ◌^◌, ◌<◌, ◌≤◌, Bool, true, false, if◌then◌else◌, nat_lt, Some, Vec, Result, Ok, Err, List, [], ◌∷◌, ◌++◌, length, map, replicate, take, slice_get, slice_set, get_or, inl, inr, refl, sym, ap, subst, ◌∙◌, arith, length-append, length-set}
+use Rattle.std.proofs.Common.{◌≡◌, ℕ, zero, suc, ◌+◌, ◌-◌, ◌^◌, ◌<◌, ◌≤◌, Bool, true, false, if◌then◌else◌, nat_lt, Some, Vec, Result, Ok, Err, List, [], ◌∷◌, ◌++◌, length, map, replicate, take, slice_get, slice_set, get_or, inl, inr, refl, sym, ap, subst, ◌∙◌, arith, length-append, length-set, get_or-set_same}
 use Rattle.std.specs.Prelude.{OnErr, unwrap_or, vec_len}
 use Rattle.std.proofs.lemmas.List.{length-take, map-set}
-use Rattle.std.proofs.lemmas.Option.{none-some}
+use Rattle.std.proofs.lemmas.Option.{none-some, unwrap_or-slice_get}
 use Rattle.std.proofs.Math.Seq.{map-set_same}
 use Rattle.std.specs.declared.alloc.Global.{Global}
 use Rattle.rp_base.specs.Sets.{Has}
@@ -18,18 +18,15 @@ use Rattle.rp_boxes.proofs.Opening.{always_at}
 
 -- ---- a packet is got
 
+-- what a report says it says among other packets
+pub says_among : {packets packets' : List Message} {node before : ℕ} {action : Action} (says : ReportSays packets node before action) → Has (report node says.first says.applied says.actions) packets'
+    → ReportSays packets' node before action
+says_among says among = record { first = says.first; applied = says.applied; actions = says.actions; among = among; at = says.at; place = says.place; describes = says.describes }
+
 pub stated_still : (part : Part) (known : List (List Action)) (m : Message) → AreAllReported part known → AreAllReported (with_got m part) known
 stated_still part known m are = record {
   seven = are.seven;
-  stated = λ node before action is. let by = are.stated node before action is in record {
-    first = by.first;
-    applied = by.applied;
-    actions = by.actions;
-    got = has_left (report node by.first by.applied by.actions) part.got (m ∷ []) by.got;
-    at = by.at;
-    place = by.place;
-    describes = by.describes;
-  };
+  stated = λ node before action is. let by = are.stated node before action is in says_among by (has_left _ part.got (m ∷ []) by.among);
   few = are.few;
 }
 
@@ -79,14 +76,14 @@ module _ (part : Part) (known : List (List Action)) (are : AreAllReported part k
   kept : length (take (first - 1) old) ≡ first - 1
   kept = omega (arith, length-take (first - 1) old, joins)
 
-  stated_put : (before : ℕ) (action : Action) → slice_get put before ≡ Some action → ReportSays part node before action
+  stated_put : (before : ℕ) (action : Action) → slice_get put before ≡ Some action → ReportSays part.got node before action
   stated_put before action is = elim (at_appended (take (first - 1) old) actions before action is) [
     | inl front ↦ are.stated node before action (at_taken (first - 1) old before action front)
     | inr back ↦ record {
       first = first;
       applied = applied;
       actions = actions;
-      got = got;
+      among = got;
       at = back.0;
       place = let at = back.1 in omega (arith, at, kept);
       describes = back.2;
@@ -102,8 +99,8 @@ module _ (part : Part) (known : List (List Action)) (are : AreAllReported part k
   pub stated_after : AreAllReported part (with_part known node new)
   stated_after = record {
     seven = same_count known node new ∙ are.seven;
-    stated = each_with (λ x list. (before : ℕ) (action : Action) → slice_get list before ≡ Some action → ReportSays part x before action) known node new are.stated
-        (either_of (λ list. (before : ℕ) (action : Action) → slice_get list before ≡ Some action → ReportSays part node before action) (nat_lt (length old) (length put)) put old stated_put (are.stated node));
+    stated = each_with (λ x list. (before : ℕ) (action : Action) → slice_get list before ≡ Some action → ReportSays part.got x before action) known node new are.stated
+        (either_of (λ list. (before : ℕ) (action : Action) → slice_get list before ≡ Some action → ReportSays part.got node before action) (nat_lt (length old) (length put)) put old stated_put (are.stated node));
     few = each_with (λ x list. length list < 2 ^ 16) known node new are.few
         (either_of (λ list. length list < 2 ^ 16) (nat_lt (length old) (length put)) put old few_put (are.few node));
   }
@@ -122,35 +119,42 @@ item_at (x ∷ xs) (suc place) list within = item_at xs place list (omega (arith
 pub counted : (list : Vec Action Global) → vec_len list ≡ length list.items
 counted list = omega (arith, list.ok.0)
 
-module _ (known : List (Vec Action Global)) (seven : length (lists known) ≡ 7) (node place : ℕ) (numbered : node ≡ suc place) (small : node ≤ 7) (list : Vec Action Global) where
-  pub known_at : known_of (lists known) node ≡ (get_or known place list).items
-  known_at =
-      subst (λ (k : ℕ). known_of (lists known) k ≡ (get_or known place list).items) (sym numbered)
-      (item_at known place list (omega (arith, seven, numbered, small)))
+-- The list of a node is at this place.
+pub record IsListAt (known : List (Vec Action Global)) (node place : ℕ) : Type 0 where
+  pub seven : length (lists known) ≡ 7
+  pub numbered : node ≡ suc place
+  pub small : node ≤ 7
 
-  pub replaced : lists (slice_set known place list) ≡ with_part (lists known) node list.items
-  replaced =
-      subst (λ (k : ℕ). lists (slice_set known place list) ≡ with_part (lists known) k list.items) (sym numbered)
-      (map-set (λ (l : Vec Action Global). l.items) known place list)
+pub list_still : {known known' : List (Vec Action Global)} {node place : ℕ} → IsListAt known node place → length (lists known') ≡ 7 → IsListAt known' node place
+list_still at seven = record { seven = seven; numbered = at.numbered; small = at.small }
+
+module _ {known : List (Vec Action Global)} {node place : ℕ} (at : IsListAt known node place) where
+  within : place < length (lists known)
+  within = omega (arith, at.seven, at.numbered, at.small)
+
+  pub known_at : (list : Vec Action Global) → known_of (lists known) node ≡ (get_or known place list).items
+  known_at list = subst (λ (k : ℕ). known_of (lists known) k ≡ (get_or known place list).items) (sym at.numbered) (item_at known place list within)
+
+  -- how many it has
+  pub counted_at : (list : Vec Action Global) (count : ℕ) → count ≡ vec_len (get_or known place list) → count ≡ length (known_of (lists known) node)
+  counted_at list count is = is ∙ (counted (get_or known place list) ∙ ap length (sym (known_at list)))
+
+  -- another list in its place
+  pub known_here : (list : List Action) → known_of (with_part (lists known) node list) node ≡ list
+  known_here list =
+      subst (λ (k : ℕ). known_of (with_part (lists known) k list) k ≡ list) (sym at.numbered)
+      (unwrap_or-slice_get (slice_set (lists known) place list) place [] ∙ get_or-set_same (lists known) place list [] within)
+
+  -- what a report makes of it
+  pub put_there : (list new : Vec Action Global) (first first' : ℕ) (actions : List Action) → first' ≡ first → new.items ≡ with_reported (get_or known place list).items first' actions
+      → lists (slice_set known place new) ≡ with_part (lists known) node (with_reported (known_of (lists known) node) first actions)
+  put_there list new first first' actions same made =
+      subst (λ (k : ℕ). lists (slice_set known place new) ≡ with_part (lists known) k new.items) (sym at.numbered) (map-set (λ (l : Vec Action Global). l.items) known place new)
+      ∙ ap (with_part (lists known) node) (made ∙ (λ i. with_reported (sym (known_at list) i) (same i) actions))
 
 -- a list that holds the same takes its place
 pub still_known : (known : List (Vec Action Global)) (place : ℕ) (old list : Vec Action Global) → list.items ≡ (get_or known place old).items → lists (slice_set known place list) ≡ lists known
 still_known known place old list same = map-set_same (λ (l : Vec Action Global). l.items) known place list old same
-
--- how many a list has
-pub counted_at : (known : List (Vec Action Global)) (node place : ℕ) (numbered : node ≡ suc place) (small : node ≤ 7) (list : Vec Action Global) (count : ℕ)
-    → count ≡ vec_len (get_or known place list) → length (lists known) ≡ 7 → count ≡ length (known_of (lists known) node)
-counted_at known node place numbered small list count is seven = is ∙ (counted (get_or known place list) ∙ ap length (sym (known_at known seven node place numbered small list)))
-
--- what is known of a node whose list was replaced
-set_here : (known : List (List Action)) (place : ℕ) (list : List Action) → place < length known → unwrap_or (slice_get (slice_set known place list) place) [] ≡ list
-set_here [] place list within = absurd (omega (arith, within))
-set_here (x ∷ xs) zero list within = refl
-set_here (x ∷ xs) (suc place) list within = set_here xs place list (omega (arith, within))
-
-pub known_here : (known : List (List Action)) (node place : ℕ) (list : List Action) → length known ≡ 7 → node ≡ suc place → node ≤ 7 → known_of (with_part known node list) node ≡ list
-known_here known node place list seven numbered small =
-    subst (λ (k : ℕ). known_of (with_part known k list) k ≡ list) (sym numbered) (set_here known place list (omega (arith, seven, numbered, small)))
 
 -- ---- what a report results in
 

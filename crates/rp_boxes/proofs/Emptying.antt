@@ -1,5 +1,5 @@
 -- The receiver's steps at a box: it takes the packet out of a full one, and clears it.
-use Rattle.std.proofs.Common.{◌≡◌, ◌≢◌, ◌⊎◌, ℕ, ◌<◌, ◌≤◌, eqb, Some, Vec, List, [], ◌∷◌, ◌++◌, length, set, slice_index, inl, inr, refl, sym, ap, subst, ◌∙◌, arith}
+use Rattle.std.proofs.Common.{◌≡◌, ◌≢◌, ◌⊎◌, ℕ, ◌<◌, ◌≤◌, eqb, Some, Vec, [], ◌∷◌, ◌++◌, length, set, slice_index, inl, inr, refl, sym, ap, subst, ◌∙◌, arith}
 use Rattle.std.specs.declared.alloc.Global.{Global}
 use mathlib.Core.Option.{some, none}
 use lib.ListN.{get_elem?}
@@ -8,16 +8,16 @@ use Rattle.atomic_table.specs.Table.{State, Act, keeps, takes as takes_slot, giv
 use Rattle.atomic_table.specs.Seated.{TableId}
 use Rattle.atomic_table.proofs.Lists.{set_here, set_else, exchanged}
 use Rattle.rp_base.specs.Sets.{Has}
-use Rattle.rp_base.proofs.Members.{has_split}
 use Rattle.rp_codec.specs.Message.{Message}
 use Rattle.rp_model.specs.Effect.{Setting}
 use Rattle.rp_boxes.specs.Parts.{Part, View, actor_of, box_of, emptying, emptied, from_actor, to_actor, part_in}
 use Rattle.rp_boxes.specs.Rule.{Slot, IsBox, IsCarried, IsCarriedOver, IsVacant, Ruled, all_sent}
-use Rattle.rp_boxes.specs.Plays.{Sight, alone, Took, Cleared}
+use Rattle.rp_boxes.specs.Plays.{Sight, alone, holding, Took, Cleared}
 use Rattle.rp_boxes.specs.Moments.{IsMoment, MayClaim}
 use Rattle.rp_boxes.proofs.Carrying.{carried_out, carried_still, from_other, inside_put}
-use Rattle.rp_boxes.proofs.Worlds.{from_each, sent_by}
-use Rattle.rp_boxes.proofs.BoxSteps.{IsBoxStep, boxed, was, now, part_now, still, held_alone, none_both, as_it_is}
+use Rattle.rp_boxes.proofs.Worlds.{each_more, sent_by}
+use Rattle.rp_boxes.proofs.Turns.{was, now, part_now, stays}
+use Rattle.rp_boxes.proofs.BoxSteps.{IsBoxStep, boxed, still, held_alone, holds_it, holds_none, holds_other, none_both, as_it_is}
 
 module _ {S : Type 0} (s : Setting S) (slots id x y : ℕ) (p : Part) (less : x < 16) (fewer : y < 16) where
   abbrev b : ℕ
@@ -31,43 +31,21 @@ module _ {S : Type 0} (s : Setting S) (slots id x y : ℕ) (p : Part) (less : x 
       boxed s t r id y p (emptying b m p) here x y 3 (set t.homes b none) less fewer step (λ other apart. set_else t.homes b other none apart) box
     where
       sent : Has m (r.parts x).sent
-      sent = r.puts x less m (inside_put x y (r.parts x) (r.parts y) m over)
-
-      by_sender : (n : Message) → Has n (p.got ++ m ∷ []) → Has n p.got ⊎ ((actor_of n.to ≡ y) × Has n (all_sent r.parts 16))
-      by_sender n h = elim (has_split n p.got (m ∷ []) h) [
-        | inl old ↦ inl old
-        | inr new ↦ elim new [
-          | inl same ↦ inr (ap (λ (k : Message). actor_of k.to) same ∙ carried.to, sent_by r.parts 16 x n less (subst (λ (k : Message). Has k (r.parts x).sent) (sym same) sent))
-          | inr never ↦ absurd never
-        ]
-      ]
+      sent = r.world.puts x less m (inside_put x y (r.parts x) (r.parts y) m over)
 
       step : IsBoxStep r.parts y x y p (emptying b m p)
       step = record {
-        role = refl;
-        events = refl;
-        sent = refl;
+        kept = refl;
         put = λ n h. inl h;
-        got = by_sender;
-        alike = λ x' y' less' fewer' apart. record {
-          fills = as_it_is;
-          takes = none_both (λ h. subst (λ (replica : List ℕ). Has (box_of x' y') replica) free h) (held_alone b (box_of x' y') apart);
-          puts = λ e. refl;
-          gets = λ e. from_other m p.got x' (λ from. apart (λ i. box_of ((sym from ∙ carried.from) i) (sym e i)));
-        };
+        got = each_more (λ (n : Message). Has n p.got ⊎ ((actor_of n.to ≡ y) × Has n (all_sent r.parts 16))) m p.got (λ n h. inl h) (inr (carried.to, sent_by r.parts 16 x m less sent));
+        alike = λ x' y' apart. record { fills = as_it_is; takes = none_both (holds_none _ free) (held_alone b _ apart); puts = λ e. refl; gets = λ e. from_other m p.got x' (λ from. apart (λ i. box_of ((sym from ∙ carried.from) i) (sym e i))) };
       }
 
       after : ℕ → Part
       after = now s t r id y p (emptying b m p) here
 
-      not_filling : ¬ Has b (r.parts x).fills
-      not_filling h = let e : slice_index t.words b ≡ 1 = (r.boxes x y less fewer).filling.1 h in omega (arith, e, word)
-
-      same_fills : (j : ℕ) → (after j).fills ≡ (r.parts j).fills
-      same_fills = from_each r.parts y p (emptying b m p) (λ q q'. q'.fills ≡ q.fills) (was s t r id y p (emptying b m p) here) refl (λ q. refl)
-
-      same_put : (j : ℕ) → (after j).put ≡ (r.parts j).put
-      same_put = from_each r.parts y p (emptying b m p) (λ q q'. q'.put ≡ q.put) (was s t r id y p (emptying b m p) here) refl (λ q. refl)
+      same : {A : Type 0} (f : Part → A) → f (emptying b m p) ≡ f p → (j : ℕ) → f (after j) ≡ f (r.parts j)
+      same f is = stays s t r id y p (emptying b m p) here f is
 
       new_got : (after y).got ≡ (r.parts y).got ++ m ∷ []
       new_got = ap (λ (q : Part). q.got) (part_now s t r id y p (emptying b m p) here) ∙ ap (λ (q : Part). q.got ++ m ∷ []) (sym (was s t r id y p (emptying b m p) here))
@@ -75,9 +53,9 @@ module _ {S : Type 0} (s : Setting S) (slots id x y : ℕ) (p : Part) (less : x 
       box : IsBox after x y 3 (λ slot. get_elem? (set t.homes b none) b ≡ some (some slot))
       box = record {
         empty = λ e. absurd (omega (arith, e));
-        filling = none_both (λ e. omega (arith, e)) (λ h. not_filling (subst (Has b) (same_fills x) h));
+        filling = none_both (λ e. omega (arith, e)) (λ h. let e : slice_index t.words b ≡ 1 = (r.boxes x y less fewer).filling.1 (subst (Has b) (same (λ (q : Part). q.fills) refl x) h) in omega (arith, e, word));
         full = λ e. absurd (omega (arith, e));
-        not_full = λ other. carried_out x y (r.parts x) (after x) (r.parts y) (after y) m carried.from (same_put x) new_got over;
+        not_full = λ other. carried_out x y (r.parts x) (after x) (r.parts y) (after y) m carried.from (same (λ (q : Part). q.put) refl x) new_got over;
         emptying = (λ e. subst (λ (q : Part). Has b q.takes) (sym (part_now s t r id y p (emptying b m p) here)) (inl refl), λ h. refl);
       }
 
@@ -109,36 +87,20 @@ module _ {S : Type 0} (s : Setting S) (slots id x y : ℕ) (p : Part) (less : x 
     where
       step : IsBoxStep r.parts y x y p (emptied p)
       step = record {
-        role = refl;
-        events = refl;
-        sent = refl;
+        kept = refl;
         put = λ m h. inl h;
         got = λ m h. inl h;
-        alike = λ x' y' less' fewer' apart. record {
-          fills = as_it_is;
-          takes = none_both (λ h. held_alone b (box_of x' y') apart (subst (λ (replica : List ℕ). Has (box_of x' y') replica) holds h)) (λ h. h);
-          puts = λ e. refl;
-          gets = λ e. refl;
-        };
+        alike = λ x' y' apart. record { fills = as_it_is; takes = none_both (holds_other b _ apart holds) (λ h. h); puts = λ e. refl; gets = λ e. refl };
       }
 
       after : ℕ → Part
       after = now s t r id y p (emptied p) here
 
       was_emptying : slice_index t.words b ≡ 3
-      was_emptying = (r.boxes x y less fewer).emptying.1 (subst (λ (q : Part). Has b q.takes) (sym (was s t r id y p (emptied p) here)) (subst (λ (replica : List ℕ). Has b replica) (sym holds) (inl refl)))
+      was_emptying = (r.boxes x y less fewer).emptying.1 (subst (λ (q : Part). Has b q.takes) (sym (was s t r id y p (emptied p) here)) (holds_it holds))
 
-      not_filling : ¬ Has b (r.parts x).fills
-      not_filling h = let e : slice_index t.words b ≡ 1 = (r.boxes x y less fewer).filling.1 h in omega (arith, e, was_emptying)
-
-      same_fills : (j : ℕ) → (after j).fills ≡ (r.parts j).fills
-      same_fills = from_each r.parts y p (emptied p) (λ q q'. q'.fills ≡ q.fills) (was s t r id y p (emptied p) here) refl (λ q. refl)
-
-      same_put : (j : ℕ) → (after j).put ≡ (r.parts j).put
-      same_put = from_each r.parts y p (emptied p) (λ q q'. q'.put ≡ q.put) (was s t r id y p (emptied p) here) refl (λ q. refl)
-
-      same_got : (j : ℕ) → (after j).got ≡ (r.parts j).got
-      same_got = from_each r.parts y p (emptied p) (λ q q'. q'.got ≡ q.got) (was s t r id y p (emptied p) here) refl (λ q. refl)
+      same : {A : Type 0} (f : Part → A) → f (emptied p) ≡ f p → (j : ℕ) → f (after j) ≡ f (r.parts j)
+      same f is = stays s t r id y p (emptied p) here f is
 
       inside : b < length t.homes
       inside = omega (arith, less, fewer, buffer)
@@ -146,16 +108,17 @@ module _ {S : Type 0} (s : Setting S) (slots id x y : ℕ) (p : Part) (less : x 
       box : IsBox after x y 0 (λ replica. get_elem? (set t.homes b (some slot)) b ≡ some (some replica))
       box = record {
         empty = λ e. (slot, set_here t.homes b (some slot) inside, vacant);
-        filling = none_both (λ e. omega (arith, e)) (λ h. not_filling (subst (Has b) (same_fills x) h));
+        filling = none_both (λ e. omega (arith, e)) (λ h. let e : slice_index t.words b ≡ 1 = (r.boxes x y less fewer).filling.1 (subst (Has b) (same (λ (q : Part). q.fills) refl x) h) in omega (arith, e, was_emptying));
         full = λ e. absurd (omega (arith, e));
-        not_full = λ other. carried_still x y (r.parts x) (after x) (r.parts y) (after y) [] (ap (to_actor y) (same_put x)) (ap (from_actor x) (same_got y))
+        not_full = λ other. carried_still x y (r.parts x) (after x) (r.parts y) (after y) [] (ap (to_actor y) (same (λ (q : Part). q.put) refl x)) (ap (from_actor x) (same (λ (q : Part). q.got) refl y))
             ((r.boxes x y less fewer).not_full (λ e. omega (arith, e, was_emptying)));
         emptying = none_both (λ e. omega (arith, e)) (λ h. subst (λ (q : Part). Has b q.takes) (part_now s t r id y p (emptied p) here) h);
       }
 
-  pub clear_allows : 256 ≤ slots → p.takes ≡ b ∷ [] → (slot : Slot) → IsVacant slot
-      → Allows (Ruled s) slots id ((y, p) ∷ [], (b, slot) ∷ []) b (λ n. 0) (λ found me. Cleared ((y, p) ∷ [], (b, slot) ∷ []) me)
-  clear_allows buffer holds slot vacant = λ t r size here fits. ((y, emptied p) ∷ [], gives, tt, cleared holds slot vacant t r (omega (arith, size, buffer)) here, refl)
+  pub clear_allows : 256 ≤ slots → (me : Sight) (slot : Slot) → me ≡ holding y p b slot → p.takes ≡ b ∷ [] → IsVacant slot → Allows (Ruled s) slots id me b (λ n. 0) (λ found new. Cleared me new)
+  clear_allows buffer me slot sees holds vacant =
+      subst (λ (sight : Sight). Allows (Ruled s) slots id sight b (λ n. 0) (λ found new. Cleared sight new)) (sym sees)
+      (λ t r size here fits. ((y, emptied p) ∷ [], gives, tt, cleared holds slot vacant t r (omega (arith, size, buffer)) here, refl))
 
 pub take_allows : {S : Type 0} (s : Setting S) (table mine : TableId) (id x y : ℕ) (me : Sight) (says : Part → Type 0) → MayClaim s table mine y x y me (λ part. part.takes) 2 says
     → Allows (Ruled s) table.slots id me (box_of x y) (λ n. either (eqb n 2) 3 n) (λ found new. Took (box_of x y) me found new × (found ≢ 2 → says (part_in me.0)))

@@ -1,5 +1,5 @@
 -- The sender's steps at a box: it claims an empty one, and publishes what it put there.
-use Rattle.std.proofs.Common.{◌≡◌, ◌≢◌, ℕ, ◌<◌, ◌≤◌, eqb, Some, Vec, List, [], ◌∷◌, ◌++◌, length, set, slice_index, inl, inr, refl, sym, ap, subst, ◌∙◌, arith, get_or-set_same}
+use Rattle.std.proofs.Common.{◌≡◌, ◌≢◌, ◌⊎◌, ℕ, ◌<◌, ◌≤◌, eqb, Some, Vec, [], ◌∷◌, ◌++◌, length, set, slice_index, inl, inr, refl, sym, ap, subst, ◌∙◌, arith, get_or-set_same}
 use Rattle.std.specs.declared.alloc.Global.{Global}
 use mathlib.Core.Option.{some, none}
 use lib.ListN.{get_elem?}
@@ -8,16 +8,16 @@ use Rattle.atomic_table.specs.Table.{State, Act, keeps, takes as takes_slot, giv
 use Rattle.atomic_table.specs.Seated.{TableId}
 use Rattle.atomic_table.proofs.Lists.{set_here, set_else, exchanged}
 use Rattle.rp_base.specs.Sets.{Has}
-use Rattle.rp_base.proofs.Members.{has_split}
 use Rattle.rp_codec.specs.Message.{Message}
 use Rattle.rp_model.specs.Effect.{Setting}
-use Rattle.rp_boxes.specs.Parts.{Part, View, box_of, from_actor, filling, filled, to_actor, part_in}
+use Rattle.rp_boxes.specs.Parts.{Part, View, actor_in, box_of, from_actor, filling, filled, to_actor, part_in}
 use Rattle.rp_boxes.specs.Rule.{Slot, IsBox, IsCarried, Ruled}
 use Rattle.rp_boxes.specs.Plays.{Sight, alone, holding, Claimed, IsPublished}
 use Rattle.rp_boxes.specs.Moments.{IsMoment, MayClaim}
 use Rattle.rp_boxes.proofs.Carrying.{carried_in, carried_still, to_other}
-use Rattle.rp_boxes.proofs.Worlds.{at_below, from_each}
-use Rattle.rp_boxes.proofs.BoxSteps.{IsBoxStep, boxed, was, now, part_now, still, held_alone, none_both, as_it_is}
+use Rattle.rp_boxes.proofs.Worlds.{at_below, each_more}
+use Rattle.rp_boxes.proofs.Turns.{was, now, part_now, stays}
+use Rattle.rp_boxes.proofs.BoxSteps.{IsBoxStep, boxed, still, held_alone, holds_it, holds_none, holds_other, none_both, as_it_is}
 
 module _ {S : Type 0} (s : Setting S) (slots id x y : ℕ) (p : Part) (less : x < 16) (fewer : y < 16) where
   abbrev b : ℕ
@@ -30,42 +30,26 @@ module _ {S : Type 0} (s : Setting S) (slots id x y : ℕ) (p : Part) (less : x 
     where
       step : IsBoxStep r.parts x x y p (filling b p)
       step = record {
-        role = refl;
-        events = refl;
-        sent = refl;
+        kept = refl;
         put = λ m h. inl h;
         got = λ m h. inl h;
-        alike = λ x' y' less' fewer' apart. record {
-          fills = none_both (λ h. subst (λ (replica : List ℕ). Has (box_of x' y') replica) free h) (held_alone b (box_of x' y') apart);
-          takes = as_it_is;
-          puts = λ e. refl;
-          gets = λ e. refl;
-        };
+        alike = λ x' y' apart. record { fills = none_both (holds_none _ free) (held_alone b _ apart); takes = as_it_is; puts = λ e. refl; gets = λ e. refl };
       }
 
       after : ℕ → Part
       after = now s t r id x p (filling b p) here
 
-      not_taken : ¬ Has b (r.parts y).takes
-      not_taken h = let e : slice_index t.words b ≡ 3 = (r.boxes x y less fewer).emptying.1 h in omega (arith, e, word)
-
-      same_takes : (j : ℕ) → (after j).takes ≡ (r.parts j).takes
-      same_takes = from_each r.parts x p (filling b p) (λ q q'. q'.takes ≡ q.takes) (was s t r id x p (filling b p) here) refl (λ q. refl)
-
-      same_put : (j : ℕ) → (after j).put ≡ (r.parts j).put
-      same_put = from_each r.parts x p (filling b p) (λ q q'. q'.put ≡ q.put) (was s t r id x p (filling b p) here) refl (λ q. refl)
-
-      same_got : (j : ℕ) → (after j).got ≡ (r.parts j).got
-      same_got = from_each r.parts x p (filling b p) (λ q q'. q'.got ≡ q.got) (was s t r id x p (filling b p) here) refl (λ q. refl)
+      same : {A : Type 0} (f : Part → A) → f (filling b p) ≡ f p → (j : ℕ) → f (after j) ≡ f (r.parts j)
+      same f is = stays s t r id x p (filling b p) here f is
 
       box : IsBox after x y 1 (λ slot. get_elem? (set t.homes b none) b ≡ some (some slot))
       box = record {
         empty = λ e. absurd (omega (arith, e));
         filling = (λ e. subst (λ (q : Part). Has b q.fills) (sym (part_now s t r id x p (filling b p) here)) (inl refl), λ h. refl);
         full = λ e. absurd (omega (arith, e));
-        not_full = λ other. carried_still x y (r.parts x) (after x) (r.parts y) (after y) [] (ap (to_actor y) (same_put x)) (ap (from_actor x) (same_got y))
+        not_full = λ other. carried_still x y (r.parts x) (after x) (r.parts y) (after y) [] (ap (to_actor y) (same (λ (q : Part). q.put) refl x)) (ap (from_actor x) (same (λ (q : Part). q.got) refl y))
             ((r.boxes x y less fewer).not_full (λ e. omega (arith, e, word)));
-        emptying = none_both (λ e. omega (arith, e)) (λ h. not_taken (subst (Has b) (same_takes y) h));
+        emptying = none_both (λ e. omega (arith, e)) (λ h. let e : slice_index t.words b ≡ 3 = (r.boxes x y less fewer).emptying.1 (subst (Has b) (same (λ (q : Part). q.takes) refl y) h) in omega (arith, e, word));
       }
 
   claim_alone : p.fills ≡ [] → (says : Type 0) → ((t : State Slot View) → IsMoment s ((x, p) ∷ []) t → slice_index t.words b ≢ 0 → says)
@@ -90,42 +74,26 @@ module _ {S : Type 0} (s : Setting S) (slots id x y : ℕ) (p : Part) (less : x 
     where
       step : IsBoxStep r.parts x x y p (filled m p)
       step = record {
-        role = refl;
-        events = refl;
-        sent = refl;
-        put = λ n h. elim (has_split n p.put (m ∷ []) h) [
-          | inl old ↦ inl old
-          | inr new ↦ elim new [ inl same ↦ inr (subst (λ (k : Message). Has k p.sent) (sym same) sent) | inr never ↦ absurd never ]
-        ];
+        kept = refl;
+        put = each_more (λ (n : Message). Has n p.put ⊎ Has n p.sent) m p.put (λ n h. inl h) (inr sent);
         got = λ n h. inl h;
-        alike = λ x' y' less' fewer' apart. record {
-          fills = none_both (λ h. held_alone b (box_of x' y') apart (subst (λ (replica : List ℕ). Has (box_of x' y') replica) holds h)) (λ h. h);
-          takes = as_it_is;
-          puts = λ e. to_other m p.put y' (λ to. apart (λ i. box_of (sym e i) ((sym to ∙ carried.to) i)));
-          gets = λ e. refl;
-        };
+        alike = λ x' y' apart. record { fills = none_both (holds_other b _ apart holds) (λ h. h); takes = as_it_is; puts = λ e. to_other m p.put y' (λ to. apart (λ i. box_of (sym e i) ((sym to ∙ carried.to) i))); gets = λ e. refl };
       }
 
       after : ℕ → Part
       after = now s t r id x p (filled m p) here
 
       was_filling : slice_index t.words b ≡ 1
-      was_filling = (r.boxes x y less fewer).filling.1 (subst (λ (q : Part). Has b q.fills) (sym (was s t r id x p (filled m p) here)) (subst (λ (replica : List ℕ). Has b replica) (sym holds) (inl refl)))
+      was_filling = (r.boxes x y less fewer).filling.1 (subst (λ (q : Part). Has b q.fills) (sym (was s t r id x p (filled m p) here)) (holds_it holds))
 
-      not_taken : ¬ Has b (r.parts y).takes
-      not_taken h = let e : slice_index t.words b ≡ 3 = (r.boxes x y less fewer).emptying.1 h in omega (arith, e, was_filling)
-
-      same_takes : (j : ℕ) → (after j).takes ≡ (r.parts j).takes
-      same_takes = from_each r.parts x p (filled m p) (λ q q'. q'.takes ≡ q.takes) (was s t r id x p (filled m p) here) refl (λ q. refl)
+      same : {A : Type 0} (f : Part → A) → f (filled m p) ≡ f p → (j : ℕ) → f (after j) ≡ f (r.parts j)
+      same f is = stays s t r id x p (filled m p) here f is
 
       new_part : after x ≡ filled m p
       new_part = part_now s t r id x p (filled m p) here
 
       new_put : (after x).put ≡ (r.parts x).put ++ m ∷ []
       new_put = ap (λ (q : Part). q.put) new_part ∙ ap (λ (q : Part). q.put ++ m ∷ []) (sym (was s t r id x p (filled m p) here))
-
-      same_got : (j : ℕ) → (after j).got ≡ (r.parts j).got
-      same_got = from_each r.parts x p (filled m p) (λ q q'. q'.got ≡ q.got) (was s t r id x p (filled m p) here) refl (λ q. refl)
 
       inside : b < length t.homes
       inside = omega (arith, less, fewer, buffer)
@@ -139,21 +107,23 @@ module _ {S : Type 0} (s : Setting S) (slots id x y : ℕ) (p : Part) (less : x 
           text,
           set_here t.homes b (some (Some text)) inside,
           carried,
-          carried_in x y (r.parts x) (after x) (r.parts y) (after y) m carried.to new_put (same_got y) ((r.boxes x y less fewer).not_full (λ e. omega (arith, e, was_filling))),
+          carried_in x y (r.parts x) (after x) (r.parts y) (after y) m carried.to new_put (same (λ (q : Part). q.got) refl y) ((r.boxes x y less fewer).not_full (λ e. omega (arith, e, was_filling))),
         );
         not_full = λ other. absurd (other refl);
-        emptying = none_both (λ e. omega (arith, e)) (λ h. not_taken (subst (Has b) (same_takes y) h));
+        emptying = none_both (λ e. omega (arith, e)) (λ h. let e : slice_index t.words b ≡ 3 = (r.boxes x y less fewer).emptying.1 (subst (Has b) (same (λ (q : Part). q.takes) refl y) h) in omega (arith, e, was_filling));
       }
 
-  pub publish_allows : 256 ≤ slots → p.fills ≡ b ∷ [] → (m : Message) (text : Vec ℕ Global) → Has m p.sent → IsCarried x y text.items m
+  pub publish_allows : 256 ≤ slots → (me : Sight) (m : Message) (text : Vec ℕ Global) → me ≡ holding x p b (Some text) → p.fills ≡ b ∷ [] → Has m p.sent → IsCarried x y text.items m
       → (says : Part → Type 0) → ((t : State Slot View) → IsMoment s ((x, filled m p) ∷ []) t → slice_index t.words b ≡ 2 → get_elem? t.homes b ≡ some (some (Some text)) → says (filled m p))
-      → Allows (Ruled s) slots id (holding x p b (Some text)) b (λ n. 2) (λ found me. IsPublished says x (holding x p b (Some text)) me)
-  publish_allows buffer holds m text sent carried says follows = λ t r size here fits.
+      → Allows (Ruled s) slots id me b (λ n. 2) (λ found new. IsPublished says (actor_in me.0) me new)
+  publish_allows buffer me m text sees holds sent carried says follows =
+      subst (λ (sight : Sight). Allows (Ruled s) slots id sight b (λ n. 2) (λ found new. IsPublished says (actor_in sight.0) sight new)) (sym sees)
+      (λ t r size here fits.
       let after = published holds m text sent carried t r (omega (arith, size, buffer)) here in
       let word : slice_index (set t.words b 2) b ≡ 2 = get_or-set_same t.words b 2 0 (rw r.long (omega (arith, less, fewer))) in
       let slot : get_elem? (set t.homes b (some (Some text))) b ≡ some (some (Some text)) = set_here t.homes b (some (Some text)) (omega (arith, less, fewer, size, buffer)) in
-      let sees = set_here t.views id ((x, filled m p) ∷ []) (at_below t.views id ((x, p) ∷ []) here) in
-      ((x, filled m p) ∷ [], gives, tt, after, record { part = filled m p; is = refl; said = follows _ (record { rule = after; seat = id; sees = sees }) word slot })
+      let known = set_here t.views id ((x, filled m p) ∷ []) (at_below t.views id ((x, p) ∷ []) here) in
+      ((x, filled m p) ∷ [], gives, tt, after, record { part = filled m p; is = refl; picked = follows _ (record { rule = after; seat = id; sees = known }) word slot }))
 
 pub claim_allows : {S : Type 0} (s : Setting S) (table mine : TableId) (id x y : ℕ) (me : Sight) (says : Part → Type 0) → MayClaim s table mine x x y me (λ part. part.fills) 0 says
     → Allows (Ruled s) table.slots id me (box_of x y) (λ n. either (eqb n 0) 1 n) (λ found new. Claimed (box_of x y) me found new × (found ≢ 0 → says (part_in me.0)))

@@ -5,8 +5,7 @@ use native.Mathlib.Decide.{ℕ_discrete}
 use Rattle.rp_base.specs.Sets.{Has}
 use Rattle.rp_codec.specs.Message.{Message, IsPacket}
 use Rattle.rp_model.specs.Effect.{Setting, Done}
-use Rattle.rp_model.specs.Parts.{NodePart}
-use Rattle.rp_model.specs.Parts.{TaskPart}
+use Rattle.rp_model.specs.Parts.{NodePart, TaskPart}
 use Rattle.rp_agreement.specs.Answered.{IsKept}
 use Rattle.rp_agreement.specs.Inputs.{NodeMoves, TaskMoves}
 use Rattle.rp_agreement.specs.Ranges.{IsRangedPart, IsRangedStep}

@@ -14,7 +14,7 @@ use Rattle.rp_boxes.specs.Making.{first_in, others_in}
 use Rattle.rp_boxes.specs.Parts.{Part, View, actor_in, part_in}
 use Rattle.rp_boxes.specs.Plays.{Sight, alone}
 use Rattle.rp_boxes.specs.Rule.{IsSeating, Ruled}
-use Rattle.rp_boxes.proofs.Worlds.{with_value, value_here, value_else, at_below}
+use Rattle.rp_boxes.proofs.Worlds.{AreKeys, with_value, value_here, value_else, at_below, reseated}
 
 module _ (views : List View) (parts : ℕ → Part) (owner : ℕ → ℕ) (seating : IsSeating views parts owner) (id : ℕ) (mine : View) (other k : ℕ) (q : Part)
     (here : get_elem? views id ≡ some mine) (apart : other ≢ id) (there : get_elem? views other ≡ some ((k, q) ∷ [])) where
@@ -68,9 +68,6 @@ module _ (views : List View) (parts : ℕ → Part) (owner : ℕ → ℕ) (seati
     ]
   ]
 
-  abbrev AreKeys : View → Type 0
-  AreKeys v = IsSet (map (λ known. known.0) v)
-
   -- the other's actor is none of its own
   absent : Has k (map (λ known. known.0) mine) → ⊥
   absent h =
@@ -113,22 +110,14 @@ module _ (views : List View) (parts : ℕ → Part) (owner : ℕ → ℕ) (seati
   pub seating_joined : IsSeating views' parts owner'
   seating_joined = record { knows = knows_after; apart = apart_after; seated = seated_after }
 
-pub join_allows : {S : Type 0} (s : Setting S) (id : ℕ) (mine : View) (other k : ℕ) (q : Part) → Joins (Ruled s) id mine other ((k, q) ∷ []) (mine ++ (k, q) ∷ []) []
-join_allows s id mine other k q = λ t r here apart there.
+join_alone : {S : Type 0} (s : Setting S) (id : ℕ) (mine : View) (other k : ℕ) (q : Part) → Joins (Ruled s) id mine other ((k, q) ∷ []) (mine ++ (k, q) ∷ []) []
+join_alone s id mine other k q = λ t r here apart there.
     let before : get_elem? t.views other ≡ some ((k, q) ∷ []) = sym (set_else t.views id other (mine ++ (k, q) ∷ []) apart) ∙ there in
-    record {
-      parts = r.parts;
-      owner = λ x. with_value (λ y. y) other id (r.owner x);
-      config = r.config;
-      long = r.long;
-      seating = seating_joined t.views r.parts r.owner r.seating id mine other k q here apart before;
-      good = r.good;
-      counted = r.counted;
-      sends = r.sends;
-      puts = r.puts;
-      gets = r.gets;
-      boxes = r.boxes;
-    }
+    reseated s t r _ (λ x. with_value (λ y. y) other id (r.owner x)) (seating_joined t.views r.parts r.owner r.seating id mine other k q here apart before)
+
+pub join_allows : {S : Type 0} (s : Setting S) (id : ℕ) (mine : View) (other : ℕ) (me : Sight) → me ≡ alone (actor_in me.0) (part_in me.0) → Joins (Ruled s) id mine other me.0 (mine ++ me.0) []
+join_allows s id mine other me is =
+    subst (λ (sight : Sight). Joins (Ruled s) id mine other sight.0 (mine ++ sight.0) []) (sym is) (join_alone s id mine other (actor_in me.0) (part_in me.0))
 
 -- ---- two places that are joined and split again
 

@@ -12,15 +12,16 @@ use Rattle.rp_model.specs.Parts.{NodePart}
 use Rattle.rp_agreement.specs.Computed.{order_of}
 use Rattle.rp_agreement.specs.Order.{Begins}
 use Rattle.rp_agreement.specs.Sound.{IsSound}
-use Rattle.rp_boxes.specs.Audits.{Audited, AreAllReported, known_of, report}
+use Rattle.rp_boxes.specs.Audits.{Audited, ReportSays, AreAllReported, known_of, report}
 use Rattle.rp_boxes.specs.Looks.{IsWorldOf}
 use Rattle.rp_boxes.specs.Parts.{Part, View, node_of}
 use Rattle.rp_boxes.specs.Plays.{Sight, alone}
 use Rattle.rp_boxes.specs.Rule.{IsGotInOrder, node_among, all_sent}
 use Rattle.rp_boxes.specs.Seats.{SeatState, setting_at}
-use Rattle.rp_boxes.specs.Together.{AreTogether, HasReported, IsNodeOf, IsTaskOf, known_together, of_node, of_task}
-use Rattle.rp_boxes.proofs.AuditOrder.{OrderExists, ReportsFollow, known_begins, replies_answer}
-use Rattle.rp_boxes.proofs.TaskOrder.{RepliesFollow, CallsCount, calls_ordered}
+use Rattle.rp_boxes.specs.Together.{AreTogether, IsNodeOf, IsTaskOf, known_together, of_node, of_task}
+use Rattle.rp_boxes.proofs.Auditing.{says_among}
+use Rattle.rp_boxes.proofs.AuditOrder.{OrderExists, ReportsFollow, known_begins}
+use Rattle.rp_boxes.proofs.TaskOrder.{RepliesFollow, CallsCount, of_order}
 use Rattle.rp_boxes.proofs.Worlds.{is_sent}
 
 -- ---- places are taken in, one after the other
@@ -70,24 +71,16 @@ module _ {S P : Type 0} (next : S → Action → S) (answers : S → Action → 
 
     -- what is known of a node is what it has reported
     has_reported : AreAllReported audit.seat.part audit.known → (seat : SeatState P) → Has seat nodes → (before : ℕ) (action : Action)
-        → slice_get (known_of audit.known seat.number) before ≡ Some action → HasReported seat before action
+        → slice_get (known_of audit.known seat.number) before ≡ Some action → ReportSays seat.part.sent seat.number before action
     has_reported are seat has before action is =
         let stated = are.stated seat.number before action is in
         let packet = report seat.number stated.first stated.applied stated.actions in
-        let got : Has packet (parts 0).got = subst (λ (p : Part). Has packet p.got) (sym (world.knows 0 audit.seat.part (inl refl)).0) stated.got in
-        let by = is_sent parts 16 packet (world.gets 0 (omega arith) packet got).1 in
-        let from : seat.number ≡ by.0 = world.sends by.0 by.1 packet by.2 in
+        let got : Has packet (parts 0).got = subst (λ (p : Part). Has packet p.got) (sym (world.knows 0 audit.seat.part (inl refl)).0) stated.among in
+        let by = is_sent parts 16 packet (world.is.gets 0 (omega arith) packet got).1 in
+        let from : seat.number ≡ by.0 = world.is.sends by.0 by.1 packet by.2 in
         let sent : Has packet (parts seat.number).sent = subst (λ (k : ℕ). Has packet (parts k).sent) (sym from) by.2 in
         let own = (world.knows seat.number seat.part (node_here seat has)).0 in
-        record {
-          first = stated.first;
-          applied = stated.applied;
-          actions = stated.actions;
-          sent = subst (λ (p : Part). Has packet p.sent) own sent;
-          at = stated.at;
-          place = stated.place;
-          describes = stated.describes;
-        }
+        says_among stated (subst (λ (p : Part). Has packet p.sent) own sent)
 
     pub together : AppliedBegin → RepliesFollow s → CallsCount s → AreAllReported audit.seat.part audit.known → AreTogether next answers begin audit nodes tasks
     together applied replies calls are = record {
@@ -95,13 +88,10 @@ module _ {S P : Type 0} (next : S → Action → S) (answers : S → Action → 
       known = known_begins s view parts world exists follow audit.seat.part (inl refl) audit.known are;
       nodes_are = all_members (IsNodeOf order audit.known) nodes (λ seat has. record {
         applied = subst (λ (p : Part). Begins (applied_of (node_of p.role).records) order) (world.knows seat.number seat.part (node_here seat has)).0
-            (applied s.config.nodes (node_among parts) (all_sent parts 16) world.good.kept.sound order (exists s.config.nodes (all_sent parts 16)) seat.number);
+            (applied s.config.nodes (node_among parts) (all_sent parts 16) world.is.good.kept.sound order (exists s.config.nodes (all_sent parts 16)) seat.number);
         reported = has_reported are seat has;
       });
-      tasks_are = all_members (IsTaskOf next answers (begin audit.seat.program) order) tasks (λ seat has. record {
-        replies = replies_answer s view parts world replies seat.number seat.part (task_here seat has);
-        calls = calls_ordered s view parts world seat.number seat.part (task_here seat has) calls;
-      });
+      tasks_are = all_members (IsTaskOf next answers (begin audit.seat.program) order) tasks (λ seat has. of_order s view parts world seat.number seat.part (task_here seat has) replies calls);
       carried = λ x y sender receiver there here.
           let from = world.knows x sender there in
           let to = world.knows y receiver here in

@@ -9,15 +9,13 @@ use Rattle.atomic_table.specs.Table.{opening}
 use Rattle.rp_base.specs.Config.{IsRightConfig}
 use Rattle.rp_base.specs.Sets.{Has, IsSet}
 use Rattle.rp_model.specs.Effect.{Setting}
-use Rattle.rp_model.specs.Parts.{NodePart}
-use Rattle.rp_model.specs.Parts.{TaskPart}
-use Rattle.rp_model.specs.Parts.{fresh_node, fresh_task}
+use Rattle.rp_model.specs.Parts.{NodePart, TaskPart, fresh_node, fresh_task}
 use Rattle.rp_model.specs.World.{opening_world, part_at}
 use Rattle.rp_agreement.specs.Answered.{IsKept, IsKeptWorld, task_in}
 use Rattle.rp_agreement.specs.Ranges.{IsRangedPart}
 use Rattle.rp_agreement.specs.Worlds.{node_in}
 use Rattle.rp_boxes.specs.Parts.{Part, View, OfNode, OfTask, OfAudit, box_of, node_of, task_of, first_part, first_from}
-use Rattle.rp_boxes.specs.Rule.{Slot, IsGood, IsSeating, Ruled, node_among, task_among, all_sent}
+use Rattle.rp_boxes.specs.Rule.{Slot, IsGoodAt, IsSeating, Ruled, node_among, task_among, all_sent}
 
 -- ---- the actors from a number on
 
@@ -100,7 +98,7 @@ module _ {S : Type 0} (s : Setting S) (right : IsRightConfig s.config) (world : 
       (subst (λ (task : ℕ → TaskPart). IsKept s (node_among first_part) task []) (λ i t. tasks_are t i)
       (subst (λ (node : ℕ → NodePart). IsKept s node (task_in (replicate 8 fresh_task)) []) (λ i x. nodes_are x i) world.kept))
 
-  first_good : IsGood s (node_among first_part) (task_among first_part) (all_sent first_part 16)
+  first_good : IsGoodAt s first_part
   first_good = record {
     kept = first_kept;
     ranged = λ x. subst IsRangedPart (sym (nodes_first x)) fresh_ranged;
@@ -134,14 +132,10 @@ module _ {S : Type 0} (s : Setting S) (right : IsRightConfig s.config) (world : 
   opens words long zeros = record {
     parts = first_part;
     owner = λ k. 0;
-    config = right;
+    world = record { config = right; good = first_good; sends = λ k small m h. absurd h; puts = λ k small m h. absurd h; gets = λ k small m h. absurd h };
     long = long;
     seating = one_seat;
-    good = first_good;
     counted = λ k small. zeros (256 + k);
-    sends = λ k small m h. absurd h;
-    puts = λ k small m h. absurd h;
-    gets = λ k small m h. absurd h;
     boxes = λ x y less fewer. record {
       empty = λ e. (None, vacant 256 (box_of x y) (omega (arith, less, fewer)), tt);
       filling = (λ e. absurd (omega (arith, e, zeros (box_of x y))), λ h. absurd h);

@@ -1,15 +1,19 @@
 -- Actors get seats one after another, as they are at first.
-use Rattle.std.proofs.Common.{◌≡◌, ℕ, zero, suc, ◌+◌, ◌<◌, ◌≤◌, List, [], ◌∷◌, ◌++◌, length, drop, slice_index, refl, sym, ap, subst, ◌∙◌, arith, length-append}
+use Rattle.std.proofs.Common.{◌≡◌, ℕ, zero, suc, ◌+◌, ◌<◌, ◌≤◌, true, false, if◌then◌else◌, nat_eq, nat_lt, List, [], ◌∷◌, ◌++◌, length, drop, slice_index, refl, sym, ap, subst, ◌∙◌, arith, length-append}
+use Rattle.std.proofs.lemmas.Bool.{ne_eqb, lt-ltb}
 use Rattle.atomic_table.specs.Seated.{TableId}
+use Rattle.rp_base.specs.Config.{IsRightConfig}
 use Rattle.rp_base.specs.declared.config.Config.{Config}
-use Rattle.rp_model.specs.Parts.{fresh_node}
+use Rattle.rp_model.specs.Parts.{fresh_node, fresh_task}
 use Rattle.rp_replica.specs.State.{ReplicaState}
 use Rattle.rp_world.specs.Nodes.{member_of, RunsAs}
+use Rattle.rp_world.proofs.Fresh.{one_more}
 use Rattle.rp_world.proofs.Represented.{represents}
-use Rattle.rp_boxes.specs.Parts.{Part, View, OfNode, first_role, first_part, first_from, part_in}
+use Rattle.rp_boxes.specs.Parts.{Part, View, OfNode, OfTask, OfAudit, first_role, first_part, first_from, part_in}
 use Rattle.rp_boxes.specs.Plays.{Sight, IsSized, alone}
 use Rattle.rp_boxes.specs.Seats.{SeatState, IsAtTable, IsNodePlace}
 use Rattle.rp_boxes.specs.Making.{AreFirstSeats, AreSeats, IsRest, Unseated, after_seats, others_in, first_seat}
+use Rattle.rp_boxes.proofs.SeatBoxes.{Board, Place}
 
 -- ---- the rest of the actors
 
@@ -56,18 +60,10 @@ at_first table mine actor me same sized small is =
 
 -- what the nodes are at first
 pub node_role : (k : ℕ) → 1 ≤ k → k < 8 → first_role k ≡ OfNode fresh_node
-node_role zero least most = absurd (omega (arith, least))
-node_role (suc zero) least most = refl
-node_role (suc (suc zero)) least most = refl
-node_role (suc (suc (suc zero))) least most = refl
-node_role (suc (suc (suc (suc zero)))) least most = refl
-node_role (suc (suc (suc (suc (suc zero))))) least most = refl
-node_role (suc (suc (suc (suc (suc (suc zero)))))) least most = refl
-node_role (suc (suc (suc (suc (suc (suc (suc zero))))))) least most = refl
-node_role (suc (suc (suc (suc (suc (suc (suc (suc k)))))))) least most = absurd (omega (arith, most))
-
-known_part : (actor : ℕ) (me : Sight) → me ≡ alone actor (first_part actor) → part_in me.0 ≡ first_part actor
-known_part actor me is = ap (λ (sight : Sight). part_in sight.0) is
+node_role k least most =
+    let above : nat_eq k 0 ≡ false = ne_eqb k 0 (λ e. omega (arith, e, least)) in
+    let below : nat_lt k 8 ≡ true = lt-ltb k 8 most in
+    λ i. if above i then OfAudit else if below i then OfNode fresh_node else OfTask fresh_task
 
 -- a replica that is fresh is the node that its place knows
 pub fresh_place : {S : Type 0} (config : Config) (begin : S) (number : ℕ) (replica : ReplicaState S) (me : Sight) → 1 ≤ number → number ≤ config.nodes → config.nodes ≤ 7
@@ -75,25 +71,38 @@ pub fresh_place : {S : Type 0} (config : Config) (begin : S) (number : ℕ) (rep
 fresh_place config begin number replica me least most seven is runs = record {
   member = (least, most);
   node = fresh_node;
-  is = ap (λ (part : Part). part.role) (known_part number me is) ∙ node_role number least (omega (arith, most, seven));
+  is = ap (λ (sight : Sight). (part_in sight.0).role) is ∙ node_role number least (omega (arith, most, seven));
   represents = represents (member_of number config begin) replica fresh_node runs;
 }
+
+-- so its seat is one at the table
+pub node_at_first : {M P : Type 0} (begin : P → M) (found board : Board M P) (place : Place) (node : ℕ) (replica : ReplicaState M) (config : Config) (program : P) → found ≡ board → place.table_id ≡ board.shared.table_id
+    → IsSized board.shared.table_id → board.shared.key.config ≡ config → program ≡ board.shared.key.program.value → IsRightConfig config → 1 ≤ node → node ≤ config.nodes → place.me ≡ alone node (first_part node)
+    → RunsAs (member_of node config (begin program)) replica fresh_node
+    → IsAtTable found.shared.table_id place.table_id node place.me × IsNodePlace found.shared.key.config (begin found.shared.key.program.value) node replica (part_in place.me.0)
+node_at_first {M} {P} begin found board place node replica config program is same sized configured begun right least most knows runs =
+    let seated : IsNodePlace board.shared.key.config (begin board.shared.key.program.value) node replica (part_in place.me.0) =
+    subst (λ (z : Config × P). IsNodePlace z.0 (begin z.1) node replica (part_in place.me.0)) (λ i. (sym configured i, begun i))
+    (fresh_place config (begin program) node replica place.me least most right.nodes.1 knows runs) in
+    subst (λ (b : Board M P). IsAtTable b.shared.table_id place.table_id node place.me × IsNodePlace b.shared.key.config (begin b.shared.key.program.value) node replica (part_in place.me.0)) (sym is)
+    (at_first board.shared.table_id place.table_id node place.me same sized (omega (arith, most, right.nodes.1)) knows, seated)
 
 -- ---- one more seat
 
 module _ {P : Type 0} (old self : Unseated P) (seats : List (SeatState P)) (same : self ≡ after_seats (length seats) old) where
-  next_is : self.next ≡ old.next + length seats
-  next_is = ap (λ (unseated : Unseated P). unseated.next) same
-
   pub after_one : (self' : Unseated P) (grown : List (SeatState P)) (seat : SeatState P) → self' ≡ after_seats 1 self → grown ≡ seats ++ seat ∷ [] → self' ≡ after_seats (length grown) old
   after_one self' grown seat one is =
       let count : old.next + length seats + 1 ≡ old.next + length grown = omega (arith, ap length is, length-append seats (seat ∷ [])) in
       one ∙ (ap (after_seats 1) same ∙ ap (λ (next : ℕ). let unseated : Unseated P = record old { next = next } in unseated) count)
 
-  pub seat_is : (seat : SeatState P) (number actor failures number' actor' failures' : ℕ) → seat ≡ first_seat self.table self.config self.program number actor failures
-      → number ≡ number' → actor ≡ actor' → failures ≡ failures' → seat ≡ first_seat old.table old.config old.program number' actor' failures'
-  seat_is seat number actor failures number' actor' failures' stated named which failed =
-      stated ∙ (λ i. first_seat (same i).table (same i).config (same i).program (named i) (which i) (failed i))
+  -- one more seat
+  pub with_one : (actor : ℕ) (failures : List ℕ) (grown : List (SeatState P)) (seat : SeatState P) (number which failed : ℕ) → AreFirstSeats old.table old.config old.program actor failures seats
+      → grown ≡ seats ++ seat ∷ [] → seat ≡ first_seat self.table self.config self.program number which failed → number ≡ suc (length seats) → which ≡ actor + length seats
+      → failed ≡ slice_index failures (length seats) → AreFirstSeats old.table old.config old.program actor failures grown
+  with_one actor failures grown seat number which failed are is stated named acts fails =
+      subst (AreFirstSeats old.table old.config old.program actor failures) (sym is)
+      (one_more (λ place s. s ≡ first_seat old.table old.config old.program (suc place) (actor + place) (slice_index failures place)) seats seat are
+      (stated ∙ (λ i. first_seat (same i).table (same i).config (same i).program (named i) (acts i) (fails i))))
 
 -- no seat yet
 pub after_none : {P : Type 0} (old : Unseated P) (seats : List (SeatState P)) → seats ≡ [] → old ≡ after_seats (length seats) old

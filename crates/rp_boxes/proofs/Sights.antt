@@ -6,9 +6,9 @@ use Rattle.atomic_table.specs.Seated.{TableId}
 use Rattle.rp_codec.specs.Message.{Message}
 use Rattle.rp_model.specs.Effect.{Setting}
 use Rattle.rp_boxes.specs.Moments.{MayClaim}
-use Rattle.rp_boxes.specs.Parts.{Part, actor_in, box_of, on_first, filling, emptying, emptied, part_in, with_got}
+use Rattle.rp_boxes.specs.Parts.{Part, actor_in, box_of, on_first, filling, emptying, part_in}
 use Rattle.rp_boxes.specs.Rule.{Slot, IsCarried, IsVacant}
-use Rattle.rp_boxes.specs.Plays.{Sight, alone, holding, Claimed, Took, IsPublished, Cleared}
+use Rattle.rp_boxes.specs.Plays.{Sight, alone, holding, Claimed, Took, IsPublished}
 use Rattle.rp_boxes.proofs.BoxSteps.{same_box}
 
 -- the table has a word for each box
@@ -28,7 +28,7 @@ pub sees_published : (says : Part → Type 0) (k b : ℕ) (p : Part) (slot : Slo
     → (new ≡ alone k (part_in new.0)) × says (part_in new.0)
 sees_published says k b p slot old new is published =
     let sees : new ≡ alone k published.part = published.is ∙ ap (λ (me : Sight). ((actor_in me.0, published.part) ∷ [], rest me.1)) is in
-    (subst (λ (me : Sight). me ≡ alone k (part_in me.0)) (sym sees) refl, subst (λ (me : Sight). says (part_in me.0)) (sym sees) published.said)
+    (subst (λ (me : Sight). me ≡ alone k (part_in me.0)) (sym sees) refl, subst (λ (me : Sight). says (part_in me.0)) (sym sees) published.picked)
 
 -- what was taken went through this box
 pub sees_taken : (x y : ℕ) (p : Part) (old new : Sight) (found : ℕ) → x < 16 → y < 16 → old ≡ alone y p → Took (box_of x y) old found new → found ≡ 2
@@ -41,10 +41,6 @@ sees_taken x y p old new found less fewer is took hit =
       subst (λ (z : ℕ × ℕ). IsCarried z.0 z.1 taken.text.items taken.packet) (λ i. (same.0 i, same.1 i)) taken.carried,
       taken.is ∙ ap (λ (me : Sight). (on_first (emptying (box_of x y) taken.packet) me.0, (box_of x y, Some taken.text) ∷ me.1)) is,
     )
-
-pub sees_cleared : (k b : ℕ) (p : Part) (m : Message) (slot : Slot) (old new : Sight) → p.takes ≡ [] → old ≡ holding k (emptying b m p) b slot → Cleared old new → new ≡ alone k (with_got m p)
-sees_cleared k b p m slot old new free is cleared =
-    cleared ∙ (ap (λ (me : Sight). (on_first emptied me.0, rest me.1)) is ∙ ap (λ (replica : List ℕ). alone k (record (with_got m p) { takes = replica })) (sym free))
 
 pub out_with : (k b : ℕ) (p : Part) (slot : Slot) (me : Sight) → me ≡ holding k p b slot → me.1 ≡ (b, slot) ∷ rest me.1
 out_with k b p slot me is = subst (λ (seen : Sight). seen.1 ≡ (b, slot) ∷ rest seen.1) (sym is) refl

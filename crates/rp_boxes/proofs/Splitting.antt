@@ -1,17 +1,18 @@
 -- A seat gives its first actor to a new seat.
-use Rattle.std.proofs.Common.{◌≡◌, ◌≢◌, ◌⊎◌, ℕ, zero, suc, ◌<◌, List, [], ◌∷◌, ◌++◌, map, length, set, inl, inr, refl, sym, ap, subst, ◌∙◌}
+use Rattle.std.proofs.Common.{◌≡◌, ◌≢◌, ◌⊎◌, ℕ, zero, suc, ◌<◌, List, [], ◌∷◌, ◌++◌, map, length, set, inl, inr, refl, sym, ap, subst, ◌∙◌, length-set}
 use mathlib.Core.Logic.{dite}
 use mathlib.Core.Option.{some, some-injective, some-ne-none}
 use native.Mathlib.Decide.{ℕ_discrete}
 use lib.ListN.{get_elem?}
 use Rattle.atomic_table.specs.Table.{Splits}
 use Rattle.atomic_table.proofs.Lists.{at_set, set_here, set_else, at_longer, at_last}
-use Rattle.rp_base.specs.Sets.{Has, IsSet}
+use Rattle.rp_base.specs.Sets.{Has}
 use Rattle.rp_base.proofs.Members.{has_mapped}
 use Rattle.rp_model.specs.Effect.{Setting}
+use Rattle.rp_boxes.specs.Making.{first_in, others_in}
 use Rattle.rp_boxes.specs.Parts.{Part, View}
 use Rattle.rp_boxes.specs.Rule.{IsSeating, Ruled}
-use Rattle.rp_boxes.proofs.Worlds.{with_value, value_here, value_else, at_each, at_below}
+use Rattle.rp_boxes.proofs.Worlds.{AreKeys, with_value, value_here, value_else, at_each, at_below, reseated}
 
 -- what is in a list with one more at its end
 at_end : {A : Type 0} (l : List A) (a : A) (j : ℕ) (b : A) → get_elem? (l ++ a ∷ []) j ≡ some b → (get_elem? l j ≡ some b) ⊎ ((j ≡ length l) × (a ≡ b))
@@ -19,11 +20,6 @@ at_end [] a zero b e = inr (refl, some-injective a b e)
 at_end [] a (suc j) b e = absurd (some-ne-none b (sym e))
 at_end (x ∷ xs) a zero b e = inl e
 at_end (x ∷ xs) a (suc j) b e = elim (at_end xs a j b e) [ inl old ↦ inl old | inr new ↦ inr (ap suc new.0, new.1) ]
-
-same_length : {A : Type 0} (l : List A) (i : ℕ) (a : A) → length (set l i a) ≡ length l
-same_length [] i a = refl
-same_length (x ∷ xs) zero a = refl
-same_length (x ∷ xs) (suc i) a = ap suc (same_length xs i a)
 
 module _ (views : List View) (parts : ℕ → Part) (owner : ℕ → ℕ) (seating : IsSeating views parts owner) (id k : ℕ) (p : Part) (others : View)
     (here : get_elem? views id ≡ some ((k, p) ∷ others)) where
@@ -80,11 +76,8 @@ module _ (views : List View) (parts : ℕ → Part) (owner : ℕ → ℕ) (seati
     | inl old ↦ knows_left other v old
     | inr new ↦ λ j q h.
         let fact = knows_new j q (subst (λ (w : View). Has (j, q) w) (sym new.1) h) in
-        (fact.0 ∙ (sym (same_length views id others) ∙ sym new.0), fact.1, fact.2)
+        (fact.0 ∙ (sym (length-set views id others) ∙ sym new.0), fact.1, fact.2)
   ]
-
-  abbrev AreKeys : View → Type 0
-  AreKeys v = IsSet (map (λ known. known.0) v)
 
   apart_after : (other : ℕ) (v : View) → get_elem? views' other ≡ some v → AreKeys v
   apart_after other v at = elim (at_end left one other v at) [
@@ -113,23 +106,16 @@ module _ (views : List View) (parts : ℕ → Part) (owner : ℕ → ℕ) (seati
 
   seated_after : (j : ℕ) → j < 16 → IsSeated j (owner' j)
   seated_after = at_each owner k (length views) (λ j place. j < 16 → IsSeated j place)
-      (λ small. (one, at_last left one (length views) (same_length views id others), inl (λ i. (k, known.1 i))))
+      (λ small. (one, at_last left one (length views) (length-set views id others), inl (λ i. (k, known.1 i))))
       seated_else
 
   pub seating_split : IsSeating views' parts owner'
   seating_split = record { knows = knows_after; apart = apart_after; seated = seated_after }
 
-pub split_allows : {S : Type 0} (s : Setting S) (id k : ℕ) (p : Part) (others : View) → Splits (Ruled s) id ((k, p) ∷ others) others ((k, p) ∷ [])
-split_allows s id k p others = λ t r here. record {
-  parts = r.parts;
-  owner = with_value r.owner k (length t.views);
-  config = r.config;
-  long = r.long;
-  seating = seating_split t.views r.parts r.owner r.seating id k p others here;
-  good = r.good;
-  counted = r.counted;
-  sends = r.sends;
-  puts = r.puts;
-  gets = r.gets;
-  boxes = r.boxes;
-}
+pub split_allows : {S : Type 0} (s : Setting S) (id : ℕ) (view : View) → (first : ℕ × Part) × (others : View) × (view ≡ first ∷ others) → Splits (Ruled s) id view (others_in view) (first_in view)
+split_allows s id view known =
+    let k = known.0.0 in
+    let p = known.0.1 in
+    let others = known.1 in
+    subst (λ (v : View). Splits (Ruled s) id v (others_in v) (first_in v)) (sym known.2)
+    (λ t r here. reseated s t r _ (with_value r.owner k (length t.views)) (seating_split t.views r.parts r.owner r.seating id k p others here))

@@ -15,7 +15,7 @@ use Rattle.rp_agreement.specs.Asked.{Asks}
 use Rattle.rp_boxes.specs.Looks.{IsWorldOf}
 use Rattle.rp_boxes.specs.Parts.{Part, View, task_of, part_in, actor_in}
 use Rattle.rp_boxes.specs.Rule.{node_among, task_among, all_sent}
-use Rattle.rp_boxes.specs.TaskSeats.{HasOneOrder}
+use Rattle.rp_boxes.specs.TaskSeats.{HasOneOrder, IsOfOrder}
 use Rattle.rp_boxes.proofs.Worlds.{sent_by, is_sent}
 
 -- the laws of replies and of calls, at a setting
@@ -41,7 +41,7 @@ module _ {S : Type 0} (s : Setting S) (view : View) (parts : ℕ → Part) (worl
       there : Asks (all_sent parts 16) number action → Asks part.sent number action
       there asked =
           let by = is_sent parts 16 (asks number asked.0 action) asked.1 in
-          let from : 7 + number ≡ by.0 = world.sends by.0 by.1 (asks number asked.0 action) by.2 in
+          let from : 7 + number ≡ by.0 = world.is.sends by.0 by.1 (asks number asked.0 action) by.2 in
           let here : Has (asks number asked.0 action) (parts (7 + number)).sent = subst (λ (k : ℕ). Has (asks number asked.0 action) (parts k).sent) (sym from) by.2 in
           (asked.0, subst (λ (p : Part). Has (asks number asked.0 action) p.sent) was here)
 
@@ -59,25 +59,20 @@ module _ {S : Type 0} (s : Setting S) (view : View) (parts : ℕ → Part) (worl
     all_but_last = are.all_but_last;
   }
 
-  -- the calls of the task that count in the order of what was sent are its own
-  pub calls_ordered : CallsCount s → AreItsCalls part.sent number (task_of part.role) (kept_of s.next s.answers s.begin (order_of s.config.nodes (all_sent parts 16)))
-  calls_ordered calls =
-      let task : task_among parts number ≡ task_of part.role = ap (λ (p : Part). task_of p.role) was in
-      let order = order_of s.config.nodes (all_sent parts 16) in
-      own_calls (task_of part.role) (kept_of s.next s.answers s.begin order)
-      (subst (λ (t : TaskPart). AreItsCalls (all_sent parts 16) number t (kept_of s.next s.answers s.begin order)) task
-      (calls (node_among parts) (task_among parts) (all_sent parts 16) world.good.kept number))
-
-  pub world_orders : RepliesFollow s → CallsCount s → HasOneOrder s.next s.answers s.begin number part
-  world_orders replies calls =
+  -- the task is of the order of what was sent
+  pub of_order : RepliesFollow s → CallsCount s → IsOfOrder s.next s.answers s.begin (order_of s.config.nodes (all_sent parts 16)) number part
+  of_order replies calls =
       let task : task_among parts number ≡ task_of part.role = ap (λ (p : Part). task_of p.role) was in
       let order = order_of s.config.nodes (all_sent parts 16) in
       record {
-        order = order;
         replies = subst (λ (t : TaskPart). (k : ℕ) (answer : Answer) → slice_get t.replies k ≡ Some answer → HasReply s.next s.answers s.begin order (named number (suc k)) answer) task
-            (replies (node_among parts) (task_among parts) (all_sent parts 16) world.good.kept number);
-        calls = calls_ordered calls;
+            (replies (node_among parts) (task_among parts) (all_sent parts 16) world.is.good.kept number);
+        calls = own_calls (task_of part.role) (kept_of s.next s.answers s.begin order)
+            (subst (λ (t : TaskPart). AreItsCalls (all_sent parts 16) number t (kept_of s.next s.answers s.begin order)) task (calls (node_among parts) (task_among parts) (all_sent parts 16) world.is.good.kept number));
       }
+
+  pub world_orders : RepliesFollow s → CallsCount s → HasOneOrder s.next s.answers s.begin number part
+  world_orders replies calls = record { order = order_of s.config.nodes (all_sent parts 16); task = of_order replies calls }
 
 -- what a seat knows that knows one actor
 pub knows_itself : (k n : ℕ) (p : Part) (view : View) → view ≡ (k, p) ∷ [] → actor_in view ≡ 7 + n → Has (7 + n, part_in view) view

@@ -2,7 +2,6 @@
 use Rattle.std.proofs.Common.{◌≡◌, ℕ, ◌+◌, ◌++◌, Bool, true, false, if◌then◌else◌, Option, Some, None, Result, Ok, Err, List, [], ◌∷◌, length, inl, inr, refl, sym, ap, subst, ◌∙◌}
 use Rattle.std.specs.Prelude.{ℤ, nat_lt, not, ◌||◌, IfErr, IsErrAnd}
 use Rattle.std.specs.Arc.{arc_value}
-use Rattle.atomic_table.specs.Seated.{TableId}
 use Rattle.rp_base.specs.Action.{is_right}
 use Rattle.rp_base.specs.Calls.{are_exhausted}
 use Rattle.rp_base.specs.Number.{IsTask}
@@ -18,6 +17,7 @@ use Rattle.rp_codec.specs.Message.{Message}
 use Rattle.rp_codec.specs.Text.{text_of}
 use Rattle.rp_codec.specs.declared.packet.Body.{Body}
 use Rattle.rp_codec.specs.declared.packet.Body.TheVariants as bodies
+use Rattle.rp_machine.specs.declared.machine.Machine.{Ghosts}
 use Rattle.rp_model.specs.Effect.{Done, goes_on_as}
 use Rattle.rp_model.specs.Parts.{TaskPart}
 use Rattle.rp_model.specs.Tasks as tasks
@@ -29,17 +29,17 @@ use Rattle.rp_replica.specs.declared.sent.Sent.{Sent}
 use Rattle.rp_world.specs.Callers.{Caller}
 use Rattle.rp_world.specs.Going.{reply_in}
 use Rattle.rp_boxes.specs.Parts.{Part, OfTask, part_in, part_after}
-use Rattle.rp_boxes.specs.Plays.{Sight, IsNoted, alone}
-use Rattle.rp_boxes.specs.Seats.{SeatState, IsAtTable}
-use Rattle.rp_boxes.specs.Steps.{IsEvent}
+use Rattle.rp_boxes.specs.Plays.{Sight, IsNoted}
+use Rattle.rp_boxes.specs.Seats.{SeatState, IsAtTable, setting_of}
+use Rattle.rp_boxes.specs.Steps.{HasEvent}
 use Rattle.rp_boxes.specs.declared.task_seat.TaskSeat.TheInside.{Inside}
 use Rattle.rp_boxes.specs.TaskSeats.{IsTaskSeat, asked_of, DescribesPackets, IsTaskTurn, IsNoTaskTurn, reply_effect, IsReplyTurn}
-use Rattle.rp_boxes.proofs.SeatBoxes.{Board, setting_of}
+use Rattle.rp_boxes.proofs.SeatBoxes.{Board, Place, at_after}
 
 -- ---- the result of an input
 
 -- what a task may call is this call
-abbrev IsMadeIf : Action → Result Action Fault → Type 0
+abbrev pub IsMadeIf : Action → Result Action Fault → Type 0
 IsMadeIf call (Ok made) = made ≡ call
 IsMadeIf call (Err fault) = Unit {0}
 
@@ -65,31 +65,6 @@ waits_for_one number part part' call is own =
 abbrev pub asking_done : ℕ → ℕ → TaskPart → Option Action → Done TaskPart
 asking_done number node part call = record (goes_on_as part) { sends = asked_of number node call }
 
-module _ (config : Config) (number : ℕ) (caller : Caller) (same : caller.task ≡ number) (node object : ℕ) (operation : Operation) (arg : ℤ) where
-  abbrev its_next : Action
-  its_next = next_call caller.task caller.part object operation arg
-
-  -- as its stub computes it
-  pub may_is : {mine : Config} {read : ℤ} {r : Result Action Fault} → mine ≡ config → read ≡ arg → r ≡ may_call mine node caller.part (next_call caller.task caller.part object operation read) caller.part.outstanding
-      → may_call config node caller.part its_next caller.part.outstanding ≡ r
-  may_is shared is found = sym (found ∙ (λ i. may_call (shared i) node caller.part (next_call caller.task caller.part object operation (is i)) caller.part.outstanding))
-
-  abbrev submit : TaskInput
-  submit = tasks.Submit node object operation arg
-
-  pub may_effect : (r : Result Action Fault) → may_call config node caller.part its_next caller.part.outstanding ≡ r
-      → task_effect config number caller.part submit ≡ calls_if number node caller.part r
-  may_effect r is =
-      ap (calls_if number node caller.part) (subst (λ (k : ℕ). may_call config node caller.part (next_call k caller.part object operation arg) caller.part.outstanding ≡ r) same is)
-
-  module _ (call : Action) (is : may_call config node caller.part its_next caller.part.outstanding ≡ Ok call) where
-    -- the task makes the call
-    pub call_results : task_effect config number caller.part submit ≡ Ok (asking_done number node (waiting_for caller.part call) (Some call))
-    call_results = may_effect (Ok call) is
-
-    pub call_is_next : call ≡ its_next
-    call_is_next = subst (IsMadeIf its_next) is (made config node caller.part its_next caller.part.outstanding)
-
 -- the task asks once more
 pub again_results : (config : Config) (number node : ℕ) (part : TaskPart) → nat_lt config.nodes node ≡ false
     → task_effect config number part (tasks.Again node) ≡ Ok (asking_done number node part part.outstanding)
@@ -107,18 +82,8 @@ again_above config number node part over =
 
 -- a packet arrives at the task
 pub reply_effect_is : (number : ℕ) (part : TaskPart) (body : Body) → reply_effect number part (reply_in body) ≡ task_hears number part body
-reply_effect_is number part (bodies.Call action) = refl
-reply_effect_is number part (bodies.Prepare position ballot) = refl
-reply_effect_is number part (bodies.Promise position ballot last) = refl
-reply_effect_is number part (bodies.Accept position ballot action) = refl
-reply_effect_is number part (bodies.Accepted position ballot action) = refl
-reply_effect_is number part (bodies.Decided position action) = refl
-reply_effect_is number part (bodies.Ask position) = refl
-reply_effect_is number part (bodies.Nack position ballot bound) = refl
 reply_effect_is number part (bodies.Reply n reply) = refl
-reply_effect_is number part (bodies.Report first applied actions) = refl
-reply_effect_is number part (bodies.PrepareRange range ballot) = refl
-reply_effect_is number part (bodies.PromiseRange range ballot votes) = refl
+reply_effect_is number part _ = refl
 
 pub reply_results : (config : Config) (number : ℕ) (part : TaskPart) (m : Message) (stated : Option (ℕ × Reply)) → stated ≡ reply_in m.body
     → task_effect config number part (tasks.Take m) ≡ Ok (reply_effect number part stated)
@@ -146,99 +111,142 @@ IsSeated inside =
     IsAtTable shared.table_id inside.place.table_id (7 + inside.number) inside.place.me
     × IsTaskSeat inside.number shared.key.config inside.config inside.task (part_in inside.place.me.0)
 
--- what the seat is to a contract, with this place
-abbrev pub state_at : {M P : Type 0} → Inside M P → TableId → Sight → SeatState P
-state_at inside table me =
-    let key = (arc_value inside.board).shared.key in
-    record { table = table; config = key.config; program = key.program.value; number = inside.number; failures = 0; part = part_in me.0 }
+-- An input of a task's seat: the seat, what is so of it, and the input with its result at the task.
+pub record TaskEvent (M P : Type 0) : Type 0 where
+  pub inside : Inside M P
+  pub seated : IsSeated inside
+  pub input : TaskInput
+  pub done : Done TaskPart
+  pub results : task_effect (arc_value inside.board).shared.key.config inside.number inside.task.part input ≡ Ok done
 
-module _ {M P : Type 0} (inside : Inside M P) (seated : IsSeated inside) where
+-- what the seat is to a contract, at a place
+abbrev pub state_at : {M P : Type 0} → Inside M P → Place → SeatState P
+state_at inside place =
+    let key = (arc_value inside.board).shared.key in
+    record { table = place.table_id; config = key.config; program = key.program.value; number = inside.number; failures = 0; part = part_in place.me.0 }
+
+-- as it is
+abbrev pub state : {M P : Type 0} → Inside M P → SeatState P
+state inside = state_at inside inside.place
+
+pub refused_state : {M P : Type 0} (inside : Inside M P) → IsSeated inside → (input : TaskInput) (fault : Fault) → task_effect (state inside).config inside.number inside.task.part input ≡ Err fault
+    → IsNoTaskTurn (state inside) input (state inside) fault
+refused_state inside seated input fault results = record { unchanged = refl; task = inside.task.part; was = seated.1.place.is; why = inr results }
+
+-- A task's seat is to submit this call.
+pub record Submission (M P : Type 0) : Type 0 where
+  pub inside : Inside M P
+  pub seated : IsSeated inside
+  pub node : ℕ
+  pub object : ℕ
+  pub operation : Operation
+  pub arg : ℤ
+
+module _ {M P : Type 0} (s : Submission M P) where
+  abbrev task : TaskPart
+  task = s.inside.task.part
+
+  abbrev pub submit : TaskInput
+  submit = tasks.Submit s.node s.object s.operation s.arg
+
+  abbrev pub its_next : ℤ → Action
+  its_next arg = next_call s.inside.task.task task s.object s.operation arg
+
+  -- what the stub may call is the next call, and gives the result of the input
+  abbrev pub IsSubmitted : Result Action Fault → Type 0
+  IsSubmitted r = IsMadeIf (its_next s.arg) r × (task_effect (state s.inside).config s.inside.number task submit ≡ calls_if s.inside.number s.node task r)
+
+  pub submitted : {read : ℤ} {may : Result Action Fault} (r : Result Action Fault) → read ≡ s.arg → may ≡ may_call s.inside.config s.node task (its_next read) task.outstanding → may ≡ r → IsSubmitted r
+  submitted r is found resulted =
+      let config = (state s.inside).config in
+      let here : may_call config s.node task (its_next s.arg) task.outstanding ≡ r =
+      sym (found ∙ (λ i. may_call (s.seated.1.shared i) s.node task (its_next (is i)) task.outstanding)) ∙ resulted in (
+        subst (IsMadeIf (its_next s.arg)) here (made config s.node task (its_next s.arg) task.outstanding),
+        ap (calls_if s.inside.number s.node task) (subst (λ (k : ℕ). may_call config s.node task (next_call k task s.object s.operation s.arg) task.outstanding ≡ r) s.seated.1.named here),
+      )
+
+module _ {M P : Type 0} (event : TaskEvent M P) where
+  abbrev inside : Inside M P
+  inside = event.inside
+
   abbrev known : Part
   known = part_in inside.place.me.0
 
-  -- the seat as it is
-  abbrev pub state : SeatState P
-  state = state_at inside inside.place.table_id inside.place.me
+  pub no_memory_state : IsNoTaskTurn (state inside) event.input (state inside) OutOfMemory
+  no_memory_state = record { unchanged = refl; task = inside.task.part; was = event.seated.1.place.is; why = inl (refl, event.done, event.results) }
 
-  abbrev Results : TaskInput → Result (Done TaskPart) Fault → Type 0
-  Results input result = task_effect state.config inside.number inside.task.part input ≡ result
+  -- the task became this, and sent these packets
+  module _ (now : TaskPart) (sends : List Message) (part_is : now ≡ event.done.part) (sends_are : sends ≡ event.done.sends) where
+    becomes : part_after known (OfTask event.done.part) event.done.sends ≡ part_after known (OfTask now) sends
+    becomes = λ i. part_after known (OfTask (sym part_is i)) (sym sends_are i)
 
-  pub refused_state : (input : TaskInput) (fault : Fault) → Results input (Err fault) → IsNoTaskTurn state input state fault
-  refused_state input fault results = record { unchanged = refl; task = inside.task.part; was = seated.1.place.is; why = inr results }
-
-  pub no_memory_state : (input : TaskInput) (done : Done TaskPart) → Results input (Ok done) → IsNoTaskTurn state input state OutOfMemory
-  no_memory_state input done results = record { unchanged = refl; task = inside.task.part; was = seated.1.place.is; why = inl (refl, done, results) }
-
-  module _ (input : TaskInput) (done : Done TaskPart) (results : Results input (Ok done)) (now : TaskPart) (sends : List Message) (part_is : now ≡ done.part) (sends_are : sends ≡ done.sends) where
-    -- the event may be counted, whatever the table's setup is called
-    pub task_event : {S : Type 0} (next : S → Action → S) (answers : S → Action → List Answer) (begin : P → S) (board : Board M P) → board ≡ arc_value inside.board → IsTaskInput known.got inside.number input
-        → (after : Part) × IsEvent (setting_of next answers begin board) (7 + inside.number) known after × BecomesPart known now sends after
-    task_event next answers begin board same given =
-        let range = subst IsTask seated.1.named seated.1.place.task in
-        subst (λ (b : Board M P). (after : Part) × IsEvent (setting_of next answers begin b) (7 + inside.number) known after × BecomesPart known now sends after) (sym same) (
-          part_after known (OfTask done.part) done.sends,
-          inr (inside.number, refl, record { task = range; part = inside.task.part; was = seated.1.place.is; input = input; given = given; done = done; results = results; is = refl }),
-          λ i. part_after known (OfTask (sym part_is i)) (sym sends_are i),
+    -- the event may be counted
+    pub task_event : (machine : Ghosts M P) (found : Board M P) → found ≡ arc_value inside.board → IsTaskInput known.got inside.number event.input
+        → HasEvent (setting_of machine found.shared.key) (7 + inside.number) known (BecomesPart known now sends)
+    task_event machine found same given =
+        let range = subst IsTask event.seated.1.named event.seated.1.place.task in
+        subst (λ (board : Board M P). HasEvent (setting_of machine board.shared.key) (7 + inside.number) known (BecomesPart known now sends)) (sym same) (
+          part_after known (OfTask event.done.part) event.done.sends,
+          inr (
+            inside.number,
+            refl,
+            record {
+              task = range;
+              part = inside.task.part;
+              was = event.seated.1.place.is;
+              input = event.input;
+              given = given;
+              done = event.done;
+              results = event.results;
+              is = refl;
+            },
+          ),
+          becomes,
         )
 
-  -- ---- once an event is counted
+  -- ---- once it is counted
 
-  module _ (table : TableId) (me : Sight) (same : table ≡ inside.place.table_id) (new : Caller) (sends : List Message) (t : IsNoted (BecomesPart known new.part sends) (7 + inside.number) me) where
-    sees : part_in me.0 ≡ part_after known (OfTask new.part) sends
-    sees = ap (λ (seen : Sight). part_in seen.0) t.is ∙ t.said
+  module _ (place : Place) (same : place.table_id ≡ inside.place.table_id) (new : Caller) (sends : List Message) (t : IsNoted (BecomesPart known new.part sends) (7 + inside.number) place.me) where
+    sees : part_in place.me.0 ≡ part_after known (OfTask new.part) sends
+    sees = ap (λ (seen : Sight). part_in seen.0) t.is ∙ t.picked
 
-    abbrev IsAt : Sight → Type 0
-    IsAt sight = IsAtTable (arc_value inside.board).shared.table_id table (7 + inside.number) sight
-
-    at_after : IsAt me
-    at_after =
-        let at = seated.0 in
-        let here : IsAt (alone (7 + inside.number) t.part) = record {
-          same = same ∙ at.same;
-          sized = at.sized;
-          small = at.small;
-          place = refl;
-          fills = ap (λ (p : Part). p.fills) t.said ∙ at.fills;
-          takes = ap (λ (p : Part). p.takes) t.said ∙ at.takes;
-          own = t.own;
-        } in
-        subst IsAt (sym t.is) here
-
-    pub seat_after : new.task ≡ inside.task.task → WaitsForOwn inside.number new.part → IsAt me × IsTaskSeat inside.number state.config inside.config new (part_in me.0)
+    pub seat_after : new.task ≡ inside.task.task → WaitsForOwn inside.number new.part
+        → IsAtTable (arc_value inside.board).shared.table_id place.table_id (7 + inside.number) place.me
+        × IsTaskSeat inside.number (arc_value inside.board).shared.key.config inside.config new (part_in place.me.0)
     seat_after stays waits = (
-      at_after,
+      at_after (arc_value inside.board).shared.table_id (7 + inside.number) inside.place place t.part event.seated.0 same t.is (ap (λ (p : Part). p.fills) t.picked) (ap (λ (p : Part). p.takes) t.picked) t.own,
       record {
-        place = record { task = subst IsTask (sym stays) seated.1.place.task; is = ap (λ (p : Part). p.role) sees };
-        named = stays ∙ seated.1.named;
-        shared = seated.1.shared;
+        place = record { task = subst IsTask (sym stays) event.seated.1.place.task; is = ap (λ (p : Part). p.role) sees };
+        named = stays ∙ event.seated.1.named;
+        shared = event.seated.1.shared;
         waits = waits;
       },
     )
 
-    module _ (done : Done TaskPart) (part_is : new.part ≡ done.part) (sends_are : sends ≡ done.sends) where
-      after_is : state_at inside table me ≡ record state { part = part_after known (OfTask done.part) done.sends }
-      after_is = λ i. record state { table = same i; part = (sees ∙ (λ j. part_after known (OfTask (part_is j)) (sends_are j))) i }
+    module _ (part_is : new.part ≡ event.done.part) (sends_are : sends ≡ event.done.sends) where
+      after_is : state_at inside place ≡ record (state inside) { part = part_after known (OfTask event.done.part) event.done.sends }
+      after_is = λ i. record (state inside) { table = same i; part = (sees ∙ sym (becomes new.part sends part_is sends_are)) i }
 
-      pub asked_state : (input : TaskInput) (sent : Sent) → Results input (Ok done) → DescribesPackets sent sends → IsTaskTurn state input (state_at inside table me) sent
-      asked_state input sent results describes = record {
+      pub asked_state : (sent : Sent) → DescribesPackets sent sends → IsTaskTurn (state inside) event.input (state_at inside place) sent
+      asked_state sent describes = record {
         task = inside.task.part;
-        was = seated.1.place.is;
-        done = done;
-        results = results;
+        was = event.seated.1.place.is;
+        done = event.done;
+        results = event.results;
         after = after_is;
         describes = subst (DescribesPackets sent) sends_are describes;
       }
 
-      pub replied_state : (m : Message) (bytes : List ℕ) (taken : Option Answer) → Has m known.got → bytes ≡ text_of m → Results (tasks.Take m) (Ok done) → taken ≡ done.taken
-          → IsReplyTurn state bytes (state_at inside table me) taken
-      replied_state m bytes taken got text results stated = record {
+      pub replied_state : (m : Message) (bytes : List ℕ) (taken : Option Answer) → event.input ≡ tasks.Take m → Has m known.got → bytes ≡ text_of m → taken ≡ event.done.taken
+          → IsReplyTurn (state inside) bytes (state_at inside place) taken
+      replied_state m bytes taken takes got text stated = record {
         packet = m;
         got = got;
         text = text;
         task = inside.task.part;
-        was = seated.1.place.is;
-        done = done;
-        results = results;
+        was = event.seated.1.place.is;
+        done = event.done;
+        results = ap (task_effect (state inside).config inside.number inside.task.part) (sym takes) ∙ event.results;
         after = after_is;
         stated = stated;
       }

@@ -2,6 +2,7 @@
 use Rattle.std.proofs.Common.{◌≡◌, ◌⊎◌, ◌↔◌, ℕ, ◌+◌, ◌%◌, ◌^◌, ◌<◌, Some, Ok, List, [], ◌∷◌, ◌++◌, length, set, slice_index, inl, inr, refl, sym, ap, subst, ◌∙◌, arith, length-set, get_or-set_same, get_or-set_other}
 use Rattle.std.proofs.Math.Nat.{mod-add-mod}
 use mathlib.Core.Option.{some}
+use mathlib.Core.Option as maybe
 use lib.ListN.{get_elem?}
 use Rattle.atomic_table.specs.Table.{State, keeps, Allows}
 use Rattle.rp_base.specs.Config.{IsRightConfig}
@@ -12,14 +13,13 @@ use Rattle.rp_model.specs.Effect as nodes
 use Rattle.rp_model.specs.Effect.{Setting, Done, NodeInput, node_effect, cut_effect}
 use Rattle.rp_model.specs.Tasks as tasks
 use Rattle.rp_model.specs.Tasks.{TaskInput, task_effect}
-use Rattle.rp_model.specs.Parts.{NodePart}
-use Rattle.rp_model.specs.Parts.{TaskPart}
+use Rattle.rp_model.specs.Parts.{NodePart, TaskPart}
 use Rattle.rp_agreement.specs.Inputs.{IsInput, IsTaskInput, NodeMoves, TaskMoves}
-use Rattle.rp_boxes.specs.Parts.{Part, View, Role, OfNode, OfTask, actor_of, box_of, from_actor, node_of, task_of, part_after, to_actor}
-use Rattle.rp_boxes.specs.Rule.{Slot, IsGood, IsBox, IsCarriedOver, Ruled, HasOwnPackets, node_among, task_among, all_sent}
-use Rattle.rp_boxes.specs.Steps.{ResultsIn, IsNodeEvent, IsTaskEvent, IsEvent}
+use Rattle.rp_boxes.specs.Parts.{Part, View, Role, OfNode, OfTask, actor_in, actor_of, box_of, from_actor, node_of, task_of, part_after, part_in, to_actor}
+use Rattle.rp_boxes.specs.Rule.{Slot, IsGood, IsGoodAt, IsWorld, IsBox, IsCarriedOver, Ruled, HasOwnPackets, node_among, task_among, all_sent}
+use Rattle.rp_boxes.specs.Steps.{ResultsIn, IsNodeEvent, IsTaskEvent, IsEvent, HasEvent}
 use Rattle.rp_boxes.specs.Laws.{EventsKeep}
-use Rattle.rp_boxes.specs.Plays.{alone, IsNoted}
+use Rattle.rp_boxes.specs.Plays.{Sight, alone, IsNoted}
 use Rattle.rp_boxes.proofs.Carrying.{carried_still}
 use Rattle.rp_boxes.proofs.Worlds.{with_value, value_here, value_else, at_each, from_each, was_part, is_actor, seating_after, sent_by, is_sent}
 
@@ -27,25 +27,17 @@ use Rattle.rp_boxes.proofs.Worlds.{with_value, value_here, value_else, at_each, 
 
 inputs_sent : (got sent : List Message) → ((m : Message) → Has m got → Has m sent) → (input : NodeInput) → IsInput got input → IsInput sent input
 inputs_sent got sent all (nodes.Receive message) is = all message is
-inputs_sent got sent all (nodes.Lead choice) is = is
-inputs_sent got sent all (nodes.LeadRange first count) is = is
-inputs_sent got sent all (nodes.Interrupt source occurrence) is = is
-inputs_sent got sent all (nodes.Tick now) is = is
-inputs_sent got sent all (nodes.Report first) is = is
+inputs_sent got sent all _ is = is
 
 task_inputs_sent : (got sent : List Message) → ((m : Message) → Has m got → Has m sent) → (t : ℕ) (input : TaskInput) → IsTaskInput got t input → IsTaskInput sent t input
-task_inputs_sent got sent all t (tasks.Submit node object operation arg) is = is
-task_inputs_sent got sent all t (tasks.Again node) is = is
 task_inputs_sent got sent all t (tasks.Take message) is = (all message is.0, is.1)
+task_inputs_sent got sent all t _ is = is
 
 -- ---- what becomes of the world
 
-module _ (parts : ℕ → Part) (k : ℕ) (p p' : Part) (role : Role) (sends : List Message) (was : parts k ≡ p) (small : k < 16) (is : p' ≡ part_after p role sends) where
+module _ (parts : ℕ → Part) (k : ℕ) (p p' : Part) (sends : List Message) (was : parts k ≡ p) (small : k < 16) (new_sent : p'.sent ≡ p.sent ++ sends) where
   abbrev parts' : ℕ → Part
   parts' = with_value parts k p'
-
-  new_sent : p'.sent ≡ p.sent ++ sends
-  new_sent = ap (λ (q : Part). q.sent) is
 
   pub sent_too : (m : Message) → Has m (all_sent parts' 16) ↔ (Has m (all_sent parts 16) ⊎ Has m sends)
   sent_too m = (there, back)
@@ -70,11 +62,7 @@ module _ (parts : ℕ → Part) (k : ℕ) (p p' : Part) (role : Role) (sends : L
       back (inr new) = sent_by parts' 16 k m small
           (subst (λ (q : Part). Has m q.sent) (sym (value_here parts k p')) (subst (Has m) (sym new_sent) (has_right m p.sent sends new)))
 
--- the invariant holds of the parts and of all that they sent
-abbrev pub IsGoodAt : {S : Type 0} → Setting S → (ℕ → Part) → Type 0
-IsGoodAt s parts = IsGood s (node_among parts) (task_among parts) (all_sent parts 16)
-
--- an event keeps it, and what the actor sends is from it
+-- an event keeps the invariant, and what the actor sends is from it
 pub record IsKeptBy {S : Type 0} (s : Setting S) (k : ℕ) (parts : ℕ → Part) (p p' : Part) : Type 0 where
   pub role : Role
   pub sends : List Message
@@ -95,7 +83,7 @@ module _ {S : Type 0} (s : Setting S) (keep : EventsKeep s) (right : IsRightConf
       let moves : NodeMoves k event.done (node_among parts) (all_sent parts 16) (node_among after) (all_sent after 16) = record {
         part = ap (λ (q : Part). node_of q.role) (value_here parts k p' ∙ event.is);
         others = λ j other. ap (λ (q : Part). node_of q.role) (value_else parts k p' j other);
-        sends = sent_too parts k p p' (OfNode event.done.part) event.done.sends was small event.is;
+        sends = sent_too parts k p p' event.done.sends was small (ap (λ (q : Part). q.sent) event.is);
       } in
       let kept = keep.nodes k event.input event.done (node_among parts) (node_among after) (task_among parts) (all_sent parts 16) (all_sent after 16) right event.member good
       (inputs_sent p.got (all_sent parts 16) got event.input event.given)
@@ -110,16 +98,15 @@ module _ {S : Type 0} (s : Setting S) (keep : EventsKeep s) (right : IsRightConf
 
   task_kept : (t : ℕ) → k ≡ 7 + t → IsTaskEvent s t p p' → IsKeptBy s k parts p p'
   task_kept t number event =
-      let own : (j : ℕ) → j ≡ 7 + t → parts j ≡ p → task_of (parts j).role ≡ event.part = λ j e is. ap (λ (q : Part). task_of q.role) is ∙ ap task_of event.was in
       let was_here : parts (7 + t) ≡ p = subst (λ (j : ℕ). parts j ≡ p) number was in
-      let here : task_among parts t ≡ event.part = own (7 + t) refl was_here in
+      let here : task_among parts t ≡ event.part = ap (λ (q : Part). task_of q.role) was_here ∙ ap task_of event.was in
       let new_here : after (7 + t) ≡ p' = subst (λ (j : ℕ). after j ≡ p') number (value_here parts k p') in
       let alike : (x : ℕ) → node_among after x ≡ node_among parts x = from_each parts k p p' (λ q q'. node_of q'.role ≡ node_of q.role) was
       (ap (λ (q : Part). node_of q.role) event.is ∙ sym (ap node_of event.was)) (λ q. refl) in
       let moves : TaskMoves t event.done (task_among parts) (all_sent parts 16) (task_among after) (all_sent after 16) = record {
         part = ap (λ (q : Part). task_of q.role) (new_here ∙ event.is);
         others = λ j other. ap (λ (q : Part). task_of q.role) (value_else parts k p' (7 + j) (λ e. other (omega (arith, e, number))));
-        sends = sent_too parts k p p' (OfTask event.done.part) event.done.sends was small event.is;
+        sends = sent_too parts k p p' event.done.sends was small (ap (λ (q : Part). q.sent) event.is);
       } in
       let kept = keep.tasks t event.input event.done (node_among parts) (task_among parts) (task_among after) (all_sent parts 16) (all_sent after 16) good
       (task_inputs_sent p.got (all_sent parts 16) got t event.input event.given)
@@ -162,20 +149,95 @@ box_stays parts parts' x y word word' home home' sender receiver same homes box 
     still : (inside : List Message) → IsCarriedOver x y (parts x) (parts y) inside → IsCarriedOver x y (parts' x) (parts' y) inside
     still inside = carried_still x y (parts x) (parts' x) (parts y) (parts' y) inside (sender.puts refl) (receiver.gets refl)
 
-module _ {S : Type 0} (s : Setting S) (keep : EventsKeep s) (t : State Slot View) (r : Ruled s t) (id k : ℕ) (p p' : Part) (here : get_elem? t.views id ≡ some ((k, p) ∷ []))
-    (event : IsEvent s k p p') where
-  kept : IsKeptBy s k r.parts p p'
-  kept = event_kept s keep r.config r.parts k p p' (was_part t.views r.parts r.owner r.seating id k p p' here) (is_actor t.views r.parts r.owner r.seating id k p p' here) r.good
-      (λ m h. (r.gets k (is_actor t.views r.parts r.owner r.seating id k p p' here) m (subst (λ (q : Part). Has m q.got) (sym (was_part t.views r.parts r.owner r.seating id k p p' here)) h)).1) event
+-- What a step changes of its actor's part: it sent these packets more, and may have put some that it sent and got
+-- some that were sent to it.
+pub record IsChange (parts : ℕ → Part) (k : ℕ) (p p' : Part) (sends : List Message) : Type 0 where
+  pub sent : p'.sent ≡ p.sent ++ sends
+  pub from : (m : Message) → Has m sends → actor_of m.from ≡ k
+  pub put : (m : Message) → Has m p'.put → Has m p.put ⊎ Has m p.sent
+  pub got : (m : Message) → Has m p'.got → Has m p.got ⊎ ((actor_of m.to ≡ k) × Has m (all_sent parts 16))
 
-  was : r.parts k ≡ p
+module _ {S : Type 0} (s : Setting S) (t : State Slot View) (r : Ruled s t) (id k : ℕ) (p p' : Part) (here : get_elem? t.views id ≡ some ((k, p) ∷ [])) where
+  pub was : r.parts k ≡ p
   was = was_part t.views r.parts r.owner r.seating id k p p' here
 
-  small : k < 16
+  pub small : k < 16
   small = is_actor t.views r.parts r.owner r.seating id k p p' here
 
-  abbrev now : ℕ → Part
+  abbrev pub now : ℕ → Part
   now = with_value r.parts k p'
+
+  pub part_now : now k ≡ p'
+  part_now = value_here r.parts k p'
+
+  -- what the step leaves of the actor's part it leaves of each
+  pub stays : {A : Type 0} (f : Part → A) → f p' ≡ f p → (j : ℕ) → f (now j) ≡ f (r.parts j)
+  stays f same = from_each r.parts k p p' (λ q q'. f q' ≡ f q) was same (λ q. refl)
+
+  module _ (sends : List Message) (change : IsChange r.parts k p p' sends) where
+    sends_after : (j : ℕ) → j < 16 → (m : Message) → Has m (now j).sent → actor_of m.from ≡ j
+    sends_after = at_each r.parts k p' (λ j q. j < 16 → (m : Message) → Has m q.sent → actor_of m.from ≡ j)
+        (λ less m h. elim (has_split m p.sent sends (subst (Has m) change.sent h)) [
+          | inl old ↦ r.world.sends k less m (subst (λ (q : Part). Has m q.sent) (sym was) old)
+          | inr new ↦ change.from m new
+        ])
+        (λ j other less. r.world.sends j less)
+
+    more_sent : (m : Message) → Has m (all_sent r.parts 16) → Has m (all_sent now 16)
+    more_sent m h = (sent_too r.parts k p p' sends was small change.sent m).1 (inl h)
+
+    gets_after : (j : ℕ) → j < 16 → (m : Message) → Has m (now j).got → (actor_of m.to ≡ j) × Has m (all_sent now 16)
+    gets_after = at_each r.parts k p' (λ j q. j < 16 → (m : Message) → Has m q.got → (actor_of m.to ≡ j) × Has m (all_sent now 16))
+        (λ less m h. elim (change.got m h) [
+          | inl old ↦ let fact = r.world.gets k less m (subst (λ (q : Part). Has m q.got) (sym was) old) in (fact.0, more_sent m fact.1)
+          | inr new ↦ (new.0, more_sent m new.1)
+        ])
+        (λ j other less m h. let fact = r.world.gets j less m h in (fact.0, more_sent m fact.1))
+
+    puts_after : (j : ℕ) → j < 16 → (m : Message) → Has m (now j).put → Has m (now j).sent
+    puts_after = at_each r.parts k p' (λ j q. j < 16 → (m : Message) → Has m q.put → Has m q.sent)
+        (λ less m h. subst (Has m) (sym change.sent) (has_left m p.sent sends (elim (change.put m h) [
+          | inl old ↦ subst (λ (q : Part). Has m q.sent) was (r.world.puts k less m (subst (λ (q : Part). Has m q.put) (sym was) old))
+          | inr new ↦ new
+        ])))
+        (λ j other. r.world.puts j)
+
+    -- the rule holds then, if the invariant does, the actors' words count their events, and the boxes are right
+    pub stepped : (words : List ℕ) (homes : List (maybe.Option Slot)) → length words ≡ 272 → IsGoodAt s now
+        → ((j : ℕ) → j < 16 → slice_index words (256 + j) ≡ (now j).events % 2 ^ 64)
+        → ((x y : ℕ) → x < 16 → y < 16 → IsBox now x y (slice_index words (box_of x y)) (λ slot. get_elem? homes (box_of x y) ≡ some (some slot)))
+        → Ruled s record { words = words; homes = homes; views = set t.views id ((k, p') ∷ []) }
+    stepped words homes long good counted boxes = record {
+      parts = now;
+      owner = r.owner;
+      world = record { config = r.world.config; good = good; sends = sends_after; puts = puts_after; gets = gets_after };
+      long = long;
+      seating = seating_after t.views r.parts r.owner r.seating id k p p' here;
+      counted = counted;
+      boxes = boxes;
+    }
+
+module _ {S : Type 0} (s : Setting S) (keep : EventsKeep s) (t : State Slot View) (r : Ruled s t) (id k : ℕ) (p p' : Part) (here : get_elem? t.views id ≡ some ((k, p) ∷ []))
+    (event : IsEvent s k p p') where
+  known : r.parts k ≡ p
+  known = was s t r id k p p' here
+
+  less : k < 16
+  less = small s t r id k p p' here
+
+  abbrev later : ℕ → Part
+  later = now s t r id k p p' here
+
+  kept : IsKeptBy s k r.parts p p'
+  kept = event_kept s keep r.world.config r.parts k p p' known less r.world.good (λ m h. (r.world.gets k less m (subst (λ (q : Part). Has m q.got) (sym known) h)).1) event
+
+  change : IsChange r.parts k p p' kept.sends
+  change = record {
+    sent = ap (λ (q : Part). q.sent) kept.is;
+    from = kept.from;
+    put = λ m h. inl (subst (λ (q : Part). Has m q.put) kept.is h);
+    got = λ m h. inl (subst (λ (q : Part). Has m q.got) kept.is h);
+  }
 
   abbrev word : ℕ
   word = 256 + k
@@ -183,80 +245,48 @@ module _ {S : Type 0} (s : Setting S) (keep : EventsKeep s) (t : State Slot View
   abbrev words : List ℕ
   words = set t.words word ((slice_index t.words word + 1) % 2 ^ 64)
 
-  from_old : (P : Part → Part → Type 0) → P p (part_after p kept.role kept.sends) → ((q : Part) → P q q) → (j : ℕ) → P (r.parts j) (now j)
-  from_old P changed same = from_each r.parts k p p' P was (subst (P p) (sym kept.is) changed) same
-
-  seen_alike : (x y j : ℕ) → IsSeenAlike x y j (r.parts j) (now j)
-  seen_alike x y j = from_old (IsSeenAlike x y j) (record { fills = (λ h. h, λ h. h); takes = (λ h. h, λ h. h); puts = λ e. refl; gets = λ e. refl }) (alike_itself x y j) j
+  seen_alike : (x y j : ℕ) → IsSeenAlike x y j (r.parts j) (later j)
+  seen_alike x y j =
+      let here_alike : IsSeenAlike x y j p (part_after p kept.role kept.sends) = record { fills = (λ h. h, λ h. h); takes = (λ h. h, λ h. h); puts = λ e. refl; gets = λ e. refl } in
+      from_each r.parts k p p' (IsSeenAlike x y j) known (subst (IsSeenAlike x y j p) (sym kept.is) here_alike) (alike_itself x y j) j
 
   counted_here : slice_index words word ≡ p'.events % 2 ^ 64
   counted_here =
-      let old : slice_index t.words word ≡ p.events % 2 ^ 64 = r.counted k small ∙ ap (λ (q : Part). q.events % 2 ^ 64) was in
-      let inside : word < length t.words = rw r.long (omega (arith, small)) in
+      let old : slice_index t.words word ≡ p.events % 2 ^ 64 = r.counted k less ∙ ap (λ (q : Part). q.events % 2 ^ 64) known in
+      let inside : word < length t.words = rw r.long (omega (arith, less)) in
       get_or-set_same t.words word ((slice_index t.words word + 1) % 2 ^ 64) 0 inside
       ∙ (ap (λ (n : ℕ). (n + 1) % 2 ^ 64) old ∙ (mod-add-mod p.events (2 ^ 64) 1 ∙ ap (λ (q : Part). q.events % 2 ^ 64) (sym kept.is)))
 
-  counted_after : (j : ℕ) → j < 16 → slice_index words (256 + j) ≡ (now j).events % 2 ^ 64
-  counted_after = at_each r.parts k p' (λ j q. j < 16 → slice_index words (256 + j) ≡ q.events % 2 ^ 64) (λ less. counted_here)
-      (λ j other less. get_or-set_other t.words word (256 + j) _ 0 (λ e. other (omega (arith, e))) ∙ r.counted j less)
+  counted_after : (j : ℕ) → j < 16 → slice_index words (256 + j) ≡ (later j).events % 2 ^ 64
+  counted_after = at_each r.parts k p' (λ j q. j < 16 → slice_index words (256 + j) ≡ q.events % 2 ^ 64) (λ small. counted_here)
+      (λ j other small. get_or-set_other t.words word (256 + j) _ 0 (λ e. other (omega (arith, e))) ∙ r.counted j small)
 
-  sends_after : (j : ℕ) → j < 16 → (m : Message) → Has m (now j).sent → actor_of m.from ≡ j
-  sends_after = at_each r.parts k p' (λ j q. j < 16 → (m : Message) → Has m q.sent → actor_of m.from ≡ j)
-      (λ less m h. elim (has_split m p.sent kept.sends (subst (λ (q : Part). Has m q.sent) kept.is h)) [
-        | inl old ↦ r.sends k less m (subst (λ (q : Part). Has m q.sent) (sym was) old)
-        | inr new ↦ kept.from m new
-      ])
-      (λ j other less. r.sends j less)
-
-  more_sent : (m : Message) → Has m (all_sent r.parts 16) → Has m (all_sent now 16)
-  more_sent m h = (sent_too r.parts k p p' kept.role kept.sends was small kept.is m).1 (inl h)
-
-  gets_after : (j : ℕ) → j < 16 → (m : Message) → Has m (now j).got → (actor_of m.to ≡ j) × Has m (all_sent now 16)
-  gets_after j less m h =
-      let old = r.gets j less m (from_old (λ q q'. Has m q'.got → Has m q.got) (λ g. g) (λ q g. g) j h) in
-      (old.0, more_sent m old.1)
-
-  puts_after : (j : ℕ) → j < 16 → (m : Message) → Has m (now j).put → Has m (now j).sent
-  puts_after j less m h =
-      let old : Has m (r.parts j).put × (Has m (r.parts j).sent → Has m (now j).sent) = from_old (λ q q'. Has m q'.put → Has m q.put × (Has m q.sent → Has m q'.sent))
-      (λ g. (g, has_left m p.sent kept.sends)) (λ q g. (g, λ s. s)) j h in
-      old.1 (r.puts j less m old.0)
-
-  box_after : (x y : ℕ) → x < 16 → y < 16 → IsBox now x y (slice_index words (box_of x y)) (λ slot. get_elem? t.homes (box_of x y) ≡ some (some slot))
-  box_after x y less fewer =
-      box_stays r.parts now x y (slice_index t.words (box_of x y)) _ _ _ (seen_alike x y x) (seen_alike x y y)
-      (get_or-set_other t.words word (box_of x y) _ 0 (omega (arith, less, fewer))) (λ slot h. h) (r.boxes x y less fewer)
+  box_after : (x y : ℕ) → x < 16 → y < 16 → IsBox later x y (slice_index words (box_of x y)) (λ slot. get_elem? t.homes (box_of x y) ≡ some (some slot))
+  box_after x y low high =
+      box_stays r.parts later x y (slice_index t.words (box_of x y)) _ _ _ (seen_alike x y x) (seen_alike x y y)
+      (get_or-set_other t.words word (box_of x y) _ 0 (omega (arith, low, high))) (λ slot h. h) (r.boxes x y low high)
 
   pub turned : Ruled s record { words = words; homes = t.homes; views = set t.views id ((k, p') ∷ []) }
-  turned = record {
-    parts = now;
-    owner = r.owner;
-    config = r.config;
-    long = length-set t.words word _ ∙ r.long;
-    seating = seating_after t.views r.parts r.owner r.seating id k p p' here;
-    good = kept.good;
-    counted = counted_after;
-    sends = sends_after;
-    puts = puts_after;
-    gets = gets_after;
-    boxes = box_after;
-  }
+  turned = stepped s t r id k p p' here kept.sends change words t.homes (length-set t.words word _ ∙ r.long) kept.good counted_after box_after
 
--- what the rule says of an actor's packets
-pub own_packets : {S : Type 0} (s : Setting S) (t : State Slot View) (r : Ruled s t) (k : ℕ) → k < 16 → HasOwnPackets k (r.parts k)
-own_packets s t r k small = record {
-  sent = λ m h. (r.good.packets m (sent_by r.parts 16 k m small h), r.sends k small m h);
-  put = r.puts k small;
-  got = λ m h. let old = r.gets k small m h in (r.good.packets m old.1, old.0);
+-- what a world says of an actor's packets
+own_packets : {S : Type 0} (s : Setting S) (parts : ℕ → Part) (world : IsWorld s parts) (k : ℕ) → k < 16 → HasOwnPackets k (parts k)
+own_packets s parts world k small = record {
+  sent = λ m h. (world.good.packets m (sent_by parts 16 k m small h), world.sends k small m h);
+  put = world.puts k small;
+  got = λ m h. let old = world.gets k small m h in (world.good.packets m old.1, old.0);
 }
 
 -- an actor's word may count one event more, where the seat of that actor alone knows the result of the event
-pub turn_allows : {S : Type 0} (s : Setting S) → EventsKeep s → (slots id k : ℕ) (p p' : Part) → IsEvent s k p p' → (says : Part → Type 0) → says p'
-    → Allows (Ruled s) slots id (alone k p) (256 + k) (λ n. (n + 1) % 2 ^ 64) (λ found me. IsNoted says k me)
-unfolding turned
-turn_allows s keep slots id k p p' event says so = λ t r size here fits.
-    let after = turned s keep t r id k p p' here event in
-    let own = own_packets s _ after k (is_actor t.views r.parts r.owner r.seating id k p p' here) in (
+pub turn_allows : {S : Type 0} (s : Setting S) → EventsKeep s → (slots id k : ℕ) (me : Sight) (says : Part → Type 0) → me ≡ alone k (part_in me.0) → HasEvent s k (part_in me.0) says
+    → Allows (Ruled s) slots id me (256 + k) (λ n. (n + 1) % 2 ^ 64) (λ found new. IsNoted says (actor_in me.0) new)
+unfolding turned stepped
+turn_allows s keep slots id k me says is event =
+    subst (λ (sight : Sight). Allows (Ruled s) slots id sight (256 + k) (λ n. (n + 1) % 2 ^ 64) (λ found new. IsNoted says (actor_in sight.0) new)) (sym is)
+    (λ t r size here fits.
+    let p' = event.0 in
+    let after = turned s keep t r id k (part_in me.0) p' here event.1 in
+    let own = own_packets s after.parts after.world k (is_actor t.views r.parts r.owner r.seating id k (part_in me.0) p' here) in (
       (k, p') ∷ [],
       keeps,
       tt,
@@ -265,6 +295,6 @@ turn_allows s keep slots id k p p' event says so = λ t r size here fits.
         part = p';
         is = refl;
         own = subst (HasOwnPackets k) (value_here r.parts k p') own;
-        said = so;
+        picked = event.2;
       },
-    )
+    ))

@@ -21,12 +21,8 @@ all_but_one x y parts word home box = dite (ℕ_discrete word 2)
 -- what a seat knows is a piece of the world that the rule speaks of
 world_seen : {S : Type 0} (s : Setting S) (t : State Slot View) (id : ℕ) (view : View) → get_elem? t.views id ≡ some view → (r : Ruled s t) → IsWorldOf s view r.parts
 world_seen s t id view here r = record {
-  config = r.config;
+  is = r.world;
   knows = λ k p h. let known = r.seating.knows id view here k p h in (known.1, known.2);
-  good = r.good;
-  sends = r.sends;
-  puts = r.puts;
-  gets = r.gets;
   carries = λ x y less fewer. all_but_one x y r.parts _ _ (r.boxes x y less fewer);
 }
 

@@ -4,12 +4,14 @@ use mathlib.Core.Logic.{dite}
 use mathlib.Core.Option.{some, some-injective, some-ne-none}
 use native.Mathlib.Decide.{ℕ_discrete}
 use lib.ListN.{get_elem?}
+use Rattle.atomic_table.specs.Table.{State}
 use Rattle.atomic_table.proofs.Lists.{at_set, set_here, set_else}
 use Rattle.rp_base.specs.Sets.{Has, IsSet}
 use Rattle.rp_base.proofs.Members.{has_split, has_left, has_right}
 use Rattle.rp_codec.specs.Message.{Message}
+use Rattle.rp_model.specs.Effect.{Setting}
 use Rattle.rp_boxes.specs.Parts.{Part, View}
-use Rattle.rp_boxes.specs.Rule.{IsSeating, all_sent}
+use Rattle.rp_boxes.specs.Rule.{Slot, IsSeating, Ruled, all_sent}
 
 -- ---- a function with one value changed
 
@@ -59,6 +61,10 @@ the_one k j p q h = elim h [
   | inr none ↦ absurd none
 ]
 
+-- the actors of a view differ
+abbrev pub AreKeys : View → Type 0
+AreKeys v = IsSet (map (λ known. known.0) v)
+
 module _ (views : List View) (parts : ℕ → Part) (owner : ℕ → ℕ) (seating : IsSeating views parts owner)
     (id k : ℕ) (p p' : Part) (here : get_elem? views id ≡ some ((k, p) ∷ [])) where
   known : (owner k ≡ id) × (parts k ≡ p) × (k < 16)
@@ -95,9 +101,6 @@ module _ (views : List View) (parts : ℕ → Part) (owner : ℕ → ℕ) (seati
     | inr old ↦ others_know other v old.0 old.1
   ]
 
-  abbrev AreKeys : View → Type 0
-  AreKeys v = IsSet (map (λ known. known.0) v)
-
   apart_after : (other : ℕ) (v : View) → get_elem? (set views id one) other ≡ some v → AreKeys v
   apart_after other v at = elim (at_set views id other one v at) [
     | inl new ↦ subst AreKeys new.1 ((λ none. none), tt)
@@ -120,7 +123,28 @@ module _ (views : List View) (parts : ℕ → Part) (owner : ℕ → ℕ) (seati
   pub seating_after : IsSeating (set views id one) (with_value parts k p') owner
   seating_after = record { knows = knows_after; apart = apart_after; seated = seated_after }
 
--- ---- the packets of all actors
+-- ---- the rule, where the seats alone change
+
+pub reseated : {S : Type 0} (s : Setting S) (t : State Slot View) (r : Ruled s t) (views : List View) (owner : ℕ → ℕ) → IsSeating views r.parts owner
+    → Ruled s record { words = t.words; homes = t.homes; views = views }
+reseated s t r views owner seating = record {
+  parts = r.parts;
+  owner = owner;
+  world = r.world;
+  long = r.long;
+  seating = seating;
+  counted = r.counted;
+  boxes = r.boxes;
+}
+
+-- ---- lists of packets
+
+-- what holds of each packet holds with one more
+pub each_more : (Q : Message → Type 0) (m : Message) (packets : List Message) → ((n : Message) → Has n packets → Q n) → Q m → (n : Message) → Has n (packets ++ m ∷ []) → Q n
+each_more Q m packets each here n h = elim (has_split n packets (m ∷ []) h) [
+  | inl old ↦ each n old
+  | inr new ↦ elim new [ inl same ↦ subst Q (sym same) here | inr never ↦ absurd never ]
+]
 
 pub sent_by : (parts : ℕ → Part) (most k : ℕ) (m : Message) → k < most → Has m (parts k).sent → Has m (all_sent parts most)
 sent_by parts zero k m small h = absurd (omega arith)

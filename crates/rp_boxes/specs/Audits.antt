@@ -1,4 +1,4 @@
--- What the audit knows of the nodes, by the reports that it got.
+-- What the audit knows of each node from the reports that it got.
 use Rattle.std.specs.Prelude.{◌≡◌, ℕ, ◌+◌, ◌-◌, ◌^◌, ◌<◌, ◌≤◌, nat_lt, Some, unwrap_or, List, [], ◌++◌, length, take}
 use Rattle.std.specs.Prelude.{slice_get, if◌then◌else◌}
 use Rattle.rp_base.specs.Sets.{Has}
@@ -26,12 +26,12 @@ known_of known node = unwrap_or (part_at known node) []
 abbrev pub report : ℕ → ℕ → ℕ → List Action → Message
 report node first applied actions = record { from = Node node; to = Audit; body = Report first applied actions }
 
--- A report of the node, which the actor got, says that the node has applied this action next after n others.
-pub record ReportSays (part : Part) (node before : ℕ) (action : Action) : Type 0 where
+-- Among these packets there is a report of the node that has this action at position n + 1.
+pub record ReportSays (packets : List Message) (node before : ℕ) (action : Action) : Type 0 where
   pub first : ℕ
   pub applied : ℕ
   pub actions : List Action
-  pub got : Has (report node first applied actions) part.got
+  pub among : Has (report node first applied actions) packets
   pub at : ℕ
   pub place : before ≡ first - 1 + at
   pub describes : slice_get actions at ≡ Some action
@@ -40,16 +40,16 @@ pub record ReportSays (part : Part) (node before : ℕ) (action : Action) : Type
 pub record AreAllReported (part : Part) (known : List (List Action)) : Type 0 where
   pub seven : length known ≡ 7
   pub stated : (node before : ℕ) (action : Action) → slice_get (known_of known node) before ≡ Some action
-      → ReportSays part node before action
+      → ReportSays part.got node before action
   pub few : (node : ℕ) → length (known_of known node) < 2 ^ 16
 
 -- ---- a report is added
 
--- the longer of two lists, the first where they are equally long
+-- the longer of two lists, the first if they are equally long
 abbrev pub longer_of : List Action → List Action → List Action
 longer_of old new = if nat_lt (length old) (length new) then new else old
 
--- the actions up to a position, and these from it on, where that is longer
+-- the list with its actions from a position on replaced by these, if that makes it longer
 abbrev pub with_reported : List Action → ℕ → List Action → List Action
 with_reported known first actions = longer_of known (take (first - 1) known ++ actions)
 
@@ -60,8 +60,9 @@ IsGotReport part bytes =
     × Has (report node first applied actions) part.got
     × (bytes ≡ text_of (report node first applied actions))
 
--- The result of actions that a node reports, from this position on. Where they leave a gap after what is known of the
--- node nothing changes; else that becomes the longer of itself and of what the report makes it.
+-- The result of adding the actions that a node reports, from this position on. If they leave a gap
+-- after the known actions of the node, nothing changes. Otherwise the known actions become the
+-- longer of two lists: those so far, and those with the reported actions put in.
 pub record IsJoined {P : Type 0} (old : Audited P) (node first : ℕ) (actions : List Action) (new : Audited P)
     (outcome : Added) : Type 0 where
   pub gap : length (known_of old.known node) + 1 < first
@@ -70,7 +71,7 @@ pub record IsJoined {P : Type 0} (old : Audited P) (node first : ℕ) (actions :
       → (new ≡ record old { known = with_part old.known node (with_reported (known_of old.known node) first actions) })
       × (outcome ≡ added.Added node (length (with_reported (known_of old.known node) first actions)))
 
--- the same, where the bytes are the text of that report, which is a right packet
+-- the result of adding the report with this text, which is a valid packet
 pub record IsAdded {P : Type 0} (old : Audited P) (bytes : List ℕ) (new : Audited P) (outcome : Added) : Type 0 where
   pub node : ℕ
   pub first : ℕ

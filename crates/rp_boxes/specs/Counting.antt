@@ -11,7 +11,7 @@ use Rattle.rp_world.specs.Nodes.{member_of, RepresentsWhile, DescribesSent}
 use Rattle.rp_boxes.specs.Parts.{Part, OfNode, part_after}
 
 module _ {S : Type 0} (s : Setting S) (number : ℕ) (before : Part) (input : Input) (replica : ReplicaState S) where
-  -- the result of the input, as the replica now is and as it reported
+  -- the result of the input, for the replica after the step and the packets that it returned
   pub record HasStepped (sent : Sent) (after : Part) : Type 0 where
     pub given : NodeInput
     pub gives : given_by input ≡ Ok given

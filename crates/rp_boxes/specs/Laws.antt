@@ -1,4 +1,5 @@
--- What the rule uses of agreement: one event of an actor keeps the invariant (no public clause names it).
+-- The facts about agreement that the rule of the table uses: one event of an actor preserves the
+-- invariant (no public clause names it).
 use Rattle.std.specs.Prelude.{◌≡◌, ℕ, Ok, List}
 use Rattle.rp_base.specs.Config.{IsRightConfig}
 use Rattle.rp_base.specs.Sets.{Has}
@@ -6,14 +7,13 @@ use Rattle.rp_codec.specs.Message.{Message}
 use Rattle.rp_codec.specs.declared.packet.Party.TheVariants.{Node, Task}
 use Rattle.rp_model.specs.Effect.{Setting, Done, NodeInput}
 use Rattle.rp_model.specs.Tasks.{TaskInput, task_effect}
-use Rattle.rp_model.specs.Parts.{NodePart}
-use Rattle.rp_model.specs.Parts.{TaskPart}
+use Rattle.rp_model.specs.Parts.{NodePart, TaskPart}
 use Rattle.rp_agreement.specs.Inputs.{IsInput, IsTaskInput, NodeMoves, TaskMoves}
 use Rattle.rp_agreement.specs.Sound.{IsMember}
 use Rattle.rp_boxes.specs.Rule.{IsGood}
 use Rattle.rp_boxes.specs.Steps.{ResultsIn}
 
--- an event of a node keeps the invariant, and what the node sends is from it
+-- an event of a node preserves the invariant, and the packets that it sends name it as the sender
 abbrev pub NodesKeep : {S : Type 0} → Setting S → Type 0
 NodesKeep s =
     (x : ℕ) (input : NodeInput) (done : Done NodePart) (node after : ℕ → NodePart) (task : ℕ → TaskPart)
@@ -23,7 +23,7 @@ NodesKeep s =
     → NodeMoves x done node sent after later
     → IsGood s after task later × ((m : Message) → Has m done.sends → m.from ≡ Node x)
 
--- an event of a task keeps the invariant, and what the task sends is from it
+-- an event of a task preserves the invariant, and the packets that it sends name it as the sender
 abbrev pub TasksKeep : {S : Type 0} → Setting S → Type 0
 TasksKeep s =
     (t : ℕ) (input : TaskInput) (done : Done TaskPart) (node : ℕ → NodePart) (task moved : ℕ → TaskPart)

@@ -9,6 +9,6 @@ pub mod Making
 pub mod Audits
 pub mod TaskSeats
 pub mod Looks
-pub mod Meeting
+pub mod OneOrder
 pub mod Moments
 pub mod Together

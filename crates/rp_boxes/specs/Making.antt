@@ -1,4 +1,4 @@
--- The making of the seats: actors get seats one after another, in the order of their numbers.
+-- How the seats are made: actors get seats one after another, in the order of their numbers.
 use Rattle.std.specs.Prelude.{◌≡◌, ◌⊎◌, ℕ, suc, ◌+◌, ◌<◌, IfSome, List, [], ◌∷◌, length, map, slice_get, slice_index}
 use Rattle.atomic_table.specs.Seated.{TableId}
 use Rattle.rp_base.specs.declared.config.Config.{Config}
@@ -29,8 +29,8 @@ pub record Unseated (P : Type 0) : Type 0 where
 abbrev pub after_seats : {P : Type 0} → ℕ → Unseated P → Unseated P
 after_seats count unseated = record unseated { next = unseated.next + count }
 
--- the seat of an actor that did nothing, which has this number among the nodes or the tasks, and of whose device n
--- calls have failed
+-- the seat of an actor that did nothing, with this number among the nodes or the tasks, and with n
+-- failed calls of its device
 abbrev pub first_seat : {P : Type 0} → TableId → Config → P → ℕ → ℕ → ℕ → SeatState P
 first_seat table config program number actor failures = record {
   table = table;
@@ -41,7 +41,7 @@ first_seat table config program number actor failures = record {
   part = first_part actor;
 }
 
--- The place knows the actors from this number on as they are at first, and holds no slot.
+-- The place knows the actors from this number on, in their initial state, and holds no slot.
 pub record IsRest (table mine : TableId) (next : ℕ) (me : Sight) : Type 0 where
   pub same : mine ≡ table
   pub sized : IsSized table
@@ -49,20 +49,21 @@ pub record IsRest (table mine : TableId) (next : ℕ) (me : Sight) : Type 0 wher
   pub up_to : next + left ≡ 16
   pub knows : me ≡ (first_from next left, [])
 
--- the place is that of one actor, as it is at first
+-- the place is that of one actor, in its initial state
 pub record IsFirstPlace (table mine : TableId) (actor : ℕ) (me : Sight) : Type 0 where
   pub same : mine ≡ table
   pub knows : me ≡ alone actor (first_part actor)
 
--- These are the seats of the actors from this one on, which did nothing. Their numbers are those from 1 on, and the
--- list says how many calls of the device of each have failed, 0 after its end.
+-- These are the seats of the actors from this one on, which did nothing. Their numbers count from
+-- 1. The list says how many calls of the device of each have failed; after its end that number is
+-- 0.
 abbrev pub AreFirstSeats : {P : Type 0} → TableId → Config → P → ℕ → List ℕ → List (SeatState P) → Type 0
 AreFirstSeats table config program actor failures seats =
     (place : ℕ) → IfSome (slice_get seats place) (λ seat.
     seat ≡ first_seat table config program (suc place) (actor + place) (slice_index failures place))
 
--- Each node of the configuration, each of the eight tasks and the audit has a seat at one table, and did nothing. Of
--- the devices of the nodes n calls have failed.
+-- Each node of the configuration, each of the eight tasks and the audit has a seat at one table,
+-- and did nothing. The list says how many calls of the device of each node have failed.
 pub record AreSeats {P : Type 0} (config : Config) (program : P) (failures : List ℕ)
     (nodes tasks : List (SeatState P)) (audit : SeatState P) : Type 0 where
   pub size : length nodes ≡ config.nodes
@@ -71,7 +72,7 @@ pub record AreSeats {P : Type 0} (config : Config) (program : P) (failures : Lis
   pub tasks_are : AreFirstSeats audit.table config program 8 [] tasks
   pub audit_is : audit ≡ first_seat audit.table config program 0 0 0
 
--- what else may be missing: memory, or a device that works
+-- the other faults: out of memory, or a device that fails
 abbrev pub IsResourceFault : Fault → Type 0
 IsResourceFault fault = (fault ≡ OutOfMemory) ⊎ (fault ≡ Device)
 

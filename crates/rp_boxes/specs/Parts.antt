@@ -1,4 +1,4 @@
--- What a seat knows of an actor, and the numbers by which the table knows actors and boxes.
+-- What a seat knows of an actor, and the numbers of actors and boxes at the table.
 --
 -- | Actor          | Its number | Its word |
 -- | the audit      | 0          | 256      |
@@ -10,9 +10,7 @@ use Rattle.std.specs.Prelude.{ℕ, zero, suc, ◌+◌, ◌*◌, List, [], ◌∷
 use Rattle.rp_codec.specs.Message.{Message}
 use Rattle.rp_codec.specs.declared.packet.Party.{Party}
 use Rattle.rp_codec.specs.declared.packet.Party.TheVariants.{Node, Task, Audit}
-use Rattle.rp_model.specs.Parts.{NodePart}
-use Rattle.rp_model.specs.Parts.{TaskPart}
-use Rattle.rp_model.specs.Parts.{fresh_node, fresh_task}
+use Rattle.rp_model.specs.Parts.{NodePart, TaskPart, fresh_node, fresh_task}
 
 -- the number of an actor
 abbrev pub actor_of : Party → ℕ
@@ -24,14 +22,15 @@ actor_of Audit = 0
 abbrev pub box_of : ℕ → ℕ → ℕ
 box_of x y = 16 * x + y
 
--- what an actor is in a world: a node or a task. The audit is neither
+-- the state of an actor in a world: a node's or a task's. The audit has none
 pub data Role : Type 0 where
   OfNode : NodePart → Role
   OfTask : TaskPart → Role
   OfAudit : Role
 
--- What is known of an actor: what it is in a world, the number of its events, the packets that it sent, those that it
--- put into boxes and those that it got, and the boxes that it holds while it fills or empties them.
+-- What is known of an actor: its state in a world, the number of its events, the packets that it
+-- sent, those that it put into boxes and those that it got, and the boxes that it holds while it
+-- fills or empties them.
 pub record Part : Type 0 where
   pub role : Role
   pub events : ℕ
@@ -45,13 +44,13 @@ pub record Part : Type 0 where
 abbrev pub View : Type 0
 View = List (ℕ × Part)
 
--- the node's part, a fresh one where the actor is no node
+-- the node's part, a fresh one if the actor is no node
 abbrev pub node_of : Role → NodePart
 node_of (OfNode part) = part
 node_of (OfTask part) = fresh_node
 node_of OfAudit = fresh_node
 
--- the task's part, a fresh one where the actor is no task
+-- the task's part, a fresh one if the actor is no task
 abbrev pub task_of : Role → TaskPart
 task_of (OfNode part) = fresh_task
 task_of (OfTask part) = part
@@ -61,7 +60,7 @@ task_of OfAudit = fresh_task
 abbrev pub fresh_part : Role → Part
 fresh_part role = record { role = role; events = 0; sent = []; put = []; got = []; fills = []; takes = [] }
 
--- what the actor of a number is at first
+-- the initial state of the actor with this number
 abbrev pub first_role : ℕ → Role
 first_role k = if nat_eq k 0 then OfAudit else if nat_lt k 8 then OfNode fresh_node else OfTask fresh_task
 
@@ -69,7 +68,7 @@ first_role k = if nat_eq k 0 then OfAudit else if nat_lt k 8 then OfNode fresh_n
 abbrev pub first_part : ℕ → Part
 first_part k = fresh_part (first_role k)
 
--- n actors from a number on, as they are at first
+-- n actors from a number on, in their initial state
 abbrev pub first_from : ℕ → ℕ → View
 first_from k zero = []
 first_from k (suc more) = (k, first_part k) ∷ first_from (suc k) more
@@ -84,37 +83,37 @@ abbrev pub actor_in : View → ℕ
 actor_in [] = 0
 actor_in (known ∷ rest) = known.0
 
--- the part once an event happened: the actor became this, and sent these packets
+-- the part after an event: the actor has this state, and sent these packets
 abbrev pub part_after : Part → Role → List Message → Part
 part_after part role sends = record part { role = role; events = part.events + 1; sent = part.sent ++ sends }
 
--- the first part of a view, changed so
+-- the view with its first part changed
 abbrev pub on_first : (Part → Part) → View → View
 on_first change [] = []
 on_first change (known ∷ rest) = (known.0, change known.1) ∷ rest
 
--- the packets of a list that go to an actor, and those that come from one
+-- the packets of a list whose receiver is an actor, and those whose sender it is
 abbrev pub to_actor : ℕ → List Message → List Message
 to_actor y packets = filter (λ m. nat_eq (actor_of m.to) y) packets
 
 abbrev pub from_actor : ℕ → List Message → List Message
 from_actor x packets = filter (λ m. nat_eq (actor_of m.from) x) packets
 
--- the part once it put a packet into its box, and once it got one
+-- the part after it put a packet into its box, and after it got one
 abbrev pub with_put : Message → Part → Part
 with_put m part = record part { put = part.put ++ m ∷ [] }
 
 abbrev pub with_got : Message → Part → Part
 with_got m part = record part { got = part.got ++ m ∷ [] }
 
--- the part of a sender that fills a box, and that has filled it with this packet
+-- the part of a sender while it fills a box, and after it filled the box with this packet
 abbrev pub filling : ℕ → Part → Part
 filling b part = record part { fills = b ∷ [] }
 
 abbrev pub filled : Message → Part → Part
 filled m part = record part { put = part.put ++ m ∷ []; fills = [] }
 
--- the part of a receiver that takes this packet out of a box, and that has emptied it
+-- the part of a receiver while it takes this packet out of a box, and after it emptied the box
 abbrev pub emptying : ℕ → Message → Part → Part
 emptying b m part = record part { got = part.got ++ m ∷ []; takes = b ∷ [] }
 

@@ -24,7 +24,7 @@ holding k p b slot = ((k, p) ∷ [], (b, slot) ∷ [])
 abbrev pub IsSized : TableId → Type 0
 IsSized table = (table.words ≡ 272) × (table.slots ≡ 256)
 
--- An empty box is claimed with its slot; another is left.
+-- An empty box is claimed with its slot; any other box is left as it is.
 pub record Claimed (b : ℕ) (old : Sight) (found : ℕ) (new : Sight) : Type 0 where
   pub hit : found ≡ 0 → (slot : Slot) × IsVacant slot × (new ≡ (on_first (filling b) old.0, (b, slot) ∷ old.1))
   pub miss : found ≢ 0 → new ≡ old
@@ -40,16 +40,16 @@ pub record IsTaken (b : ℕ) (old new : Sight) : Type 0 where
   pub carried : IsCarried from to text.items packet
   pub is : new ≡ (on_first (emptying b packet) old.0, (b, Some text) ∷ old.1)
 
--- A full box is claimed by its receiver; another is left.
+-- A full box is claimed by its receiver; any other box is left as it is.
 pub record Took (b : ℕ) (old : Sight) (found : ℕ) (new : Sight) : Type 0 where
   pub hit : found ≡ 2 → IsTaken b old new
   pub miss : found ≢ 2 → new ≡ old
 
--- The box that was filled goes back with its slot, and this fact holds of the part of its sender.
+-- The box that was filled is released with its slot, and this fact holds of its sender's part.
 pub record IsPublished (says : Part → Type 0) (k : ℕ) (old new : Sight) : Type 0 where
   pub part : Part
   pub is : new ≡ ((k, part) ∷ [], rest old.1)
-  pub said : says part
+  pub picked : says part
 
 -- A packet that the actor sent, from it to another and of this text, is put.
 pub record IsPutBy (from to : ℕ) (bytes : List ℕ) (old new : Part) : Type 0 where
@@ -58,7 +58,7 @@ pub record IsPutBy (from to : ℕ) (bytes : List ℕ) (old new : Part) : Type 0 
   pub carried : IsCarried from to bytes packet
   pub is : new ≡ with_put packet old
 
--- the box that was emptied goes back with its slot
+-- the box that was emptied is released with its slot
 abbrev pub Cleared : Sight → Sight → Type 0
 Cleared old new = new ≡ (on_first emptied old.0, rest old.1)
 
@@ -67,4 +67,4 @@ pub record IsNoted (says : Part → Type 0) (k : ℕ) (new : Sight) : Type 0 whe
   pub part : Part
   pub is : new ≡ alone k part
   pub own : HasOwnPackets k part
-  pub said : says part
+  pub picked : says part

@@ -1,4 +1,4 @@
--- What a seat is to a contract, and the results of its calls.
+-- How contracts see a seat, and the results of its calls.
 use Rattle.std.specs.Prelude.{◌≡◌, ℕ, ◌<◌, ◌^◌, Option, Some, None, IfSome, IsSome, Result, Ok, Err, List, [], ◌∷◌}
 use Rattle.std.specs.Prelude.{length}
 use Rattle.atomic_table.specs.Seated.{TableId}
@@ -17,6 +17,7 @@ use Rattle.rp_codec.specs.Text.{text_of}
 use Rattle.rp_codec.specs.declared.packet.Party.{Party}
 use Rattle.rp_model.specs.Effect.{Setting, Done, NodeInput, node_effect, cut_effect, report_of}
 use Rattle.rp_model.specs.declared.effect.Dropped.TheVariants.{No}
+use Rattle.rp_machine.specs.declared.machine.Machine.{Ghosts}
 use Rattle.rp_model.specs.Parts.{NodePart, Running}
 use Rattle.rp_agreement.specs.Answered.{setting_for}
 use Rattle.rp_agreement.specs.Sound.{IsMember}
@@ -27,12 +28,14 @@ use Rattle.rp_rules.specs.declared.input.Input.TheVariants.{Receive, Lead, LeadR
 use Rattle.rp_replica.specs.declared.sent.Sent.{Sent}
 use Rattle.rp_world.specs.Callers.{Caller}
 use Rattle.rp_world.specs.Nodes.{member_of, RepresentsWhile, DescribesSent}
+use Rattle.rp_boxes.specs.declared.board.Setup.{Setup}
 use Rattle.rp_boxes.specs.Parts.{Part, OfNode, OfTask, part_in, part_after, with_put, with_got}
 use Rattle.rp_boxes.specs.Rule.{HasOwnPackets}
 use Rattle.rp_boxes.specs.Plays.{Sight, IsSized, alone}
 
--- The table that a seat is at, what all nodes of that table share, the number of the seat's node or task (0 for the
--- audit), how many calls of its device have failed (0 where it has none), and what the seat knows of its actor.
+-- The seat's table, what all nodes of that table share, the number of the seat's node or task (0
+-- for the audit), how many calls of its device have failed (0 if it has none), and what the seat
+-- knows of its actor.
 pub record SeatState (P : Type 0) : Type 0 where
   pub table : TableId
   pub config : Config
@@ -41,7 +44,12 @@ pub record SeatState (P : Type 0) : Type 0 where
   pub failures : ℕ
   pub part : Part
 
--- what the nodes at the table share
+-- what the nodes at a table share, from its setup
+abbrev pub setting_of : {S P : Type 0} → Ghosts S P → Setup S P → Setting S
+setting_of machine setup =
+    setting_for machine.next machine.answers machine.begin setup.config setup.program.value
+
+-- what the nodes at a seat's table share, from the seat's state
 abbrev pub setting_at : {S P : Type 0} → (S → Action → S) → (S → Action → List Answer) → (P → S) → SeatState P
     → Setting S
 setting_at next answers begin seat_state = setting_for next answers begin seat_state.config seat_state.program
@@ -56,7 +64,7 @@ pub record IsAtTable (table mine : TableId) (actor : ℕ) (me : Sight) : Type 0 
   pub takes : (part_in me.0).takes ≡ []
   pub own : HasOwnPackets actor (part_in me.0)
 
--- The replica is the node that the seat knows; where its device failed, that node is stopped.
+-- The replica is the node that the seat knows; if its device failed, that node is stopped.
 pub record IsNodePlace {S : Type 0} (config : Config) (begin : S) (number : ℕ) (replica : ReplicaState S) (part : Part)
     : Type 0 where
   pub member : IsMember config.nodes number
@@ -80,9 +88,13 @@ HasInputRanges (Interrupt source occurrence) = Unit {0}
 HasInputRanges (Tick now) = now < 2 ^ 32
 HasInputRanges (Report first) = IsPosition first
 
+-- the bytes are the text of a packet that the actor got
+abbrev pub IsGotText : Part → List ℕ → Type 0
+IsGotText part bytes = (m : Message) × Has m part.got × (bytes ≡ text_of m)
+
 -- the bytes that are to be received are the text of a packet that the actor got
 abbrev pub IsGot : Part → Input → Type 0
-IsGot part (Receive bytes) = (m : Message) × Has m part.got × (bytes.now ≡ text_of m)
+IsGot part (Receive bytes) = IsGotText part bytes.now
 IsGot part (Lead choice) = Unit {0}
 IsGot part (LeadRange range) = Unit {0}
 IsGot part (Interrupt source occurrence) = Unit {0}
@@ -91,7 +103,7 @@ IsGot part (Report first) = Unit {0}
 
 -- ---- turns of a node
 
--- why a node makes no step: since it is stopped; else memory ran out for the step, or this refuses it
+-- why a node makes no step: it is stopped; or out of memory for the step, or the step's refusal
 abbrev pub IsReason : Option Running → Result (Done NodePart) Fault → Fault → Type 0
 IsReason None effect fault = fault ≡ Failed
 IsReason (Some running) (Ok done) fault = fault ≡ OutOfMemory
@@ -144,14 +156,15 @@ module _ {S P : Type 0} (next : S → Action → S) (answers : S → Action → 
 abbrev pub IsSentText : Part → List ℕ → Type 0
 IsSentText part bytes = (m : Message) × Has m part.sent × (bytes ≡ text_of m)
 
--- The packet of this text went into its box.
+-- The packet with this text went into its box.
 pub record IsPut {P : Type 0} (bytes : List ℕ) (old new : SeatState P) : Type 0 where
   pub packet : Message
   pub right : IsPacket packet
   pub text : bytes ≡ text_of packet
   pub after : new ≡ record old { part = with_put packet old.part }
 
--- A packet from one party to another was taken out of their box: these bytes are its text, and it is got.
+-- A packet from one party to another was taken out of their box, and its receiver got it; these
+-- bytes are its text.
 pub record IsFetched {P : Type 0} (from to : Party) (bytes : List ℕ) (old new : SeatState P) : Type 0 where
   pub packet : Message
   pub right : IsPacket packet
@@ -160,8 +173,8 @@ pub record IsFetched {P : Type 0} (from to : Party) (bytes : List ℕ) (old new 
   pub receiver : packet.to ≡ to
   pub after : new ≡ record old { part = with_got packet old.part }
 
--- A report of the actions that the node has applied, from a position on: it is the one packet of the step, and nothing
--- else changes.
+-- A report of the actions that the node has applied, from a position on. It is the one packet of
+-- the step, and nothing else changes.
 pub record IsReport {P : Type 0} (first : ℕ) (old new : SeatState P) (sent : Sent) : Type 0 where
   pub node : NodePart
   pub was : old.part.role ≡ OfNode node

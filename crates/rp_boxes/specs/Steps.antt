@@ -3,8 +3,7 @@ use Rattle.std.specs.Prelude.{◌≡◌, ◌⊎◌, ℕ, ◌+◌, Ok}
 use Rattle.rp_base.specs.Number.{IsTask}
 use Rattle.rp_model.specs.Effect.{Setting, Done, NodeInput, node_effect, cut_effect}
 use Rattle.rp_model.specs.Tasks.{TaskInput, task_effect}
-use Rattle.rp_model.specs.Parts.{NodePart}
-use Rattle.rp_model.specs.Parts.{TaskPart}
+use Rattle.rp_model.specs.Parts.{NodePart, TaskPart}
 use Rattle.rp_agreement.specs.Inputs.{IsInput, IsTaskInput}
 use Rattle.rp_agreement.specs.Sound.{IsMember}
 use Rattle.rp_boxes.specs.Parts.{Part, OfNode, OfTask, part_after}
@@ -14,7 +13,8 @@ abbrev pub ResultsIn : {S : Type 0} → Setting S → ℕ → NodePart → NodeI
 ResultsIn s x part input done =
     (node_effect s x part input ≡ Ok done) ⊎ ((kept : ℕ) × (cut_effect s x part input kept ≡ Ok done))
 
--- One event of node x: an input that it may be given, by the packets that it got, and the result.
+-- One event of node x: the result of an input that it may be given, according to the packets that
+-- it got.
 pub record IsNodeEvent {S : Type 0} (s : Setting S) (x : ℕ) (before after : Part) : Type 0 where
   pub member : IsMember s.config.nodes x
   pub part : NodePart
@@ -40,3 +40,7 @@ pub record IsTaskEvent {S : Type 0} (s : Setting S) (t : ℕ) (before after : Pa
 abbrev pub IsEvent : {S : Type 0} → Setting S → ℕ → Part → Part → Type 0
 IsEvent s k before after =
     IsNodeEvent s k before after ⊎ ((t : ℕ) × (k ≡ 7 + t) × IsTaskEvent s t before after)
+
+-- an event of actor k may happen, after which this fact holds of its part
+abbrev pub HasEvent : {S : Type 0} → Setting S → ℕ → Part → (Part → Type 0) → Type 0
+HasEvent s k before says = (after : Part) × IsEvent s k before after × says after

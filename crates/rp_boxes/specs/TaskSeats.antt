@@ -23,7 +23,8 @@ use Rattle.rp_world.specs.Callers.{Caller}
 use Rattle.rp_boxes.specs.Parts.{Part, OfTask, task_of, part_after}
 use Rattle.rp_boxes.specs.Seats.{SeatState, IsTaskPlace}
 
--- The seat of the task of this number: it knows what all nodes share, and waits for a right call of its own.
+-- The seat of the task with this number: it knows what all nodes share, and waits only for a valid
+-- call of its own.
 pub record IsTaskSeat (number : ℕ) (config mine : Config) (caller : Caller) (part : Part) : Type 0 where
   pub place : IsTaskPlace caller part
   pub named : caller.task ≡ number
@@ -64,12 +65,13 @@ module _ {P : Type 0} (old : SeatState P) (input : TaskInput) (new : SeatState P
 
 -- ---- replies
 
--- what a task makes of a reply: the number of a call and the reply to it, or nothing
+-- the effect of a reply on a task: the number of a call and the reply to it, or nothing
 abbrev pub reply_effect : ℕ → TaskPart → Option (ℕ × Reply) → Done TaskPart
 reply_effect task part None = goes_on_as part
 reply_effect task part (Some stated) = takes_reply task part stated.0 stated.1
 
--- One event: the packet of this text, which the seat got, arrives at the task, and this answer is taken.
+-- One event: the packet with this text, which the seat got, arrives at the task, and this answer is
+-- taken.
 pub record IsReplyTurn {P : Type 0} (old : SeatState P) (bytes : List ℕ) (new : SeatState P) (taken : Option Answer)
     : Type 0 where
   pub packet : Message
@@ -82,12 +84,16 @@ pub record IsReplyTurn {P : Type 0} (old : SeatState P) (bytes : List ℕ) (new 
   pub after : new ≡ record old { part = part_after old.part (OfTask done.part) done.sends }
   pub stated : taken ≡ done.taken
 
--- There is an order of actions in which each reply of the task answers its call, which takes effect at one place; and
--- its calls that count there are those that it made, in order: all of them, or all but the one that it waits for.
-pub record HasOneOrder {S : Type 0} (next : S → Action → S) (answers : S → Action → List Answer) (begin : S)
-    (number : ℕ)
-    (part : Part) : Type 0 where
-  pub order : List Action
+-- Each reply of the task is the order's answer to its call, which takes effect at one place; and the task's calls that
+-- count in the order are those that it made, in order: all of them, or all but the one that it waits for.
+pub record IsOfOrder {S : Type 0} (next : S → Action → S) (answers : S → Action → List Answer) (begin : S)
+    (order : List Action) (number : ℕ) (part : Part) : Type 0 where
   pub replies : (k : ℕ) (answer : Answer) → slice_get (task_of part.role).replies k ≡ Some answer
       → HasReply next answers begin order (named number (suc k)) answer
   pub calls : AreItsCalls part.sent number (task_of part.role) (kept_of next answers begin order)
+
+-- there is such an order
+pub record HasOneOrder {S : Type 0} (next : S → Action → S) (answers : S → Action → List Answer) (begin : S)
+    (number : ℕ) (part : Part) : Type 0 where
+  pub order : List Action
+  pub task : IsOfOrder next answers begin order number part

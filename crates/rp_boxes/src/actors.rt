@@ -1,4 +1,4 @@
-//! The numbers by which the table knows actors: the audit is 0, node n is n, and task t is 7 + t.
+//! The numbers of the actors at the table: the audit is 0, node n is n, and task t is 7 + t.
 
 ghost use Rattle.std.specs.Prelude.{◌≡◌, ◌<◌};
 ghost use Rattle.rp_codec.specs.Message.{Message, IsPacket, IsParty};
@@ -8,7 +8,7 @@ ghost use Rattle.rp_boxes.specs.Parts.{actor_of};
 use rp_base::MOST_NODES;
 use rp_codec::{Party, RECEIVER, party_of};
 
-/// The actor that a party is.
+/// The number of a party at the table.
 pub(crate) fn actor_of(party: Party) -> usize
     ensures actor { result ≡ actor_of party }
     ensures party { IsParty party }
@@ -21,7 +21,7 @@ pub(crate) fn actor_of(party: Party) -> usize
     }
 }
 
-/// The actor to which a packet goes, by its text.
+/// The number of a packet's receiver at the table, read from the packet's text.
 pub(crate) fn receiver(text: &[u8]) -> usize
     ensures named { (m : Message) → IsPacket m → text.now ≡ text_of m → result ≡ actor_of m.to }
     ensures small { result < 16 }

@@ -1,4 +1,4 @@
-//! The audit: what it knows of the nodes, by the reports that it got.
+//! The audit: what it knows of each node from the reports that it got.
 
 ghost use Rattle.std.specs.Prelude.{◌≡◌, ◌≤◌, ◌+◌, ℕ, List, [], length, replicate, IfOk, IfSome, IfNone, OnOk, OnErr, IsOkUnless};
 ghost use Rattle.rp_base.specs.Sets.{Has};
@@ -8,7 +8,7 @@ ghost use Rattle.rp_codec.specs.declared.packet.Party.TheVariants as parties;
 ghost use Rattle.rp_boxes.specs.Audits.{AreAllReported, IsAdded, IsGotReport, IsJoined, known_of, report, with_reported};
 ghost use Rattle.rp_boxes.specs.Looks.{WasSent};
 ghost use Rattle.rp_boxes.specs.Moments.{WasNotFull};
-ghost use Rattle.rp_boxes.specs.Meeting.{AreOfOneOrder, IsMet};
+ghost use Rattle.rp_boxes.specs.OneOrder.{AreOfOneOrder, ShareOneOrder};
 ghost use Rattle.rp_boxes.specs.Seats.{IsFetched};
 
 use crate::audit_seat::AuditSeat;
@@ -17,14 +17,14 @@ use rp_agreement::{
     calls_count_in_order, replies_answer_calls_that_count, reports_follow_the_order,
     the_order_exists,
 };
-use rp_base::{Action, Fault, NodeId, Position};
+use rp_base::{Action, Fault, MOST_NODES, NodeId, Position};
 use rp_codec::{Body, Party, decode};
 use rp_machine::Machine;
 use std::alloc::{AllocError, Global};
 use std::marker::Model;
 
-/// The outcome of a report: it was added to what is known of its node, or it left a gap after that.
-/// `known` is how many actions are known of the node then.
+/// The outcome of a report: it was added to the actions that are known of its node, or it leaves a
+/// gap after them and was not added. `known` is how many actions are known of the node afterwards.
 #[derive(Clone, Copy, Debug, PartialEq, Eq)]
 pub enum Added {
     Added { node: NodeId, known: u32 },
@@ -35,13 +35,13 @@ pub enum Added {
 #[derive(Drop)]
 pub struct Audit<M: Machine> {
     pub(crate) seat: AuditSeat<M>,
-    pub(crate) known: [Vec<Action>; 7],
+    pub(crate) known: [Vec<Action>; MOST_NODES as usize],
 }
 
 impl<M: Machine> Model for Audit<M> {
     ghost use Rattle.std.specs.Prelude.{map};
     ghost use Rattle.rp_boxes.specs.Audits.{Audited, AreAllReported};
-    ghost use Rattle.rp_boxes.specs.Meeting.{ReportOneOrder};
+    ghost use Rattle.rp_boxes.specs.OneOrder.{ReportOneOrder};
 
     ghost Value = { Audited M.Program };
 
@@ -51,7 +51,7 @@ impl<M: Machine> Model for Audit<M> {
         × ReportOneOrder a.seat.part };
 }
 
-/// Puts these actions in place of those from a position on, where that makes the list longer.
+/// Replaces the actions of the list from a position on by these, if that makes the list longer.
 fn put_reported(list: &mut Vec<Action>, first: usize, actions: &[Action]) -> Result<(), AllocError>
     requires { (1 ≤ first) × (first ≤ length list.old.items + 1) }
     ensures ok { OnOk result (list.new.items ≡ with_reported list.old.items first actions.now) }
@@ -69,7 +69,7 @@ fn put_reported(list: &mut Vec<Action>, first: usize, actions: &[Action]) -> Res
 }
 
 impl<M: Machine> Audit<M> {
-    /// An audit that knows nothing. It takes no memory.
+    /// An audit that knows nothing. It allocates no memory.
     pub fn new(alloc: Global, seat: AuditSeat<M>) -> Self
         ensures { result ≡ record { seat = seat; known = replicate 7 [] } }
     {
@@ -91,8 +91,8 @@ impl<M: Machine> Audit<M> {
         }
     }
 
-    /// The packet in the box from that party to the audit, as its text, or `None` where the box is
-    /// not full. It is a report, which that party has sent.
+    /// Takes the packet out of the box from that party to the audit, and returns its text, or
+    /// `None` if the box is not full. It is a report, which that party has sent.
     pub fn fetch(&mut self, from: Party) -> Option<Vec<u8>>
         // claim as NodeSeat::fetch
         ensures some { IfSome result (λ text. IsFetched from parties.Audit text.items
@@ -113,15 +113,16 @@ impl<M: Machine> Audit<M> {
         self.seat.fetch(from)
     }
 
-    /// Adds a report that the audit got, as its text: where its first position is above what is
-    /// known of its node and one more it leaves a gap, and nothing changes; else what is known of the
-    /// node becomes the longer of itself and of what the report makes it. What is known of any two
-    /// nodes begins one list of actions then. Refused for memory, nothing changes.
+    /// Adds a report that the audit got, given as its text. Let n be how many actions are known of
+    /// its node. If its first position is greater than n + 1, it leaves a gap, and nothing changes.
+    /// Otherwise the list of known actions is overwritten with the report's actions from that
+    /// position on, if that makes the list longer. Then the actions known of any two nodes are
+    /// prefixes of one list. If memory runs out, nothing changes.
     pub fn add(&mut self, alloc: Global, packet: &[u8]) -> Result<Added, Fault>
         requires { IsGotReport self.old.seat.part packet.now }
         // claim (ok, err, only): A report that the audit got makes what is known of its node the
-        //   longer of itself and of what the report has, or leaves a gap and changes nothing;
-        //   refused for memory it changes nothing
+        //   longer of itself and of what the report has, or leaves a gap and changes nothing; out
+        //   of memory changes nothing
         ensures ok { IfOk result (λ added. IsAdded self.old packet.now self.new added) }
         // claim (one): What the audit knows of each of any two nodes is a prefix of one list of
         //   actions, at every moment
@@ -174,8 +175,8 @@ impl<M: Machine> Audit<M> {
         })
     }
 
-    /// The actions that are known of a node, in order. Each was in a report that the audit got, and
-    /// what is known of any two nodes begins one list of actions.
+    /// The actions that are known of a node, in order. Each was in a report that the audit got. The
+    /// lists of any two nodes are prefixes of one list of actions.
     pub fn known(&self, node: NodeId) -> &[Action]
         // claim (value, stated): Each action that is known of a node was in a report that the audit
         //   got
@@ -187,7 +188,7 @@ impl<M: Machine> Audit<M> {
         self.known[usize::from(node.get()) - 1].as_slice()
     }
 
-    /// Looks at the table: what is known of any two nodes begins one list of actions. Nothing
+    /// Looks at the table: the actions known of any two nodes are prefixes of one list. Nothing
     /// changes.
     pub fn look(&mut self)
         ensures unchanged { self.new ≡ self.old }
@@ -198,20 +199,20 @@ impl<M: Machine> Audit<M> {
         self.seat.look();
     }
 
-    /// The audit and a task of the same table look at it together: what is known of each node
-    /// begins one list of actions, and in it each reply of the task answers its call. Nothing
+    /// The audit and a task of the same table look at it together: the actions known of each node
+    /// are a prefix of one list, and in that list each reply of the task answers its call. Nothing
     /// changes.
-    pub fn meet(self, task: TaskSeat<M>) -> (Self, TaskSeat<M>)
+    pub fn look_with_task(self, task: TaskSeat<M>) -> (Self, TaskSeat<M>)
         requires { self.seat.table ≡ task.table }
         ensures same { (result.0 ≡ self) × (result.1 ≡ task) }
-        ensures met { IsMet M.next M.answers M.begin result.0.known result.1 }
+        ensures one { ShareOneOrder M.next M.answers M.begin result.0.known result.1 }
     {
         the_order_exists();
         reports_follow_the_order();
         replies_answer_calls_that_count::<M>();
         calls_count_in_order::<M>();
         let Audit { seat, known } = self;
-        let (seat, task) = seat.meet(task);
+        let (seat, task) = seat.look_with_task(task);
         (Audit { seat, known }, task)
     }
 }

@@ -16,13 +16,13 @@ use std::alloc::Global;
 use std::marker::Model;
 use std::sync::Arc;
 
-/// The seat of the audit: its place at the table that all seats share. It crosses to another
-/// thread, and none of its calls waits.
+/// The seat of the audit: its place at the table that all seats share. It may be moved to another
+/// thread, and none of its calls blocks.
 #[derive(Drop)]
 pub struct AuditSeat<M: Machine> {
     pub(crate) place: Place,
     pub(crate) board: Arc<Board<M>, Global>,
-    /// Buffers for packets to come: none, since it sends none.
+    /// Buffers for packets to send: none, since the audit sends no packets.
     pub(crate) spares: Vec<Vec<u8>>,
 }
 
@@ -52,8 +52,8 @@ impl<M: Machine> Model for AuditSeat<M> {
 const AUDIT: usize = 0;
 
 impl<M: Machine> AuditSeat<M> {
-    /// The packet in the box from that party to the audit, as its text, or `None` where the box is
-    /// not full. That party has sent it.
+    /// Takes the packet out of the box from that party to the audit, and returns its text, or
+    /// `None` if the box is not full. That party has sent it.
     pub fn fetch(&mut self, from: Party) -> Option<Vec<u8>>
         // claim as NodeSeat::fetch
         ensures some { IfSome result (λ text. IsFetched from Audit text.items self.old self.new) }
@@ -71,8 +71,8 @@ impl<M: Machine> AuditSeat<M> {
         )
     }
 
-    /// The packets that the audit got are right ones, to it. It does nothing: what it promises is
-    /// for contracts.
+    /// Each packet that the audit got is a valid one with the audit as its receiver. It does
+    /// nothing: its contract is for the callers' proofs.
     pub(crate) fn packets_are_right(&self)
         ensures { HasOwnPackets 0 self.now.part }
     {

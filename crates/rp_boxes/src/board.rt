@@ -7,7 +7,7 @@ use std::alloc::Global;
 use std::marker::{Model, PhantomData};
 use std::snapshot::Snapshot;
 
-/// What a seat knows, for contracts alone. No value of it is made.
+/// What a seat knows, for contracts alone. No value of this type is made.
 pub struct Known {
     nothing: (),
 }
@@ -28,7 +28,7 @@ pub struct Setup<M: Machine> {
     pub program: Snapshot<M::Program>,
 }
 
-/// The rule that each step keeps.
+/// The rule of the table, which each step preserves.
 pub struct Law<M> {
     of: PhantomData<M>,
 }
@@ -50,5 +50,5 @@ pub type Board<M> = Table<Option<Vec<u8>>, Known, Setup<M>, Law<M>, Global>;
 /// A place at the table.
 pub type Place = Seat<Option<Vec<u8>>, Known>;
 
-/// The words and slots of the table, as its seats step on them.
+/// The words and slots of the table, on which its seats make their atomic steps.
 pub(crate) type Slots<M> = Shared<Option<Vec<u8>>, Known, Setup<M>, Law<M>>;

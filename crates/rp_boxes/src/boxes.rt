@@ -5,33 +5,33 @@ ghost use Rattle.std.specs.declared.alloc.Global.{Global};
 ghost use mathlib.Core.Option.{some};
 ghost use lib.ListN.{get_elem?};
 ghost use Rattle.atomic_table.specs.Table.{State};
-ghost use Rattle.rp_agreement.specs.Answered.{setting_for};
 ghost use Rattle.rp_base.specs.Sets.{Has};
 ghost use Rattle.rp_codec.specs.Message.{Message};
-ghost use Rattle.rp_boxes.specs.Looks.{IsWorldOf};
+ghost use Rattle.rp_boxes.specs.Looks.{HasWorld};
 ghost use Rattle.rp_boxes.specs.Moments.{IsMoment, MayClaim, WasFull, WasWord};
 ghost use Rattle.rp_boxes.specs.Parts.{Part, View, box_of, emptying, filled, filling, part_in, with_got};
 ghost use Rattle.rp_boxes.specs.Plays.{IsPutBy, IsSized, alone, holding};
 ghost use Rattle.rp_boxes.specs.Rule.{IsCarried, IsVacant, Slot};
+ghost use Rattle.rp_boxes.specs.Seats.{setting_of};
 
 use crate::board::{Known, Place, Slots};
 use crate::events::Fact;
-use crate::looking::look;
+use crate::look::look;
 use crate::spares::spare;
 use atomic_table::Play;
 use rp_machine::Machine;
 use std::marker::{Brand, PhantomData};
 
-/// The box has no packet. It may have a buffer that its receiver left there for the sender.
+/// The box holds no packet. It may hold a buffer that its receiver left there for the sender.
 const EMPTY: u64 = 0;
-/// Its sender puts a packet there.
+/// Its sender is putting a packet into it.
 const FILLING: u64 = 1;
-/// It has a packet.
+/// It holds a packet.
 const FULL: u64 = 2;
-/// Its receiver takes the packet out.
+/// Its receiver is taking the packet out.
 const EMPTYING: u64 = 3;
 
-/// The sender claims a box that is empty. If it is not, the fact `J` holds of the sender's part.
+/// The sender claims an empty box. If it is not empty, the fact `J` holds of the sender's part.
 struct Claim<J> {
     of: PhantomData<J>,
 }
@@ -45,7 +45,7 @@ impl<J: Fact> Play<Option<Vec<u8>>, Known> for Claim<J> {
         × (found ≢ 0 → J.says (part_in old.0)) };
 }
 
-/// The sender lets go of a box that it has filled, and the fact `J` holds of the sender's part.
+/// The sender releases a box that it has filled, and the fact `J` holds of the sender's part.
 struct Publish<J> {
     of: PhantomData<J>,
 }
@@ -57,7 +57,7 @@ impl<J: Fact> Play<Option<Vec<u8>>, Known> for Publish<J> {
     ghost then = { λ step old found new. IsPublished J.says (actor_in old.0) old new };
 }
 
-/// The receiver claims a box that is full. If it is not, the fact `J` holds of the receiver's part.
+/// The receiver claims a full box. If it is not full, the fact `J` holds of the receiver's part.
 struct Take<J> {
     of: PhantomData<J>,
 }
@@ -71,7 +71,7 @@ impl<J: Fact> Play<Option<Vec<u8>>, Known> for Take<J> {
         × (found ≢ 2 → J.says (part_in old.0)) };
 }
 
-/// The receiver lets go of a box that it has emptied.
+/// The receiver releases a box that it has emptied.
 struct Clear;
 
 impl Play<Option<Vec<u8>>, Known> for Clear {
@@ -80,17 +80,16 @@ impl Play<Option<Vec<u8>>, Known> for Clear {
     ghost then = { λ step old found new. Cleared old new };
 }
 
-/// Claims the box to another actor, if it is empty. If it is not, the fact that the caller chose
-/// holds of the actor's part.
+/// Claims the box to another actor if it is empty, and returns whether it was. If it was not, the
+/// fact that the caller chose holds of the actor's part.
 fn claim_empty<M: Machine, J: Fact>(
     slots: &Slots<M>,
     place: &mut Place,
     from: usize,
     to: usize,
 ) -> bool
-    requires { MayClaim (setting_for M.next M.answers M.begin slots.now.key.config
-        slots.now.key.program.value) slots.now.table_id place.old.table_id from from to
-        place.old.me (λ part. part.fills) 0 J.says }
+    requires { MayClaim (setting_of M.Machine slots.now.key) slots.now.table_id
+        place.old.table_id from from to place.old.me (λ part. part.fills) 0 J.says }
     ensures table { place.new.table_id ≡ place.old.table_id }
     ensures hit { result ≡ true → (slot : Slot) × IsVacant slot × (place.new.me ≡ holding from
         (filling (box_of from to) (part_in place.old.me.0)) (box_of from to) slot) }
@@ -100,9 +99,9 @@ fn claim_empty<M: Machine, J: Fact>(
     slots.compare_exchange::<Claim<J>>(place, 16 * from + to, EMPTY, FILLING) == EMPTY
 }
 
-/// Puts a packet that the actor sent into the box that it claimed, and lets go of it. The buffer
-/// that was in the box, if there was one. The fact that the caller chose then holds of the actor's
-/// part, which has put that packet.
+/// Puts a packet that the actor sent into the box that it claimed, and releases the box. Returns
+/// the buffer that was in the box, if there was one. The fact that the caller chose then holds of
+/// the actor's part, in which that packet is put.
 fn deliver<M: Machine, J: Fact>(
     slots: &Slots<M>,
     place: &mut Place,
@@ -120,15 +119,14 @@ fn deliver<M: Machine, J: Fact>(
     requires packet { (m : Message) × Has m (part_in place.old.me.0).sent
         × IsCarried from to packet.items m
         × ((table : State Slot View)
-        → IsMoment (setting_for M.next M.answers M.begin slots.now.key.config
-        slots.now.key.program.value)
+        → IsMoment (setting_of M.Machine slots.now.key)
         ((from, filled m (part_in place.old.me.0)) ∷ []) table
         → slice_index table.words (box_of from to) ≡ 2
         → get_elem? table.homes (box_of from to) ≡ some (some (Some packet))
         → J.says (filled m (part_in place.old.me.0))) }
     ensures table { place.new.table_id ≡ place.old.table_id }
     ensures place { place.new.me ≡ alone from (part_in place.new.me.0) }
-    ensures said { J.says (part_in place.new.me.0) }
+    ensures picked { J.says (part_in place.new.me.0) }
     ensures vacant { IsVacant result }
 {
     let at = 16 * from + to;
@@ -137,8 +135,8 @@ fn deliver<M: Machine, J: Fact>(
     left
 }
 
-/// Puts a packet that the actor sent into its box to another, if that is empty, and else gives the
-/// packet back. An empty buffer that was in the box comes out of it.
+/// Puts a packet that the actor sent into its box to another actor, if that box is empty, and
+/// returns the empty buffer that was in it, if there was one. Otherwise gives the packet back.
 pub(crate) fn fill<M: Machine>(
     slots: &Slots<M>,
     place: &mut Place,
@@ -158,14 +156,13 @@ pub(crate) fn fill<M: Machine>(
     ensures place { place.new.me ≡ alone from (part_in place.new.me.0) }
     ensures put { OnOk result (IsPutBy from to packet.items (part_in place.old.me.0)
         (part_in place.new.me.0)) }
-    ensures full { OnOk result (WasFull (setting_for M.next M.answers M.begin slots.now.key.config
-        slots.now.key.program.value) place.new.me.0 (box_of from to) packet.items) }
+    ensures full { OnOk result (WasFull (setting_of M.Machine slots.now.key) place.new.me.0
+        (box_of from to) packet.items) }
     ensures vacant { IfOk result IsVacant }
     ensures back { IfErr result (λ back. back ≡ packet) }
     ensures unchanged { IfErr result (λ back. place.new.me ≡ place.old.me) }
     ensures used { IfErr result
-        (λ back. WasWord (setting_for M.next M.answers M.begin slots.now.key.config
-        slots.now.key.program.value) place.new.me.0 (box_of from to)
+        (λ back. WasWord (setting_of M.Machine slots.now.key) place.new.me.0 (box_of from to)
         (λ word. word ≢ 0)) }
 {
     if !claim_empty::<M, Brand>(slots, place, from, to) {
@@ -174,17 +171,16 @@ pub(crate) fn fill<M: Machine>(
     Ok(deliver::<M, Brand>(slots, place, from, to, packet))
 }
 
-/// Claims the box from another actor, if it is full. If it is not, the fact that the caller chose
-/// holds of the actor's part.
+/// Claims the box from another actor if it is full, and returns whether it was. If it was not, the
+/// fact that the caller chose holds of the actor's part.
 fn claim_full<M: Machine, J: Fact>(
     slots: &Slots<M>,
     place: &mut Place,
     from: usize,
     to: usize,
 ) -> bool
-    requires { MayClaim (setting_for M.next M.answers M.begin slots.now.key.config
-        slots.now.key.program.value) slots.now.table_id place.old.table_id to from to
-        place.old.me (λ part. part.takes) 2 J.says }
+    requires { MayClaim (setting_of M.Machine slots.now.key) slots.now.table_id
+        place.old.table_id to from to place.old.me (λ part. part.takes) 2 J.says }
     ensures table { place.new.table_id ≡ place.old.table_id }
     ensures hit { result ≡ true → (m : Message) × (text : Vec ℕ Global)
         × IsCarried from to text.items m × (place.new.me ≡ holding to
@@ -195,9 +191,9 @@ fn claim_full<M: Machine, J: Fact>(
     slots.compare_exchange::<Take<J>>(place, 16 * from + to, FULL, EMPTYING) == FULL
 }
 
-/// Takes the packet out of the box from another actor to this one, if it is full, and looks at the
-/// table: there is a world in which that actor has sent it. One of these buffers, if there is one, is
-/// left in the box for the sender.
+/// Takes the packet out of the box from another actor to this one, if the box is full, and looks at
+/// the table: there is a world in which the other actor has sent the packet. One of these buffers,
+/// if there is one, is left in the box for the sender.
 pub(crate) fn empty<M: Machine>(
     slots: &Slots<M>,
     place: &mut Place,
@@ -214,14 +210,12 @@ pub(crate) fn empty<M: Machine>(
     ensures table { place.new.table_id ≡ place.old.table_id }
     ensures none { IfNone result (place.new.me ≡ place.old.me) }
     ensures missed { IfNone result
-        (WasWord (setting_for M.next M.answers M.begin slots.now.key.config
-        slots.now.key.program.value) place.new.me.0 (box_of from to)
+        (WasWord (setting_of M.Machine slots.now.key) place.new.me.0 (box_of from to)
         (λ word. word ≢ 2)) }
     ensures some { IfSome result (λ text. (m : Message) × IsCarried from to text.items m
         × (place.new.me ≡ alone to (with_got m (part_in place.old.me.0)))) }
-    ensures world { IfSome result (λ text. (parts : ℕ → Part)
-        × IsWorldOf (setting_for M.next M.answers M.begin slots.now.key.config
-        slots.now.key.program.value) place.new.me.0 parts) }
+    ensures world { IfSome result (λ text. HasWorld (setting_of M.Machine slots.now.key)
+        place.new.me.0) }
 {
     if !claim_full::<M, Brand>(slots, place, from, to) {
         return None;

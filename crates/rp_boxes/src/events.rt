@@ -1,10 +1,10 @@
-//! The step by which an actor's event is counted.
+//! The atomic step that counts an event of an actor.
 
 ghost use Rattle.std.specs.Prelude.{◌≡◌, ◌<◌};
-ghost use Rattle.rp_agreement.specs.Answered.{setting_for};
-ghost use Rattle.rp_boxes.specs.Parts.{Part, part_in};
+ghost use Rattle.rp_boxes.specs.Parts.{part_in};
 ghost use Rattle.rp_boxes.specs.Plays.{IsSized, IsNoted, alone};
-ghost use Rattle.rp_boxes.specs.Steps.{IsEvent};
+ghost use Rattle.rp_boxes.specs.Seats.{setting_of};
+ghost use Rattle.rp_boxes.specs.Steps.{HasEvent};
 
 use crate::board::{Known, Place, Slots};
 use crate::laws::events_keep;
@@ -12,7 +12,7 @@ use atomic_table::Play;
 use rp_machine::Machine;
 use std::marker::{Brand, PhantomData};
 
-/// A fact that holds of an actor's part once its event happened. Each call chooses it.
+/// A fact that holds of an actor's part after its event. Each caller chooses it.
 pub(crate) trait Fact {
     ghost use Rattle.rp_boxes.specs.Parts.{Part};
 
@@ -35,19 +35,17 @@ impl<J: Fact> Play<Option<Vec<u8>>, Known> for Turns<J> {
     ghost then = { λ step old found new. IsNoted J.says (actor_in old.0) new };
 }
 
-/// Counts an event of the actor whose part the place knows: it becomes some part of which the fact
-/// that the caller chose holds.
+/// Counts an event of the actor whose part the place knows. The fact that the caller chose holds of
+/// the new part.
 pub(crate) fn note<M: Machine, J: Fact>(slots: &Slots<M>, place: &mut Place, actor: usize)
     requires table { place.old.table_id ≡ slots.now.table_id }
     requires sized { IsSized slots.now.table_id }
     requires actor { actor < 16 }
     requires place { place.old.me ≡ alone actor (part_in place.old.me.0) }
-    requires event { (part : Part)
-        × IsEvent (setting_for M.next M.answers M.begin slots.now.key.config
-        slots.now.key.program.value) actor (part_in place.old.me.0) part
-        × J.says part }
+    requires event { HasEvent (setting_of M.Machine slots.now.key) actor
+        (part_in place.old.me.0) J.says }
     ensures table { place.new.table_id ≡ place.old.table_id }
-    ensures turned { IsNoted J.says actor place.new.me }
+    ensures noted { IsNoted J.says actor place.new.me }
 {
     events_keep::<M>();
     slots.fetch_add::<Turns<J>>(place, 256 + actor, 1);

@@ -1,4 +1,4 @@
-//! What a node or a task may be given is within its ranges.
+//! The numbers that a node or a task is given are within their ranges.
 
 ghost use Rattle.std.specs.Prelude.{◌<◌, ◌^◌};
 ghost use Rattle.rp_base.specs.Number.{IsNode};
@@ -7,8 +7,8 @@ ghost use Rattle.rp_boxes.specs.Seats.{HasInputRanges};
 use rp_base::{NodeId, Position};
 use rp_replica::Input;
 
-/// The numbers of an input are within the ranges of their types. It does nothing: what it promises
-/// is for contracts.
+/// The numbers of an input are within the ranges of their types. It does nothing: its contract is
+/// for the callers' proofs.
 pub(crate) fn keeps_ranges(input: &Input)
     ensures { HasInputRanges input.now }
 {

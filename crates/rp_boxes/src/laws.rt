@@ -1,4 +1,4 @@
-//! What the rule uses of agreement.
+//! The facts about agreement that the rule of the table uses.
 
 ghost use Rattle.rp_agreement.specs.Answered.{setting_for};
 ghost use Rattle.rp_base.specs.declared.config.Config.{Config};
@@ -10,7 +10,8 @@ use rp_agreement::{
 };
 use rp_machine::Machine;
 
-/// An event of an actor keeps the invariant, and what the actor sends is from it.
+/// An event of an actor preserves the invariant, and the packets that the actor sends name it as
+/// their sender.
 pub(crate) fn events_keep<M: Machine>()
     ensures { (config : Config) (program : M.Program)
         → EventsKeep (setting_for M.next M.answers M.begin config program) }

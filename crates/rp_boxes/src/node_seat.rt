@@ -27,17 +27,17 @@ use std::alloc::Global;
 use std::marker::{Brand, Model};
 use std::sync::Arc;
 
-/// The seat of a node: the node itself, and its place at the table that all seats share. It crosses
-/// to another thread, and none of its calls waits.
+/// The seat of a node: the node itself, and its place at the table that all seats share. It may be
+/// moved to another thread, and none of its calls blocks.
 #[derive(Drop)]
 pub struct NodeSeat<M: Machine, D: Device> {
     pub(crate) node: NodeId,
     pub(crate) replica: Replica<M, D>,
     pub(crate) place: Place,
     pub(crate) board: Arc<Board<M>, Global>,
-    /// Buffers for packets to come.
+    /// Buffers for later packets.
     pub(crate) spares: Vec<Vec<u8>>,
-    /// A buffer for where the packets of a step end.
+    /// A buffer for the offsets at which the packets of a step end.
     pub(crate) ends: Vec<usize>,
 }
 
@@ -65,17 +65,17 @@ impl<M: Machine, D: Device> Model for NodeSeat<M, D> {
 }
 
 impl<M: Machine, D: Device> NodeSeat<M, D> {
-    /// One step of the node, of a packet that the seat got or of another input. It is one event, and
-    /// the packets are those that it sends. Refused with `OutOfMemory`, with `Failed` once the device
-    /// has failed, or with `BallotsSpent` or `LogFull` where the node cannot lead: then nothing has
-    /// happened. With `Device` the device fails, and the node stops within the step.
+    /// Makes one step of the node, with a packet that the seat got or with another input. It is one
+    /// event, and the result is the packets that the node sends. `OutOfMemory`, `Failed` once the
+    /// device has failed, or `BallotsSpent` or `LogFull` if the node cannot lead: then nothing has
+    /// happened. `Device` if the device fails: then the node stops within the step.
     #[inline(always)]
     pub fn turn(&mut self, alloc: Global, input: &Input) -> Result<Sent, Fault>
         requires right { IsRightInput input.now }
         requires got { IsGot self.old.part input.now }
         // claim: A turn of a node's seat is exactly one event of its part, and its bytes are the
-        //   event's packets. A fault of the device comes only if a call of the device failed in
-        //   that turn, while the step wrote its record; it is a cut of that event. Otherwise
+        //   event's packets. A fault of the device is returned only if a call of the device failed
+        //   in that turn, while the step wrote its record; it is a cut of that event. Otherwise
         //   nothing changes: `Failed` if the node is stopped; if it runs, the step's refusal, or
         //   out of memory if the step has none
         ensures ok { IfOk result (λ sent. IsTurn M.next M.answers M.begin
@@ -118,15 +118,15 @@ impl<M: Machine, D: Device> NodeSeat<M, D> {
         }
     }
 
-    /// Lends the seat a buffer for packets to come, so that they need not take memory. What the
-    /// buffer holds is let go. A seat keeps eight at most.
+    /// Gives the seat a buffer for later packets, so that these need no new memory. The contents of
+    /// the buffer are discarded. A seat keeps at most eight buffers.
     pub fn lend(&mut self, buffer: Vec<u8>)
         ensures { self.new ≡ self.old }
     {
         keep(&mut self.spares, buffer);
     }
 
-    /// An empty buffer: one that was lent, or else one that has no memory yet.
+    /// An empty buffer: one that the seat keeps, or else a new one that has no memory yet.
     pub fn buffer(&mut self, alloc: Global) -> Vec<u8>
         ensures empty { result.items ≡ [] }
         ensures unchanged { self.new ≡ self.old }
@@ -134,12 +134,13 @@ impl<M: Machine, D: Device> NodeSeat<M, D> {
         spare_buffer(&mut self.spares, alloc)
     }
 
-    /// Puts a packet that a step of this seat sent, as its text, into the box to its receiver. It is
-    /// given back where that box is not empty. The seat keeps the buffer that the receiver left there.
+    /// Puts a packet that a step of this seat sent, given as its text, into the box to its
+    /// receiver. If that box is not empty, the packet is given back. The seat keeps the buffer that
+    /// the receiver left there.
     pub fn put(&mut self, packet: Vec<u8>) -> Result<(), Vec<u8>>
         requires sent { IsSentText self.old.part packet.items }
-        // claim (put, full, back, unchanged, used): At Ok the packet is put: it went into the box to
-        //   its receiver, which holds it until the receiver takes it. Else it is given back
+        // claim (put, full, back, unchanged, used): At Ok the packet is put: it went into the box
+        //   to its receiver, which holds it until the receiver takes it. Else it is given back
         //   unchanged, the seat does not change, and the box was in use at a moment
         ensures put { OnOk result (IsPut packet.items self.old self.new) }
         ensures full { OnOk result (WasPut M.next M.answers M.begin (Node self.new.number)
@@ -160,9 +161,9 @@ impl<M: Machine, D: Device> NodeSeat<M, D> {
         }
     }
 
-    /// The packet in the box from that party to this seat, as its text, or `None` where the box is
-    /// not full. That party has sent it. The seat leaves it a buffer there for its next packet, if it
-    /// keeps one.
+    /// Takes the packet out of the box from that party to this seat, and returns its text, or
+    /// `None` if the box is not full. That party has sent it. If the seat keeps a buffer, it leaves
+    /// one in the box for that party's next packet.
     pub fn fetch(&mut self, from: Party) -> Option<Vec<u8>>
         // claim: A packet that a seat fetches is to this party and from the one asked, which has
         //   sent it in a world that keeps the rule and has this seat's view; the seat has then got
@@ -192,8 +193,8 @@ impl<M: Machine, D: Device> NodeSeat<M, D> {
         self.node
     }
 
-    /// All packets that the seat sent are right ones. It does nothing: what it promises is for
-    /// contracts.
+    /// All packets that the seat sent are valid. It does nothing: its contract is for the callers'
+    /// proofs.
     pub fn sends_packets(&self)
         ensures { (m : Message) → Has m self.now.part.sent → IsPacket m }
     {
@@ -216,8 +217,8 @@ impl<M: Machine, D: Device> NodeSeat<M, D> {
         Ok(self.replica.applied())
     }
 
-    /// Whether something waits at the node to be proposed or decided: a call, an interrupt or a tick.
-    /// Nothing does once its device has failed.
+    /// Whether something is pending at the node, to be proposed or decided: a call, an interrupt or
+    /// a tick. Nothing is pending once its device has failed.
     pub fn has_pending(&self) -> bool
         // claim: Whether something is pending at a node is returned; if the node is stopped,
         //   nothing is
@@ -228,8 +229,8 @@ impl<M: Machine, D: Device> NodeSeat<M, D> {
         !self.replica.has_failed() && self.replica.has_pending()
     }
 
-    /// A report to the audit of the actions applied at the positions from `first` on, as `turn` makes
-    /// it.
+    /// Makes a step as `turn` does, in which the node sends a report to the audit: the actions that
+    /// it has applied at the positions from `first` on.
     pub fn report(&mut self, alloc: Global, first: Position) -> Result<Sent, Fault>
         // claim (ok): A report of a seat has exactly the actions that its node had applied, from a
         //   position on; their number is returned too
@@ -243,8 +244,8 @@ impl<M: Machine, D: Device> NodeSeat<M, D> {
 }
 
 impl<M: Machine, D: InfallibleDevice> NodeSeat<M, D> {
-    /// No call of the device has failed, where such a device never fails. It does nothing: what it
-    /// promises is for contracts.
+    /// No call of the device has failed, since such a device never fails. It does nothing: its
+    /// contract is for the callers' proofs.
     pub fn never_failed(&self)
         // claim: A node's seat over a device that never fails has no failure
         ensures { self.now.failures ≡ 0 }

@@ -1,11 +1,10 @@
-//! A node's turn is counted.
+//! Counts a node's turn.
 
 ghost use Rattle.std.specs.Prelude.{◌≡◌};
-ghost use Rattle.rp_agreement.specs.Answered.{setting_for};
-ghost use Rattle.rp_boxes.specs.Parts.{Part, part_in};
+ghost use Rattle.rp_boxes.specs.Parts.{part_in};
 ghost use Rattle.rp_boxes.specs.Plays.{IsNoted};
-ghost use Rattle.rp_boxes.specs.Seats.{IsAtTable};
-ghost use Rattle.rp_boxes.specs.Steps.{IsEvent};
+ghost use Rattle.rp_boxes.specs.Seats.{IsAtTable, setting_of};
+ghost use Rattle.rp_boxes.specs.Steps.{HasEvent};
 
 use crate::board::{Place, Slots};
 use crate::events::{Fact, note};
@@ -14,8 +13,8 @@ use rp_machine::Machine;
 use rp_replica::{Input, Replica, Sent};
 use rp_store::Device;
 
-/// Counts a turn that a replica has made, and states of the node's part what the call picks by the
-/// replica as it now is, the input and what was sent.
+/// Counts a turn that a replica has made. The caller chooses a fact about the replica after the
+/// turn, the input and what was sent; it then holds of the node's part.
 pub(crate) fn note_turn<M: Machine, D: Device, J: Fact>(
     slots: &Slots<M>,
     place: &mut Place,
@@ -25,17 +24,15 @@ pub(crate) fn note_turn<M: Machine, D: Device, J: Fact>(
     sent: &Sent,
 )
     requires place { IsAtTable slots.now.table_id place.old.table_id node place.old.me }
-    requires event { (part : Part)
-        × IsEvent (setting_for M.next M.answers M.begin slots.now.key.config
-        slots.now.key.program.value) node (part_in place.old.me.0) part
-        × J.says part }
+    requires event { HasEvent (setting_of M.Machine slots.now.key) node
+        (part_in place.old.me.0) J.says }
     ensures table { place.new.table_id ≡ place.old.table_id }
-    ensures turned { IsNoted J.says node place.new.me }
+    ensures noted { IsNoted J.says node place.new.me }
 {
     note::<M, J>(slots, place, usize::from(node.get()));
 }
 
-/// The same where the replica's device failed within the step.
+/// Counts a turn as `note_turn` does, but one in which the replica's device failed within the step.
 pub(crate) fn note_stop<M: Machine, D: Device, J: Fact>(
     slots: &Slots<M>,
     place: &mut Place,
@@ -44,12 +41,10 @@ pub(crate) fn note_stop<M: Machine, D: Device, J: Fact>(
     input: &Input,
 )
     requires place { IsAtTable slots.now.table_id place.old.table_id node place.old.me }
-    requires event { (part : Part)
-        × IsEvent (setting_for M.next M.answers M.begin slots.now.key.config
-        slots.now.key.program.value) node (part_in place.old.me.0) part
-        × J.says part }
+    requires event { HasEvent (setting_of M.Machine slots.now.key) node
+        (part_in place.old.me.0) J.says }
     ensures table { place.new.table_id ≡ place.old.table_id }
-    ensures turned { IsNoted J.says node place.new.me }
+    ensures noted { IsNoted J.says node place.new.me }
 {
     note::<M, J>(slots, place, usize::from(node.get()));
 }

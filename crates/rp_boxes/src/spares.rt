@@ -1,19 +1,20 @@
-//! Buffers that a seat keeps for packets to come, so that they need not take memory. A seat that takes
-//! a packet out of a box leaves an empty buffer there, which the sender takes with its next packet.
+//! Buffers that a seat keeps for later packets, so that these need no new memory. A seat that takes
+//! a packet out of a box leaves an empty buffer there, which the sender takes when it puts its next
+//! packet.
 
 ghost use Rattle.std.specs.Prelude.{◌≡◌, []};
 ghost use Rattle.rp_boxes.specs.Rule.{IsVacant};
 
 use std::alloc::Global;
 
-/// How many buffers a seat keeps: a step sends seven packets at most.
+/// At most how many buffers a seat keeps: a step sends at most seven packets.
 const MOST_SPARES: usize = 8;
 
-/// Keeps a buffer, if there are few. What it holds is let go.
+/// Keeps a buffer, unless the seat has `MOST_SPARES` already. Its contents are discarded.
 #[inline(always)]
 pub(crate) fn keep(spares: &mut Vec<Vec<u8>>, buffer: Vec<u8>) {
     if spares.len() < MOST_SPARES {
-        // Where there is no memory to keep it the buffer is let go as well.
+        // If there is no memory to keep the buffer, it is dropped as well.
         let _kept = spares.push(buffer);
     }
 }
@@ -25,7 +26,7 @@ pub(crate) fn keep_left(spares: &mut Vec<Vec<u8>>, left: Option<Vec<u8>>) {
     }
 }
 
-/// The last of these buffers, emptied, if there is one.
+/// Takes out the last of these buffers, cleared, if there is one.
 pub(crate) fn spare(spares: &mut Vec<Vec<u8>>) -> Option<Vec<u8>>
     ensures { IsVacant result }
 {
@@ -34,7 +35,7 @@ pub(crate) fn spare(spares: &mut Vec<Vec<u8>>) -> Option<Vec<u8>>
     Some(buffer)
 }
 
-/// The last of these buffers, emptied, or else one that has no memory yet.
+/// Takes out the last of these buffers, cleared, or else makes one that has no memory yet.
 pub(crate) fn spare_buffer(spares: &mut Vec<Vec<u8>>, alloc: Global) -> Vec<u8>
     ensures { result.items ≡ [] }
 {

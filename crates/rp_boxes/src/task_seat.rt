@@ -11,7 +11,7 @@ ghost use Rattle.rp_model.specs.Tasks.{Submit, Again};
 ghost use Rattle.rp_boxes.specs.Looks.{WasSent};
 ghost use Rattle.rp_boxes.specs.Moments.{WasInUse, WasNotFull, WasPut};
 ghost use Rattle.rp_boxes.specs.Parts.{task_of};
-ghost use Rattle.rp_boxes.specs.Seats.{IsSentText, IsPut, IsFetched};
+ghost use Rattle.rp_boxes.specs.Seats.{IsFetched, IsGotText, IsPut, IsSentText};
 ghost use Rattle.rp_boxes.specs.TaskSeats.{IsTaskTurn, IsNoTaskTurn, IsReplyTurn, HasOneOrder};
 ghost use Rattle.rp_boxes.specs.TaskSeats.{asked_of, DescribesPackets, reply_effect};
 
@@ -19,7 +19,7 @@ use crate::actors::{actor_of, receiver};
 use crate::board::{Board, Place};
 use crate::boxes::{empty, fill};
 use crate::input::node_keeps_range;
-use crate::looking::look;
+use crate::look::look;
 use crate::spares::{keep, keep_left, spare_buffer};
 use crate::task_events::{note_asking, note_reply};
 use rp_agreement::{
@@ -30,22 +30,22 @@ use rp_codec::{Party, encode_onto};
 use rp_machine::Machine;
 use rp_model::Dropped;
 use rp_replica::Sent;
-use rp_world::{Task, asks, read_reply};
+use rp_world::{Task, asks, decode_reply};
 use std::alloc::{AllocError, Global};
 use std::marker::{Brand, Model};
 use std::sync::Arc;
 
 /// The seat of a task: its calls and replies, and its place at the table that all seats share. It
-/// crosses to another thread, and none of its calls waits.
+/// may be moved to another thread, and none of its calls blocks.
 #[derive(Drop)]
 pub struct TaskSeat<M: Machine> {
     pub(crate) number: TaskId,
-    /// What all nodes share.
+    /// The configuration that all nodes share.
     pub(crate) config: Config,
     pub(crate) task: Task,
     pub(crate) place: Place,
     pub(crate) board: Arc<Board<M>, Global>,
-    /// Buffers for packets to come.
+    /// Buffers for later packets.
     pub(crate) spares: Vec<Vec<u8>>,
 }
 
@@ -74,9 +74,9 @@ impl<M: Machine> Model for TaskSeat<M> {
 }
 
 impl<M: Machine> TaskSeat<M> {
-    /// The task makes its next call and asks a node. It is one event. Refused with `TaskBusy` while a
-    /// call waits for its reply, with `NumbersSpent` after call 2^32 - 1, with `BadConfig` for a node
-    /// above the last or a call that is not right, or with `OutOfMemory`: then nothing has happened.
+    /// The task makes its next call and asks a node for it. It is one event. `TaskBusy` while a
+    /// call waits for its reply, `NumbersSpent` after call 2^32 - 1, `BadConfig` for a node above
+    /// the last or a call that is not valid, or `OutOfMemory`: then nothing has happened.
     pub fn call(
         &mut self,
         alloc: Global,
@@ -86,7 +86,7 @@ impl<M: Machine> TaskSeat<M> {
         arg: i64,
     ) -> Result<Sent, Fault>
         // claim: A call of a task's seat is exactly one event of its part, and its bytes are the
-        //   event's packet; so is a call that is sent again. A refusal is the task's, or is for
+        //   event's packet; so is a call that is sent again. A refusal is the task's, or is out of
         //   memory, and changes nothing
         ensures ok { IfOk result (λ sent. IsTaskTurn self.old (Submit node object operation arg)
             self.new sent) }
@@ -110,9 +110,9 @@ impl<M: Machine> TaskSeat<M> {
         Ok(sent)
     }
 
-    /// The task asks a node once more for the call that waits for its reply, and for nothing where
-    /// none waits. It is one event. Refused with `BadConfig` for a node above the last, or with
-    /// `OutOfMemory`: then nothing has happened.
+    /// The task asks a node once more for the call that waits for its reply, or sends nothing if
+    /// none waits. It is one event. `BadConfig` for a node above the last, or `OutOfMemory`: then
+    /// nothing has happened.
     pub fn retry(&mut self, alloc: Global, node: NodeId) -> Result<Sent, Fault>
         // claim as TaskSeat::call
         ensures ok { IfOk result (λ sent. IsTaskTurn self.old (Again node) self.new sent) }
@@ -135,12 +135,12 @@ impl<M: Machine> TaskSeat<M> {
         Ok(sent)
     }
 
-    /// A packet that the seat got arrives at the task, as its text. It is one event. A reply to the
-    /// call that waits is taken, and ends it; any other packet changes neither calls nor replies.
-    /// There is then one order of actions which all replies of the task follow. Refused for memory,
-    /// nothing has happened.
+    /// A packet that the seat got, given as its text, arrives at the task. It is one event. A reply
+    /// to the call that waits is taken, and completes that call; any other packet changes neither
+    /// calls nor replies. There is then one order of actions which all replies of the task follow.
+    /// If memory runs out, nothing has happened.
     pub fn reply(&mut self, alloc: Global, packet: &[u8]) -> Result<Option<Answer>, Fault>
-        requires got { (m : Message) × Has m self.old.part.got × (packet.now ≡ text_of m) }
+        requires got { IsGotText self.old.part packet.now }
         // claim (ok, err): A packet that is given to a task's seat is exactly one event of its
         //   part, and its reply is taken if it is to the call that waits
         ensures ok { IfOk result (λ taken. IsReplyTurn self.old packet.now self.new taken) }
@@ -155,7 +155,7 @@ impl<M: Machine> TaskSeat<M> {
     {
         replies_answer_calls_that_count::<M>();
         calls_count_in_order::<M>();
-        let stated = read_reply(alloc, packet)?;
+        let stated = decode_reply(alloc, packet)?;
         let taken = take(&mut self.task, stated)?;
         note_reply::<M, Brand>(&self.board.shared, &mut self.place, self.number, &self.task);
         look::<M, Brand>(&self.board.shared, &mut self.place);
@@ -176,9 +176,9 @@ impl<M: Machine> TaskSeat<M> {
         self.task.replies()
     }
 
-    /// Puts a packet that a step of this seat sent, as its text, into the box to its receiver. It
-    /// is given back where that box is not empty. The seat keeps the buffer that the receiver left
-    /// there.
+    /// Puts a packet that a step of this seat sent, given as its text, into the box to its
+    /// receiver. If that box is not empty, the packet is given back. The seat keeps the buffer that
+    /// the receiver left there.
     pub fn put(&mut self, packet: Vec<u8>) -> Result<(), Vec<u8>>
         requires sent { IsSentText self.old.part packet.items }
         // claim as NodeSeat::put
@@ -201,17 +201,17 @@ impl<M: Machine> TaskSeat<M> {
         }
     }
 
-    /// Lends the seat a buffer for packets to come, so that they need not take memory. What the
-    /// buffer holds is let go. A seat keeps eight at most.
+    /// Gives the seat a buffer for later packets, so that these need no new memory. The contents of
+    /// the buffer are discarded. A seat keeps at most eight buffers.
     pub fn lend(&mut self, buffer: Vec<u8>)
         ensures { self.new ≡ self.old }
     {
         keep(&mut self.spares, buffer);
     }
 
-    /// The packet in the box from that party to this seat, as its text, or `None` where the box is
-    /// not full. That party has sent it. The seat leaves it a buffer there for its next packet, if it
-    /// keeps one.
+    /// Takes the packet out of the box from that party to this seat, and returns its text, or
+    /// `None` if the box is not full. That party has sent it. If the seat keeps a buffer, it leaves
+    /// one in the box for that party's next packet.
     pub fn fetch(&mut self, from: Party) -> Option<Vec<u8>>
         // claim as NodeSeat::fetch
         ensures some { IfSome result (λ text. IsFetched from (parties.Task self.old.number)
@@ -233,7 +233,7 @@ impl<M: Machine> TaskSeat<M> {
     }
 }
 
-/// The packet by which a task asks a node for this call, if there is one, as its text in this buffer.
+/// The packet in which a task asks a node for this call, if there is one, encoded into this buffer.
 fn asking(
     buffer: Vec<u8>,
     task: TaskId,
@@ -265,7 +265,7 @@ fn asking(
     }
 }
 
-/// The task takes a reply, if there is one. Refused for memory, nothing changes.
+/// The task takes a reply, if there is one. If memory runs out, nothing changes.
 fn take(task: &mut Task, stated: Option<(u32, Reply)>) -> Result<Option<Answer>, AllocError>
     ensures part { IfOk result (λ taken. task.new ≡ record task.old {
       part = (reply_effect task.old.task task.old.part stated).part;

@@ -1,18 +1,17 @@
-//! All seats look at the table as one, for the last time.
+//! All seats look at the table together, for the last time.
 
 ghost use Rattle.std.specs.Prelude.{◌≡◌, ◌+◌, ◌++◌, ◌∷◌, [], ℕ, All, map};
-ghost use Rattle.rp_agreement.specs.Answered.{setting_for};
-ghost use Rattle.rp_boxes.specs.Looks.{IsWorldOf};
-ghost use Rattle.rp_boxes.specs.Parts.{Part, actor_in, part_in};
+ghost use Rattle.rp_boxes.specs.Looks.{HasWorld};
+ghost use Rattle.rp_boxes.specs.Parts.{actor_in, part_in};
 ghost use Rattle.rp_boxes.specs.Plays.{IsSized, alone};
-ghost use Rattle.rp_boxes.specs.Seats.{setting_at};
+ghost use Rattle.rp_boxes.specs.Seats.{setting_at, setting_of};
 ghost use Rattle.rp_boxes.specs.Together.{AreTogether, of_node, of_task};
 
 use crate::audit::Audit;
+use crate::audit_look::Both;
 use crate::audit_seat::AuditSeat;
 use crate::board::{Place, Slots};
-use crate::looking::look;
-use crate::meeting::Both;
+use crate::look::look;
 use crate::node_seat::NodeSeat;
 use crate::task_seat::TaskSeat;
 use rp_agreement::{
@@ -23,7 +22,7 @@ use rp_machine::Machine;
 use rp_store::Device;
 use std::marker::Brand;
 
-/// A seat that ends, and leaves the place of its actor.
+/// A seat that ends and hands over the place of its actor.
 trait Leaves: Drop {
     ghost use Rattle.std.specs.Prelude.{ℕ};
     ghost use Rattle.atomic_table.specs.Seated.{TableId};
@@ -62,7 +61,7 @@ impl<M: Machine> Leaves for TaskSeat<M> {
     }
 }
 
-/// A place takes in another one, of one actor.
+/// Joins the place of one actor to another place.
 fn take_in<M: Machine>(slots: &Slots<M>, all: &mut Place, other: Place)
     requires table { (all.old.table_id ≡ slots.now.table_id)
         × (other.table_id ≡ slots.now.table_id) }
@@ -74,7 +73,7 @@ fn take_in<M: Machine>(slots: &Slots<M>, all: &mut Place, other: Place)
     slots.join_seat::<Both>(all, other);
 }
 
-/// A place takes in those of seats that end.
+/// Joins the places of seats that end to another place.
 fn take_seats<M: Machine, S: Leaves>(slots: &Slots<M>, all: &mut Place, seats: Vec<S>)
     requires table { all.old.table_id ≡ slots.now.table_id }
     requires sized { IsSized slots.now.table_id }
@@ -87,7 +86,7 @@ fn take_seats<M: Machine, S: Leaves>(slots: &Slots<M>, all: &mut Place, seats: V
     }
 }
 
-/// A place takes in those of nodes and tasks, and looks at the table.
+/// Joins the places of nodes and tasks to another place, and looks at the table.
 fn look_as_one<M: Machine, D: Device>(
     slots: &Slots<M>,
     place: Place,
@@ -98,10 +97,8 @@ fn look_as_one<M: Machine, D: Device>(
     requires sized { IsSized slots.now.table_id }
     requires nodes { All (λ seat. seat.table ≡ slots.now.table_id) nodes.items }
     requires tasks { All (λ seat. seat.table ≡ slots.now.table_id) tasks.items }
-    ensures { (parts : ℕ → Part)
-        × IsWorldOf (setting_for M.next M.answers M.begin slots.now.key.config
-        slots.now.key.program.value)
-        ((place.me.0 ++ map of_node nodes.items) ++ map of_task tasks.items) parts }
+    ensures { HasWorld (setting_of M.Machine slots.now.key)
+        ((place.me.0 ++ map of_node nodes.items) ++ map of_task tasks.items) }
 {
     let mut all = place;
     take_seats(slots, &mut all, nodes);
@@ -110,13 +107,13 @@ fn look_as_one<M: Machine, D: Device>(
 }
 
 impl<M: Machine> AuditSeat<M> {
-    /// Looks at the table together with nodes and tasks of the same table: what all of them know is a
-    /// piece of one world.
+    /// Looks at the table together with nodes and tasks of the same table: one world contains what
+    /// all of them know.
     fn look_with<D: Device>(self, nodes: Vec<NodeSeat<M, D>>, tasks: Vec<TaskSeat<M>>)
         requires nodes { All (λ seat. seat.table ≡ self.table) nodes.items }
         requires tasks { All (λ seat. seat.table ≡ self.table) tasks.items }
-        ensures { (parts : ℕ → Part) × IsWorldOf (setting_at M.next M.answers M.begin self)
-            (((0, self.part) ∷ map of_node nodes.items) ++ map of_task tasks.items) parts }
+        ensures { HasWorld (setting_at M.next M.answers M.begin self)
+            (((0, self.part) ∷ map of_node nodes.items) ++ map of_task tasks.items) }
     {
         let AuditSeat {
             place,
@@ -128,11 +125,11 @@ impl<M: Machine> AuditSeat<M> {
 }
 
 impl<M: Machine> Audit<M> {
-    /// The audit, nodes and tasks of one table look at it together, and their seats end: there is one
-    /// list of actions that what the audit knows of each node begins, that what each of the nodes has
-    /// applied begins, and that answers the calls of all of the tasks; and what the audit knows of one
-    /// of the nodes is what that has reported. Each of them has got what the others put for it, but for
-    /// packets that are still in their boxes.
+    /// The audit, nodes and tasks of one table look at it together, and their seats end. There is
+    /// one list of actions: what the audit knows of each node is a prefix of it, what each of the
+    /// nodes has applied is a prefix of it, and it answers the calls of all of the tasks. What the
+    /// audit knows of one of the nodes is what that node has reported. Each of them has got what
+    /// the others put for it, except for packets that are still in their boxes.
     pub fn look_together<D: Device>(self, nodes: Vec<NodeSeat<M, D>>, tasks: Vec<TaskSeat<M>>)
         requires nodes { All (λ seat. seat.table ≡ self.seat.table) nodes.items }
         requires tasks { All (λ seat. seat.table ≡ self.seat.table) tasks.items }

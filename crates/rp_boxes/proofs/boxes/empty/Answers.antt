@@ -1,10 +1,7 @@
 -- The box is claimed, its packet taken out, and it is cleared.
-use Rattle.std.proofs.Common.{◌<◌, ◌≤◌, Some, refl, sym, subst, ◌∙◌, arith}
-use Rattle.atomic_table.specs.Table.{Allows}
-use Rattle.rp_agreement.specs.Answered.{setting_for}
+use Rattle.std.proofs.Common.{◌<◌, ◌≤◌, Some, refl, ◌∙◌, arith}
 use Rattle.rp_boxes.specs.Parts.{part_in, box_of, emptying}
-use Rattle.rp_boxes.specs.Plays.{Sight, Cleared}
-use Rattle.rp_boxes.specs.Rule.{Ruled}
+use Rattle.rp_boxes.specs.Seats.{setting_of}
 use Rattle.rp_boxes.proofs.Emptying.{clear_allows}
 use Rattle.rp_boxes.proofs.Sights.{sees_written, out_with}
 use Rattle.rp_boxes.proofs.boxes.empty.Goals as goal
@@ -21,15 +18,11 @@ claim_full-requires g c = record {
 
 pub exchange-packet-requires : goal.exchange-packet-requires
 exchange-packet-requires g c =
-    let p = part_in c.args.place.now.me.0 in
     let taken = c.claim_full.ensures.hit c.if-not-claim_full.false in
     (c.claim_full.ensures.table ∙ c.requires.table, (Some taken.1, out_with c.args.to (box_of c.args.from c.args.to) _ (Some taken.1) _ taken.3))
 
 pub store-requires : goal.store-requires
 store-requires g c =
-    let m = g.M.Machine in
-    let key = c.args.slots.now.key in
-    let s = setting_for m.next m.answers m.begin key.config key.program.value in
     let table = c.args.slots.now.table_id in
     let b = box_of c.args.from c.args.to in
     let p = part_in c.args.place.now.me.0 in
@@ -39,9 +32,8 @@ store-requires g c =
     let here = sees_written c.args.to b (emptying b taken.0 p) (Some taken.1) c.spare-left.result _ _ taken.3 c.exchange-packet.ensures.3 in (
       c.exchange-packet.ensures.0 ∙ (c.claim_full.ensures.table ∙ c.requires.table),
       inside,
-      subst (λ (me : Sight). Allows (Ruled s) table.slots c.exchange-packet.new.seat.id me b (λ n. 0) (λ found new. Cleared me new))
-          (sym here)
-          (clear_allows s table.slots c.exchange-packet.new.seat.id c.args.from c.args.to (emptying b taken.0 p) c.requires.from c.requires.to buffer refl c.spare-left.result c.spare-left.ensures),
+      clear_allows (setting_of g.M.Machine c.args.slots.now.key) table.slots c.exchange-packet.new.seat.id c.args.from c.args.to (emptying b taken.0 p) c.requires.from c.requires.to buffer _
+          c.spare-left.result here refl c.spare-left.ensures,
     )
 
 pub look-requires-clause-follows : goal.look-requires-clause-follows

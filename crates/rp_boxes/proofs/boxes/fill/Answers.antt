@@ -1,10 +1,10 @@
 -- The box is claimed, and the packet put there.
 use Rattle.std.proofs.Common.{◌≡◌, ℕ, List, [], refl, sym, ap, subst, ◌∙◌}
-use Rattle.rp_agreement.specs.Answered.{setting_for}
 use Rattle.rp_base.specs.Sets.{Has}
 use Rattle.rp_boxes.specs.Moments.{WasFull}
 use Rattle.rp_boxes.specs.Parts.{Part, box_of, part_in}
 use Rattle.rp_boxes.specs.Plays.{IsPutBy, Sight}
+use Rattle.rp_boxes.specs.Seats.{setting_of}
 use Rattle.rp_boxes.proofs.boxes.fill.Goals as goal
 
 pub claim_empty-requires : goal.claim_empty-requires
@@ -35,11 +35,9 @@ returns-clause-put g c =
     let p = part_in c.args.place.now.me.0 in
     let free : record (part_in c.claim_empty.new.place.me.0) { fills = [] } ≡ p =
     ap (λ (me : Sight). record (part_in me.0) { fills = [] }) (c.claim_empty.ensures.hit c.if-not-claim_empty.false).2 ∙ ap (λ (fills : List ℕ). record p { fills = fills }) (sym c.requires.free) in
-    subst (λ (q : Part). IsPutBy c.args.from c.args.to c.args.packet.items q (part_in c.deliver.new.place.me.0)) free c.deliver.ensures.said.0
+    subst (λ (q : Part). IsPutBy c.args.from c.args.to c.args.packet.items q (part_in c.deliver.new.place.me.0)) free c.deliver.ensures.picked.0
 
 pub returns-clause-full : goal.returns-clause-full
 returns-clause-full g c =
-    let m = g.M.Machine in
-    let key = c.args.slots.now.key in
-    let s = setting_for m.next m.answers m.begin key.config key.program.value in
-    subst (λ (me : Sight). WasFull s me.0 (box_of c.args.from c.args.to) c.args.packet.items) (sym c.deliver.ensures.place) c.deliver.ensures.said.1
+    let s = setting_of g.M.Machine c.args.slots.now.key in
+    subst (λ (me : Sight). WasFull s me.0 (box_of c.args.from c.args.to) c.args.packet.items) (sym c.deliver.ensures.place) c.deliver.ensures.picked.1

@@ -1,6 +1,6 @@
 -- A look at the table gives the order of what was reported so far.
 use Rattle.std.proofs.Common.{[], ◌∷◌, inl, refl, sym, subst}
-use Rattle.rp_boxes.specs.Meeting.{ReportOneOrder}
+use Rattle.rp_boxes.specs.OneOrder.{ReportOneOrder}
 use Rattle.rp_boxes.specs.Seats.{SeatState, setting_at}
 use Rattle.rp_boxes.proofs.Auditing.{none_stated}
 use Rattle.rp_boxes.proofs.AuditOrder.{one_order}

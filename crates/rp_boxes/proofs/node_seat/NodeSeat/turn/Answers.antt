@@ -1,80 +1,66 @@
 -- The turn is one event of the node, a cut of it, or none.
-use Rattle.std.proofs.Common.{inl, inr, sym, ap, subst, ◌∙◌}
+use Rattle.std.proofs.Common.{inl, inr, sym, subst, ◌∙◌}
 use Rattle.rp_boxes.specs.Parts.{part_in}
 use Rattle.rp_boxes.specs.Seats.{SeatState, IsGot, IsTurn, IsCutTurn, IsNoTurn}
-use Rattle.rp_boxes.proofs.SeatBoxes.{setting_of}
-use Rattle.rp_boxes.proofs.SeatTurns.{IsGiven, input_given, seat_state, was_stopped, has_stepped, stopped_event, stepped_seat, stepped_state, stopped_seat, stopped_state, unstepped_state}
+use Rattle.rp_boxes.proofs.SeatTurns.{NodeStep, input_given, seat_state, was_stopped, has_stepped, stopped_event, stepped_seat, stepped_state, stopped_seat, stopped_state, unstepped_state}
 use Rattle.rp_boxes.proofs.node_seat.NodeSeat.turn.Given as given
 use Rattle.rp_boxes.proofs.node_seat.NodeSeat.turn.Goals as goal
 use Rattle.rp_boxes.proofs.node_seat.NodeSeat.turn.Goals.{After-has_failed}
 
--- what the node is given
-is : (g : given.Over) (c : After-has_failed g) → IsGiven (part_in c.self.inside.place.me.0) c.args.input.now
-is g c =
-    input_given c.texts_are_packets.ensures c.self.inside.node (part_in c.self.inside.place.me.0) c.args.input.now c.self.invariant.0.own c.requires.right c.keeps_ranges.ensures
-    (subst (λ (seat : SeatState g.row.M-Program.Denot). IsGot seat.part c.args.input.now) (sym c.self.view_is) c.requires.got)
+-- the step
+abbrev step : (g : given.Over) (c : After-has_failed g) → NodeStep g.M.Machine g.row.D.Denot
+step g c = record {
+  inside = c.self.inside;
+  seated = c.self.invariant;
+  input = c.args.input.now;
+  given = input_given c.texts_are_packets.ensures c.self.inside.node (part_in c.self.inside.place.me.0) c.args.input.now c.self.invariant.0.own c.requires.right c.keeps_ranges.ensures
+      (subst (λ (seat : SeatState g.row.M-Program.Denot). IsGot seat.part c.args.input.now) (sym c.self.view_is) c.requires.got);
+}
 
 pub returns-then-has_failed-clause-err : goal.returns-then-has_failed-clause-err
 returns-then-has_failed-clause-err g c =
     let m = g.M.Machine in
-    let input = c.args.input.now in
-    inr (subst (λ (seat : SeatState g.row.M-Program.Denot). IsNoTurn m.next m.answers m.begin seat input seat _) c.self.view_is
-    (was_stopped m.next m.answers m.begin c.self.inside c.self.invariant input (is g (goal.at.returns-then-has_failed-clause-err g c).After-has_failed) (sym c.has_failed.ensures ∙ c.if-has_failed.true)))
+    inr (subst (λ (seat : SeatState g.row.M-Program.Denot). IsNoTurn m.next m.answers m.begin seat c.args.input.now seat _) c.self.view_is
+    (was_stopped (step g (goal.at.returns-then-has_failed-clause-err g c).After-has_failed) (sym c.has_failed.ensures ∙ c.if-has_failed.true)))
 
 pub note_turn-requires-clause-event : goal.note_turn-requires-clause-event
 note_turn-requires-clause-event g c =
-    let m = g.M.Machine in
-    has_stepped m.next m.answers m.begin c.self.inside c.self.invariant c.args.input.now (is g (goal.at.note_turn-requires-clause-event g c).After-has_failed)
-    (sym c.has_failed.ensures ∙ c.if-has_failed.false) c.turn_with.new.self c.in-Ok.sent c.in-Ok.ensures _ (ap (setting_of m.next m.answers m.begin) c.deref.ensures)
+    has_stepped (step g (goal.at.note_turn-requires-clause-event g c).After-has_failed) (sym c.has_failed.ensures ∙ c.if-has_failed.false) c.turn_with.new.self c.in-Ok.sent c.in-Ok.ensures _ c.deref.ensures
 
 pub invariant_of-self : goal.invariant_of-self
 invariant_of-self g c =
-    let m = g.M.Machine in
-    let place = c.note_turn.new.place in
-    stepped_seat m.next m.answers m.begin c.self.inside c.self.invariant c.args.input.now (is g (goal.at.invariant_of-self g c).After-has_failed)
-    place.table_id place.me c.note_turn.ensures.table c.turn_with.new.self _ (ap (setting_of m.next m.answers m.begin) c.deref.ensures) c.in-Ok.sent c.note_turn.ensures.turned
+    stepped_seat (step g (goal.at.invariant_of-self g c).After-has_failed) c.note_turn.new.place c.note_turn.ensures.table c.turn_with.new.self _ c.deref.ensures c.in-Ok.sent c.note_turn.ensures.noted
 
 pub note_stop-requires-clause-event : goal.note_stop-requires-clause-event
 note_stop-requires-clause-event g c =
-    let m = g.M.Machine in
-    stopped_event m.next m.answers m.begin c.self.inside c.self.invariant c.args.input.now (is g (goal.at.note_stop-requires-clause-event g c).After-has_failed)
-    (sym c.has_failed.ensures ∙ c.if-has_failed.false) c.turn_with.new.self c.in-Err.fault c.in-Err.ensures (sym c.has_failed-in-Err.ensures ∙ c.if-not-has_failed.false)
-    _ (ap (setting_of m.next m.answers m.begin) c.deref-in-Err.ensures)
+    stopped_event (step g (goal.at.note_stop-requires-clause-event g c).After-has_failed) (sym c.has_failed.ensures ∙ c.if-has_failed.false) c.turn_with.new.self c.in-Err.fault c.in-Err.ensures
+    (sym c.has_failed-in-Err.ensures ∙ c.if-not-has_failed.false) _ c.deref-in-Err.ensures
 
 pub invariant_of-self-in-Err : goal.invariant_of-self-in-Err
 invariant_of-self-in-Err g c =
-    let m = g.M.Machine in
-    let place = c.note_stop.new.place in
-    stopped_seat m.next m.answers m.begin c.self.inside c.self.invariant c.args.input.now (is g (goal.at.invariant_of-self-in-Err g c).After-has_failed)
-    place.table_id place.me c.note_stop.ensures.table c.turn_with.new.self _ (ap (setting_of m.next m.answers m.begin) c.deref-in-Err.ensures) c.note_stop.ensures.turned
+    stopped_seat (step g (goal.at.invariant_of-self-in-Err g c).After-has_failed) c.note_stop.new.place c.note_stop.ensures.table c.turn_with.new.self _ c.deref-in-Err.ensures c.note_stop.ensures.noted
 
 pub returns-then-not-has_failed-clause-err : goal.returns-then-not-has_failed-clause-err
 returns-then-not-has_failed-clause-err g c =
     let m = g.M.Machine in
-    let given = is g (goal.at.returns-then-not-has_failed-clause-err g c).After-has_failed in
-    let new = seat_state m.next m.answers m.begin c.self.inside c.self.invariant c.args.input.now given c.self.inside.place.table_id c.turn_with.new.self.disk.failures (part_in c.self.inside.place.me.0) in
+    let at = step g (goal.at.returns-then-not-has_failed-clause-err g c).After-has_failed in
+    let new = seat_state at c.self.inside.place.table_id c.turn_with.new.self.disk.failures (part_in c.self.inside.place.me.0) in
     inr (subst (λ (seat : SeatState g.row.M-Program.Denot). IsNoTurn m.next m.answers m.begin seat c.args.input.now new c.in-Err.fault) c.self.view_is
-    (unstepped_state m.next m.answers m.begin c.self.inside c.self.invariant c.args.input.now given
-    (sym c.has_failed.ensures ∙ c.if-has_failed.false) c.turn_with.new.self c.in-Err.fault c.in-Err.ensures (sym c.has_failed-in-Err.ensures ∙ c.if-not-has_failed.true)))
+    (unstepped_state at (sym c.has_failed.ensures ∙ c.if-has_failed.false) c.turn_with.new.self c.in-Err.fault c.in-Err.ensures (sym c.has_failed-in-Err.ensures ∙ c.if-not-has_failed.true)))
 
 pub returns-else-not-has_failed-clause-err : goal.returns-else-not-has_failed-clause-err
 returns-else-not-has_failed-clause-err g c =
     let m = g.M.Machine in
+    let at = step g (goal.at.returns-else-not-has_failed-clause-err g c).After-has_failed in
     let place = c.note_stop.new.place in
-    let given = is g (goal.at.returns-else-not-has_failed-clause-err g c).After-has_failed in
-    let new = seat_state m.next m.answers m.begin c.self.inside c.self.invariant c.args.input.now given place.table_id c.turn_with.new.self.disk.failures (part_in place.me.0) in
-    inl (subst (λ (seat : SeatState g.row.M-Program.Denot). IsCutTurn m.next m.answers m.begin seat c.args.input.now new c.in-Err.fault) c.self.view_is
-    (stopped_state m.next m.answers m.begin c.self.inside c.self.invariant c.args.input.now given
-    place.table_id place.me c.note_stop.ensures.table c.turn_with.new.self _ (ap (setting_of m.next m.answers m.begin) c.deref-in-Err.ensures) c.note_stop.ensures.turned
+    inl (subst (λ (seat : SeatState g.row.M-Program.Denot). IsCutTurn m.next m.answers m.begin seat c.args.input.now (seat_state at place.table_id c.turn_with.new.self.disk.failures (part_in place.me.0)) c.in-Err.fault) c.self.view_is
+    (stopped_state at place c.note_stop.ensures.table c.turn_with.new.self _ c.deref-in-Err.ensures c.note_stop.ensures.noted
     (sym c.has_failed.ensures ∙ c.if-has_failed.false) c.in-Err.fault c.in-Err.ensures (sym c.has_failed-in-Err.ensures ∙ c.if-not-has_failed.false)))
 
 pub returns-in-Ok-clause-ok : goal.returns-in-Ok-clause-ok
 returns-in-Ok-clause-ok g c =
     let m = g.M.Machine in
+    let at = step g (goal.at.returns-in-Ok-clause-ok g c).After-has_failed in
     let place = c.note_turn.new.place in
-    let given = is g (goal.at.returns-in-Ok-clause-ok g c).After-has_failed in
-    let new = seat_state m.next m.answers m.begin c.self.inside c.self.invariant c.args.input.now given place.table_id c.turn_with.new.self.disk.failures (part_in place.me.0) in
-    subst (λ (seat : SeatState g.row.M-Program.Denot). IsTurn m.next m.answers m.begin seat c.args.input.now new c.in-Ok.sent) c.self.view_is
-    (stepped_state m.next m.answers m.begin c.self.inside c.self.invariant c.args.input.now given
-    place.table_id place.me c.note_turn.ensures.table c.turn_with.new.self _ (ap (setting_of m.next m.answers m.begin) c.deref.ensures) c.in-Ok.sent c.note_turn.ensures.turned
-    (sym c.has_failed.ensures ∙ c.if-has_failed.false) c.in-Ok.ensures)
+    subst (λ (seat : SeatState g.row.M-Program.Denot). IsTurn m.next m.answers m.begin seat c.args.input.now (seat_state at place.table_id c.turn_with.new.self.disk.failures (part_in place.me.0)) c.in-Ok.sent) c.self.view_is
+    (stepped_state at place c.note_turn.ensures.table c.turn_with.new.self _ c.deref.ensures c.in-Ok.sent c.note_turn.ensures.noted (sym c.has_failed.ensures ∙ c.if-has_failed.false) c.in-Ok.ensures)

@@ -5,5 +5,4 @@ pub mod Zips
 pub mod Reading
 mod Reporting
 pub mod Counting
-pub mod Loops
 pub mod WholeRun

@@ -16,7 +16,7 @@ pub record IsReadBelow {S P : Type 0} (next : S → Action → S) (answers : S �
   pub below : now.number ≤ number
   pub read : IsRead next answers begin 0 first now (length (known_of known now.number))
 
-zip_weaker : {A B : Type 0} (R T : A → B → Type 0) → ((x : A) (y : B) → R x y → T x y) → (xs : List A) (ys : List B) → AllZip R xs ys → AllZip T xs ys
+pub zip_weaker : {A B : Type 0} (R T : A → B → Type 0) → ((x : A) (y : B) → R x y → T x y) → (xs : List A) (ys : List B) → AllZip R xs ys → AllZip T xs ys
 zip_weaker R T so [] [] zip = tt
 zip_weaker R T so [] (y ∷ ys) zip = absurd zip
 zip_weaker R T so (x ∷ xs) [] zip = absurd zip
@@ -24,9 +24,6 @@ zip_weaker R T so (x ∷ xs) (y ∷ ys) zip = (so x y zip.0, zip_weaker R T so x
 
 pub so_far_weaker : {A B : Type 0} (R T : A → B → Type 0) → ((x : A) (y : B) → R x y → T x y) → (all rest : List A) (ys : List B) → AreZippedSoFar R all rest ys → AreZippedSoFar T all rest ys
 so_far_weaker R T so all rest ys zip = record { seen = zip.seen; whole = zip.whole; each = zip_weaker R T so zip.seen ys zip.each }
-
-pub zip_read : {A B : Type 0} (R T : A → B → Type 0) → ((x : A) (y : B) → R x y → T x y) → (xs : List A) (ys : List B) → AllZip R xs ys → AllZip T xs ys
-zip_read R T so xs ys zip = zip_weaker R T so xs ys zip
 
 pub one_longer : {A : Type 0} (xs grown : List A) (x : A) → grown ≡ xs ++ x ∷ [] → length grown ≡ length xs + 1
 one_longer xs grown x is = ap length is ∙ length-append xs (x ∷ [])

@@ -21,13 +21,10 @@ use Rattle.rp_boxes.specs.Seats.{SeatState, HasApplied, IsPut, IsReport, IsSentT
 use Rattle.rp_boxes.proofs.Auditing.{each_with}
 use Rattle.rp_threads.specs.Turns.{IsOffered}
 use Rattle.rp_threads.proofs.Puts.{HasOnlyPut, given_back, offer_puts, went_in}
-use Rattle.rp_threads.proofs.Steps.{same_part, same_seat, same_on}
-use Rattle.rp_live.specs.Seats.{AreReports, HasOnlyReported, IsRead, KnowsMore, KnowsSameBut, Reports, Runs}
+use Rattle.rp_threads.proofs.Steps.{same_part, same_on}
+use Rattle.rp_live.specs.Seats.{AreReports, HasOnlyReported, IsRead, KnowsMore, KnowsSameBut, Reports}
 
 -- ---- the node reports
-
-pub applied_runs : (part : Part) (count : ℕ) → HasApplied part count → Runs part
-applied_runs part count h = (h.0, h.1, h.2)
 
 pub report_sent : {P : Type 0} (first : ℕ) (old new : SeatState P) (sent : Sent) → IsReport first old new sent → IsSentText new.part sent.bytes.items
 report_sent {P} first old new sent r =
@@ -55,9 +52,6 @@ module _ {S P : Type 0} (next : S → Action → S) (answers : S → Action → 
 -- ---- a node that reported
 
 module _ {P : Type 0} where
-  pub none_reported : (seat : SeatState P) → HasOnlyReported seat seat
-  none_reported seat = record { same = same_seat seat seat refl; role = refl }
-
   pub reported_on : (a b c : SeatState P) → HasOnlyReported a b → HasOnlyReported b c → HasOnlyReported a c
   reported_on a b c ab bc = record { same = same_on a b c ab.same bc.same; role = bc.role ∙ ab.role }
 

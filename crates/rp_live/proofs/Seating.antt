@@ -14,7 +14,7 @@ use Rattle.rp_boxes.specs.Making.{AreFirstSeats, CanFail, IsResourceFault, first
 use Rattle.rp_boxes.specs.Parts.{OfNode, OfTask, OfAudit, first_role, fresh_part}
 use Rattle.rp_boxes.specs.Seats.{SeatState}
 use Rattle.rp_boxes.proofs.Seating.{node_role}
-use Rattle.rp_live.specs.Seats.{Runs}
+use Rattle.rp_threads.specs.Rounds.{Runs}
 
 -- ---- lists
 

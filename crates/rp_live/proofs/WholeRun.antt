@@ -14,7 +14,7 @@ use Rattle.rp_boxes.specs.Making.{first_seat}
 use Rattle.rp_boxes.specs.Seats.{SeatState, HasApplied}
 use Rattle.rp_boxes.specs.Together.{IsTaskOf}
 use Rattle.rp_threads.specs.Loops.{IsSameSeat}
-use Rattle.rp_threads.specs.Rounds.{IsNodeFault, before_turns}
+use Rattle.rp_threads.specs.Rounds.{IsNodeFault, Runs}
 use Rattle.rp_threads.specs.Tasks.{HasMade}
 use Rattle.rp_threads.specs.Threads.{IsLooped, IsTaskLooped}
 use Rattle.rp_threads.specs.declared.loops.NodeEnd.{NodeEnd}
@@ -25,10 +25,10 @@ use Rattle.rp_live.specs.Events.{call_by}
 use Rattle.rp_live.specs.Lines.{party_line}
 use Rattle.rp_live.specs.LiveOutcome.{HasRun, IsLiveRun, IsAudited}
 use Rattle.rp_live.specs.Pace.{paced, heard, heard_task}
-use Rattle.rp_live.specs.Seats.{AreNumbered, HasOnlyReported, IsEndOfRun, Runs, StillRuns}
+use Rattle.rp_live.specs.Seats.{AreNumbered, HasOnlyReported, IsEndOfRun, StillRuns}
 use Rattle.rp_live.specs.declared.run.LiveOutcome.{LiveOutcome}
 use Rattle.rp_live.proofs.Counting.{counts_calls}
-use Rattle.rp_live.proofs.Loops.{turns_run}
+use Rattle.rp_threads.proofs.Chains.{all_turned}
 use Rattle.rp_live.proofs.Noting.{all_noted}
 use Rattle.rp_live.proofs.Seating.{all_mapped, first_tables, some_then, zip_length}
 use Rattle.rp_live.proofs.Zips.{all_both, zip_all, zip_kinds, zip_places}
@@ -108,7 +108,7 @@ module _ {S P : Type 0} {next : S → Action → S} {answers : S → Action → 
   nodes_still = zip_all (λ seat. Runs seat.part) (IsNodeLoop next answers begin config events seed turns) StillRuns
       (λ seat end run ran none. let t = ran.turned none in
       subst (λ (c : SeatState P). Runs c.part) (sym (ap (λ (e : NodeEnd S Memory P). e.seat) t.1))
-      (turns_run next answers begin paced heard config.nodes (before_turns seat (party_line seed (Node seat.number))) turns t.0 t.2 run)) whole.0.noted nodes whole.1 whole.0.node_loops
+      ((all_turned next answers begin paced heard config.nodes seat (party_line seed (Node seat.number)) turns t.0 t.2).later.runs run)) whole.0.noted nodes whole.1 whole.0.node_loops
 
   -- each task made calls among the events
   abbrev HasCalls : TaskEnd S P → Type 0

@@ -1,7 +1,7 @@
 -- What is so of two lists, place by place.
-use Rattle.std.proofs.Common.{◌≡◌, ℕ, zero, suc, slice_get, List, [], ◌∷◌, ◌++◌, length, map, sym, ap, subst, ◌∙◌, arith, append_assoc, append-nil}
+use Rattle.std.proofs.Common.{◌≡◌, ℕ, zero, suc, slice_get, List, [], ◌∷◌, ◌++◌, map, sym, subst, arith}
 use Rattle.std.specs.List.{AllZip}
-use Rattle.std.specs.Prelude.{All, IfSome, flat_map}
+use Rattle.std.specs.Prelude.{All, IfSome}
 use Rattle.rp_threads.proofs.Places.{one_more}
 
 -- all but the first
@@ -51,28 +51,6 @@ all_unmapped Q f (x ∷ xs) all = all_one Q (f x) (map f xs) (all 0 x (omega ari
 pub all_both : {A : Type 0} (Q R T : A → Type 0) → ((x : A) → Q x → R x → T x) → (xs : List A) → All Q xs → All R xs → All T xs
 all_both Q R T so [] q r = all_none T
 all_both Q R T so (x ∷ xs) q r = all_one T x xs (so x (q 0 x (omega arith)) (r 0 x (omega arith))) (all_both Q R T so xs (all_rest Q x xs q) (all_rest R x xs r))
-
--- ---- lists that are made of another, one item more at a time
-
-pub one_listed : {A B : Type 0} (f : A → B) (seen grown whole : List B) (x : A) (y : B) (rest left : List A) → grown ≡ seen ++ y ∷ [] → y ≡ f x → rest ≡ x ∷ left
-    → seen ++ map f rest ≡ whole → grown ++ map f left ≡ whole
-one_listed {B = B} f seen grown whole x y rest left is same steps so_far =
-    ap (λ (l : List B). l ++ map f left) (is ∙ ap (λ (z : B). seen ++ z ∷ []) same) ∙ append_assoc seen (f x ∷ []) (map f left)
-    ∙ ap (λ l. seen ++ map f l) (sym steps) ∙ so_far
-
-pub one_joined : {A B : Type 0} (f : A → List B) (seen grown more whole : List B) (x : A) (rest left : List A) → grown ≡ seen ++ more → more ≡ f x → rest ≡ x ∷ left
-    → seen ++ flat_map f rest ≡ whole → grown ++ flat_map f left ≡ whole
-one_joined {B = B} f seen grown more whole x rest left is same steps so_far =
-    ap (λ (l : List B). l ++ flat_map f left) (is ∙ ap (λ (l : List B). seen ++ l) same) ∙ append_assoc seen (f x) (flat_map f left)
-    ∙ ap (λ l. seen ++ flat_map f l) (sym steps) ∙ so_far
-
-pub all_listed : {A B : Type 0} (f : A → B) (seen whole : List B) (rest : List A) → length rest ≡ 0 → seen ++ map f rest ≡ whole → seen ≡ whole
-all_listed f seen whole [] none so_far = sym (append-nil seen) ∙ so_far
-all_listed f seen whole (x ∷ rest) none so_far = absurd (omega (arith, none))
-
-pub all_joined : {A B : Type 0} (f : A → List B) (seen whole : List B) (rest : List A) → length rest ≡ 0 → seen ++ flat_map f rest ≡ whole → seen ≡ whole
-all_joined f seen whole [] none so_far = sym (append-nil seen) ∙ so_far
-all_joined f seen whole (x ∷ rest) none so_far = absurd (omega (arith, none))
 
 -- ---- two lists that grow together
 

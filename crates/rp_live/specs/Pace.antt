@@ -1,6 +1,6 @@
 -- Which turns of a run a node takes; it skips the others.
 use Rattle.std.specs.Prelude.{ℕ, Bool, not}
-use Rattle.rp_threads.specs.Rounds.{is_to_lead}
+use Rattle.rp_threads.specs.Loops.{is_to_lead}
 
 -- in all but those in which it is to lead: it leads by its patience alone
 abbrev pub paced : ℕ → ℕ → Bool

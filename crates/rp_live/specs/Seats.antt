@@ -1,26 +1,20 @@
 -- The seats of a run.
 use Rattle.std.specs.Prelude.{◌≡◌, ◌≢◌, ◌⊎◌, ◌≤◌, ◌<◌, ◌+◌, ℕ, zero, suc, min, Bool}
-use Rattle.std.specs.Prelude.{None, IfSome, IsSome, List, [], length}
+use Rattle.std.specs.Prelude.{None, IfSome, List, [], length}
 use Rattle.std.specs.Prelude.{slice_get}
 use Rattle.rp_base.specs.Action.{IsIndex, IsCount}
 use Rattle.rp_base.specs.declared.action.Action.{Action}
 use Rattle.rp_base.specs.declared.reply.Answer.{Answer}
 use Rattle.rp_codec.specs.declared.packet.Party.TheVariants.{Node}
 use Rattle.rp_boxes.specs.Audits.{known_of}
-use Rattle.rp_boxes.specs.Parts.{Part, OfNode}
 use Rattle.rp_boxes.specs.Seats.{SeatState, HasApplied, IsReport}
-use Rattle.rp_model.specs.Parts.{NodePart}
 use Rattle.rp_rules.specs.declared.input.Input.{Input}
 use Rattle.rp_rules.specs.declared.input.Input.TheVariants.{Receive, Lead, LeadRange, Interrupt, Tick, Report}
 use Rattle.rp_replica.specs.declared.sent.Sent.{Sent}
 use Rattle.rp_threads.specs.Loops.{IsSameSeat}
-use Rattle.rp_threads.specs.Rounds.{IsNodeFault}
+use Rattle.rp_threads.specs.Rounds.{IsNodeFault, Runs}
 use Rattle.rp_threads.specs.Turns.{IsOffered}
 use Rattle.rp_threads.specs.declared.loops.NodeEnd.{NodeEnd}
-
--- the node runs
-abbrev pub Runs : Part → Type 0
-Runs part = (node : NodePart) × (part.role ≡ OfNode node) × IsSome node.running
 
 -- an interrupt or a tick, within its ranges
 abbrev pub IsNote : Input → Type 0

@@ -9,8 +9,8 @@ use rp_machine::Machine;
 use rp_store::InfallibleDevice;
 use rp_threads::{NodeEnd, TaskEnd};
 
-/// The seat of a node whose thread ended. Refused where its loop stopped: since memory ran out, for
-/// its device never fails.
+/// The seat of a node whose thread ended. `OutOfMemory` if its loop ended by a fault: no other
+/// fault can end it, since its device never fails.
 pub(crate) fn node_ended<M: Machine, D: InfallibleDevice>(
     end: NodeEnd<M, D>,
 ) -> Result<NodeSeat<M, D>, Fault>
@@ -26,8 +26,8 @@ pub(crate) fn node_ended<M: Machine, D: InfallibleDevice>(
     }
 }
 
-/// The seat of a task whose thread ended. Refused where its loop stopped since memory ran out: a task
-/// that stopped at a call that it may not make has the replies to those before.
+/// The seat of a task whose thread ended. `OutOfMemory` if its loop ended by that; a task that
+/// ended at a call that it may not make keeps the replies to the calls before.
 pub(crate) fn task_ended<M: Machine>(end: TaskEnd<M>) -> Result<TaskSeat<M>, Fault>
     ensures ok { IfOk result (λ seat. seat ≡ end.seat) }
     ensures only { IsOkUnless result Fault.OutOfMemory }

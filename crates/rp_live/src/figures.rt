@@ -1,4 +1,4 @@
-//! How a run went, in numbers for a person to read.
+//! How a run went, in numbers for a reader.
 
 ghost use Rattle.std.specs.Prelude.{◌≡◌, map, length};
 ghost use Rattle.rp_boxes.specs.Parts.{task_of};
@@ -8,14 +8,14 @@ use rp_machine::Machine;
 use rp_store::Device;
 use rp_threads::{NodeEnd, TaskEnd};
 
-/// How a run went, in numbers: a sum that 64 bits do not hold is the greatest that they hold.
+/// How a run went, in numbers. Each sum saturates at the greatest 64-bit number.
 #[derive(Clone, Copy, Debug)]
 pub struct Figures {
     /// How many calls the tasks made.
     pub asked: u64,
-    /// How many of these calls have their replies.
+    /// How many of these calls got their replies.
     pub answered: u64,
-    /// The turn of its task in which the last reply came, or 0.
+    /// The turn of its task in which the last reply arrived, or 0.
     pub last_reply: u64,
     /// How many packets were lost on links and at boxes that were not empty.
     pub lost: u64,
@@ -52,7 +52,7 @@ fn calls_made<M: Machine>(tasks: &[TaskEnd<M>]) -> u64
     sum
 }
 
-/// How many of them have their replies.
+/// How many of these calls got their replies.
 fn calls_answered<M: Machine>(tasks: &[TaskEnd<M>]) -> u64
     ensures { result ≡ sum_from 0
         (map (λ end. length (task_of end.seat.part.role).replies) tasks.now) }
@@ -64,7 +64,7 @@ fn calls_answered<M: Machine>(tasks: &[TaskEnd<M>]) -> u64
     sum
 }
 
-/// The turn in which the last reply came, or 0.
+/// The turn in which the last reply arrived, or 0.
 fn last_reply<M: Machine>(tasks: &[TaskEnd<M>]) -> u64
     ensures { result ≡ greatest_from 0 (map (λ end. end.last_reply) tasks.now) }
 {
@@ -86,7 +86,7 @@ fn lost_by_nodes<M: Machine, D: Device>(nodes: &[NodeEnd<M, D>]) -> u64
     sum
 }
 
-/// The same of tasks, with n lost before.
+/// How many packets the loops of tasks count as lost, plus n that were lost before.
 fn lost_by_tasks<M: Machine>(before: u64, tasks: &[TaskEnd<M>]) -> u64
     ensures { result ≡ sum_from before (map (λ end. end.lost) tasks.now) }
 {

@@ -1,17 +1,17 @@
-//! Live mode: the nodes and the tasks of a program run in threads of their own, and afterwards an
+//! Live mode: the nodes and the tasks of a program run in their own threads, and afterwards an
 //! audit reads the logs of all nodes.
 //!
 //! In reading order:
 //! - `options`: how a program is run in threads
 //! - `lines`: the faulty link of a node or a task
 //! - `calls`: the calls of a task
-//! - `starts`: seats are made, and those of nodes and tasks are made ready to run
-//! - `notes`: what nodes note before they run
-//! - `pace`: in which turns a node turns, and how the threads keep pace
+//! - `starts`: makes the seats, and makes those of nodes and tasks ready to run
+//! - `notes`: nodes record interrupts and ticks before they run
+//! - `pace`: which turns a node makes, and how the threads keep pace
 //! - `ends`: how a thread ended
 //! - `reports`: the audit reads the logs of the nodes
 //! - `replies`: the replies of the tasks
-//! - `figures`: how a run went, in numbers for a person to read
+//! - `figures`: how a run went, in numbers for a reader
 //! - `run`: a whole run
 #![tactic(auto)]
 

@@ -22,7 +22,7 @@ fn seed_for(seed: u32, party: Party) -> [u8; 32]
     bytes
 }
 
-/// The link of a party: its words are those of the run's seed and the party.
+/// The link of a party: its words follow from the seed of the run and the party.
 pub(crate) fn line_for(alloc: Global, seed: u32, party: Party) -> Result<FaultLine, Fault>
     ensures line { IfOk result (λ line. line ≡ party_line seed party) }
     ensures only { IsOkUnless result Fault.OutOfMemory }

@@ -1,9 +1,10 @@
-//! What nodes note before they run.
+//! Nodes record interrupts and ticks before they run.
 
 ghost use Rattle.std.specs.Prelude.{◌≡◌, ◌≤◌, All, Some, length, OnOk, IsOkUnless};
 ghost use Rattle.rp_live.specs.Events.{IsLive};
 ghost use Rattle.rp_live.specs.Noted.{IsNoted, AreNoted, noted_by};
-ghost use Rattle.rp_live.specs.Seats.{IsNote, Runs};
+ghost use Rattle.rp_live.specs.Seats.{IsNote};
+ghost use Rattle.rp_threads.specs.Rounds.{Runs};
 ghost use Rattle.rp_threads.specs.Turns.{IsEventBy};
 ghost use Rattle.rp_threads.specs.declared.turns.PacketCounts.{PacketCounts};
 
@@ -16,7 +17,8 @@ use rp_store::InfallibleDevice;
 use rp_threads::node_step;
 use std::alloc::Global;
 
-/// The node notes an interrupt or a tick. Packets that it sends go into their boxes.
+/// The node takes an interrupt or a tick as its input. The packets that it sends go into their
+/// boxes.
 fn note_one<M: Machine, D: InfallibleDevice>(
     seat: &mut NodeSeat<M, D>,
     alloc: Global,
@@ -38,7 +40,7 @@ fn note_one<M: Machine, D: InfallibleDevice>(
     }
 }
 
-/// The node of this number notes it.
+/// The node of this number takes the input.
 fn note_at<M: Machine, D: InfallibleDevice>(
     seats: &mut Vec<NodeSeat<M, D>>,
     alloc: Global,
@@ -58,7 +60,8 @@ fn note_at<M: Machine, D: InfallibleDevice>(
     note_one(&mut seats[place], alloc, input)
 }
 
-/// An event is noted at its node, if it is an interrupt or a tick.
+/// If an event is an interrupt or a tick, its node takes it as an input; any other event is left
+/// out.
 fn note<M: Machine, D: InfallibleDevice>(
     seats: &mut Vec<NodeSeat<M, D>>,
     alloc: Global,
@@ -87,7 +90,7 @@ fn note<M: Machine, D: InfallibleDevice>(
     }
 }
 
-/// The interrupts and the ticks among the events are noted in order, each at its node.
+/// Each interrupt and each tick among the events is taken by its node as an input, in order.
 pub(crate) fn note_all<M: Machine, D: InfallibleDevice>(
     seats: &mut Vec<NodeSeat<M, D>>,
     alloc: Global,

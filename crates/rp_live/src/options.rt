@@ -6,7 +6,7 @@ use rp_base::Config;
 #[derive(Clone, Copy, Debug)]
 pub struct LiveOptions {
     pub config: Config,
-    /// Which packets are lost, repeated and reordered follows from it.
+    /// Determines which packets are lost, duplicated and reordered.
     pub seed: u32,
     /// How many turns each node and each task makes.
     pub turns: u64,

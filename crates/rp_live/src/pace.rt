@@ -1,39 +1,39 @@
 //! How the threads of a run keep pace.
 
 use rp_base::{MOST_NODES, MOST_TASKS, NodeId, TaskId};
-use rp_threads::Gate;
+use rp_threads::{Gate, is_to_lead};
 use std::alloc::{AllocError, Global};
 use std::sync::atomic::{AtomicU64, Ordering};
 use std::thread;
 
-/// A thread says how far it is in every nth turn.
+/// A thread publishes the number of its turn in every nth turn.
 const PERIOD: u64 = 8;
 
-/// How many turns a thread is ahead of the slowest at most.
+/// At most how many turns a thread is ahead of the slowest.
 const MOST_AHEAD: u64 = 16;
 
-/// How often a thread that is ahead lets others run before it takes it that one of them has ended.
+/// How often a thread that is ahead yields to others before it assumes that one of them has ended.
 const MOST_WAITS: u64 = 20_000_000;
 
-/// How many nodes there are at most.
+/// At most how many nodes there are.
 const NODES: usize = MOST_NODES as usize;
 
 /// How many tasks there are.
 const TASKS: usize = MOST_TASKS as usize;
 
 /// The gate of a run. A node leads by its patience alone: the turns in which its loop would have it
-/// lead at the least position that is free for it are skipped. The threads of all nodes and tasks keep
-/// pace, so that none has made all its turns while another needs it: each says in every eighth turn
-/// how far it is, and one that is more than 16 turns ahead of the slowest lets others run. How far the
-/// slowest is says how many turns a thread may make until it looks again. Once one was waited for too
-/// long, nobody waits any more.
+/// lead at the least position that is free for it are skipped. The threads of all nodes and tasks
+/// keep pace, so that none has made all its turns while another needs it. Each publishes the number
+/// of its turn in every eighth turn, and one that is more than 16 turns ahead of the slowest yields
+/// to others. The turn of the slowest determines how many turns a thread may make before it looks
+/// again. Once a thread has waited too long, no thread waits any more.
 #[derive(Drop)]
 pub(crate) struct Pace {
     /// How many turns the nodes and then the tasks are known to have made.
     turns: Vec<AtomicU64>,
-    /// In which turn each of them looks at the others again.
+    /// The turn in which each of them looks at the others again.
     looks: Vec<AtomicU64>,
-    /// Not 0 once one was waited for too long.
+    /// Not 0 once a thread has waited too long.
     free: AtomicU64,
 }
 
@@ -54,7 +54,8 @@ impl Pace {
         })
     }
 
-    /// The thread of this place is to make this turn.
+    /// Is called before the thread of this place makes this turn, and waits if the thread is too
+    /// far ahead.
     fn keep(&self, place: usize, turn: u64) {
         let (Some(made), Some(looks)) = (self.turns.get(place), self.looks.get(place)) else {
             return;
@@ -68,14 +69,14 @@ impl Pace {
         }
     }
 
-    /// How far the slowest is.
+    /// The turn of the slowest thread.
     fn slowest(&self) -> u64 {
         let turns = self.turns.iter().map(|turns| turns.load(Ordering::SeqCst));
         turns.min().unwrap_or(u64::MAX)
     }
 
-    /// Lets others run until the slowest is near enough to this turn. The turn in which the thread is
-    /// to look again.
+    /// Yields to others until the slowest is near enough to this turn. Returns the turn in which
+    /// the thread is to look again.
     fn next_look(&self, turn: u64) -> u64 {
         for _ in 0..MOST_WAITS {
             if self.free.load(Ordering::SeqCst) != 0 {
@@ -103,7 +104,7 @@ impl Gate for Pace {
 
     fn before(&self, node: NodeId, turn: u64) -> bool {
         self.keep(usize::from(node.get()) - 1, turn);
-        turn % (8 + u64::from(node.get())) != 0
+        !is_to_lead(node, turn)
     }
 
     fn after(&self, _node: NodeId, _turn: u64, _sent: usize) {}

@@ -8,7 +8,8 @@ ghost use Rattle.rp_codec.specs.declared.packet.Party.TheVariants.{Node};
 ghost use Rattle.rp_threads.specs.Loops.{IsSameSeat};
 ghost use Rattle.rp_threads.specs.Turns.{IsOffered};
 ghost use Rattle.rp_live.specs.LiveOutcome.{KnowsAll};
-ghost use Rattle.rp_live.specs.Seats.{AreNumbered, HasOnlyReported, IsEndOfRun, IsRead, KnowsMore, KnowsNothingAbove, KnowsSameBut, Reports, Runs, StillRuns};
+ghost use Rattle.rp_live.specs.Seats.{AreNumbered, HasOnlyReported, IsEndOfRun, IsRead, KnowsMore, KnowsNothingAbove, KnowsSameBut, Reports, StillRuns};
+ghost use Rattle.rp_threads.specs.Rounds.{Runs};
 
 use crate::ends::node_ended;
 use rp_base::{Fault, NodeId, Position};
@@ -20,7 +21,7 @@ use rp_store::InfallibleDevice;
 use rp_threads::NodeEnd;
 use std::alloc::Global;
 
-/// The node makes a report of what it has applied, from a position on.
+/// The node makes a report of the actions that it has applied, from a position on.
 fn report_from<M: Machine, D: InfallibleDevice>(
     seat: &mut NodeSeat<M, D>,
     alloc: Global,
@@ -35,7 +36,7 @@ fn report_from<M: Machine, D: InfallibleDevice>(
     report
 }
 
-/// Puts a report that the node sent into its box. Where the box is in use it is lost.
+/// Puts a report that the node sent into its box. If the box is in use, the report is lost.
 fn put_report<M: Machine, D: InfallibleDevice>(seat: &mut NodeSeat<M, D>, report: Vec<u8>)
     requires { IsSentText seat.old.part report.items }
     ensures { (is_lost : Bool) × IsOffered M.next M.answers M.begin (Node seat.old.number)
@@ -44,7 +45,7 @@ fn put_report<M: Machine, D: InfallibleDevice>(seat: &mut NodeSeat<M, D>, report
     let _given_back = seat.put(report);
 }
 
-/// The node reports from a position on: the report goes into its box.
+/// The node makes a report from a position on, and the report goes into its box.
 fn send_report<M: Machine, D: InfallibleDevice>(
     seat: &mut NodeSeat<M, D>,
     alloc: Global,
@@ -60,8 +61,8 @@ fn send_report<M: Machine, D: InfallibleDevice>(
     Ok(())
 }
 
-/// The node reports once, from a position on: the report goes through its box to the audit, which
-/// adds it. It is lost where the box is not empty.
+/// The node reports once, from a position on. The report goes through its box to the audit, which
+/// adds it. It is lost if the box is not empty.
 fn report_once<M: Machine, D: InfallibleDevice>(
     audit: &mut Audit<M>,
     seat: &mut NodeSeat<M, D>,
@@ -94,7 +95,8 @@ fn position_after(known: usize) -> Option<Position>
     Position::new(u16::try_from(known + 1).ok()?)
 }
 
-/// The node reports until the audit knows all that it has applied. How many actions that is.
+/// The node reports until the audit knows all that the node has applied, or a report adds nothing.
+/// Returns how many actions the node has applied.
 fn read_log<M: Machine, D: InfallibleDevice>(
     audit: &mut Audit<M>,
     seat: &mut NodeSeat<M, D>,
@@ -128,7 +130,8 @@ fn read_log<M: Machine, D: InfallibleDevice>(
     Ok(applied)
 }
 
-/// The same of a node whose thread ended. Its seat, and how many actions it has applied.
+/// Reads the log of a node whose thread ended, as `read_log` does. Returns its seat, and how many
+/// actions it has applied.
 fn read_end<M: Machine, D: InfallibleDevice>(
     audit: &mut Audit<M>,
     end: NodeEnd<M, D>,
@@ -151,8 +154,8 @@ fn read_end<M: Machine, D: InfallibleDevice>(
     Ok((seat, applied))
 }
 
-/// The nodes, of which nothing is known and which are those of the numbers from 1 on, report one after
-/// the other. Their seats, and how many actions each has applied.
+/// The nodes report one after the other. They are those of the numbers from 1 on, and the audit
+/// knows nothing of them yet. Returns their seats, and how many actions each has applied.
 pub(crate) fn read_logs<M: Machine, D: InfallibleDevice>(
     audit: &mut Audit<M>,
     nodes: Vec<NodeEnd<M, D>>,
@@ -182,7 +185,7 @@ pub(crate) fn read_logs<M: Machine, D: InfallibleDevice>(
     Ok((seats, applied))
 }
 
-/// Whether the audit knows as many actions of each node as that has applied.
+/// Whether the audit knows as many actions of each node as that node has applied.
 pub(crate) fn knows_all<M: Machine>(audit: &Audit<M>, applied: &[u32]) -> bool
     requires { length applied.now ≤ 7 }
     ensures { IsTrue result ↔ KnowsAll audit.now.known applied.now }

@@ -37,7 +37,7 @@ pub struct LiveOutcome {
     pub figures: Figures,
 }
 
-/// The audit reads the logs of all nodes, and then all look at the table as one.
+/// The audit reads the logs of all nodes, and then all seats look at the table together.
 fn audited<M: Machine, D: InfallibleDevice>(
     alloc: Global,
     seat: AuditSeat<M>,
@@ -67,13 +67,13 @@ fn audited<M: Machine, D: InfallibleDevice>(
     })
 }
 
-/// The nodes of a program, over devices in memory, and its eight tasks make their turns in threads
-/// of their own, over links that lose packets, repeat them and change their order, as the words of
-/// the seed say. Before that the interrupts and the ticks among the events are noted, in
-/// order, each at its node; its other events are the calls of the tasks. Afterwards the audit reads
-/// the logs of all nodes, and all look at the table as one. Which replies come, and how much is
-/// applied, differs from run to run. `OutOfMemory` where a growth was refused or a thread could not
-/// be started, also in a thread.
+/// Runs the nodes of a program, over devices in memory, and its eight tasks, each in its own
+/// thread. Their links lose, duplicate and reorder packets, as determined by the seed. Before the
+/// threads start, the nodes take the interrupts and the ticks among the events as inputs, in order;
+/// the other events are the calls of the tasks. Afterwards the audit reads the logs of all nodes,
+/// and all seats look at the table together. Which replies arrive, and how much is applied, differs
+/// from run to run. `OutOfMemory` if an allocation failed or a thread could not be started, also
+/// within a thread.
 pub fn live<R: Threads + Wait, M: Machine + Send>(
     rt: &R,
     alloc: Global,

@@ -1,4 +1,4 @@
-//! Seats are made, and those of nodes and tasks are made ready to run.
+//! Makes the seats, and makes those of nodes and tasks ready to run.
 
 ghost use Rattle.std.specs.Prelude.{◌≡◌, ℕ, List, map, filter_map, All, IfOk, IsOkUnless};
 ghost use Rattle.rp_base.specs.Config.{IsRightConfig};
@@ -18,7 +18,7 @@ use rp_store::{Device, MemDevice};
 use rp_threads::{NodeStart, TaskStart};
 use std::alloc::Global;
 
-/// The seats of a program whose nodes write to memory. Nothing has happened.
+/// The seats of a program whose nodes write to memory; nothing has happened.
 pub(crate) fn seats_in_memory<M: Machine>(
     alloc: Global,
     config: Config,
@@ -33,7 +33,7 @@ pub(crate) fn seats_in_memory<M: Machine>(
     seats(alloc, config, program, devices)
 }
 
-/// A node is ready to run.
+/// Makes a node ready to run.
 fn node_start<M: Machine, D: Device>(
     alloc: Global,
     seed: u32,
@@ -48,7 +48,7 @@ fn node_start<M: Machine, D: Device>(
     Ok(NodeStart { seat, line })
 }
 
-/// The nodes are ready to run.
+/// Makes the nodes ready to run.
 pub(crate) fn node_starts<M: Machine, D: Device>(
     alloc: Global,
     seed: u32,
@@ -66,7 +66,7 @@ pub(crate) fn node_starts<M: Machine, D: Device>(
     Ok(starts)
 }
 
-/// A task is ready to run, with its calls among the events.
+/// Makes a task ready to run, with its calls among the events.
 fn task_start<M: Machine>(
     alloc: Global,
     seed: u32,
@@ -86,7 +86,7 @@ fn task_start<M: Machine>(
     Ok(TaskStart { seat, calls, line })
 }
 
-/// The tasks are ready to run, each with its calls among the events.
+/// Makes the tasks ready to run, each with its calls among the events.
 pub(crate) fn task_starts<M: Machine>(
     alloc: Global,
     seed: u32,

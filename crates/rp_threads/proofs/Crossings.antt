@@ -84,59 +84,33 @@ learner_send : IsSend Learner.the_row
 learner_send = search (crosses, sendable, learned_place_send, cells.the_send, deed.the_send) depth 40 fits 20000
 
 store_inside : (D : RattleType) (d : device.Ghosts D.Denot) → IsSend D → IsSend (store.the_row D d)
-store_inside D d t = recorded_send (store.the_field D d).row _ _ (store.the_type D d).to_one (struct_send (shape (store.the_type D d)) (t, (search sendable, tt)))
+store_inside D d t =
+    recorded_send (store.the_field D d).row _ _ (store.the_type D d).to_one (struct_send (shape (store.the_type D d))
+    (t, (search sendable, tt)))
 
 store_send : (D : RattleType) (d : device.Ghosts D.Denot) → IsSend D → IsSend (Store.the_row D d)
 store_send D d t = let i = store_inside D d t in search (sendable, i)
 
 numbered_inside : (M P : RattleType) (m : machine.Ghosts M.Denot P.Denot) → IsSend M → IsSend (numbered.the_row M P m)
-numbered_inside M P m s = recorded_send (numbered.the_field M P m).row _ _ (numbered.the_type M P m).to_one (struct_send (shape (numbered.the_type M P m))
+numbered_inside M P m s =
+    recorded_send (numbered.the_field M P m).row _ _ (numbered.the_type M P m).to_one (struct_send (shape (numbered.the_type M P m))
     (s, (search (crosses, sendable) depth 20, (search (crosses, sendable) depth 20, (search (crosses, sendable) depth 20, (search (crosses, sendable, history_send) depth 20, tt))))))
 
 numbered_send : (M P : RattleType) (m : machine.Ghosts M.Denot P.Denot) → IsSend M → IsSend (Numbered.the_row M P m)
 numbered_send M P m s = let i = numbered_inside M P m s in search (sendable, i)
 
 server_inside : (M P : RattleType) (m : machine.Ghosts M.Denot P.Denot) → IsSend M → IsSend (server.the_row M P m)
-server_inside M P m s = recorded_send (server.the_field M P m).row _ _ (server.the_type M P m).to_one (struct_send (shape (server.the_type M P m)) (
-  search (crosses, sendable),
-  (
-    search (crosses, sendable),
-    (
-      search (crosses, sendable, history_send) depth 40 fits 20000,
-      (
-        search (crosses, sendable, history_send) depth 60 fits 40000,
-        (
-          learner_send,
-          (
-            search (crosses, sendable, history_send) depth 40 fits 20000,
-            (
-              search (crosses, maps.crosses, sendable) depth 40 fits 20000,
-              (
-                numbered_send M P m s,
-                (
-                  search (crosses, sendable, cells.the_send, deed.the_send) depth 40,
-                  tt,
-                ),
-              ),
-            ),
-          ),
-        ),
-      ),
-    ),
-  ),
-))
+server_inside M P m s =
+    recorded_send (server.the_field M P m).row _ _ (server.the_type M P m).to_one (struct_send (shape (server.the_type M P m))
+    (search (crosses, sendable), (search (crosses, sendable), (search (crosses, sendable, history_send) depth 40 fits 20000, (search (crosses, sendable, history_send) depth 60 fits 40000, (learner_send, (search (crosses, sendable, history_send) depth 40 fits 20000, (search (crosses, maps.crosses, sendable) depth 40 fits 20000, (numbered_send M P m s, (search (crosses, sendable, cells.the_send, deed.the_send) depth 40, tt))))))))))
 
 server_send : (M P : RattleType) (m : machine.Ghosts M.Denot P.Denot) → IsSend M → IsSend (Server.the_row M P m)
 server_send M P m s = let i = server_inside M P m s in search (sendable, i)
 
 replica_inside : (M D P : RattleType) (m : machine.Ghosts M.Denot P.Denot) (d : device.Ghosts D.Denot) → IsSend M → IsSend D → IsSend (replica.the_row M D P m d)
-replica_inside M D P m d s t = recorded_send (replica.the_field M D P m d).row _ _ (replica.the_type M D P m d).to_one (struct_send (shape (replica.the_type M D P m d)) (
-  server_send M P m s,
-  (
-    store_send D d t,
-    tt,
-  ),
-))
+replica_inside M D P m d s t =
+    recorded_send (replica.the_field M D P m d).row _ _ (replica.the_type M D P m d).to_one (struct_send (shape (replica.the_type M D P m d))
+    (server_send M P m s, (store_send D d t, tt)))
 
 pub replica_send : (M D P : RattleType) (m : machine.Ghosts M.Denot P.Denot) (d : device.Ghosts D.Denot) → IsSend M → IsSend D → IsSend (Replica.the_row M D P m d)
 replica_send M D P m d s t = let i = replica_inside M D P m d s t in search (sendable, i)
@@ -144,19 +118,9 @@ replica_send M D P m d s t = let i = replica_inside M D P m d s t in search (sen
 -- ---- the seat of a node
 
 node_inside : (M D P : RattleType) (m : machine.Ghosts M.Denot P.Denot) (d : device.Ghosts D.Denot) → IsSend M → IsSend D → IsSend (node_seat.the_row M D P m d)
-node_inside M D P m d s t = recorded_send (node_seat.the_field M D P m d).row _ _ (node_seat.the_type M D P m d).to_one (struct_send (shape (node_seat.the_type M D P m d)) (
-  search (crosses, sendable),
-  (
-    replica_send M D P m d s t,
-    (
-      search (crosses, sendable, place.the_send) depth 9,
-      (
-        search (crosses, sendable, shared.the_send, shared.the_sync, lease.the_send, lease.the_sync) depth 25,
-        (search (crosses, sendable), (search (crosses, sendable), tt)),
-      ),
-    ),
-  ),
-))
+node_inside M D P m d s t =
+    recorded_send (node_seat.the_field M D P m d).row _ _ (node_seat.the_type M D P m d).to_one (struct_send (shape (node_seat.the_type M D P m d))
+    (search (crosses, sendable), (replica_send M D P m d s t, (search (crosses, sendable, place.the_send) depth 9, (search (crosses, sendable, shared.the_send, shared.the_sync, lease.the_send, lease.the_sync) depth 25, (search (crosses, sendable), (search (crosses, sendable), tt)))))))
 
 pub node_seat_send : (M D P : RattleType) (m : machine.Ghosts M.Denot P.Denot) (d : device.Ghosts D.Denot) → IsSend M → IsSend D → IsSend (NodeSeat.the_row M D P m d)
 node_seat_send M D P m d s t = let i = node_inside M D P m d s t in search (sendable, i)
@@ -167,22 +131,9 @@ task_send : IsSend Task.the_row
 task_send = search (crosses, sendable) depth 40 fits 20000
 
 task_inside : (M P : RattleType) (m : machine.Ghosts M.Denot P.Denot) → IsSend M → IsSend (task_seat.the_row M P m)
-task_inside M P m s = recorded_send (task_seat.the_field M P m).row _ _ (task_seat.the_type M P m).to_one (struct_send (shape (task_seat.the_type M P m)) (
-  search (crosses, sendable),
-  (
-    search (crosses, sendable),
-    (
-      task_send,
-      (
-        search (crosses, sendable, place.the_send) depth 9,
-        (
-          search (crosses, sendable, shared.the_send, shared.the_sync, lease.the_send, lease.the_sync) depth 25,
-          (search (crosses, sendable), tt),
-        ),
-      ),
-    ),
-  ),
-))
+task_inside M P m s =
+    recorded_send (task_seat.the_field M P m).row _ _ (task_seat.the_type M P m).to_one (struct_send (shape (task_seat.the_type M P m))
+    (search (crosses, sendable), (search (crosses, sendable), (task_send, (search (crosses, sendable, place.the_send) depth 9, (search (crosses, sendable, shared.the_send, shared.the_sync, lease.the_send, lease.the_sync) depth 25, (search (crosses, sendable), tt)))))))
 
 pub task_seat_send : (M P : RattleType) (m : machine.Ghosts M.Denot P.Denot) → IsSend M → IsSend (TaskSeat.the_row M P m)
 task_seat_send M P m s = let i = task_inside M P m s in search (sendable, i)
@@ -190,16 +141,9 @@ task_seat_send M P m s = let i = task_inside M P m s in search (sendable, i)
 -- ---- lines and ends
 
 line_inside : IsSend line.the_row
-line_inside = recorded_send (line.the_field).row _ _ (line.the_type).to_one (struct_send (shape line.the_type) (
-  search (crosses, sendable) depth 20,
-  (
-    search (crosses, sendable),
-    (
-      search (crosses, sendable) depth 40 fits 20000,
-      (search (crosses, sendable), (search (crosses, sendable) depth 20, (search (crosses, sendable), tt))),
-    ),
-  ),
-))
+line_inside =
+    recorded_send (line.the_field).row _ _ (line.the_type).to_one (struct_send (shape line.the_type)
+    (search (crosses, sendable) depth 20, (search (crosses, sendable), (search (crosses, sendable) depth 40 fits 20000, (search (crosses, sendable), (search (crosses, sendable) depth 20, (search (crosses, sendable), tt)))))))
 
 pub line_send : IsSend FaultLine.the_row
 line_send = let i = line_inside in search (sendable, i)
@@ -211,19 +155,17 @@ turn_counts_send : IsSend (Counts.the_field).row
 turn_counts_send = search (crosses, sendable) depth 60 fits 40000
 
 pub node_end_send : (M D P : RattleType) (m : machine.Ghosts M.Denot P.Denot) (d : device.Ghosts D.Denot) → IsSend M → IsSend D → IsSend (NodeEnd.the_row M D P m d)
-node_end_send M D P m d s t = recorded_send (NodeEnd.the_field M D P m d).row _ _ (NodeEnd.the_type M D P m d).to_one (struct_send (shape (NodeEnd.the_type M D P m d)) (
-  node_seat_send M D P m d s t,
-  (search (crosses, sendable, turn_counts_send), (search (crosses, sendable, fault_send), tt)),
-))
+node_end_send M D P m d s t =
+    recorded_send (NodeEnd.the_field M D P m d).row _ _ (NodeEnd.the_type M D P m d).to_one (struct_send (shape (NodeEnd.the_type M D P m d))
+    (node_seat_send M D P m d s t, (search (crosses, sendable, turn_counts_send), (search (crosses, sendable, fault_send), tt))))
 
 pub task_call_send : IsSend TaskCall.the_row
 task_call_send = search (crosses, sendable) depth 60 fits 40000
 
 pub task_end_send : (M P : RattleType) (m : machine.Ghosts M.Denot P.Denot) → IsSend M → IsSend (TaskEnd.the_row M P m)
-task_end_send M P m s = recorded_send (TaskEnd.the_field M P m).row _ _ (TaskEnd.the_type M P m).to_one (struct_send (shape (TaskEnd.the_type M P m)) (
-  task_seat_send M P m s,
-  (search (crosses, sendable), (search (crosses, sendable), (search (crosses, sendable), (search (crosses, sendable, fault_send), tt)))),
-))
+task_end_send M P m s =
+    recorded_send (TaskEnd.the_field M P m).row _ _ (TaskEnd.the_type M P m).to_one (struct_send (shape (TaskEnd.the_type M P m))
+    (task_seat_send M P m s, (search (crosses, sendable), (search (crosses, sendable), (search (crosses, sendable), (search (crosses, sendable, fault_send), tt))))))
 
 -- ---- the options of a loop
 

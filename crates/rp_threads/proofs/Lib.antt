@@ -3,7 +3,9 @@ pub mod Steps
 pub mod Cuts
 pub mod Rounds
 pub mod Leads
-pub mod Stops
+pub mod Running
+pub mod Refusals
+pub mod Later
 pub mod Chains
 pub mod TaskSteps
 pub mod TaskChains

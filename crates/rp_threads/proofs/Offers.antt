@@ -80,12 +80,10 @@ module _ {S P : Type 0} (next : S → Action → S) (answers : S → Action → 
       (first.0, first.1 + b, first.2, first.3, then_offered ps qs first.2 between new first.1 b first.4 following, omega (arith, sum))
 
   -- one packet
-  one_alone : (m : Message) (old new : SeatState P) (is_lost : Bool) → IsOffered next answers begin from (text_of m) old new is_lost → AreOffered next answers begin from (m ∷ []) old new (one_if is_lost)
-  one_alone m old new is_lost offered = (is_lost, 0, new, offered, (refl, refl), omega arith)
-
   one_text_offered : (bytes : List ℕ) (m : Message) (old new : SeatState P) (is_lost : Bool) → bytes ≡ text_of m → IsOffered next answers begin from bytes old new is_lost
       → AreOffered next answers begin from (m ∷ []) old new (one_if is_lost)
-  one_text_offered bytes m old new is_lost text offered = one_alone m old new is_lost (subst (λ (t : List ℕ). IsOffered next answers begin from t old new is_lost) text offered)
+  one_text_offered bytes m old new is_lost text offered =
+      (is_lost, 0, new, subst (λ (t : List ℕ). IsOffered next answers begin from t old new is_lost) text offered, (refl, refl), omega arith)
 
   -- ---- one packet after the other
 
@@ -102,9 +100,6 @@ module _ {S P : Type 0} (next : S → Action → S) (answers : S → Action → 
   pub part_puts : (first now : SeatState P) (bytes left : List ℕ) (lost : ℕ) → IsPartOffered first now bytes left lost → HasOnlyPut first now
   part_puts first now bytes left lost so_far = offers_put next answers begin from so_far.packets first now lost so_far.offered
 
-  joined : (ps qs : List Message) → texts_of ps ++ texts_of qs ≡ texts_of (ps ++ qs)
-  joined ps qs = sym (texts_append ps qs)
-
   either_sent : (part : Part) (ps qs : List Message) → ((m : Message) → Has m ps → Has m part.sent) → ((m : Message) → Has m qs → Has m part.sent) → (m : Message) → Has m (ps ++ qs) → Has m part.sent
   either_sent part ps qs first following m has = elim (has_split m ps qs has) [ inl here ↦ first m here | inr there ↦ following m there ]
 
@@ -115,7 +110,7 @@ module _ {S P : Type 0} (next : S → Action → S) (answers : S → Action → 
   cut_at : (bytes left : List ℕ) (len : ℕ) (packets : List Message) (m : Message) → bytes ≡ texts_of packets ++ left → take len left ≡ text_of m → bytes ≡ texts_of (packets ++ m ∷ []) ++ drop len left
   cut_at bytes left len packets m whole text =
       let texts : texts_of packets ++ take len left ≡ texts_of (packets ++ m ∷ []) =
-      ap (λ (t : List ℕ). texts_of packets ++ t) (text ∙ sym (append-nil (text_of m))) ∙ joined packets (m ∷ []) in
+      ap (λ (t : List ℕ). texts_of packets ++ t) (text ∙ sym (append-nil (text_of m))) ∙ sym (texts_append packets (m ∷ [])) in
       whole ∙ ap (λ (t : List ℕ). texts_of packets ++ t) (sym (take-append-drop len left)) ∙ sym (append_assoc (texts_of packets) (take len left) (drop len left))
       ∙ ap (λ (t : List ℕ). t ++ drop len left) texts
 
@@ -149,7 +144,7 @@ module _ {S P : Type 0} (next : S → Action → S) (answers : S → Action → 
   cut_before first now bytes left lost (m ∷ others) so_far is sent some = record {
     are = record {
       packets = so_far.packets ++ m ∷ others;
-      texts = so_far.whole ∙ ap (λ (t : List ℕ). texts_of so_far.packets ++ t) is ∙ joined so_far.packets (m ∷ others);
+      texts = so_far.whole ∙ ap (λ (t : List ℕ). texts_of so_far.packets ++ t) is ∙ sym (texts_append so_far.packets (m ∷ others));
       sent = either_sent first.part so_far.packets (m ∷ others) so_far.sent sent;
     };
     offered = record { offered = so_far.packets; unsent = m; others = others; whole = refl; lost = lost; are = so_far.offered };
@@ -200,7 +195,7 @@ module _ {S P : Type 0} (next : S → Action → S) (answers : S → Action → 
     not_all_offered offered packets given =
         subst (λ (ps : List Message). AreOfferedInPart next answers begin from ps old new) (sym (same_as packets given offered.are)) offered.offered
 
-    pub not_if_cut : {A E : Type 0} (result : Result A E) → OnErr result (AreTextsOfferedInPart next answers begin from sent.bytes.items old new)
+    pub not_all_if_part : {A E : Type 0} (result : Result A E) → OnErr result (AreTextsOfferedInPart next answers begin from sent.bytes.items old new)
         → OnErr result (IsOfferedInPart next answers begin from sent old new)
-    not_if_cut (Ok x) cut = tt
-    not_if_cut (Err e) cut = not_all_offered cut
+    not_all_if_part (Ok x) part = tt
+    not_all_if_part (Err e) part = not_all_offered part

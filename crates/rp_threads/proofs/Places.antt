@@ -35,20 +35,20 @@ pub record AreZippedSoFar {A B : Type 0} (R : A → B → Type 0) (all rest : Li
   pub whole : all ≡ seen ++ rest
   pub each : AllZip R seen ys
 
-pub none_zipped : {A B : Type 0} (R : A → B → Type 0) (all rest : List A) (ys : List B) → rest ≡ all → ys ≡ [] → AreZippedSoFar R all rest ys
-none_zipped R all rest ys same none = record { seen = []; whole = sym same; each = subst (AllZip R []) (sym none) tt }
+module _ {A B : Type 0} {R : A → B → Type 0} {all : List A} where
+  pub none_zipped : {rest : List A} {ys : List B} → rest ≡ all → ys ≡ [] → AreZippedSoFar R all rest ys
+  none_zipped same none = record { seen = []; whole = sym same; each = subst (AllZip R []) (sym none) tt }
 
-pub one_more_zipped : {A B : Type 0} (R : A → B → Type 0) (all rest rest' : List A) (ys ys' : List B) (x : A) (y : B) → AreZippedSoFar R all rest ys
-    → rest ≡ x ∷ rest' → ys' ≡ ys ++ y ∷ [] → R x y → AreZippedSoFar R all rest' ys'
-one_more_zipped R all rest rest' ys ys' x y so_far steps grown fits = record {
-  seen = so_far.seen ++ x ∷ [];
-  whole = so_far.whole ∙ subst (λ r. so_far.seen ++ r ≡ (so_far.seen ++ x ∷ []) ++ rest') (sym steps) (sym (append_assoc so_far.seen (x ∷ []) rest'));
-  each = subst (AllZip R (so_far.seen ++ x ∷ [])) (sym grown) (one_more R so_far.seen ys x y so_far.each fits);
-}
+  pub one_more_zipped : {rest rest' : List A} {ys ys' : List B} {x : A} {y : B} → AreZippedSoFar R all rest ys → rest ≡ x ∷ rest' → ys' ≡ ys ++ y ∷ [] → R x y → AreZippedSoFar R all rest' ys'
+  one_more_zipped {rest' = rest'} {ys = ys} {x = x} {y = y} so_far steps grown fits = record {
+    seen = so_far.seen ++ x ∷ [];
+    whole = so_far.whole ∙ subst (λ r. so_far.seen ++ r ≡ (so_far.seen ++ x ∷ []) ++ rest') (sym steps) (sym (append_assoc so_far.seen (x ∷ []) rest'));
+    each = subst (AllZip R (so_far.seen ++ x ∷ [])) (sym grown) (one_more R so_far.seen ys x y so_far.each fits);
+  }
 
-pub all_zipped : {A B : Type 0} (R : A → B → Type 0) (all rest : List A) (ys : List B) → AreZippedSoFar R all rest ys → rest ≡ [] → AllZip R all ys
-all_zipped R all rest ys so_far none =
-    subst (λ l. AllZip R l ys) (sym (so_far.whole ∙ ap (λ r. so_far.seen ++ r) none ∙ append-nil so_far.seen)) so_far.each
+  pub all_zipped : {rest : List A} {ys : List B} → AreZippedSoFar R all rest ys → rest ≡ [] → AllZip R all ys
+  all_zipped {ys = ys} so_far none =
+      subst (λ l. AllZip R l ys) (sym (so_far.whole ∙ ap (λ r. so_far.seen ++ r) none ∙ append-nil so_far.seen)) so_far.each
 
 -- of three lists, what fits at each place of the first and the second, and of the second and the third
 pub zip_on : {A B C : Type 0} (R : A → B → Type 0) (S : B → C → Type 0) (T : A → C → Type 0) → ((x : A) (y : B) (z : C) → R x y → S y z → T x z)

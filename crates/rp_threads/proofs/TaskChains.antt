@@ -21,7 +21,7 @@ use Rattle.rp_threads.specs.Loops.{IsSameSeat, node_at}
 use Rattle.rp_threads.specs.Tasks.{HasMade, TaskAt, before_calls, call_after}
 use Rattle.rp_threads.specs.TaskRounds.{AreTaskTurns, Asks, Hears, IsHeard, IsRefused, IsTaskFault, IsTaskTurnOf, IsUnmadeTurn, asked_by, asked_for, asked_in, heard_by, made_by, submitted, with_call, with_lost}
 use Rattle.rp_threads.specs.Threads.{IsTaskLooped, task_end_of}
-use Rattle.rp_threads.specs.Turns.{IsBrought, MayFetch}
+use Rattle.rp_threads.specs.Turns.{IsBrought, IsLost, MayFetch}
 use Rattle.rp_threads.specs.declared.tasks.Calls.{Calls}
 use Rattle.rp_threads.specs.declared.tasks.TaskCall.{TaskCall}
 use Rattle.rp_threads.specs.declared.tasks.TaskEnd.{TaskEnd}
@@ -51,16 +51,17 @@ module _ {S P : Type 0} (next : S → Action → S) (answers : S → Action → 
   abbrev pub IsMadeOn : SeatState P → SeatState P → Calls → Calls → Type 0
   IsMadeOn old new before after = IsSameSeat old new × (HasMade calls old before.made before.waits → HasMade calls new after.made after.waits)
 
+  stays_on : (old new : SeatState P) (so_far : Calls) → new ≡ old → IsMadeOn old new so_far so_far
+  stays_on old new so_far is = (same_seat old new is, subst (λ (c : SeatState P). HasMade calls c so_far.made so_far.waits) (sym is))
+
   fetch_made : (fetched : Option (List ℕ)) (from to : Party) (old new : SeatState P) (so_far : Calls) → MayFetch fetched from to old new → IsMadeOn old new so_far so_far
-  fetch_made None from to old new so_far f =
-      (same_seat old new f, λ h. subst (λ (c : SeatState P). HasMade calls c so_far.made so_far.waits) (sym f) h)
+  fetch_made None from to old new so_far f = stays_on old new so_far f
   fetch_made (Some text) from to old new so_far f =
       (same_part old new _ f.after, fetched_made calls old new f.packet so_far.made so_far.waits f.after)
 
   heard_on : (given : Option (List ℕ)) (old new : SeatState P) (answered : Bool) (turn : ℕ) (so_far : Calls) → Hears given old new answered → IsMadeOn old new so_far (heard_by answered turn so_far)
   heard_on None old new answered turn so_far h =
-      subst (λ (b : Bool). IsMadeOn old new so_far (heard_by b turn so_far)) (sym h.1)
-      (same_seat old new h.0, λ made. subst (λ (c : SeatState P). HasMade calls c so_far.made so_far.waits) (sym h.0) made)
+      subst (λ (b : Bool). IsMadeOn old new so_far (heard_by b turn so_far)) (sym h.1) (stays_on old new so_far h.0)
   heard_on (Some text) old new answered turn so_far h =
       subst (λ (b : Bool). IsMadeOn old new so_far (heard_by b turn so_far)) (sym h.2)
       (same_part old new _ h.1.after, λ made. heard_if (is_some h.0) (heard_made calls old new text h.0 so_far.made so_far.waits h.1 made))
@@ -85,7 +86,7 @@ module _ {S P : Type 0} (next : S → Action → S) (answers : S → Action → 
 
     submit_on : (call : Option TaskCall) (old new : SeatState P) (so_far : Calls) (lost : ℕ) → slice_get calls so_far.made ≡ call → Asks next answers begin (submitted call) old new lost
         → IsMadeOn old new (record so_far { waits = false }) (with_call call so_far)
-    submit_on None old new so_far lost at a = (same_seat old new a.0, λ h. subst (λ (c : SeatState P). HasMade calls c so_far.made false) (sym a.0) h)
+    submit_on None old new so_far lost at a = stays_on old new (record so_far { waits = false }) a.0
     submit_on (Some call) old new so_far lost at a =
         let input = Submit call.node call.object call.operation call.arg in (
           asked_same next answers begin input old new lost a,
@@ -98,7 +99,7 @@ module _ {S P : Type 0} (next : S → Action → S) (answers : S → Action → 
       asked_same next answers begin (Again node) old new lost a,
       λ h. put_made calls a.stepped new so_far.made true (asked_puts next answers begin (Again node) old new lost a) (again_made calls old a.stepped node so_far.made true a.sent a.turn h),
     )
-    again_on false node old new so_far lost a = (same_seat old new a.0, λ h. subst (λ (c : SeatState P). HasMade calls c so_far.made true) (sym a.0) h)
+    again_on false node old new so_far lost a = stays_on old new (record so_far { waits = true }) a.0
 
     asked_on : (waits : Bool) (turn : ℕ) (old new : SeatState P) (so_far : Calls) (lost : ℕ) → Asks next answers begin (asked_by waits nodes calls so_far.made turn) old new lost
         → IsMadeOn old new (record so_far { waits = waits }) (made_by waits calls so_far)
@@ -112,7 +113,7 @@ module _ {S P : Type 0} (next : S → Action → S) (answers : S → Action → 
         (hears_on turn old t.heard new.line t.so_far t.hears) (asked_on t.so_far.waits turn t.heard new.seat t.so_far t.lost t.asks))
 
     turns_on : (gate_heard : ℕ → ℕ → Type 0) (first : TaskAt P) (n : ℕ) (now : TaskAt P) → AreTaskTurns next answers begin gate_heard nodes calls first n now → IsMadeOn first.seat now.seat first.so_far now.so_far
-    turns_on gate_heard first zero now are = subst (λ (at : TaskAt P). IsMadeOn first.seat at.seat first.so_far at.so_far) (sym are) (same_seat first.seat first.seat refl, λ h. h)
+    turns_on gate_heard first zero now are = subst (λ (at : TaskAt P). IsMadeOn first.seat at.seat first.so_far at.so_far) (sym are) (stays_on first.seat first.seat first.so_far refl)
     turns_on gate_heard first (suc n) now are =
         made_then first.seat are.0.seat now.seat first.so_far are.0.so_far now.so_far (turns_on gate_heard first n are.0 are.1) (turn_on (suc n) are.0 now are.2)
 
@@ -200,30 +201,29 @@ module _ {S P : Type 0} (next : S → Action → S) (answers : S → Action → 
     refused_same (Some input) old new fault r = r.unchanged
 
     -- a turn that was not made: as many calls are made as before, and why
-    pub unmade_on : (turn : ℕ) (first : SeatState P) (old new : TaskAt P) (fault : Fault) → 1 ≤ nodes → IsSameSeat first old.seat → HasMade calls old.seat old.so_far.made old.so_far.waits
-        → IsUnmadeTurn nodes calls turn old new fault
-        → IsSameSeat first new.seat × HasMade calls new.seat new.so_far.made new.so_far.waits × IsTaskFault nodes calls first new.so_far.made fault
-    unmade_on turn first old new fault some same h (inl lost) =
-        let on = fetch_made (Some lost.0.packet) (Node (node_at nodes turn)) (Task old.seat.number) old.seat new.seat old.so_far lost.0.fetch in (
-          same_on first old.seat new.seat same on.0,
-          subst (λ (c : Calls). HasMade calls new.seat c.made c.waits) (sym lost.1) (on.1 h),
-          memory_fault first new.so_far.made fault lost.0.memory,
-        )
-    unmade_on turn first old new fault some same h (inr (inl u)) =
-        let on = fetch_made u.brought.fetched (Node (node_at nodes turn)) (Task old.seat.number) old.seat new.seat old.so_far u.brought.fetch in (
-          same_on first old.seat new.seat same on.0,
-          subst (λ (c : Calls). HasMade calls new.seat c.made c.waits) (sym u.counts) (on.1 h),
-          memory_fault first new.so_far.made fault u.memory,
-        )
-    unmade_on turn first old new fault some same h (inr (inr u)) =
-        let on = hears_on turn old u.heard new.line new.so_far u.hears in
-        let made = on.1 h in
-        let stays = refused_same (asked_in nodes calls turn new.so_far) u.heard new.seat fault u.refused in
-        let now = same_on first old.seat u.heard same on.0 in (
-          same_on first u.heard new.seat now (same_seat u.heard new.seat stays),
-          subst (λ (c : SeatState P). HasMade calls c new.so_far.made new.so_far.waits) (sym stays) made,
-          at_first first u.heard new.so_far.made fault now (asked_fault new.so_far.waits turn u.heard new.seat new.so_far.made fault some made u.refused),
-        )
+    abbrev IsUnmadeOn : SeatState P → TaskAt P → Fault → Type 0
+    IsUnmadeOn first new fault = IsSameSeat first new.seat × HasMade calls new.seat new.so_far.made new.so_far.waits × IsTaskFault nodes calls first new.so_far.made fault
+
+    module _ (turn : ℕ) (first : SeatState P) (old new : TaskAt P) (fault : Fault) (same : IsSameSeat first old.seat) (h : HasMade calls old.seat old.so_far.made old.so_far.waits) where
+      fetched_on : (fetched : Option (List ℕ)) → MayFetch fetched (Node (node_at nodes turn)) (Task old.seat.number) old.seat new.seat → new.so_far ≡ old.so_far → fault ≡ OutOfMemory → IsUnmadeOn first new fault
+      fetched_on fetched f counts memory =
+          let on = fetch_made fetched (Node (node_at nodes turn)) (Task old.seat.number) old.seat new.seat old.so_far f in (
+            same_on first old.seat new.seat same on.0,
+            subst (λ (c : Calls). HasMade calls new.seat c.made c.waits) (sym counts) (on.1 h),
+            memory_fault first new.so_far.made fault memory,
+          )
+
+      pub unmade_on : 1 ≤ nodes → IsUnmadeTurn nodes calls turn old new fault → IsUnmadeOn first new fault
+      unmade_on some (inl lost) = fetched_on (Some lost.0.packet) lost.0.fetch lost.1 lost.0.memory
+      unmade_on some (inr (inl u)) = fetched_on u.brought.fetched u.brought.fetch u.counts u.memory
+      unmade_on some (inr (inr u)) =
+          let on = hears_on turn old u.heard new.line new.so_far u.hears in
+          let stays = stays_on u.heard new.seat new.so_far (refused_same (asked_in nodes calls turn new.so_far) u.heard new.seat fault u.refused) in
+          let now = same_on first old.seat u.heard same on.0 in (
+            same_on first u.heard new.seat now stays.0,
+            stays.1 (on.1 h),
+            at_first first u.heard new.so_far.made fault now (asked_fault new.so_far.waits turn u.heard new.seat new.so_far.made fault some (on.1 h) u.refused),
+          )
 
     -- ---- the first call is made in the first turn
 
@@ -262,7 +262,7 @@ module _ {S P : Type 0} (next : S → Action → S) (answers : S → Action → 
           → gate_heard before.seat.number (suc done) → IsUnmadeTurn nodes calls (suc done) before last fault → IsEnd (task_end_of last (Some fault))
       task_ended done before last fault some are within heard unmade =
           let on = turns_on gate_heard (before_calls seat line) done before are in
-          let left = unmade_on (suc done) seat before last fault some on.0 (on.1 (none_made calls seat fresh)) unmade in
+          let left = unmade_on (suc done) seat before last fault on.0 (on.1 (none_made calls seat fresh)) some unmade in
           record {
             same = left.0;
             turned = λ none. absurd (some_fault fault none);
@@ -276,22 +276,19 @@ module _ {S P : Type 0} (next : S → Action → S) (answers : S → Action → 
 
 -- ---- one turn, by its steps
 
-module _ {S P : Type 0} (next : S → Action → S) (answers : S → Action → List Answer) (begin : P → S) (nodes : ℕ) (calls : List TaskCall) (turn : ℕ) (old new : TaskAt P) (between : SeatState P) (full : Line)
-    (brought : IsBrought (Node (node_at nodes turn)) (Task old.seat.number) old.seat between old.line full) where
-  -- what the line gave on was heard, or memory ran out
-  pub unheard : (fault : Fault) → fault ≡ OutOfMemory → new.seat ≡ between → new.line ≡ line_after full → new.so_far ≡ old.so_far → IsUnmadeTurn nodes calls turn old new fault
-  unheard fault memory stays gives counts = inr (inl (record {
-    full = full;
-    brought = subst (λ (c : SeatState P). IsBrought (Node (node_at nodes turn)) (Task old.seat.number) old.seat c old.line full) (sym stays) brought;
-    gives = gives;
-    memory = memory;
-    counts = counts;
-  }))
-
-  module _ (heard : SeatState P) (so_far : Calls) (answered : Bool) (hears : Hears (given_on full) between heard answered) (gives : new.line ≡ line_after full)
-      (counts : so_far ≡ heard_by answered turn old.so_far) where
-    abbrev is_heard : IsHeard nodes calls turn old heard new.line so_far
-    is_heard = record { between = between; full = full; brought = brought; answered = answered; hears = hears; gives = gives; counts = counts }
+module _ {S P : Type 0} (next : S → Action → S) (answers : S → Action → List Answer) (begin : P → S) (nodes : ℕ) (calls : List TaskCall) (turn : ℕ) (old new : TaskAt P) where
+  module _ (between : SeatState P) (full : Line) (node : ℕ) (is : node ≡ node_at nodes turn) (brought : IsBrought (Node node) (Task old.seat.number) old.seat between old.line full)
+      (heard : SeatState P) (so_far : Calls) (answered : Bool) (hears : Hears (given_on full) between heard answered) (gives : new.line ≡ line_after full) (counts : so_far ≡ heard_by answered turn old.so_far) where
+    is_heard : IsHeard nodes calls turn old heard new.line so_far
+    is_heard = record {
+      between = between;
+      full = full;
+      brought = subst (λ (n : ℕ). IsBrought (Node n) (Task old.seat.number) old.seat between old.line full) is brought;
+      answered = answered;
+      hears = hears;
+      gives = gives;
+      counts = counts;
+    }
 
     pub turn_made : (lost : ℕ) → Asks next answers begin (asked_in nodes calls turn so_far) heard new.seat lost → new.so_far ≡ with_lost lost (asked_for calls so_far)
         → IsTaskTurnOf next answers begin nodes calls turn old new
@@ -303,3 +300,17 @@ module _ {S P : Type 0} (next : S → Action → S) (answers : S → Action → 
       hears = subst (λ (c : Calls). IsHeard nodes calls turn old heard new.line c) (sym stays) is_heard;
       refused = subst (λ (c : Calls). IsRefused (asked_in nodes calls turn c) heard new.seat fault) (sym stays) refused;
     }))
+
+  -- the packet that was fetched is lost
+  pub turn_lost : (node : ℕ) (fault : Fault) → node ≡ node_at nodes turn → IsLost (Node node) (Task old.seat.number) old.seat new.seat old.line new.line fault → new.so_far ≡ old.so_far
+      → IsUnmadeTurn nodes calls turn old new fault
+  turn_lost node fault is lost stays = inl (subst (λ (n : ℕ). IsLost (Node n) (Task old.seat.number) old.seat new.seat old.line new.line fault) is lost, stays)
+
+-- ---- what is asked, once a task waits for none
+
+module _ (nodes : ℕ) (calls : List TaskCall) (turn : ℕ) (so_far : Calls) (call : Option TaskCall) (off : so_far.waits ≡ false) (at : slice_get calls so_far.made ≡ call) where
+  pub asked_next : asked_in nodes calls turn so_far ≡ submitted call
+  asked_next = ap (λ (b : Bool). asked_by b nodes calls so_far.made turn) off ∙ ap submitted at
+
+  pub made_next : asked_for calls so_far ≡ with_call call so_far
+  made_next = ap (λ (b : Bool). made_by b calls so_far) off ∙ ap (λ (o : Option TaskCall). with_call o so_far) at

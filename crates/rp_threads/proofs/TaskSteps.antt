@@ -31,7 +31,7 @@ use Rattle.rp_threads.specs.Loops.{IsSameSeat}
 use Rattle.rp_threads.specs.Turns.{AreGivenOut, AreSent, IsAllOffered}
 use Rattle.rp_threads.specs.declared.tasks.TaskCall.{TaskCall}
 use Rattle.rp_threads.proofs.Puts.{HasOnlyPut, offers_put}
-use Rattle.rp_threads.proofs.Steps.{same_on, same_part}
+use Rattle.rp_threads.proofs.Steps.{given_out, stepped_got, stepped_same}
 
 pub same_task : (role : Role) (a b : TaskPart) → role ≡ OfTask a → role ≡ OfTask b → a ≡ b
 same_task role a b is_a is_b = let e : OfTask a ≡ OfTask b = sym is_a ∙ is_b in cc
@@ -105,27 +105,15 @@ asked number node task done false is = cc
 module _ {P : Type 0} (calls : List TaskCall) (old new : SeatState P) where
   -- a packet was fetched
   pub fetched_made : (m : Message) (made : ℕ) (waits : Bool) → new ≡ record old { part = with_got m old.part } → HasMade calls old made waits → HasMade calls new made waits
-  fetched_made m made waits is h = record {
-    task = h.task;
-    is = ap (λ (c : SeatState P). c.part.role) is ∙ h.is;
-    some = h.some;
-    each = λ k call less at. subst (λ (c : SeatState P). Has (first_asked c.number k call) c.part.sent) (sym is) (h.each k call less at);
-    only = subst (λ (c : SeatState P). (p : Message) → Has p c.part.sent → AsksForOne c.number calls made p) (sym is) h.only;
-    count = h.count;
-    waiting = subst (λ (c : SeatState P). Waits c.number calls made waits h.task.outstanding) (sym is) h.waiting;
-  }
+  fetched_made m made waits is h =
+      subst (λ (c : SeatState P). HasMade calls c made waits) (sym is)
+      (record { task = h.task; is = h.is; some = h.some; each = h.each; only = h.only; count = h.count; waiting = h.waiting })
 
   -- the task put packets
   pub put_made : (made : ℕ) (waits : Bool) → HasOnlyPut old new → HasMade calls old made waits → HasMade calls new made waits
-  put_made made waits puts h = record {
-    task = h.task;
-    is = ap (λ (c : SeatState P). c.part.role) puts.after ∙ h.is;
-    some = h.some;
-    each = subst (λ (c : SeatState P). (k : ℕ) (call : TaskCall) → k < made → slice_get calls k ≡ Some call → Has (first_asked c.number k call) c.part.sent) (sym puts.after) h.each;
-    only = subst (λ (c : SeatState P). (p : Message) → Has p c.part.sent → AsksForOne c.number calls made p) (sym puts.after) h.only;
-    count = h.count;
-    waiting = subst (λ (c : SeatState P). Waits c.number calls made waits h.task.outstanding) (sym puts.after) h.waiting;
-  }
+  put_made made waits puts h =
+      subst (λ (c : SeatState P). HasMade calls c made waits) (sym puts.after)
+      (record { task = h.task; is = h.is; some = h.some; each = h.each; only = h.only; count = h.count; waiting = h.waiting })
 
   -- an event, after which n were made
   module _ (task : TaskPart) (sends : List Message) (is : new ≡ record old { part = part_after old.part (OfTask task) sends }) where
@@ -133,15 +121,9 @@ module _ {P : Type 0} (calls : List TaskCall) (old new : SeatState P) where
         → ((k : ℕ) (call : TaskCall) → k < made → slice_get calls k ≡ Some call → Has (first_asked old.number k call) (old.part.sent ++ sends))
         → ((p : Message) → Has p (old.part.sent ++ sends) → AsksForOne old.number calls made p)
         → length task.replies + (if waits then 1 else 0) ≡ made → Waits old.number calls made waits task.outstanding → HasMade calls new made waits
-    event_made made waits some each only count waiting = record {
-      task = task;
-      is = ap (λ (c : SeatState P). c.part.role) is;
-      some = some;
-      each = λ k call less at. subst (λ (c : SeatState P). Has (first_asked c.number k call) c.part.sent) (sym is) (each k call less at);
-      only = subst (λ (c : SeatState P). (p : Message) → Has p c.part.sent → AsksForOne c.number calls made p) (sym is) only;
-      count = count;
-      waiting = subst (λ (c : SeatState P). Waits c.number calls made waits task.outstanding) (sym is) waiting;
-    }
+    event_made made waits some each only count waiting =
+        subst (λ (c : SeatState P). HasMade calls c made waits) (sym is)
+        (record { task = task; is = refl; some = some; each = each; only = only; count = count; waiting = waiting })
 
     -- as many as before, where what is sent asks for one of them
     still_made : (made : ℕ) (before waits : Bool) → HasMade calls old made before → ((p : Message) → Has p sends → AsksForOne old.number calls made p)
@@ -231,11 +213,7 @@ module _ {P : Type 0} (calls : List TaskCall) (old new : SeatState P) where
 -- ---- the packets of a step
 
 asked_out : {P : Type 0} (old new : SeatState P) (input : TaskInput) (sent : Sent) (t : IsTaskTurn old input new sent) → AreGivenOut new.part sent t.done.sends
-asked_out {P} old new input sent t = record {
-  texts = t.describes.bytes;
-  count = t.describes.count;
-  sent_all = λ m has. subst (λ (c : SeatState P). Has m c.part.sent) (sym t.after) (has_right m old.part.sent t.done.sends has);
-}
+asked_out old new input sent t = given_out (OfTask t.done.part) t.done.sends old new sent t.after t.describes.bytes t.describes.count
 
 pub sent_once : {P : Type 0} (old new : SeatState P) (input : TaskInput) (sent : Sent) → IsTaskTurn old input new sent → AreSent new.part sent
 sent_once old new input sent t = (t.done.sends, asked_out old new input sent t)
@@ -273,10 +251,10 @@ module _ {S P : Type 0} (next : S → Action → S) (answers : S → Action → 
   asked_puts old new lost a = offers_put next answers begin (Task a.stepped.number) a.turn.done.sends a.stepped new lost a.offered
 
   pub asked_same : (old new : SeatState P) (lost : ℕ) → IsAskedBy next answers begin input old new lost → IsSameSeat old new
-  asked_same old new lost a = same_on old a.stepped new (same_part old a.stepped _ a.turn.after) (same_part a.stepped new _ (asked_puts old new lost a).after)
+  asked_same old new lost a = stepped_same (OfTask a.turn.done.part) a.turn.done.sends old a.stepped new a.turn.after (asked_puts old new lost a)
 
   pub asked_got : (old new : SeatState P) (lost : ℕ) → IsAskedBy next answers begin input old new lost → new.part.got ≡ old.part.got
-  asked_got old new lost a = ap (λ (c : SeatState P). c.part.got) (asked_puts old new lost a).after ∙ ap (λ (c : SeatState P). c.part.got) a.turn.after
+  asked_got old new lost a = stepped_got (OfTask a.turn.done.part) a.turn.done.sends old a.stepped new a.turn.after (asked_puts old new lost a)
 
 -- ---- at first
 

@@ -9,8 +9,8 @@ use Rattle.rp_codec.specs.Message.{Message}
 use Rattle.rp_codec.specs.declared.packet.Party.{Party}
 use Rattle.rp_tasks.specs.Line.{Line, word_of, drawn, accepted, picked, released}
 use Rattle.rp_boxes.specs.Seats.{SeatState, IsFetched}
-use Rattle.rp_threads.specs.Lines.{IsTextAmong, HoldsTextsOf, line_with, given_on, left_of, line_after}
-use Rattle.rp_threads.specs.Turns.{MayFetch, IsLost}
+use Rattle.rp_threads.specs.Lines.{IsTextAmong, HoldsTextsOf, line_with, given_on, left_of}
+use Rattle.rp_threads.specs.Turns.{MayFetch, IsBrought, IsLost}
 
 -- ---- what the line promises of itself
 
@@ -30,6 +30,10 @@ empty_holds packets line none = record { each = λ text has. absurd (subst (λ (
 
 pub same_holds : (packets others : List Message) (line : Line) → others ≡ packets → HoldsTextsOf packets line → HoldsTextsOf others line
 same_holds packets others line same holds = subst (λ (ms : List Message). HoldsTextsOf ms line) (sym same) holds
+
+module _ {P : Type 0} {old new : SeatState P} {line after : Line} where
+  got_holds : new ≡ old → after ≡ line → HoldsTextsOf old.part.got line → HoldsTextsOf new.part.got after
+  got_holds same stays holds = subst (λ (s : SeatState P). HoldsTextsOf s.part.got after) (sym same) (subst (HoldsTextsOf old.part.got) (sym stays) holds)
 
 -- ---- a packet is fetched
 
@@ -70,47 +74,43 @@ module _ {P : Type 0} (from to : Party) (text : List ℕ) (old new : SeatState P
 abbrev pub fetched_text : Option (Vec ℕ Global) → Option (List ℕ)
 fetched_text = option_map (λ (packet : Vec ℕ Global). packet.items)
 
-pub may_fetch : {P : Type 0} (from to : Party) (old new : SeatState P) (found : Option (Vec ℕ Global)) → IfSome found (λ packet. IsFetched from to packet.items old new)
-    → IfNone found (new ≡ old) → MayFetch (fetched_text found) from to old new
-may_fetch from to old new (Some packet) some none = some
-may_fetch from to old new None some none = none
+module _ {P : Type 0} (from to : Party) (old new : SeatState P) where
+  may_fetch : (found : Option (Vec ℕ Global)) → IfSome found (λ packet. IsFetched from to packet.items old new) → IfNone found (new ≡ old) → MayFetch (fetched_text found) from to old new
+  may_fetch (Some packet) some none = some
+  may_fetch None some none = none
 
--- the line stays where nothing was fetched
-line_stays : {A : Type 0} (line after : Line) (result : Result A Fault) → OnOk result (after ≡ line) → OnErr result (after ≡ line) → after ≡ line
-line_stays line after (Ok x) ok err = ok
-line_stays line after (Err e) ok err = err
+  pub fetched_held : (found : Option (Vec ℕ Global)) → IfSome found (λ packet. IsFetched from to packet.items old new) → IfNone found (new ≡ old) → {A : Type 0} (line after : Line) (result : Result A Fault)
+      → OnOk result (after ≡ line_with (fetched_text found) line) → OnErr result (after ≡ line) → KeepsAccepted → HoldsTextsOf old.part.got line → HoldsTextsOf new.part.got after
+  fetched_held (Some packet) f none line after result ok err keeps holds = accepted_holds from to packet.items old new line f holds after result keeps ok err
+  fetched_held None some same line after (Ok x) ok err keeps holds = got_holds same ok holds
+  fetched_held None some same line after (Err e) ok err keeps holds = got_holds same err holds
 
-pub fetched_held : {P A : Type 0} (from to : Party) (fetched : Option (List ℕ)) (old new : SeatState P) (line after : Line) (result : Result A Fault) → MayFetch fetched from to old new
-    → OnOk result (after ≡ line_with fetched line) → OnErr result (after ≡ line) → KeepsAccepted → HoldsTextsOf old.part.got line → HoldsTextsOf new.part.got after
-fetched_held {P} from to None old new line after result same ok err keeps holds =
-    subst (λ (s : SeatState P). HoldsTextsOf s.part.got after) (sym same) (subst (HoldsTextsOf old.part.got) (sym (line_stays line after result ok err)) holds)
-fetched_held from to (Some text) old new line after result f ok err keeps holds = accepted_holds from to text old new line f holds after result keeps ok err
+module _ {P : Type 0} {from to : Party} {old new : SeatState P} where
+  pub is_brought : (found : Option (Vec ℕ Global)) → IfSome found (λ packet. IsFetched from to packet.items old new) → IfNone found (new ≡ old) → (line after : Line)
+      → after ≡ line_with (fetched_text found) line → IsBrought from to old new line after
+  is_brought found some none line after takes = record { fetched = fetched_text found; fetch = may_fetch from to old new found some none; takes = takes }
 
-none_is_some : (A : Type 0) → IsSome {T = A} None → ⊥
-none_is_some A e = absurd cc
-
-pub is_lost : {P : Type 0} (from to : Party) (found : Option (Vec ℕ Global)) (old new : SeatState P) (line after : Line) (fault : Fault) → MayFetch (fetched_text found) from to old new
-    → after ≡ line → IsSome found → fault ≡ OutOfMemory → IsLost from to old new line after fault
-is_lost from to None old new line after fault may same some only = absurd (none_is_some (Vec ℕ Global) some)
-is_lost from to (Some packet) old new line after fault f same some only = record { packet = packet.items; fetch = f; memory = only; stays = same }
+  pub is_lost : (found : Option (Vec ℕ Global)) → IfSome found (λ packet. IsFetched from to packet.items old new) → (line after : Line) (fault : Fault) → after ≡ line → IsSome found → fault ≡ OutOfMemory
+      → IsLost from to old new line after fault
+  is_lost None some line after fault same found only = absurd (cc)
+  is_lost (Some packet) f line after fault same found only = record { packet = packet.items; fetch = f; memory = only; stays = same }
 
 -- ---- a packet is given on
-
--- the line once it gave on what it gives on
-pub is_after : (line after : Line) (held : List (List ℕ)) → line.held ≡ held → (line.held ≢ [] → after ≡ released (word_of line) (drawn line)) → (line.held ≡ [] → after ≡ line)
-    → after ≡ left_of held line
-is_after line after [] is some none = none is
-is_after line after (text ∷ others) is some none = some (λ e. let clash : text ∷ others ≡ [] = sym is ∙ e in cc)
 
 left_holds : (packets : List Message) (line : Line) (texts : List (List ℕ)) → KeepsReleased → HoldsTextsOf packets line → HoldsTextsOf packets (left_of texts line)
 left_holds packets line [] keeps holds = holds
 left_holds packets line (text ∷ texts) keeps holds = record { each = λ found has. holds.each found (keeps (word_of line) found (drawn line) has) }
 
--- the line after it, whatever more was got
-pub after_holds : (packets others : List Message) (line after : Line) → KeepsReleased → HoldsTextsOf packets line → after ≡ line_after line → others ≡ packets
-    → HoldsTextsOf others after
-after_holds packets others line after keeps holds is same =
-    same_holds packets others after same (subst (HoldsTextsOf packets) (sym is) (left_holds packets line line.held keeps holds))
+-- the line once it gave that on
+is_after : (line after : Line) → (line.held ≢ [] → after ≡ released (word_of line) (drawn line)) → (line.held ≡ [] → after ≡ line) → (held : List (List ℕ)) → line.held ≡ held → after ≡ left_of held line
+is_after line after some none [] is = none is
+is_after line after some none (text ∷ others) is = some (λ e. let clash : text ∷ others ≡ [] = sym is ∙ e in cc)
+
+-- whatever more was got
+module _ {packets others : List Message} (line after : Line) where
+  pub released_holds : (line.held ≢ [] → after ≡ released (word_of line) (drawn line)) → (line.held ≡ [] → after ≡ line) → KeepsReleased → HoldsTextsOf packets line → others ≡ packets → HoldsTextsOf others after
+  released_holds some none keeps holds same =
+      same_holds packets others after same (subst (HoldsTextsOf packets) (sym (is_after line after some none line.held refl)) (left_holds packets line line.held keeps holds))
 
 pub given_holds : (packets : List Message) (line : Line) (text : List ℕ) → KeepsPicked → HoldsTextsOf packets line → given_on line ≡ Some text → IsTextAmong packets text
 given_holds packets line text keeps holds given = holds.each text (keeps (word_of line) text line given)

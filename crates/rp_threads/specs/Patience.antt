@@ -1,4 +1,4 @@
--- When a node leads anew.
+-- When a node leads with a new ballot.
 use Rattle.std.specs.Prelude.{ℕ, ◌+◌, ◌-◌, ◌*◌, ◌^◌, Bool, ◌&&◌, ◌||◌, nat_eq, nat_le, min, if◌then◌else◌}
 use Rattle.rp_threads.specs.declared.patience.Patience.{Patience}
 
@@ -6,23 +6,24 @@ use Rattle.rp_threads.specs.declared.patience.Patience.{Patience}
 abbrev pub fresh_wait : ℕ → Patience
 fresh_wait applied = record { applied = applied; quiet = 0; tries = 0 }
 
--- one quiet turn more, and the wait is a fresh one if something new is applied
+-- one more quiet turn; the wait starts again if something new is applied
 abbrev pub one_more : Patience → Patience
 one_more p = record p { quiet = min (p.quiet + 1) (2 ^ 64 - 1) }
 
 abbrev pub waits : ℕ → Patience → Patience
 waits applied p = one_more (if nat_eq applied p.applied then p else fresh_wait applied)
 
--- how many quiet turns the node of a number waits: 32 times its number, and from its third try on twice as many as
--- before, up to 64 times as many
+-- how many quiet turns the node with this number waits: 32 times its number, and from its third try
+-- on twice as many as before, up to 64 times as many
 abbrev pub wait_of : ℕ → Patience → ℕ
 wait_of node p = 32 * node * 2 ^ min (p.tries - 1) 6
 
--- Node 1 leads at once where it has not led since something was applied; else a node leads at the end of its wait.
+-- Node 1 leads at once if it has not led since something was applied; otherwise a node leads at the
+-- end of its wait.
 abbrev pub is_over : ℕ → Patience → Bool
 is_over node p = (nat_eq node 1 && nat_eq p.tries 0) || nat_le (wait_of node p) p.quiet
 
--- a node that leads waits anew
+-- the wait of a node that leads starts again
 abbrev pub tried : Patience → Patience
 tried p = record p { quiet = 0; tries = min (p.tries + 1) (2 ^ 32 - 1) }
 

@@ -1,4 +1,4 @@
--- What the threads of nodes and tasks need, and what they give (no public clause names it).
+-- What the threads of nodes and tasks require, and what they ensure (no public clause names it).
 use Rattle.std.specs.Prelude.{◌≡◌, ℕ, ◌≤◌, Bool, List, [], All, length}
 use Rattle.std.specs.List.{AllZip}
 use Rattle.rp_base.specs.declared.action.Action.{Action}
@@ -11,7 +11,7 @@ use Rattle.rp_threads.specs.declared.starts.NodeStart.{NodeStart}
 use Rattle.rp_threads.specs.declared.starts.TaskStart.{TaskStart}
 use Rattle.rp_threads.specs.declared.tasks.TaskEnd.{TaskEnd}
 
--- One to seven nodes, and tasks for which nothing has happened; and nothing is on a link.
+-- One to seven nodes, and tasks for which nothing has happened; and all links are empty.
 pub record MayRun {M D P : Type 0} (nodes : List (NodeStart M D P)) (tasks : List (TaskStart M P)) : Type 0 where
   pub count : (1 ≤ length nodes) × (length nodes ≤ 7)
   pub node_lines : All (λ start. start.line.held ≡ []) nodes

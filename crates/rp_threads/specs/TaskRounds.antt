@@ -23,13 +23,13 @@ use Rattle.rp_threads.specs.declared.tasks.TaskCall.{TaskCall}
 
 -- ---- a reply
 
--- the task takes what the link gives on, if it gives something: whether a call has its reply now
+-- the task takes the packet that the link passes on, if there is one: whether a call got its reply
 abbrev pub Hears : {P : Type 0} → Option (List ℕ) → SeatState P → SeatState P → Bool → Type 0
 Hears None old new answered = (new ≡ old) × (answered ≡ false)
 Hears (Some text) old new answered =
     (taken : Option Answer) × IsReplyTurn old text new taken × (answered ≡ is_some taken)
 
--- once a call has its reply, in this turn, the task waits for none
+-- if a call got its reply in this turn, the task no longer waits
 abbrev pub heard_by : Bool → ℕ → Calls → Calls
 heard_by answered turn so_far = if answered then record so_far { waits = false; last_reply = turn } else so_far
 
@@ -40,8 +40,8 @@ abbrev pub submitted : Option TaskCall → Option TaskInput
 submitted None = None
 submitted (Some call) = Some (Submit call.node call.object call.operation call.arg)
 
--- what a task asks in a turn: while it waits, in each 16th turn the next of n nodes again; else its next call, if
--- there is one
+-- what a task asks in a turn: while it waits, in each 16th turn the next of n nodes again;
+-- otherwise its next call, if there is one
 abbrev pub asked_by : Bool → ℕ → List TaskCall → ℕ → ℕ → Option TaskInput
 asked_by true nodes calls made turn = if nat_eq (turn % 16) 0 then Some (Again (node_at nodes (turn / 16))) else None
 asked_by false nodes calls made turn = submitted (slice_get calls made)
@@ -50,14 +50,15 @@ abbrev pub asked_in : ℕ → List TaskCall → ℕ → Calls → Option TaskInp
 asked_in nodes calls turn so_far = asked_by so_far.waits nodes calls so_far.made turn
 
 module _ {S P : Type 0} (next : S → Action → S) (answers : S → Action → List Answer) (begin : P → S) where
-  -- One event, by this input; then its packet, if it sends one, was offered to its box, with how many are lost.
+  -- One event, with this input; then its packet, if it sent one, was offered to its box, and n
+  -- packets are lost.
   pub record IsAskedBy (input : TaskInput) (old new : SeatState P) (lost : ℕ) : Type 0 where
     pub stepped : SeatState P
     pub sent : Sent
     pub turn : IsTaskTurn old input stepped sent
     pub offered : AreOffered next answers begin (Task stepped.number) turn.done.sends stepped new lost
 
-  -- the seat once that is asked, and how many packets are lost
+  -- the seat after that is asked, and how many packets are lost
   abbrev pub Asks : Option TaskInput → SeatState P → SeatState P → ℕ → Type 0
   Asks None old new lost = (new ≡ old) × (lost ≡ 0)
   Asks (Some input) old new lost = IsAskedBy input old new lost
@@ -67,8 +68,8 @@ abbrev pub IsRefused : {P : Type 0} → Option TaskInput → SeatState P → Sea
 IsRefused None old new fault = ⊥
 IsRefused (Some input) old new fault = IsNoTaskTurn old input new fault
 
--- how many calls are made then, and whether the task waits: a task that waits goes on to wait, and else waits for its
--- next call, if there is one
+-- how many calls are then made, and whether the task waits: a task that waits continues to wait,
+-- and any other waits for its next call, if there is one
 abbrev pub with_call : Option TaskCall → Calls → Calls
 with_call None so_far = record so_far { waits = false }
 with_call (Some call) so_far = record so_far { made = so_far.made + 1; waits = true }
@@ -80,14 +81,14 @@ made_by false calls so_far = with_call (slice_get calls so_far.made) so_far
 abbrev pub asked_for : List TaskCall → Calls → Calls
 asked_for calls so_far = made_by so_far.waits calls so_far
 
--- n packets more are lost at boxes
+-- n more packets are lost at boxes
 abbrev pub with_lost : ℕ → Calls → Calls
 with_lost lost so_far = record so_far { lost = saturating_sum so_far.lost lost }
 
 -- ---- turns
 
--- Why a task's loop may end before its last turn: out of memory; no number is left for its next call; or the task
--- asks a node above the last, or its next call is not right.
+-- Why a task's loop may end before its last turn: out of memory; no number is left for its next
+-- call; or the task asks a node above the last, or its next call is not valid.
 abbrev pub IsBadCall : Config → ℕ → List TaskCall → ℕ → Type 0
 IsBadCall config task calls made =
     (call : TaskCall) × (slice_get calls made ≡ Some call)
@@ -100,7 +101,7 @@ IsTaskFault nodes calls seat made BadConfig = (seat.config.nodes < nodes) ⊎ Is
 IsTaskFault nodes calls seat made _ = ⊥
 
 module _ {P : Type 0} (nodes : ℕ) (calls : List TaskCall) where
-  -- What a task brings and hears in a turn: it fetches from the next node in rotation.
+  -- What a task fetches and takes in a turn: it fetches from the next node in rotation.
   pub record IsHeard (turn : ℕ) (old : TaskAt P) (new : SeatState P) (line : Line) (so_far : Calls) : Type 0 where
     pub between : SeatState P
     pub full : Line
@@ -110,7 +111,7 @@ module _ {P : Type 0} (nodes : ℕ) (calls : List TaskCall) where
     pub gives : line ≡ line_after full
     pub counts : so_far ≡ heard_by answered turn old.so_far
 
-  -- The turn was not made: what the link gave on is lost, since memory ran out.
+  -- The turn was not made: the packet that the link passed on is lost, because memory ran out.
   pub record IsUnheard (turn : ℕ) (old new : TaskAt P) (fault : Fault) : Type 0 where
     pub full : Line
     pub brought : IsBrought (Node (node_at nodes turn)) (Task old.seat.number) old.seat new.seat old.line full
@@ -124,7 +125,7 @@ module _ {P : Type 0} (nodes : ℕ) (calls : List TaskCall) where
     pub hears : IsHeard turn old heard new.line new.so_far
     pub refused : IsRefused (asked_in nodes calls turn new.so_far) heard new.seat fault
 
-  -- a fault, by which the turn was not made
+  -- a fault because of which the turn was not made
   abbrev pub IsUnmadeTurn : ℕ → TaskAt P → TaskAt P → Fault → Type 0
   IsUnmadeTurn turn old new fault =
       (IsLost (Node (node_at nodes turn)) (Task old.seat.number) old.seat new.seat old.line new.line fault
@@ -133,7 +134,7 @@ module _ {P : Type 0} (nodes : ℕ) (calls : List TaskCall) where
 
 module _ {S P : Type 0} (next : S → Action → S) (answers : S → Action → List Answer) (begin : P → S) (nodes : ℕ)
     (calls : List TaskCall) where
-  -- The turn of this number.
+  -- The turn with this number.
   pub record IsTaskTurnOf (turn : ℕ) (old new : TaskAt P) : Type 0 where
     pub heard : SeatState P
     pub so_far : Calls
@@ -144,14 +145,14 @@ module _ {S P : Type 0} (next : S → Action → S) (answers : S → Action → 
 
 module _ {S P : Type 0} (next : S → Action → S) (answers : S → Action → List Answer) (begin : P → S)
     (gate_heard : ℕ → ℕ → Type 0) (nodes : ℕ) (calls : List TaskCall) where
-  -- the turns 1 to n, one after the other; the gate hears of each
+  -- the turns 1 to n, one after the other; the gate is notified of each
   abbrev pub AreTaskTurns : TaskAt P → ℕ → TaskAt P → Type 0
   AreTaskTurns first zero now = now ≡ first
   AreTaskTurns first (suc n) now =
       (before : TaskAt P) × AreTaskTurns first n before × IsTaskTurnOf next answers begin nodes calls (suc n) before now
       × gate_heard before.seat.number (suc n)
 
-  -- After some turns the next one, of at most n, was not made. The gate heard of it too.
+  -- After some turns the next one, of at most n, was not made. The gate was notified of it too.
   pub record IsTaskEndedBy (first : TaskAt P) (turns : ℕ) (last : TaskAt P) (fault : Fault) : Type 0 where
     pub cause : IsTaskFault nodes calls first.seat last.so_far.made fault
     pub done : ℕ

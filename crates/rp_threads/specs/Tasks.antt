@@ -13,15 +13,15 @@ use Rattle.rp_boxes.specs.Seats.{SeatState}
 use Rattle.rp_threads.specs.declared.tasks.Calls.{Calls}
 use Rattle.rp_threads.specs.declared.tasks.TaskCall.{TaskCall}
 
--- the call that a task makes after n, as nodes know it
+-- the call that a task makes after n others, as nodes know it
 abbrev pub call_after : ℕ → ℕ → TaskCall → Action
 call_after task made call = next_call task made call.object call.operation call.arg
 
--- the packet by which a task asks for it first
+-- the packet in which a task asks for it first
 abbrev pub first_asked : ℕ → ℕ → TaskCall → Message
 first_asked task made call = asks task call.node (call_after task made call)
 
--- whether a task that made n of these calls waits: then for the last of them
+-- whether a task that made n of these calls waits; if so, for the reply to the last of them
 abbrev pub Waits : ℕ → List TaskCall → ℕ → Bool → Option Action → Type 0
 Waits task calls made true outstanding =
     (k : ℕ) × (call : TaskCall) × (made ≡ suc k) × (slice_get calls k ≡ Some call)
@@ -34,8 +34,9 @@ AsksForOne task calls made packet =
     (k : ℕ) × (call : TaskCall) × (node : ℕ) × (k < made) × (slice_get calls k ≡ Some call)
     × (packet ≡ asks task node (call_after task k call))
 
--- The task of this seat made n calls, all of them from the front of this list, each asked of its node, and each
--- packet that it sent asks for one of them; it waits for the last of them, or has all replies.
+-- The task of this seat made the first n calls of this list, each asked of its node, and each
+-- packet that it sent asks for one of them. It waits for the reply to the last of them, or has all
+-- replies.
 pub record HasMade {P : Type 0} (calls : List TaskCall) (seat : SeatState P) (made : ℕ) (waits : Bool) : Type 0 where
   pub task : TaskPart
   pub is : seat.part.role ≡ OfTask task
@@ -46,7 +47,8 @@ pub record HasMade {P : Type 0} (calls : List TaskCall) (seat : SeatState P) (ma
   pub count : length task.replies + (if waits then 1 else 0) ≡ made
   pub waiting : Waits seat.number calls made waits task.outstanding
 
--- where a task's loop is: its seat, its link, how many calls it made, and how many packets its turns lost at boxes
+-- the state of a task's loop: its seat, its link, how many calls it made, and how many packets its
+-- turns lost at boxes
 pub record TaskAt (P : Type 0) : Type 0 where
   pub seat : SeatState P
   pub line : Line

@@ -24,20 +24,21 @@ use Rattle.rp_threads.specs.declared.turns.Turn.TheVariants.{Received, Led, Idle
 use Rattle.rp_threads.specs.declared.turns.PacketCounts.{PacketCounts}
 use Rattle.rp_threads.specs.declared.turns.TurnResult.{TurnResult}
 
--- ---- what comes in
+-- ---- what arrives
 
--- a packet was fetched of which this is the text, or none was
+-- a packet with this text was fetched, or none was
 abbrev pub MayFetch : {P : Type 0} → Option (List ℕ) → Party → Party → SeatState P → SeatState P → Type 0
 MayFetch None from to old new = new ≡ old
 MayFetch (Some text) from to old new = IsFetched from to text old new
 
--- The link took what was fetched, if a packet was.
+-- The link took the packet that was fetched, if one was.
 pub record IsBrought {P : Type 0} (from to : Party) (old new : SeatState P) (line after : Line) : Type 0 where
   pub fetched : Option (List ℕ)
   pub fetch : MayFetch fetched from to old new
   pub takes : after ≡ line_with fetched line
 
--- A packet was fetched, and the link was out of memory to take it: it is lost, and the link stays.
+-- A packet was fetched, and the link was out of memory for it: the packet is lost, and the link
+-- does not change.
 pub record IsLost {P : Type 0} (from to : Party) (old new : SeatState P) (line after : Line)
     (fault : Fault) : Type 0 where
   pub packet : List ℕ
@@ -51,13 +52,13 @@ pub record IsLost {P : Type 0} (from to : Party) (old new : SeatState P) (line a
 abbrev pub no_packets : PacketCounts
 no_packets = record { sent = 0; lost = 0 }
 
--- the node receives what the link gives on, or else leads where it is to
+-- the node receives the packet that the link passes on; if there is none, it leads if it is to
 abbrev pub turn_of : Option (List ℕ) → Bool → Turn
 turn_of (Some text) lead = Received
 turn_of None true = Led
 turn_of None false = Idle
 
--- the input is a packet of this text
+-- the input is a packet with this text
 abbrev pub IsReceipt : List ℕ → Input → Type 0
 IsReceipt text (Receive bytes) = bytes.now ≡ text
 IsReceipt text (Lead choice) = ⊥
@@ -76,19 +77,19 @@ pub record AreSentTexts (part : Part) (bytes : List ℕ) : Type 0 where
   pub texts : bytes ≡ texts_of packets
   pub sent : (m : Message) → Has m packets → Has m part.sent
 
--- These are the packets that a step gives out, all of which the actor sent.
+-- These are the packets that a step returned, all of which the actor sent.
 pub record AreGivenOut (part : Part) (sent : Sent) (packets : List Message) : Type 0 where
   pub texts : sent.bytes.items ≡ texts_of packets
   pub count : sent.packets ≡ length packets
   pub sent_all : (m : Message) → Has m packets → Has m part.sent
 
--- all packets that a step gives out the actor sent
+-- the actor sent all packets that a step returned
 abbrev pub AreSent : Part → Sent → Type 0
 AreSent part sent = (packets : List Message) × AreGivenOut part sent packets
 
 module _ {S P : Type 0} (next : S → Action → S) (answers : S → Action → List Answer) (begin : P → S) where
-  -- the packet of this text went from the seat of a party into its box; or that box was in use, and the packet is
-  -- lost, which changes nothing at the seat
+  -- the packet with this text went from the seat of a party into its box; or that box was in use,
+  -- and the packet is lost, which changes nothing at the seat
   abbrev pub IsOffered : Party → List ℕ → SeatState P → SeatState P → Bool → Type 0
   IsOffered from text old new false = IsPut text old new × WasPut next answers begin from text new
   IsOffered from text old new true = (new ≡ old) × WasInUse next answers begin from text new
@@ -119,7 +120,7 @@ module _ {S P : Type 0} (next : S → Action → S) (answers : S → Action → 
     pub are : AreSentTexts old.part bytes
     pub offered : AreOfferedInPart from are.packets old new
 
-  -- each packet that a step gives out was offered to its box, and n of them are lost
+  -- each packet that a step returned was offered to its box, and n of them are lost
   abbrev pub IsAllOffered : Party → Sent → SeatState P → SeatState P → ℕ → Type 0
   IsAllOffered from sent old new lost =
       (packets : List Message) → AreGivenOut old.part sent packets → AreOffered from packets old new lost
@@ -129,8 +130,8 @@ module _ {S P : Type 0} (next : S → Action → S) (answers : S → Action → 
   IsOfferedInPart from sent old new =
       (packets : List Message) → AreGivenOut old.part sent packets → AreOfferedInPart from packets old new
 
-  -- One event, by such an input; then each of its packets was offered to its box, with how many were sent, and how
-  -- many of these are lost.
+  -- One event, with such an input; then each of its packets was offered to its box, and the counts
+  -- say how many were sent and how many of these are lost.
   pub record IsEventBy (Is : Input → Type 0) (old new : SeatState P) (packets : PacketCounts) : Type 0 where
     pub input : Input
     pub is : Is input
@@ -148,14 +149,14 @@ module _ {S P : Type 0} (next : S → Action → S) (answers : S → Action → 
     pub turn : IsTurn next answers begin old input stepped sent
     pub offered : AreOfferedInPart (Node stepped.number) turn.done.sends stepped new
 
-  -- The step by such an input was cut, or was none, or not all of its packets were offered.
+  -- The step with such an input was cut, or was no event, or not all of its packets were offered.
   pub record IsStopBy (Is : Input → Type 0) (old new : SeatState P) (fault : Fault) : Type 0 where
     pub input : Input
     pub is : Is input
     pub why : IsCutTurn next answers begin old input new fault
         ⊎ (IsNoTurn next answers begin old input new fault ⊎ IsUnsent old input new fault)
 
-  -- what the turn does to the seat, by what the link gives on and whether the node is to lead
+  -- the effect of the turn on the seat, by what the link passes on and whether the node is to lead
   abbrev pub Works : Option (List ℕ) → Bool → SeatState P → SeatState P → PacketCounts → Type 0
   Works (Some text) lead old new packets = IsEventBy (IsReceipt text) old new packets
   Works None true old new packets = IsEventBy IsLead old new packets
@@ -167,8 +168,8 @@ module _ {S P : Type 0} (next : S → Action → S) (answers : S → Action → 
   Fails None true old new fault = IsStopBy IsLead old new fault
   Fails None false old new fault = ⊥
 
-  -- One event or none: the link takes what is fetched, and what it then gives on is received. Where it holds
-  -- nothing, the node leads if it is to, and is else idle.
+  -- One event or none: the link takes what is fetched, and the node receives what the link then
+  -- passes on. If the link is empty, the node leads if it is to, and idles otherwise.
   pub record IsNodeTurn (from : Party) (lead : Bool) (old new : SeatState P) (line after : Line) (turned : TurnResult)
       : Type 0 where
     pub between : SeatState P
@@ -178,7 +179,8 @@ module _ {S P : Type 0} (next : S → Action → S) (answers : S → Action → 
     pub works : Works (given_on full) lead between new turned.packets
     pub gives : after ≡ line_after full
 
-  -- The step after that was cut, or was none; the packet that the link gave on is lost.
+  -- The step after that was cut, or was no event, or not all of its packets were offered; the
+  -- packet that the link passed on is lost.
   pub record IsStoppedTurn (from : Party) (lead : Bool) (old new : SeatState P) (line after : Line) (fault : Fault)
       : Type 0 where
     pub between : SeatState P

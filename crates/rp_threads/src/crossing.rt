@@ -1,4 +1,4 @@
-//! Seats cross to other threads.
+//! Seats may be moved to other threads.
 
 ghost use Rattle.std.specs.Prelude.{◌≡◌};
 
@@ -6,15 +6,15 @@ use rp_boxes::{NodeSeat, TaskSeat};
 use rp_machine::Machine;
 use rp_store::Device;
 
-/// What may cross to another thread, unchanged.
+/// Returns a value that may be moved to another thread, unchanged.
 fn crossing<T: Send>(value: T) -> T
     ensures { result ≡ value }
 {
     value
 }
 
-/// The seat of a node may cross to another thread where its machine and its device may. It does
-/// nothing: what counts is that it is proved.
+/// The seat of a node may be moved to another thread if its machine and its device may. It does
+/// nothing: its only purpose is to be checked.
 pub fn node_seat_crosses<M: Machine + Send, D: Device + Send>(
     seat: NodeSeat<M, D>,
 ) -> NodeSeat<M, D>
@@ -25,7 +25,8 @@ pub fn node_seat_crosses<M: Machine + Send, D: Device + Send>(
     crossing(seat)
 }
 
-/// The same of the seat of a task.
+/// The seat of a task may be moved to another thread if its machine may. It does nothing: its only
+/// purpose is to be checked.
 pub fn task_seat_crosses<M: Machine + Send>(seat: TaskSeat<M>) -> TaskSeat<M>
     // claim as node_seat_crosses
     ensures { result ≡ seat }

@@ -1,17 +1,17 @@
-//! Nodes and tasks in threads of their own.
+//! Nodes and tasks in their own threads.
 //!
 //! In reading order:
-//! - `sends`: the packets of a step go into their boxes
+//! - `sends`: puts the packets of a step into their boxes
 //! - `turns`: a node's turn
-//! - `gate`: who says when a node turns
+//! - `gate`: decides which turns a node makes
 //! - `options`: what the loops of a run share
-//! - `rotation`: whose box a loop empties
-//! - `patience`: when a node leads anew
+//! - `rotation`: whose box a loop empties, and in which turns a node is to lead
+//! - `patience`: when a node leads with a new ballot
 //! - `loops`: a node's turns, one after the other
 //! - `tasks`: a task's calls, one after the other
-//! - `crossing`: seats cross to other threads
-//! - `starts`: a node or a task starts in a thread of its own
-//! - `threads`: all of them run, and are joined
+//! - `crossing`: seats may be moved to other threads
+//! - `starts`: starts the loop of a node or a task in its own thread
+//! - `threads`: runs all of them, and joins them
 #![tactic(auto)]
 
 mod crossing;
@@ -30,6 +30,7 @@ pub use crossing::{node_seat_crosses, task_seat_crosses};
 pub use gate::{Gate, Open};
 pub use loops::{Counts, NodeEnd, node_loop};
 pub use options::LoopOptions;
+pub use rotation::is_to_lead;
 pub use starts::{NodeStart, TaskStart};
 pub use tasks::{TaskCall, TaskEnd, task_loop};
 pub use threads::run_threads;

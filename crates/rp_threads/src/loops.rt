@@ -2,15 +2,15 @@
 
 ghost use Rattle.std.specs.Prelude.{◌≡◌, ◌+◌, ◌^◌, ◌<◌, ◌≤◌, false, true, [], IfOk, IfErr, IfSome};
 ghost use Rattle.rp_threads.specs.Lines.{HoldsTextsOf};
-ghost use Rattle.rp_threads.specs.Loops.{is_refusal, is_idle, sender_at, counted, total_of, with_turn};
-ghost use Rattle.rp_threads.specs.Rounds.{IsToLeadAt, IsLeadAnew, IsMade, IsUnmade, IsTurnOf, is_to_lead};
+ghost use Rattle.rp_threads.specs.Loops.{is_refusal, is_idle, is_to_lead, sender_at, counted, total_of, with_turn};
+ghost use Rattle.rp_threads.specs.Rounds.{IsToLeadAt, IsLeadAnew, IsMade, IsUnmade, IsTurnOf};
 ghost use Rattle.rp_threads.specs.Threads.{IsLooped, end_of};
 ghost use Rattle.rp_threads.specs.Turns.{IsEventBy, IsStopBy};
 
 use crate::gate::Gate;
 use crate::options::LoopOptions;
 use crate::patience::Patience;
-use crate::rotation::sender;
+use crate::rotation::{is_to_lead, sender};
 use crate::turns::{Turn, TurnResult, node_step, node_turn};
 use rp_base::{Fault, Position};
 use rp_boxes::NodeSeat;
@@ -21,26 +21,27 @@ use rp_store::Device;
 use rp_tasks::FaultLine;
 use std::alloc::Global;
 
-/// A node that made its turns.
+/// The end of a node's loop.
 #[derive(Drop)]
 pub struct NodeEnd<M: Machine, D: Device> {
     pub seat: NodeSeat<M, D>,
-    /// The packets that are lost in it are also those that were lost on its link since that was
-    /// made.
+    /// The number of lost packets in it includes those that were lost on the node's link since the
+    /// link was made.
     pub counts: Counts,
-    /// Why the node stopped before its last turn.
+    /// The fault that ended the loop before its last turn, if one did.
     pub fault: Option<Fault>,
 }
 
-/// How many turns there were of each kind, and how many packets were lost in them. A turn is skipped
-/// where the gate does not let it pass, or where the node is refused to lead.
+/// How many turns there were of each kind, and how many packets were lost in them. A turn is
+/// skipped if the gate does not let it pass, or if the node is refused to lead.
 #[derive(Clone, Copy, Debug)]
 pub struct Counts {
     pub received: u64,
     pub led: u64,
     pub idle: u64,
     pub skipped: u64,
-    /// At boxes that were not empty, in the turns that were made. It stays at `u64::MAX`.
+    /// At boxes that were not empty, in the turns that were made. The count saturates at
+    /// `u64::MAX`.
     pub lost: u64,
 }
 
@@ -59,7 +60,7 @@ impl Counts {
         }
     }
 
-    /// One turn more of this kind.
+    /// Counts one more turn of this kind.
     fn add(&mut self, turn: Turn)
         requires { total_of self.old + 1 < 2 ^ 64 }
         ensures { self.new ≡ with_turn turn self.old }
@@ -72,7 +73,7 @@ impl Counts {
     }
 }
 
-/// Whether a fault only refuses that the node leads.
+/// Whether a fault only means that the node cannot lead.
 fn refuses_to_lead(fault: Fault) -> bool
     ensures { result ≡ is_refusal fault }
 {
@@ -83,7 +84,7 @@ fn refuses_to_lead(fault: Fault) -> bool
     }
 }
 
-/// A node at its work: its seat, the link that its packets come through, and how patient it is.
+/// A node in its loop: its seat, the link that delivers its packets, and its patience.
 #[derive(Drop)]
 struct Worker<M: Machine, D: Device> {
     seat: NodeSeat<M, D>,
@@ -108,8 +109,8 @@ fn position_after(applied: u32) -> Option<Position>
     Position::new(u16::try_from(applied).ok()?.checked_add(1)?)
 }
 
-/// Where a node leads anew after a turn in which nothing came: at the first position that it has not
-/// applied, if something is pending there and its patience is over.
+/// The position at which a node leads with a new ballot after an idle turn: the first position that
+/// it has not applied, if something is pending at the node and its patience is over.
 fn position_to_lead<M: Machine, D: Device>(
     seat: &NodeSeat<M, D>,
     patience: &mut Patience,
@@ -125,7 +126,7 @@ fn position_to_lead<M: Machine, D: Device>(
     position_after(applied)
 }
 
-/// The node leads anew at a position.
+/// The node leads at a position, with a new ballot.
 fn lead_at<M: Machine, D: Device>(
     seat: &mut NodeSeat<M, D>,
     alloc: Global,
@@ -147,7 +148,8 @@ fn lead_at<M: Machine, D: Device>(
 }
 
 impl<M: Machine, D: Device> Worker<M, D> {
-    /// A turn of the node, which leads anew where that was idle and its patience is over.
+    /// A turn of the node. If it was idle and the node's patience is over, the node leads with a
+    /// new ballot.
     fn work(&mut self, alloc: Global, from: Party, lead: bool) -> Result<TurnResult, Fault>
         requires held { HoldsTextsOf self.old.seat.part.got self.old.line }
         ensures held { HoldsTextsOf self.new.seat.part.got self.new.line }
@@ -179,7 +181,7 @@ impl<M: Machine, D: Device> Worker<M, D> {
         }
     }
 
-    /// One turn of a loop. `None` where it is skipped.
+    /// One turn of a loop. `None` if it is skipped.
     fn turn<G: Gate>(
         &mut self,
         alloc: Global,
@@ -202,7 +204,7 @@ impl<M: Machine, D: Device> Worker<M, D> {
         if !gate.before(node, turn) {
             return Ok(None);
         }
-        let lead = turn % (8 + u64::from(node.get())) == 0;
+        let lead = is_to_lead(node, turn);
         match self.work(alloc, sender(nodes, turn), lead) {
             Ok(turned) => {
                 gate.after(node, turn, turned.packets.sent);
@@ -217,13 +219,13 @@ impl<M: Machine, D: Device> Worker<M, D> {
     }
 }
 
-/// Turns of a node, as many as the options say, with the boxes of the nodes 1 to `nodes` and of the
-/// tasks emptied in rotation. The node is to lead in the turns whose number is 0 modulo 8 and its
-/// own number; and where a turn is idle while something is pending, it leads anew at the first
-/// position that it has not applied, once it has waited for so long (`Patience`). A fault ends the
-/// loop, but where it only refuses that the node leads: `OutOfMemory`, `Device` where its device
-/// failed, or `Failed` where it had failed before the first turn. It waits for nobody, unless the
-/// gate does.
+/// Makes the turns of a node, as many as the options say. They empty the boxes of the nodes 1 to
+/// `nodes` and of the tasks, in rotation. Node n is to lead in the turns whose number is divisible
+/// by 8 + n. If a turn is idle while something is pending, the node leads with a new ballot at the
+/// first position that it has not applied, once it has waited long enough (`Patience`). A fault
+/// ends the loop, unless it only means that the node cannot lead: `OutOfMemory`, `Device` if its
+/// device failed, or `Failed` if it had failed before the first turn. The loop never blocks, unless
+/// the gate does.
 pub fn node_loop<M: Machine, D: Device, G: Gate>(
     seat: NodeSeat<M, D>,
     line: FaultLine,
@@ -233,9 +235,9 @@ pub fn node_loop<M: Machine, D: Device, G: Gate>(
     requires nodes { nodes ≤ 7 }
     requires line { line.held ≡ [] }
     // claim (result): A node's loop makes its turns from 1 on, one after the other: each empties
-    //   the box of that turn's sender and is the turn of the node, or one in which it leads anew at
-    //   the first position that it has not applied; a turn is skipped if the gate says so, or if
-    //   the node is refused to lead
+    //   the box of that turn's sender and is the turn of the node, or one in which it leads with a
+    //   new ballot at the first position that it has not applied; a turn is skipped if the gate
+    //   says so, or if the node is refused to lead
     // claim (result): The gate is called after each turn of a node that it lets pass, with that
     //   node, that turn and the number of packets sent in it, 0 if the node was refused to lead
     // claim (result): Without a fault a node's loop counts all turns, its seat had one event for

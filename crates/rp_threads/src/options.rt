@@ -6,9 +6,9 @@ use std::alloc::{AllocError, Global};
 
 /// How the loops of a run make their turns.
 pub struct LoopOptions<'a, G> {
-    /// Where they take memory.
+    /// The allocator that they use.
     pub alloc: Global,
-    /// Who says when a node turns.
+    /// Decides which turns a node makes.
     pub gate: &'a G,
     /// How many turns each loop makes.
     pub turns: u64,

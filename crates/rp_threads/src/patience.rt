@@ -1,21 +1,22 @@
-//! When a node leads anew.
+//! When a node leads with a new ballot.
 
 ghost use Rattle.std.specs.Prelude.{◌≡◌};
 ghost use Rattle.rp_threads.specs.Patience.{fresh_wait, waits, heard, is_over};
 
 use rp_base::NodeId;
 
-/// After how many quiet turns node 1 leads once more; node k waits k times as many.
+/// After how many quiet turns node 1 leads again; node k waits k times as many.
 const QUIET_TURNS: u64 = 32;
 
-/// How often a wait is doubled at most.
+/// At most how often a wait is doubled.
 const MOST_DOUBLINGS: u32 = 6;
 
-/// How long a node has waited for something new to be applied, and how often it led since then: one
-/// node leads, and the others are patient. Node 1 leads as soon as something is pending, and node k
-/// after 32 k quiet turns: turns in which nothing came while something was pending. A node that led in
-/// vain waits as long again, and from its third try on twice as long as before, up to 64 times as
-/// long. Once something new is applied it waits afresh.
+/// How long a node has waited for something new to be applied, and how often it has led since then.
+/// The waits differ, so that one node leads while the others wait. Node 1 leads as soon as
+/// something is pending, and node k after 32 k quiet turns. A turn is quiet if nothing arrived in
+/// it while something was pending. A node that led in vain waits as long again, and from its third
+/// try on twice as long as before, up to 64 times as long. Once something new is applied, the wait
+/// and the tries start again from 0.
 #[derive(Clone, Copy)]
 pub(crate) struct Patience {
     applied: u32,
@@ -35,8 +36,8 @@ impl Patience {
         }
     }
 
-    /// Hears of a quiet turn of the node of this number, which has applied n actions. Whether it is
-    /// to lead now; then it waits anew.
+    /// Counts a quiet turn of the node of this number, which has applied n actions. Returns whether
+    /// the node is to lead now; if so, its wait starts again.
     pub(crate) fn is_over(&mut self, node: NodeId, applied: u32) -> bool
         ensures answer { result ≡ is_over node (waits applied self.old) }
         ensures after { self.new ≡ heard node applied self.old }

@@ -1,13 +1,13 @@
-//! Whose box a loop empties.
+//! Whose box a loop empties in a turn, and whether a node is to lead in it.
 
 ghost use Rattle.std.specs.Prelude.{◌≡◌, ◌+◌, ◌%◌, ◌≤◌};
-ghost use Rattle.rp_threads.specs.Loops.{sender_at, node_at};
+ghost use Rattle.rp_threads.specs.Loops.{sender_at, node_at, is_to_lead};
 
 use rp_base::{MOST_TASKS, NodeId, TaskId};
 use rp_codec::Party;
 
-/// Whose box a node empties in a turn: those of all nodes, then that of one task, each task in its
-/// turn.
+/// Whose box a node empties in a turn: the boxes of all nodes in order, then that of one task, with
+/// the tasks in rotation.
 pub(crate) fn sender(nodes: u8, turn: u64) -> Party
     requires { nodes ≤ 7 }
     ensures { result ≡ sender_at nodes turn }
@@ -22,7 +22,15 @@ pub(crate) fn sender(nodes: u8, turn: u64) -> Party
     }
 }
 
-/// Which of the nodes a task turns to in a turn: each in rotation.
+/// Whether a node is to lead in a turn: node n leads in each turn whose number is divisible by 8 +
+/// n.
+pub fn is_to_lead(node: NodeId, turn: u64) -> bool
+    ensures { result ≡ is_to_lead node turn }
+{
+    turn % (8 + u64::from(node.get())) == 0
+}
+
+/// The node that a task uses in a turn: all nodes in rotation.
 pub(crate) fn node_in_turn(nodes: u8, turn: u64) -> NodeId
     requires { (1 ≤ nodes) × (nodes ≤ 7) }
     ensures { result ≡ node_at nodes turn }

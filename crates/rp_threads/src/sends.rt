@@ -1,4 +1,4 @@
-//! The packets of a step go into their boxes.
+//! Puts the packets of a step into their boxes.
 
 ghost use Rattle.std.specs.Prelude.{◌≡◌, IfOk, OnErr};
 ghost use Rattle.rp_codec.specs.declared.packet.Party.TheVariants.{Node};
@@ -12,8 +12,8 @@ use rp_replica::Sent;
 use rp_store::Device;
 use std::alloc::{AllocError, Global};
 
-/// Puts a packet that the node sent into its box. Where the box is not empty the packet is lost, and
-/// the seat keeps its buffer. Whether it is lost.
+/// Puts a packet that the node sent into its box. If the box is not empty, the packet is lost, and
+/// the seat keeps its buffer. Returns whether it is lost.
 fn put_text<M: Machine, D: Device>(seat: &mut NodeSeat<M, D>, packet: Vec<u8>) -> bool
     requires { IsSentText seat.old.part packet.items }
     ensures { IsOffered M.next M.answers M.begin (Node seat.old.number) packet.items
@@ -44,9 +44,9 @@ fn put_copy<M: Machine, D: Device>(
     Ok(put_text(seat, packet))
 }
 
-/// Puts the packets of a step, one by one, as `put_text` does. One packet alone is put as it is; of
-/// several each is copied. How many are lost since their boxes were not empty. Where memory runs out
-/// for a copy, it and those after it are lost, and none is counted.
+/// Puts the packets of a step, one by one, as `put_text` does. A single packet is put as it is;
+/// several are copied one by one. Returns how many are lost because their boxes were not empty. If
+/// memory runs out for a copy, that packet and those after it are lost, and none is counted.
 pub(crate) fn put_all<M: Machine, D: Device>(
     seat: &mut NodeSeat<M, D>,
     alloc: Global,
@@ -55,7 +55,7 @@ pub(crate) fn put_all<M: Machine, D: Device>(
     requires { AreSent seat.old.part sent }
     ensures offered { IfOk result (IsAllOffered M.next M.answers M.begin (Node seat.old.number)
         sent seat.old seat.new) }
-    ensures cut { OnErr result (IsOfferedInPart M.next M.answers M.begin (Node seat.old.number)
+    ensures part { OnErr result (IsOfferedInPart M.next M.answers M.begin (Node seat.old.number)
         sent seat.old seat.new) }
 {
     if sent.packets == 0 {
@@ -72,7 +72,7 @@ pub(crate) fn put_all<M: Machine, D: Device>(
     put
 }
 
-/// Puts copies of packets that the node sent, one by one. How many are lost.
+/// Puts copies of packets that the node sent, one by one. Returns how many are lost.
 fn put_each<M: Machine, D: Device>(
     seat: &mut NodeSeat<M, D>,
     alloc: Global,
@@ -81,7 +81,7 @@ fn put_each<M: Machine, D: Device>(
     requires { AreSentTexts seat.old.part texts.now }
     ensures offered { IfOk result (AreTextsOffered M.next M.answers M.begin
         (Node seat.old.number) texts.now seat.old seat.new) }
-    ensures cut { OnErr result (AreTextsOfferedInPart M.next M.answers M.begin
+    ensures part { OnErr result (AreTextsOfferedInPart M.next M.answers M.begin
         (Node seat.old.number) texts.now seat.old seat.new) }
 {
     seat.sends_packets();

@@ -1,4 +1,4 @@
-//! A node or a task starts in a thread of its own.
+//! Starts the loop of a node or a task in its own thread.
 
 ghost use Rattle.std.specs.Prelude.{◌≡◌, ◌≤◌, [], IfOk};
 ghost use Rattle.rp_boxes.specs.Parts.{fresh_part, OfTask};
@@ -18,15 +18,15 @@ use std::marker::PhantomData;
 use std::snapshot::Snapshot;
 use std::thread::{Promise, PromisedHandle, Scope};
 
-/// A node that is to run in a thread of its own, and the link that its packets come through.
+/// A node that is to run in its own thread, and the link that delivers its packets.
 #[derive(Drop)]
 pub struct NodeStart<M: Machine, D: Device> {
     pub seat: NodeSeat<M, D>,
     pub line: FaultLine,
 }
 
-/// A task that is to run in a thread of its own, with the calls that it is to make and the link
-/// that its packets come through.
+/// A task that is to run in its own thread, with the calls that it is to make and the link that
+/// delivers its packets.
 #[derive(Drop)]
 pub struct TaskStart<M: Machine> {
     pub seat: TaskSeat<M>,
@@ -34,8 +34,8 @@ pub struct TaskStart<M: Machine> {
     pub line: FaultLine,
 }
 
-/// The thread of a node guarantees what `node_loop` promises of its seat and link, of n nodes and n
-/// turns.
+/// The thread of a node guarantees what `node_loop` ensures of its seat and link, for this number
+/// of nodes and of turns.
 #[derive(Drop)]
 pub(crate) struct NodeGuarantee<M: Machine, D: Device, G: Gate> {
     pub(crate) seat: Snapshot<NodeSeat<M, D>>,
@@ -52,8 +52,8 @@ impl<M: Machine, D: Device, G: Gate> Promise<NodeEnd<M, D>> for NodeGuarantee<M,
         guarantee.nodes guarantee.turns guarantee.seat.value guarantee.line.value end };
 }
 
-/// The thread of a task guarantees what `task_loop` promises of its seat, calls and link, of n
-/// nodes and n turns.
+/// The thread of a task guarantees what `task_loop` ensures of its seat, calls and link, for this
+/// number of nodes and of turns.
 #[derive(Drop)]
 pub(crate) struct TaskGuarantee<M: Machine, G: Gate> {
     pub(crate) seat: Snapshot<TaskSeat<M>>,
@@ -72,7 +72,8 @@ impl<M: Machine, G: Gate> Promise<TaskEnd<M>> for TaskGuarantee<M, G> {
         guarantee.line.value end };
 }
 
-/// Starts a node's loop in a thread. Refused where no thread can be made; the seat is dropped then.
+/// Starts a node's loop in a thread. If no thread can be made, it is refused and the seat is
+/// dropped.
 pub(crate) fn start_node<'s, E, M: Machine + Send + 's, D: Device + Send + 's, G: Gate + Sync>(
     scope: &Scope<'s, E>,
     start: NodeStart<M, D>,
@@ -107,7 +108,8 @@ where
     Ok(handle)
 }
 
-/// Starts a task's loop in a thread. Refused where no thread can be made; the seat is dropped then.
+/// Starts a task's loop in a thread. If no thread can be made, it is refused and the seat is
+/// dropped.
 pub(crate) fn start_task<'s, E, M: Machine + Send + 's, G: Gate + Sync>(
     scope: &Scope<'s, E>,
     start: TaskStart<M>,

@@ -36,33 +36,33 @@ pub struct TaskCall {
     pub arg: i64,
 }
 
-/// A task that made its turns, and how many of its calls it made.
+/// The end of a task's loop, and how many of its calls the task made.
 #[derive(Drop)]
 pub struct TaskEnd<M: Machine> {
     pub seat: TaskSeat<M>,
     pub made: usize,
-    /// The turn in which its last reply came, or 0.
+    /// The turn in which its last reply arrived, or 0.
     pub last_reply: u64,
-    /// How many packets were lost: on its link since that was made, and, in the turns that were
-    /// made, at boxes that were not empty. It stays at `u64::MAX`.
+    /// How many packets were lost: on its link since the link was made, and at boxes that were not
+    /// empty, in the turns that were made. The count saturates at `u64::MAX`.
     pub lost: u64,
-    /// Why the task stopped before its last turn.
+    /// The fault that ended the loop before its last turn, if one did.
     pub fault: Option<Fault>,
 }
 
-/// How many calls a task made, whether it waits for the last, in which turn the last reply came, and
-/// how many packets were lost at boxes that were not empty.
+/// How many calls a task made, whether it waits for the reply to the last, in which turn the last
+/// reply arrived, and how many packets were lost at boxes that were not empty.
 #[derive(Clone, Copy)]
 struct Calls {
     made: usize,
     waits: bool,
-    /// 0 where no reply came.
+    /// 0 if no reply arrived.
     last_reply: u64,
     lost: u64,
 }
 
 impl Calls {
-    /// Once a call has its reply, in this turn, the task waits for none.
+    /// If a call got its reply in this turn, the task no longer waits.
     fn hear(&mut self, answered: bool, turn: u64)
         ensures { self.new ≡ heard_by answered turn self.old }
     {
@@ -72,7 +72,7 @@ impl Calls {
         }
     }
 
-    /// Counts n packets more as lost at boxes.
+    /// Counts n more packets as lost at boxes.
     fn lose(&mut self, lost: usize)
         ensures { self.new ≡ with_lost lost self.old }
     {
@@ -80,7 +80,7 @@ impl Calls {
     }
 }
 
-/// A task at its work: its seat, the link that its packets come through, and its calls so far.
+/// A task in its loop: its seat, the link that delivers its packets, and its calls so far.
 #[derive(Drop)]
 struct Caller<M: Machine> {
     seat: TaskSeat<M>,
@@ -88,7 +88,8 @@ struct Caller<M: Machine> {
     so_far: Calls,
 }
 
-/// The task takes what the link gives on, if it gives something. Whether a call has its reply now.
+/// The task takes the packet that the link passes on, if there is one. Returns whether a call got
+/// its reply.
 fn hear<M: Machine>(
     seat: &mut TaskSeat<M>,
     line: &mut FaultLine,
@@ -110,8 +111,8 @@ fn hear<M: Machine>(
     }
 }
 
-/// Puts a packet that the task sent into its box. Where the box is not empty the packet is lost, and
-/// the seat keeps its buffer. Whether it is lost.
+/// Puts a packet that the task sent into its box. If the box is not empty, the packet is lost, and
+/// the seat keeps its buffer. Returns whether it is lost.
 fn put_text<M: Machine>(seat: &mut TaskSeat<M>, packet: Vec<u8>) -> bool
     requires { IsSentText seat.old.part packet.items }
     ensures { IsOffered M.next M.answers M.begin (parties.Task seat.old.number) packet.items
@@ -126,7 +127,7 @@ fn put_text<M: Machine>(seat: &mut TaskSeat<M>, packet: Vec<u8>) -> bool
     }
 }
 
-/// Puts the packet of a step into its box, if it has one. How many are lost.
+/// Puts the packet of a step into its box, if there is one. Returns how many packets are lost.
 fn put_sent<M: Machine>(seat: &mut TaskSeat<M>, sent: Sent) -> usize
     requires sent { AreSent seat.old.part sent }
     requires few { sent.packets ≤ 1 }
@@ -139,7 +140,7 @@ fn put_sent<M: Machine>(seat: &mut TaskSeat<M>, sent: Sent) -> usize
     0
 }
 
-/// The task makes a call, and asks its node. How many packets are lost.
+/// The task makes a call, and asks its node for it. Returns how many packets are lost.
 fn make<M: Machine>(seat: &mut TaskSeat<M>, alloc: Global, call: TaskCall) -> Result<usize, Fault>
     ensures got { seat.new.part.got ≡ seat.old.part.got }
     ensures ok { IfOk result
@@ -150,7 +151,8 @@ fn make<M: Machine>(seat: &mut TaskSeat<M>, alloc: Global, call: TaskCall) -> Re
     Ok(put_sent(seat, sent))
 }
 
-/// The task asks a node once more, for the call that it waits for. How many packets are lost.
+/// The task asks a node once more for the call that waits for its reply. Returns how many packets
+/// are lost.
 fn ask_again<M: Machine>(
     seat: &mut TaskSeat<M>,
     alloc: Global,
@@ -180,8 +182,8 @@ impl<M: Machine> Caller<M> {
         }
     }
 
-    /// The task makes its next call, if it waits for none and there is one. While it waits it asks
-    /// the next node again from time to time. How many packets are lost.
+    /// The task makes its next call, if it waits for no reply and there is a next call. While it
+    /// waits, it asks the next node again in every 16th turn. Returns how many packets are lost.
     fn ask(
         &mut self,
         alloc: Global,
@@ -214,8 +216,8 @@ impl<M: Machine> Caller<M> {
         Ok(lost)
     }
 
-    /// A turn of a task: it fetches from a node through its link, takes what is given on, and then
-    /// asks.
+    /// A turn of a task: it fetches from a node through its link, takes the packet that the link
+    /// passes on, and then asks.
     fn turn(&mut self, alloc: Global, nodes: u8, calls: &[TaskCall], turn: u64) -> Result<(), Fault>
         requires nodes { (1 ≤ nodes) × (nodes ≤ 7) }
         requires held { HoldsTextsOf self.old.seat.part.got self.old.line }
@@ -238,12 +240,13 @@ impl<M: Machine> Caller<M> {
     }
 }
 
-/// Turns of a task, as many as the options say. In each it fetches from one of the nodes 1 to
-/// `nodes`, in rotation, through its link, and takes the reply that the link may give on. It makes
-/// its calls in order, the first in the first turn and each other once the one before has its reply;
-/// while it waits it asks the next node again in every 16th turn. A fault ends the loop:
-/// `OutOfMemory`, `NumbersSpent` where no number is left for the next call, or `BadConfig` where
-/// that is not right or asks a node above the last. It waits for nobody, unless the gate does.
+/// Makes the turns of a task, as many as the options say. In each it fetches from one of the nodes
+/// 1 to `nodes`, in rotation, through its link, and takes the reply that the link may pass on. It
+/// makes its calls in order: the first in the first turn, and each later one once the call before
+/// has its reply. While it waits, it asks the next node again in every 16th turn. A fault ends the
+/// loop: `OutOfMemory`, `NumbersSpent` if no number is left for the next call, or `BadConfig` if
+/// that call is not valid or asks a node above the last. The loop never blocks, unless the gate
+/// does.
 pub fn task_loop<M: Machine, G: Gate>(
     seat: TaskSeat<M>,
     calls: &[TaskCall],

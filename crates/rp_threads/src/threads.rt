@@ -1,4 +1,4 @@
-//! Nodes and tasks run in threads of their own.
+//! Runs nodes and tasks in their own threads.
 
 ghost use Rattle.std.specs.Prelude.{◌≡◌, ◌≤◌, [], All, IfOk, length};
 ghost use Rattle.std.specs.List.{AllZip};
@@ -19,7 +19,7 @@ use std::sync::Wait;
 use std::thread;
 use std::thread::{PromisedHandle, Scope, Threads};
 
-/// Starts the nodes, each in a thread.
+/// Starts the nodes, each in its own thread.
 fn start_nodes<'s, E, M: Machine + Send + 's, D: Device + Send + 's, G: Gate + Sync>(
     scope: &Scope<'s, E>,
     starts: Vec<NodeStart<M, D>>,
@@ -42,7 +42,7 @@ where
     Ok(handles)
 }
 
-/// Starts the tasks, each in a thread.
+/// Starts the tasks, each in its own thread.
 fn start_tasks<'s, E, M: Machine + Send + 's, G: Gate + Sync>(
     scope: &Scope<'s, E>,
     starts: Vec<TaskStart<M>>,
@@ -66,7 +66,7 @@ where
     Ok(handles)
 }
 
-/// Joins the threads of nodes.
+/// Joins the threads of the nodes.
 fn join_nodes<R: Threads, M: Machine, D: Device, G: Gate>(
     rt: &R,
     handles: Vec<PromisedHandle<NodeEnd<M, D>, NodeGuarantee<M, D, G>>>,
@@ -79,7 +79,7 @@ fn join_nodes<R: Threads, M: Machine, D: Device, G: Gate>(
     Ok(ends)
 }
 
-/// Joins the threads of tasks.
+/// Joins the threads of the tasks.
 fn join_tasks<R: Threads, M: Machine, G: Gate>(
     rt: &R,
     handles: Vec<PromisedHandle<TaskEnd<M>, TaskGuarantee<M, G>>>,
@@ -93,7 +93,7 @@ fn join_tasks<R: Threads, M: Machine, G: Gate>(
     Ok(ends)
 }
 
-/// Starts all, and joins them.
+/// Starts all threads, and joins them.
 fn run_within<'s, E, R: Threads, M: Machine + Send + 's, D: Device + Send + 's, G: Gate + Sync>(
     scope: &Scope<'s, E>,
     rt: &R,
@@ -115,11 +115,11 @@ where
     Ok((nodes, tasks))
 }
 
-/// Runs each node and each task in a thread of its own, and answers once all of them have ended, with
-/// their ends in the order of the starts. The nodes are taken to be those of the numbers 1 to n. A
-/// node turns as `node_loop` says and a task as `task_loop` does, both by the options. `AllocError`
-/// where no thread can be made for one of them, or where memory runs out for the list of them: the
-/// threads that were started still run to their end, and no seat comes back.
+/// Runs each node and each task in its own thread. It returns once all of them have ended, with
+/// their ends in the order of the starts. The nodes are assumed to be those of the numbers 1 to n.
+/// A node makes its turns as `node_loop` describes and a task as `task_loop` does, both by the
+/// options. `AllocError` if no thread can be made for one of them, or if memory runs out for the
+/// list of them: the threads that were started still run to their end, and no seat is returned.
 pub fn run_threads<R: Threads + Wait, M: Machine + Send, D: Device + Send, G: Gate + Sync>(
     rt: &R,
     nodes: Vec<NodeStart<M, D>>,

@@ -29,12 +29,12 @@ pub enum Turn {
     Idle,
 }
 
-/// What became of the packets of a step.
+/// What happened to the packets of a step.
 #[derive(Clone, Copy, Debug, PartialEq, Eq)]
 pub struct PacketCounts {
     /// How many the step sent.
     pub sent: usize,
-    /// How many of them are lost, since their boxes were not empty.
+    /// How many of them are lost because their boxes were not empty.
     pub lost: usize,
 }
 
@@ -45,7 +45,7 @@ pub struct TurnResult {
     pub packets: PacketCounts,
 }
 
-/// The link takes the packet that was fetched, if one was. At `OutOfMemory` that packet is gone.
+/// The link takes the packet that was fetched, if one was. At `OutOfMemory` that packet is lost.
 pub(crate) fn take_fetched(
     line: &mut FaultLine,
     alloc: Global,
@@ -63,10 +63,11 @@ pub(crate) fn take_fetched(
     }
 }
 
-/// One step of a node, of a packet that its seat got or of another input, whose packets go into their
-/// boxes: one whose box is not empty is lost. How many were sent and lost. Refused as `NodeSeat::turn` is, which
-/// says what that leaves; and with `OutOfMemory` where memory runs out for the copy of a packet: then
-/// the step was made, the packets before that one were offered, and it and those after it are lost.
+/// Makes one step of a node, with a packet that its seat got or with another input, and puts the
+/// packets that it sends into their boxes. A packet whose box is not empty is lost. Returns how
+/// many packets were sent and how many of them were lost. Refused as `NodeSeat::turn` is, which
+/// says what that leaves. `OutOfMemory` also if memory runs out for the copy of a packet: then the
+/// step was made, the packets before that one were offered, and it and those after it are lost.
 pub fn node_step<M: Machine, D: Device>(
     seat: &mut NodeSeat<M, D>,
     alloc: Global,
@@ -92,7 +93,7 @@ pub fn node_step<M: Machine, D: Device>(
     })
 }
 
-/// The node receives what the link gives on, or else leads where it is to.
+/// The node receives the packet that the link passes on. If there is none, it leads if it is to.
 fn work<M: Machine, D: Device>(
     seat: &mut NodeSeat<M, D>,
     line: &mut FaultLine,
@@ -132,12 +133,12 @@ fn work<M: Machine, D: Device>(
     }
 }
 
-/// A turn of a node: the link takes the packet in the box from a party, if there is one, and the
-/// node receives what the link then gives on. If the link is empty, the node leads if it is to, and
-/// is else idle. The packets that it sends go into their boxes; one whose box is not empty is lost.
-/// At a fault the packet that was fetched is lost if memory ran out for it, and else the one that
-/// the link gave on; where memory ran out for the copy of a packet that was sent, the step was
-/// made.
+/// A turn of a node. The link takes the packet in the box from a party, if there is one, and the
+/// node receives the packet that the link then passes on. If the link is empty, the node leads if
+/// it is to, and idles otherwise. The packets that it sends go into their boxes; one whose box is
+/// not empty is lost. At a fault the packet that was fetched is lost if memory ran out for it, and
+/// otherwise the packet that the link passed on. If memory ran out for the copy of a packet that
+/// was sent, the step was made.
 pub fn node_turn<M: Machine, D: Device>(
     seat: &mut NodeSeat<M, D>,
     line: &mut FaultLine,

@@ -1,7 +1,7 @@
 ghost use Rattle.std.specs.Prelude.{IfOk, List, ℕ, OnOk};
 ghost use Rattle.rp_boxes.specs.Audits.{IsGotReport};
 
-use crate::setup::{CONFIG, devices, receive};
+use crate::setup::{CONFIG, receive};
 use rp_base::{Action, Fault, NodeId, Position};
 use rp_boxes::{Added, AllSeats, Audit, NodeSeat, seats};
 use rp_codec::Party;
@@ -12,7 +12,7 @@ use rp_threads::node_step;
 use std::alloc::Global;
 use std::test::Fail;
 
-/// The node receives what is in its boxes from the nodes, once each.
+/// The node receives the packets in its boxes from the nodes, one from each.
 fn receive_all<M: Machine, D: Device>(
     seat: &mut NodeSeat<M, D>,
     alloc: Global,
@@ -24,7 +24,7 @@ fn receive_all<M: Machine, D: Device>(
     Ok(())
 }
 
-/// Each node receives what is in its boxes from the nodes, once each.
+/// Each node receives the packets in its boxes from the nodes, one from each.
 fn go_round<M: Machine, D: Device>(
     alloc: Global,
     nodes: &mut [NodeSeat<M, D>],
@@ -35,7 +35,8 @@ fn go_round<M: Machine, D: Device>(
     Ok(())
 }
 
-/// Node 1 takes a tick and leads, and all nodes receive what comes, until each has applied it.
+/// Node 1 takes a tick and leads, and all nodes receive their packets until each has applied the
+/// tick.
 fn tick<M: Machine, D: Device>(
     alloc: Global,
     nodes: &mut [NodeSeat<M, D>],
@@ -50,7 +51,7 @@ fn tick<M: Machine, D: Device>(
     Ok(())
 }
 
-/// The audit gets a report of the first node from a position on, as its text.
+/// The audit gets a report of the first node from a position on, and returns its text.
 fn reported<M: Machine, D: Device>(
     alloc: Global,
     nodes: &mut [NodeSeat<M, D>],
@@ -73,7 +74,7 @@ fn reported<M: Machine, D: Device>(
     }
 }
 
-/// The audit adds a report, and what it got before it still has.
+/// The audit adds a report, and keeps all reports that it got before.
 fn adds<M: Machine>(audit: &mut Audit<M>, alloc: Global, report: &[u8]) -> Result<Added, Fault>
     requires { IsGotReport audit.old.seat.part report.now }
     ensures kept { (text : List ℕ) → IsGotReport audit.old.seat.part text
@@ -95,15 +96,15 @@ fn add_both<M: Machine>(
     Ok([adds(audit, alloc, report)?, adds(audit, alloc, other)?])
 }
 
-/// The results of reports of the first node, and what is known of it then.
+/// The results of adding reports of the first node, and the actions then known of it.
 #[derive(Drop)]
 struct Heard {
     outcomes: [Added; 4],
     known: Vec<Action>,
 }
 
-/// Node 1 reports before it has applied anything, and once it has applied one action, two and
-/// three. The report of one is added after that of two.
+/// Node 1 reports before it has applied anything, and after one action, two and three. The report
+/// of one is added after that of two.
 fn hear<M: Machine, D: Device>(
     alloc: Global,
     program: &M::Program,
@@ -135,7 +136,7 @@ fn hear<M: Machine, D: Device>(
 fn an_audit_knows_what_was_reported_without_a_gap(rt: HostRuntime) -> Result<(), Fail> {
     let alloc = rt.alloc();
     let program = TallyProgram::new(1).ok_or("one object")?;
-    let devices = devices(alloc)?;
+    let devices = MemDevice::several(alloc, CONFIG.nodes)?;
     let heard = hear::<Tally, MemDevice>(alloc, &program, devices)?;
     let node = NodeId::new(1).ok_or("node 1")?;
     let outcomes = [

@@ -1,10 +1,10 @@
-//! Nodes and a task run in threads of their own.
+//! Nodes and a task run, each in a thread.
 
 ghost use Rattle.std.specs.Prelude.{◌≡◌, ◌<◌, [], All, IfOk, IfSome, length, slice_get};
 ghost use Rattle.rp_boxes.specs.Parts.{fresh_part, OfTask};
 ghost use Rattle.rp_model.specs.Parts.{fresh_task};
 
-use crate::setup::{CONFIG, devices};
+use crate::setup::CONFIG;
 use rp_base::{Fault, NodeId, Operation, Position, TaskId};
 use rp_boxes::{Added, AllSeats, Audit, NodeSeat, TaskSeat, seats};
 use rp_codec::{Body, Party, decode, packet_len};
@@ -24,16 +24,16 @@ use std::thread::Threads;
 /// How many turns each node and each task makes.
 const TURNS: u64 = 400;
 
-/// How often a node looks whether it may go on.
+/// How often a node polls before it gives up.
 const LOOKS: u64 = 100_000_000;
 
-/// Holds all nodes but the first until that one leads, and then holds the first until the second has
-/// sent a packet: no order in which one thread could make their turns passes.
+/// Holds all nodes except the first until that one leads, and then holds the first until the second
+/// has sent a packet. If one thread made all turns, no order of them would pass.
 #[derive(Drop)]
 struct InStep {
     led: AtomicU64,
     answered: AtomicU64,
-    /// A node looked for too long.
+    /// Set once a node has polled for too long.
     late: AtomicU64,
 }
 
@@ -46,7 +46,7 @@ impl InStep {
         }
     }
 
-    /// Looks until the flag is set.
+    /// Polls until the flag is set.
     fn look_for(&self, flag: &AtomicU64) {
         if self.late.load(Ordering::SeqCst) != 0 {
             return;
@@ -92,7 +92,7 @@ impl Gate for InStep {
     fn before_task(&self, _task: TaskId, _turn: u64) {}
 }
 
-/// A node that is to start, whose line draws its words from this seed.
+/// A node that is to start, whose link draws its random words from this seed.
 fn node_start<M: Machine, D: Device>(
     alloc: Global,
     seat: NodeSeat<M, D>,
@@ -120,7 +120,7 @@ fn node_starts<M: Machine, D: Device>(
     Ok(starts)
 }
 
-/// A task that is to start: it calls procedure 1 of object 1 with 5, and asks node 1 first.
+/// A task that is to start: it calls procedure 1 of object 1 with 5, through node 1 first.
 fn task_start<M: Machine>(alloc: Global, seat: TaskSeat<M>) -> Result<TaskStart<M>, Fault>
     ensures seat { IfOk result (λ start. start.seat ≡ seat) }
     ensures line { IfOk result (λ start. start.line.held ≡ []) }
@@ -138,7 +138,7 @@ fn task_start<M: Machine>(alloc: Global, seat: TaskSeat<M>) -> Result<TaskStart<
     })
 }
 
-/// The first of the tasks is to start alone.
+/// The list of only the first task, which is to start.
 fn task_starts<M: Machine>(
     alloc: Global,
     seats: Vec<TaskSeat<M>>,
@@ -157,7 +157,8 @@ fn task_starts<M: Machine>(
     Ok(starts)
 }
 
-/// The audit fetches the report of a node, and adds it. How many actions are known of the node then.
+/// The audit fetches the report of a node, and adds it. Returns how many actions of the node are
+/// then known.
 fn hear<M: Machine>(audit: &mut Audit<M>, alloc: Global, node: NodeId) -> Result<u32, Fault> {
     let Some(report) = audit.fetch(Party::Node(node)) else {
         return Err(Fault::Io);
@@ -168,7 +169,7 @@ fn hear<M: Machine>(audit: &mut Audit<M>, alloc: Global, node: NodeId) -> Result
     }
 }
 
-/// The ballot in which a node leads at a position, by the first packet of that step.
+/// The ballot in which a node leads at a position, from the first packet of that step.
 fn led_in<M: Machine, D: Device>(
     seat: &mut NodeSeat<M, D>,
     alloc: Global,
@@ -188,7 +189,7 @@ fn led_in<M: Machine, D: Device>(
     }
 }
 
-/// What a node reports after its turns, and how many of its actions are known of its report.
+/// What a node reports after its turns, and how many of its actions are known from its report.
 #[derive(Clone, Copy)]
 struct NodeOutcome {
     received: u64,
@@ -216,7 +217,7 @@ fn outcome_at<M: Machine, D: Device>(
     })
 }
 
-/// Whether the actions known of one node begin those of the other.
+/// Whether the actions known of one node are a prefix of those of the other.
 fn begin<M: Machine>(audit: &Audit<M>, one: u8, other: u8) -> Result<bool, Fault> {
     let one = audit.known(NodeId::new(one).ok_or(Fault::BadConfig)?);
     let other = audit.known(NodeId::new(other).ok_or(Fault::BadConfig)?);
@@ -224,7 +225,7 @@ fn begin<M: Machine>(audit: &Audit<M>, one: u8, other: u8) -> Result<bool, Fault
     Ok(pairs.all(|(mine, theirs)| mine == theirs))
 }
 
-/// Whether the task has a reply, or waits for it still.
+/// Whether the task has a reply, or still waits for it.
 fn asked<M: Machine>(task: &mut TaskSeat<M>, alloc: Global) -> Result<bool, Fault> {
     if !task.replies().is_empty() {
         return Ok(true);
@@ -234,7 +235,7 @@ fn asked<M: Machine>(task: &mut TaskSeat<M>, alloc: Global) -> Result<bool, Faul
     Ok(matches!(further, Err(Fault::TaskBusy)))
 }
 
-/// What is reported once all threads have ended.
+/// The results after all threads have ended.
 #[derive(Drop)]
 struct Outcome {
     nodes: Vec<NodeOutcome>,
@@ -291,7 +292,7 @@ where
 fn three_nodes_and_a_task_run_in_threads(rt: HostRuntime) -> Result<(), Fail> {
     let alloc = rt.alloc();
     let program = TallyProgram::new(1).ok_or("one object")?;
-    let devices = devices(alloc)?;
+    let devices = MemDevice::several(alloc, CONFIG.nodes)?;
     let gate = InStep::new();
     let stated = run_three::<_, Tally, MemDevice, _>(&rt, alloc, &program, devices, &gate)?;
     assert_eq!(rt; gate.late.load(Ordering::SeqCst), 0);

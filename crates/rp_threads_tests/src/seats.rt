@@ -1,7 +1,7 @@
 ghost use Rattle.std.specs.Prelude.{IfOk};
 ghost use Rattle.rp_boxes.specs.Seats.{IsSentText};
 
-use crate::setup::{CONFIG, devices, receive};
+use crate::setup::{CONFIG, receive};
 use rp_base::{Fault, NodeId, Operation, Position, TaskId};
 use rp_boxes::{AllSeats, NodeSeat, TaskSeat, seats};
 use rp_codec::Party;
@@ -25,16 +25,16 @@ fn first_call<M: Machine>(task: &mut TaskSeat<M>, alloc: Global) -> Result<Sent,
     task.call(alloc, node, 1, Operation::Procedure(1), 5)
 }
 
-/// What is known of the box from the task to node 1.
+/// What was found of the box from the task to node 1.
 #[derive(Drop)]
 struct Boxed {
-    /// The packet that was given back at the second put.
+    /// The packet that was returned by the second put.
     back: Option<Vec<u8>>,
     first: Option<Vec<u8>>,
     second: Option<Vec<u8>>,
 }
 
-/// Puts a packet and its copy: the copy, if it is given back.
+/// Puts a packet and its copy. Returns the copy if it is not put.
 fn put_both<M: Machine>(
     task: &mut TaskSeat<M>,
     packet: Vec<u8>,
@@ -73,7 +73,7 @@ fn put_twice<M: Machine, D: Device>(
 fn a_full_box_gives_a_packet_back(rt: HostRuntime) -> Result<(), Fail> {
     let alloc = rt.alloc();
     let program = TallyProgram::new(1).ok_or("one object")?;
-    let devices = devices(alloc)?;
+    let devices = MemDevice::several(alloc, CONFIG.nodes)?;
     let boxed = put_twice::<Tally, MemDevice>(alloc, &program, devices)?;
     let back = boxed.back.ok_or("the second put is given back")?;
     assert_eq!(rt; back.as_slice(), CALL.as_slice());
@@ -83,7 +83,8 @@ fn a_full_box_gives_a_packet_back(rt: HostRuntime) -> Result<(), Fail> {
     Ok(())
 }
 
-/// The node receives what is in its boxes from the first task and from the nodes, once each.
+/// The node receives the packets in its boxes from the first task and from the nodes, one from
+/// each.
 fn receive_all<M: Machine, D: Device>(
     seat: &mut NodeSeat<M, D>,
     alloc: Global,
@@ -105,7 +106,7 @@ struct Outcome {
     applied: Vec<u32>,
 }
 
-/// The first task calls node 1, which leads. All packets go by boxes, on one thread.
+/// The first task calls node 1, which leads. All packets go through boxes, on one thread.
 fn one_call<M: Machine, D: Device>(
     alloc: Global,
     program: &M::Program,
@@ -144,7 +145,7 @@ fn one_call<M: Machine, D: Device>(
 fn one_call_is_decided_by_seats(rt: HostRuntime) -> Result<(), Fail> {
     let alloc = rt.alloc();
     let program = TallyProgram::new(1).ok_or("one object")?;
-    let devices = devices(alloc)?;
+    let devices = MemDevice::several(alloc, CONFIG.nodes)?;
     let stated = one_call::<Tally, MemDevice>(alloc, &program, devices)?;
     assert_eq!(rt; stated.applied.as_slice(), [1, 1, 1].as_slice());
     let reply = stated.reply.ok_or("a reply is in the box")?;

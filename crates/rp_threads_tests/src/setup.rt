@@ -3,9 +3,9 @@ use rp_boxes::NodeSeat;
 use rp_codec::Party;
 use rp_machine::Machine;
 use rp_replica::Input;
-use rp_store::{Device, MemDevice};
+use rp_store::Device;
 use rp_threads::node_step;
-use std::alloc::{AllocError, Global};
+use std::alloc::Global;
 
 /// Three nodes with a log of 1,000 positions.
 pub(crate) const CONFIG: Config = Config {
@@ -13,12 +13,7 @@ pub(crate) const CONFIG: Config = Config {
     max_positions: 1000,
 };
 
-/// Their devices, with nothing on them.
-pub(crate) fn devices(alloc: Global) -> Result<Vec<MemDevice>, AllocError> {
-    MemDevice::several(alloc, CONFIG.nodes)
-}
-
-/// The node receives what is in the box from a party, if there is anything.
+/// The node receives the packet in the box from a party, if there is one.
 pub(crate) fn receive<M: Machine, D: Device>(
     seat: &mut NodeSeat<M, D>,
     alloc: Global,

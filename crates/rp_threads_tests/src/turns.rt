@@ -1,4 +1,4 @@
-use crate::setup::{CONFIG, devices};
+use crate::setup::CONFIG;
 use rp_base::{Fault, NodeId, Operation, TaskId};
 use rp_boxes::{AllSeats, seats};
 use rp_codec::Party;
@@ -20,7 +20,8 @@ struct Made {
     packet: Option<Vec<u8>>,
 }
 
-/// Node 1 makes a turn in which it is to lead, on an empty line. The packet is the one in its own box.
+/// Node 1 makes a turn in which it is to lead, on an empty link. The packet is the one in its box
+/// from itself.
 fn leads<M: Machine, D: Device>(
     alloc: Global,
     program: &M::Program,
@@ -98,13 +99,14 @@ fn delivers<M: Machine, D: Device>(
 fn each_packet_of_a_step_is_put_into_its_box(rt: HostRuntime) -> Result<(), Fail> {
     let alloc = rt.alloc();
     let program = TallyProgram::new(1).ok_or("one object")?;
-    let devices = devices(alloc)?;
+    let devices = MemDevice::several(alloc, CONFIG.nodes)?;
     let delivered = delivers::<Tally, MemDevice>(alloc, &program, devices)?;
     assert_eq!(rt; delivered, Delivered { sent: 3, boxed: 3 });
     Ok(())
 }
 
-/// Node 1 leads twice, and nobody looks into its box: what becomes of the packets of each step.
+/// Node 1 leads twice, and no node empties its box: how many packets of each step are sent and
+/// lost.
 fn leads_twice<M: Machine, D: Device>(
     alloc: Global,
     program: &M::Program,
@@ -121,7 +123,7 @@ fn leads_twice<M: Machine, D: Device>(
 fn a_packet_whose_box_is_in_use_is_counted_as_lost(rt: HostRuntime) -> Result<(), Fail> {
     let alloc = rt.alloc();
     let program = TallyProgram::new(1).ok_or("one object")?;
-    let devices = devices(alloc)?;
+    let devices = MemDevice::several(alloc, CONFIG.nodes)?;
     let (first, second) = leads_twice::<Tally, MemDevice>(alloc, &program, devices)?;
     assert_eq!(rt; first, PacketCounts { sent: 3, lost: 0 });
     assert_eq!(rt; second, PacketCounts { sent: 3, lost: 3 });
@@ -132,7 +134,7 @@ fn a_packet_whose_box_is_in_use_is_counted_as_lost(rt: HostRuntime) -> Result<()
 fn an_empty_line_lets_a_node_lead(rt: HostRuntime) -> Result<(), Fail> {
     let alloc = rt.alloc();
     let program = TallyProgram::new(1).ok_or("one object")?;
-    let devices = devices(alloc)?;
+    let devices = MemDevice::several(alloc, CONFIG.nodes)?;
     let made = leads::<Tally, MemDevice>(alloc, &program, devices)?;
     assert_eq!(rt; made.turn, Some(Turn::Led));
     assert_eq!(rt; made.made, 3);
@@ -148,7 +150,7 @@ fn an_empty_line_lets_a_node_lead(rt: HostRuntime) -> Result<(), Fail> {
 fn a_task_makes_its_first_call_in_its_first_turn(rt: HostRuntime) -> Result<(), Fail> {
     let alloc = rt.alloc();
     let program = TallyProgram::new(1).ok_or("one object")?;
-    let devices = devices(alloc)?;
+    let devices = MemDevice::several(alloc, CONFIG.nodes)?;
     let made = calls::<Tally, MemDevice>(alloc, &program, devices)?;
     assert_eq!(rt; made.made, 1);
     let packet = made.packet.ok_or("the call is in its box")?;

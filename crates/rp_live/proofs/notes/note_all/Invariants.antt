@@ -1,7 +1,7 @@
 -- The events so far are noted, and all nodes run.
 use Rattle.std.proofs.Common.{◌≡◌, All, length}
 use Rattle.rp_live.specs.Noted.{AreNoted}
-use Rattle.rp_live.specs.Seats.{Runs}
+use Rattle.rp_threads.specs.Rounds.{Runs}
 use Rattle.rp_live.proofs.notes.note_all.Given as goal
 
 abbrev pub invariant-loop-event : goal.invariant-loop-event

@@ -3,7 +3,7 @@ use Rattle.std.proofs.Common.{◌≡◌, ◌∙◌, ◌-◌, ◌<◌, ℕ, lengt
 use Rattle.std.proofs.lemmas.List.Elements.{All-set}
 use Rattle.std.proofs.lemmas.Result.{IfOk-weaker}
 use Rattle.rp_boxes.specs.Seats.{SeatState}
-use Rattle.rp_live.specs.Seats.{Runs}
+use Rattle.rp_threads.specs.Rounds.{Runs}
 use Rattle.rp_live.specs.Noted.{IsTakenAt}
 use Rattle.rp_live.proofs.Noting.{found_at}
 use Rattle.rp_live.proofs.notes.note_at.Goals as goal

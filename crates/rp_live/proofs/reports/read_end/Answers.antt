@@ -4,7 +4,7 @@ use Rattle.rp_base.specs.declared.fault.Fault.{Fault}
 use Rattle.rp_base.specs.declared.fault.Fault.TheVariants.{OutOfMemory}
 use Rattle.rp_boxes.specs.Seats.{SeatState}
 use Rattle.rp_boxes.proofs.TaskTurns.{at_fault}
-use Rattle.rp_live.specs.Seats.{Runs}
+use Rattle.rp_threads.specs.Rounds.{Runs}
 use Rattle.rp_live.proofs.reports.read_end.Goals as goal
 
 pub read_log-requires : goal.read_log-requires

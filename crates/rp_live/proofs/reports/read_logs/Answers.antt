@@ -5,8 +5,8 @@ use Rattle.rp_boxes.specs.Seats.{HasApplied}
 use Rattle.rp_world.proofs.Fresh.{rest_of}
 use Rattle.rp_threads.proofs.Places.{none_left, none_zipped, one_more_zipped, all_zipped}
 use Rattle.rp_threads.proofs.Steps.{same_on, same_seat}
-use Rattle.rp_live.specs.Seats.{AreNumbered, HasOnlyReported, IsEndOfRun, IsRead, KnowsNothingAbove, StillRuns}
-use Rattle.rp_live.proofs.Reading.{IsReadBelow, left_numbered, next_number, one_longer, one_read, read_still, so_far_weaker, still_unread, zip_read}
+use Rattle.rp_live.specs.Seats.{AreNumbered, IsEndOfRun, IsRead, KnowsNothingAbove, StillRuns}
+use Rattle.rp_live.proofs.Reading.{IsReadBelow, left_numbered, next_number, one_longer, one_read, read_still, so_far_weaker, still_unread, zip_weaker}
 use Rattle.rp_live.proofs.Zips.{grown_zip, none_zip}
 use Rattle.rp_live.proofs.reports.read_logs.Goals as goal
 
@@ -19,12 +19,11 @@ loop-end-init g c =
       same = same_seat c.args.audit.now.seat c.args.audit.now.seat refl;
       left = subst (All IsEndOfRun) (sym same) c.requires.ended;
       still = subst (All StillRuns) (sym same) c.requires.still;
-      reported = none_zipped (λ end seat. HasOnlyReported end.seat seat) c.args.nodes.items c.into_iter-end-iterator.result.rest.items c.new-seats.result.items same c.new-seats.ensures.items;
+      reported = none_zipped same c.new-seats.ensures.items;
       applied = none_zip (λ seat count. HasApplied seat.part count) c.new-seats.result.items c.new-applied.result.items c.new-seats.ensures.items c.new-applied.ensures.items;
       numbers = subst (λ (n : ℕ). AreNumbered n c.into_iter-end-iterator.result.rest.items) (sym none) (subst (λ ends. AreNumbered 0 ends) (sym same) c.requires.numbers);
       unread = subst (λ (n : ℕ). KnowsNothingAbove n c.args.audit.now.known) (sym none) c.requires.unread;
-      read = none_zipped (λ end seat. IsReadBelow m.next m.answers m.begin (length c.new-seats.result.items) c.args.audit.now.known end.seat seat) c.args.nodes.items c.into_iter-end-iterator.result.rest.items
-          c.new-seats.result.items same c.new-seats.ensures.items;
+      read = none_zipped same c.new-seats.ensures.items;
     }
 
 pub read_end-requires-clause-ended : goal.read_end-requires-clause-ended
@@ -51,13 +50,12 @@ loop-end-preserved g c =
       same = same_on c.args.audit.now.seat c.loop-end.audit.seat c.read_end.new.audit.seat was.same stated.same;
       left = rest_of IsEndOfRun rest c.in-Some.end left steps was.left;
       still = rest_of StillRuns rest c.in-Some.end left steps was.still;
-      reported = one_more_zipped (λ end seat. HasOnlyReported end.seat seat) c.args.nodes.items rest left c.loop-end.seats.items c.push.new.self.items c.in-Some.end c.in_ok-seat.seat
-          was.reported steps c.in_ok-push.ensures.items stated.reported;
+      reported = one_more_zipped was.reported steps c.in_ok-push.ensures.items stated.reported;
       applied = grown_zip (λ seat count. HasApplied seat.part count) c.loop-end.seats.items c.push.new.self.items c.loop-end.applied.items c.push-in-loop-end.new.self.items
           c.in_ok-seat.seat c.in_ok-seat.count c.in_ok-push.ensures.items c.in_ok-push-2.ensures.items was.applied stated.applied;
       numbers = left_numbered number more rest left c.in-Some.end steps longer was.numbers;
       unread = still_unread number more c.in-Some.end.seat.number old new longer at stated.others was.unread;
-      read = one_more_zipped (λ end seat. IsReadBelow m.next m.answers m.begin more new end.seat seat) c.args.nodes.items rest left c.loop-end.seats.items c.push.new.self.items c.in-Some.end c.in_ok-seat.seat
+      read = one_more_zipped
           (so_far_weaker (λ end seat. IsReadBelow m.next m.answers m.begin number old end.seat seat) (λ end seat. IsReadBelow m.next m.answers m.begin more new end.seat seat)
           (λ end seat. read_still m.next m.answers m.begin number more c.in-Some.end.seat.number old new longer at stated.others end.seat seat) c.args.nodes.items rest c.loop-end.seats.items was.read)
           steps c.in_ok-push.ensures.items (one_read m.next m.answers m.begin number more old new c.in-Some.end.seat c.in_ok-seat.seat longer at stated.reported.same.number was.unread stated.read);
@@ -66,15 +64,13 @@ loop-end-preserved g c =
 pub returns-clause-reported : goal.returns-clause-reported
 returns-clause-reported g c =
     let rest = c.loop-end.end-iterator.rest in
-    all_zipped (λ end seat. HasOnlyReported end.seat seat) c.args.nodes.items rest.items c.loop-end.seats.items c.loop-end.invariant.reported
-    (none_left rest.items rest.len rest.ok.0 c.in-None.ensures.steps.0)
+    all_zipped c.loop-end.invariant.reported (none_left rest.items rest.len rest.ok.0 c.in-None.ensures.steps.0)
 
 pub returns-clause-read : goal.returns-clause-read
 returns-clause-read g c =
     let m = g.M.Machine in
     let rest = c.loop-end.end-iterator.rest in
     let known = c.loop-end.audit.known in
-    zip_read (λ end seat. IsReadBelow m.next m.answers m.begin (length c.loop-end.seats.items) known end.seat seat) (λ end seat. IsRead m.next m.answers m.begin 0 end.seat seat (length (known_of known seat.number)))
+    zip_weaker (λ end seat. IsReadBelow m.next m.answers m.begin (length c.loop-end.seats.items) known end.seat seat) (λ end seat. IsRead m.next m.answers m.begin 0 end.seat seat (length (known_of known seat.number)))
     (λ end seat r. r.read) c.args.nodes.items c.loop-end.seats.items
-    (all_zipped (λ end seat. IsReadBelow m.next m.answers m.begin (length c.loop-end.seats.items) known end.seat seat) c.args.nodes.items rest.items c.loop-end.seats.items c.loop-end.invariant.read
-    (none_left rest.items rest.len rest.ok.0 c.in-None.ensures.steps.0))
+    (all_zipped c.loop-end.invariant.read (none_left rest.items rest.len rest.ok.0 c.in-None.ensures.steps.0))

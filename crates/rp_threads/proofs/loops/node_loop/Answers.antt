@@ -1,10 +1,10 @@
 -- The line is empty at first, and each turn is one more.
 use Rattle.std.proofs.Common.{◌≡◌, ℕ, ◌+◌, true, refl, sym, ap, subst, ◌∙◌, arith, add-one}
-use Rattle.rp_threads.specs.Loops.{sender_at, total_of}
-use Rattle.rp_threads.specs.Rounds.{NodeAt, AreTurns, IsTurnOf, IsUnmade, before_turns, is_to_lead}
+use Rattle.rp_threads.specs.Loops.{is_to_lead, sender_at, total_of}
+use Rattle.rp_threads.specs.Rounds.{NodeAt, AreTurns, IsTurnOf, IsUnmade, before_turns}
 use Rattle.rp_threads.specs.Threads.{IsLooped}
 use Rattle.rp_threads.proofs.Chains.{looped, ended}
-use Rattle.rp_threads.proofs.Rounds.{counted_total}
+use Rattle.rp_threads.proofs.Rounds.{counted_more}
 use Rattle.rp_threads.proofs.Texts.{empty_holds}
 use Rattle.rp_threads.proofs.loops.node_loop.Goals as goal
 
@@ -28,7 +28,7 @@ loop-done-preserved g c =
       held = c.turn.ensures.held;
       turns = subst (λ (n : ℕ). AreTurns m.next m.answers m.begin lets heard c.args.nodes (before_turns c.args.seat c.args.line) n now) (sym one)
           (before, was.turns, record { made = made; turns = turns; counts = c.count.ensures });
-      few = ap total_of c.count.ensures ∙ counted_total made counts ∙ ap (λ (n : ℕ). n + 1) was.few;
+      few = ap total_of c.count.ensures ∙ (counted_more made counts).0 ∙ ap (λ (n : ℕ). n + 1) was.few;
     }
 
 pub returns-in-Err : goal.returns-in-Err

@@ -4,7 +4,7 @@ use Rattle.std.specs.Prelude.{IfOk, OnErr}
 use Rattle.rp_boxes.specs.Seats.{SeatState}
 use Rattle.rp_codec.specs.declared.packet.Party.TheVariants.{Node}
 use Rattle.rp_threads.specs.Turns.{AreTextsOffered, AreTextsOfferedInPart, IsAllOffered, IsOfferedInPart}
-use Rattle.rp_threads.proofs.Offers.{sent_alone, none_is_offered, one_if_is, one_is_offered, all_if_offered, not_if_cut}
+use Rattle.rp_threads.proofs.Offers.{sent_alone, none_is_offered, one_if_is, one_is_offered, all_if_offered, not_all_if_part}
 use Rattle.rp_threads.proofs.sends.put_all.Goals as goal
 
 pub returns-then-sent-eq0-clause-offered : goal.returns-then-sent-eq0-clause-offered
@@ -37,13 +37,13 @@ returns-clause-offered g c =
     subst (λ (s : SeatState g.row.M-Program.Denot). IfOk result (IsAllOffered m.next m.answers m.begin (Node old.number) sent old s)) (sym c.lend-2.ensures)
     (all_if_offered m.next m.answers m.begin (Node old.number) c.one_text.ensures sent old new c.sends_packets.ensures result texts)
 
-pub returns-clause-cut : goal.returns-clause-cut
-returns-clause-cut g c =
+pub returns-clause-part : goal.returns-clause-part
+returns-clause-part g c =
     let m = g.M.Machine in
     let old = c.args.seat.now in
     let new = c.put_each-put.new.seat in
     let sent = c.args.sent in
     let result = c.put_each-put.result in
-    let texts = subst (λ (bytes : List ℕ). OnErr result (AreTextsOfferedInPart m.next m.answers m.begin (Node old.number) bytes old new)) c.as_slice.ensures.value c.put_each-put.ensures.cut in
+    let texts = subst (λ (bytes : List ℕ). OnErr result (AreTextsOfferedInPart m.next m.answers m.begin (Node old.number) bytes old new)) c.as_slice.ensures.value c.put_each-put.ensures.part in
     subst (λ (s : SeatState g.row.M-Program.Denot). OnErr result (IsOfferedInPart m.next m.answers m.begin (Node old.number) sent old s)) (sym c.lend-2.ensures)
-    (not_if_cut m.next m.answers m.begin (Node old.number) c.one_text.ensures sent old new c.sends_packets.ensures result texts)
+    (not_all_if_part m.next m.answers m.begin (Node old.number) c.one_text.ensures sent old new c.sends_packets.ensures result texts)

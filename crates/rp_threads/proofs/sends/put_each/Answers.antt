@@ -58,8 +58,8 @@ packets-preserved g c =
           (one_less rest len c.packets.lost c.from.result (length texts) first.some first.within (subst (λ (n : ℕ). n ≤ 1) (sym (c.from.ensures ∙ one_if_is is_lost)) (one_at_most is_lost)) inv.few);
     }
 
-pub returns-in_err-put_copy-clause-cut : goal.returns-in_err-put_copy-clause-cut
-returns-in_err-put_copy-clause-cut g c =
+pub returns-in_err-put_copy-clause-part : goal.returns-in_err-put_copy-clause-part
+returns-in_err-put_copy-clause-part g c =
     let m = g.M.Machine in
     let seat = c.args.seat.now in
     let texts = c.args.texts.now in

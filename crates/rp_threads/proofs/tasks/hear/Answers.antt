@@ -3,21 +3,19 @@ use Rattle.std.proofs.Common.{Option, List, ℕ, refl, ap, subst}
 use Rattle.rp_boxes.specs.Seats.{SeatState}
 use Rattle.rp_boxes.specs.TaskSeats.{IsReplyTurn}
 use Rattle.rp_threads.specs.TaskRounds.{Hears}
-use Rattle.rp_threads.proofs.Texts.{is_after, after_holds}
+use Rattle.rp_threads.proofs.Texts.{released_holds}
 use Rattle.rp_threads.proofs.tasks.hear.Goals as goal
 
 pub returns-in_err-taken-in-Some-clause-held : goal.returns-in_err-taken-in-Some-clause-held
 returns-in_err-taken-in-Some-clause-held g c =
-    let line = c.args.line.now in
-    let is = is_after line c.release.new.self line.held refl c.release.ensures.after c.release.ensures.empty in
-    after_holds c.args.seat.now.part.got c.reply.new.self.part.got line c.release.new.self c.gives_what_it_took.ensures.released c.requires.held is
+    let r = c.release in
+    released_holds c.args.line.now r.new.self r.ensures.after r.ensures.empty c.gives_what_it_took.ensures.released c.requires.held
     (ap (λ (seat : SeatState g.row.M-Program.Denot). seat.part.got) c.in_err-taken-in-Some.ensures.err.1)
 
 pub returns-in_ok-taken-in-Some-clause-held : goal.returns-in_ok-taken-in-Some-clause-held
 returns-in_ok-taken-in-Some-clause-held g c =
-    let line = c.args.line.now in
-    let is = is_after line c.release.new.self line.held refl c.release.ensures.after c.release.ensures.empty in
-    after_holds c.args.seat.now.part.got c.reply.new.self.part.got line c.release.new.self c.gives_what_it_took.ensures.released c.requires.held is
+    let r = c.release in
+    released_holds c.args.line.now r.new.self r.ensures.after r.ensures.empty c.gives_what_it_took.ensures.released c.requires.held
     (ap (λ (seat : SeatState g.row.M-Program.Denot). seat.part.got) c.in_ok-taken-in-Some.ensures.ok.after)
 
 pub returns-in_ok-taken-in-Some-clause-ok : goal.returns-in_ok-taken-in-Some-clause-ok
@@ -30,6 +28,5 @@ returns-in_ok-taken-in-Some-clause-ok g c =
 
 pub returns-in-None-clause-held : goal.returns-in-None-clause-held
 returns-in-None-clause-held g c =
-    let line = c.args.line.now in let got = c.args.seat.now.part.got in
-    let is = is_after line c.release.new.self line.held refl c.release.ensures.after c.release.ensures.empty in
-    after_holds got got line c.release.new.self c.gives_what_it_took.ensures.released c.requires.held is refl
+    let r = c.release in
+    released_holds c.args.line.now r.new.self r.ensures.after r.ensures.empty c.gives_what_it_took.ensures.released c.requires.held refl

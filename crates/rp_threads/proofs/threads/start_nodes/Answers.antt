@@ -8,8 +8,7 @@ pub loop-start-init : goal.loop-start-init
 loop-start-init g c =
     let same = c.into_iter-start-iterator.ensures.into_iter_gives.0 in
     record {
-      started = none_zipped (λ start handle. (handle.promise.seat.value ≡ start.seat) × (handle.promise.line.value ≡ start.line) × (handle.promise.nodes ≡ c.args.nodes) × (handle.promise.turns ≡ c.args.options.turns)) c.args.starts.items
-          c.into_iter-start-iterator.result.rest.items c.new-handles.result.items same c.new-handles.ensures.items;
+      started = none_zipped same c.new-handles.ensures.items;
       lines = subst (All (λ start. start.line.held ≡ [])) (sym same) c.requires.lines;
     }
 
@@ -20,14 +19,11 @@ loop-start-preserved g c =
     let steps = c.in-Some.ensures.steps.0 in
     let stated = c.in_ok-start_node.ensures in
     record {
-      started = one_more_zipped (λ start handle. (handle.promise.seat.value ≡ start.seat) × (handle.promise.line.value ≡ start.line) × (handle.promise.nodes ≡ c.args.nodes) × (handle.promise.turns ≡ c.args.options.turns)) c.args.starts.items
-          rest c.next.new.self.rest.items c.loop-start.handles.items c.push.new.self.items c.in-Some.start c.in_ok-start_node.field-0
-          was.started steps c.in_ok-push.ensures.items (stated.seat, stated.line, stated.nodes, stated.turns);
+      started = one_more_zipped was.started steps c.in_ok-push.ensures.items (stated.seat, stated.line, stated.nodes, stated.turns);
       lines = rest_of (λ start. start.line.held ≡ []) rest c.in-Some.start c.next.new.self.rest.items steps was.lines;
     }
 
 pub returns : goal.returns
 returns g c =
     let rest = c.loop-start.start-iterator.rest in
-    all_zipped (λ start handle. (handle.promise.seat.value ≡ start.seat) × (handle.promise.line.value ≡ start.line) × (handle.promise.nodes ≡ c.args.nodes) × (handle.promise.turns ≡ c.args.options.turns)) c.args.starts.items
-    rest.items c.loop-start.handles.items c.loop-start.invariant.started (none_left rest.items rest.len rest.ok.0 c.in-None.ensures.steps.0)
+    all_zipped c.loop-start.invariant.started (none_left rest.items rest.len rest.ok.0 c.in-None.ensures.steps.0)

@@ -29,7 +29,7 @@ returns-in_err-lost-clause-err g c =
     let new = c.put_all.new.seat in
     at_fault (λ (e : Fault). IsStopBy m.next m.answers m.begin (λ given. given ≡ c.args.input.now) old new e) OutOfMemory c.from_residual-in_err-lost.result
     c.from_residual-in_err-lost.ensures.1
-    (unsent_by m.next m.answers m.begin old c.turn.new.self new c.args.input.now c.in_ok-sent.sent c.in_ok-sent.ensures.ok c.in_err-lost.ensures.cut)
+    (unsent_by m.next m.answers m.begin old c.turn.new.self new c.args.input.now c.in_ok-sent.sent c.in_ok-sent.ensures.ok c.in_err-lost.ensures.part)
 
 pub returns-in_err-lost-clause-got : goal.returns-in_err-lost-clause-got
 returns-in_err-lost-clause-got g c =
@@ -37,4 +37,4 @@ returns-in_err-lost-clause-got g c =
     let old = c.args.seat.now in
     let new = c.put_all.new.seat in
     stop_got m.next m.answers m.begin (λ given. given ≡ c.args.input.now) old new OutOfMemory
-    (unsent_by m.next m.answers m.begin old c.turn.new.self new c.args.input.now c.in_ok-sent.sent c.in_ok-sent.ensures.ok c.in_err-lost.ensures.cut)
+    (unsent_by m.next m.answers m.begin old c.turn.new.self new c.args.input.now c.in_ok-sent.sent c.in_ok-sent.ensures.ok c.in_err-lost.ensures.part)

@@ -3,7 +3,7 @@ use Rattle.std.proofs.Common.{refl, sym, subst}
 use Rattle.rp_boxes.specs.Seats.{SeatState}
 use Rattle.rp_threads.specs.Lines.{HoldsTextsOf, IsTextAmong, given_on}
 use Rattle.rp_threads.specs.Turns.{Works}
-use Rattle.rp_threads.proofs.Texts.{is_after, after_holds, given_holds}
+use Rattle.rp_threads.proofs.Texts.{released_holds, given_holds}
 use Rattle.rp_threads.proofs.Steps.{received}
 use Rattle.rp_threads.proofs.turns.work.Goals as goal
 
@@ -15,38 +15,34 @@ node_step-requires-clause-got g c =
 
 pub returns-in_err-packets-in-Some-clause-held : goal.returns-in_err-packets-in-Some-clause-held
 returns-in_err-packets-in-Some-clause-held g c =
-    let line = c.args.line.now in
-    let is = is_after line c.release.new.self line.held refl c.release.ensures.after c.release.ensures.empty in
-    after_holds c.args.seat.now.part.got c.node_step.new.seat.part.got line c.release.new.self c.gives_what_it_took.ensures.released c.requires.held is c.node_step.ensures.got
+    let r = c.release in
+    released_holds c.args.line.now r.new.self r.ensures.after r.ensures.empty c.gives_what_it_took.ensures.released c.requires.held c.node_step.ensures.got
 
 pub returns-in_err-packets-in-None-clause-held : goal.returns-in_err-packets-in-None-clause-held
 returns-in_err-packets-in-None-clause-held g c =
-    let line = c.args.line.now in
-    let is = is_after line c.release.new.self line.held refl c.release.ensures.after c.release.ensures.empty in
-    after_holds c.args.seat.now.part.got c.node_step-in-None.new.seat.part.got line c.release.new.self c.gives_what_it_took.ensures.released c.requires.held is c.node_step-in-None.ensures.got
+    let r = c.release in
+    released_holds c.args.line.now r.new.self r.ensures.after r.ensures.empty c.gives_what_it_took.ensures.released c.requires.held c.node_step-in-None.ensures.got
 
 pub returns-in_ok-packets-in-Some-clause-held : goal.returns-in_ok-packets-in-Some-clause-held
 returns-in_ok-packets-in-Some-clause-held g c =
-    let line = c.args.line.now in
-    let is = is_after line c.release.new.self line.held refl c.release.ensures.after c.release.ensures.empty in
-    subst (λ (seat_state : SeatState g.row.M-Program.Denot). HoldsTextsOf seat_state.part.got c.release.new.self) (sym c.lend.ensures)
-    (after_holds c.args.seat.now.part.got c.node_step.new.seat.part.got line c.release.new.self c.gives_what_it_took.ensures.released c.requires.held is c.node_step.ensures.got)
+    let r = c.release in
+    subst (λ (seat : SeatState g.row.M-Program.Denot). HoldsTextsOf seat.part.got r.new.self) (sym c.lend.ensures)
+    (released_holds c.args.line.now r.new.self r.ensures.after r.ensures.empty c.gives_what_it_took.ensures.released c.requires.held c.node_step.ensures.got)
 
 pub returns-in_ok-packets-in-Some-clause-ok : goal.returns-in_ok-packets-in-Some-clause-ok
 returns-in_ok-packets-in-Some-clause-ok g c =
     let m = g.M.Machine in
-    subst (λ (seat_state : SeatState g.row.M-Program.Denot). Works m.next m.answers m.begin (given_on c.args.line.now) c.args.lead c.args.seat.now seat_state c.in_ok-packets-in-Some.packets) (sym c.lend.ensures)
-    (received m.next m.answers m.begin (given_on c.args.line.now) c.in-Some.packet.items c.args.lead _ c.args.seat.now c.node_step.new.seat c.in_ok-packets-in-Some.packets
-    (sym c.in-Some.ensures.packet) c.as_slice.ensures.value c.in_ok-packets-in-Some.ensures.ok)
+    let given = given_on c.args.line.now in
+    let packets = c.in_ok-packets-in-Some.packets in
+    subst (λ (seat : SeatState g.row.M-Program.Denot). Works m.next m.answers m.begin given c.args.lead c.args.seat.now seat packets) (sym c.lend.ensures)
+    (received m.next m.answers m.begin given c.in-Some.packet.items c.args.lead _ c.args.seat.now c.node_step.new.seat packets (sym c.in-Some.ensures.packet) c.as_slice.ensures.value c.in_ok-packets-in-Some.ensures.ok)
 
 pub returns-in_ok-packets-in-None-clause-held : goal.returns-in_ok-packets-in-None-clause-held
 returns-in_ok-packets-in-None-clause-held g c =
-    let line = c.args.line.now in
-    let is = is_after line c.release.new.self line.held refl c.release.ensures.after c.release.ensures.empty in
-    after_holds c.args.seat.now.part.got c.node_step-in-None.new.seat.part.got line c.release.new.self c.gives_what_it_took.ensures.released c.requires.held is c.node_step-in-None.ensures.got
+    let r = c.release in
+    released_holds c.args.line.now r.new.self r.ensures.after r.ensures.empty c.gives_what_it_took.ensures.released c.requires.held c.node_step-in-None.ensures.got
 
 pub returns-in-None-2-clause-held : goal.returns-in-None-2-clause-held
 returns-in-None-2-clause-held g c =
-    let line = c.args.line.now in let got = c.args.seat.now.part.got in
-    let is = is_after line c.release.new.self line.held refl c.release.ensures.after c.release.ensures.empty in
-    after_holds got got line c.release.new.self c.gives_what_it_took.ensures.released c.requires.held is refl
+    let r = c.release in
+    released_holds c.args.line.now r.new.self r.ensures.after r.ensures.empty c.gives_what_it_took.ensures.released c.requires.held refl

@@ -8,7 +8,3 @@ module _ (traced : Bool) (bytes text old new : List ℕ) (before used : ℕ) (st
   pub output_put : IsOutput traced bytes text → PutsText text old new used Done status → RunsDeck traced bytes old new before used status
   output_put output (inl (is, put)) = subst (λ s. RunsDeck traced bytes old new before used s) (sym is) (text, output, put)
   output_put output (inr (is, long)) = subst (λ s. RunsDeck traced bytes old new before used s) (sym is) (text, inl output, long)
-
-  pub bad_line_put : IsBadLine bytes text → PutsText text old new used BadDeck status → RunsDeck traced bytes old new before used status
-  bad_line_put bad (inl (is, put)) = subst (λ s. RunsDeck traced bytes old new before used s) (sym is) (text, bad, put)
-  bad_line_put bad (inr (is, long)) = subst (λ s. RunsDeck traced bytes old new before used s) (sym is) (text, inr bad, long)

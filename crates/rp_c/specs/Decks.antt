@@ -1,4 +1,4 @@
--- What the run of a deck returns.
+-- The result of running a deck.
 use Rattle.std.specs.Prelude.{◌≡◌, ◌⊎◌, ◌<◌, ℕ, Bool, Some, Err, List, [], ◌++◌, length, drop}
 use Rattle.rp_base.specs.declared.fault.Fault.TheVariants as faults
 use Rattle.rp_base.specs.declared.fault.DeckReason.{DeckReason}
@@ -10,11 +10,12 @@ use Rattle.rp_script.specs.Given.{most_bytes}
 use Rattle.rp_c.specs.declared.status.Status.{Status}
 use Rattle.rp_c.specs.declared.status.Status.TheVariants.{Done, OutOfMemory, BadPacket, BadDeck, Io, ShortAnswer}
 
--- The text is the output of the deck that the bytes mean, all of it, and the headline holds of it.
+-- The text is the whole output of the deck that the bytes mean, and `DeckPrints` holds of it.
 abbrev pub IsOutput : Bool → List ℕ → List ℕ → Type 0
 IsOutput traced bytes text = ScriptPrints traced (Some bytes) (Some []) (Some text)
 
--- The bytes mean no deck, and the text is the line that says the first bad line and its first reason.
+-- The bytes mean no deck, and the text is the line that reports the first bad line and its first
+-- reason.
 abbrev pub IsBadLine : List ℕ → List ℕ → Type 0
 IsBadLine bytes text = (line : ℕ) × (reason : DeckReason)
     × (meaning_of Script bytes ≡ Err (record { line = line; reason = reason }))
@@ -43,7 +44,7 @@ RunsDeck traced bytes old new before used OutOfMemory = (new ≡ old) × (used �
 RunsDeck traced bytes old new before used Io = (most_bytes < length bytes) × (new ≡ old) × (used ≡ before)
 RunsDeck traced bytes old new before used BadPacket = ⊥
 
--- A text is put into a buffer, where it fits, with this status.
+-- A text is put into a buffer, if it fits, with this status.
 abbrev pub PutsText : List ℕ → List ℕ → List ℕ → ℕ → Status → Status → Type 0
 PutsText text old new used done status =
     ((status ≡ done) × IsPut text old new used) ⊎ ((status ≡ ShortAnswer) × IsTooLong text old new used)

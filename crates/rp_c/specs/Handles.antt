@@ -1,4 +1,4 @@
--- What opening and calling a handle return to a C caller.
+-- What a C caller gets when it opens or calls a handle.
 use Rattle.std.specs.Prelude.{◌≡◌, ◌<◌, ◌⊎◌, ℕ, Option, Some, None, Result, Ok, Err, List, length}
 use Rattle.rp_base.specs.declared.fault.Fault.TheVariants as faults
 use Rattle.rp_handles.specs.DeckNodes.{OpensNoNode}
@@ -13,17 +13,18 @@ use Rattle.rp_requests.specs.declared.refusal.Refusal.TheVariants as refusals
 use Rattle.rp_script.specs.Given.{most_bytes}
 use Rattle.rp_c.specs.declared.answer.AnswerLengths.{AnswerLengths}
 
--- the number of an opening: 0, or that of the refusal
+-- the number that an opening returns: 0, or that of the refusal
 abbrev pub opening_code : Option Refusal → ℕ
 opening_code None = 0
 opening_code (Some refusal) = refusal_code refusal
 
--- Why a node is not opened: the deck is too long; or it has no such node, or memory ran out.
+-- Why a node is not opened: the deck is too long, or has no such node, or memory ran out.
 abbrev pub IsNoNode : List ℕ → ℕ → Refusal → Type 0
 IsNoNode text number refusal =
     ((refusal ≡ refusals.Fault faults.Io) × (most_bytes < length text)) ⊎ OpensNoNode text number refusal
 
--- The handle keeps the node, and what it found on its device was written; or nothing changed, for a reason that holds.
+-- The handle keeps the node, and what it found on its device was written; or nothing changed, for a
+-- reason that holds.
 abbrev pub OpensByHandle : List ℕ → ℕ → List ℕ → Option Actor → Option Actor → Found → Found → Option Refusal → Type 0
 OpensByHandle text number bytes old new before found None = KeepsNode text number bytes new found.records found.kept
 OpensByHandle text number bytes old new before found (Some refusal) =
@@ -34,19 +35,21 @@ abbrev pub TaskByHandle : ℕ → Option Actor → Option Actor → Option Refus
 TaskByHandle number old new None = KeepsTask number new
 TaskByHandle number old new (Some refusal) = (new ≡ old) × IsNoTask number refusal
 
--- The answer to a request by a handle to an actor of this kind; none if there is no such kind: then nothing changed.
+-- The answer to a request by a handle to an actor of this kind; none if there is no such kind: then
+-- nothing changed.
 abbrev pub CallByHandle : Option ActorKind → List ℕ → Option Actor → Option Actor → List ℕ → List ℕ
     → Option (Result Lengths Refusal) → Type 0
 CallByHandle (Some kind) request old new before after ended = HandleAnswers kind request old new before after ended
 CallByHandle None request old new before after ended = (ended ≡ None) × (new ≡ old) × (after ≡ before)
 
--- the number of an answer: 0, that of the refusal, or `RP_WRONG_HANDLE` if the handle keeps none of that kind
+-- the number that a call returns: 0, that of the refusal, or `RP_WRONG_HANDLE` if the handle keeps
+-- no actor of that kind
 abbrev pub answer_code : Option (Result Lengths Refusal) → ℕ
 answer_code None = 68
 answer_code (Some (Ok lengths)) = 0
 answer_code (Some (Err refusal)) = refusal_code refusal
 
--- The lengths of the answer were written, or the length that it needs, or nothing.
+-- What was written: the lengths of the answer, or the length that it needs, or nothing.
 abbrev pub WritesLengths : Option (Result Lengths Refusal) → AnswerLengths → AnswerLengths → Type 0
 WritesLengths None old new = new ≡ old
 WritesLengths (Some (Ok lengths)) old new = new ≡ record { stored = lengths.stored; used = lengths.used }

@@ -9,14 +9,16 @@ use Rattle.rp_c.specs.Status.{reason_code}
 use Rattle.rp_c.specs.declared.status.Status.{Status}
 use Rattle.rp_c.specs.declared.status.Status.TheVariants.{Done, OutOfMemory, BadPacket, BadDeck, Io, ShortAnswer}
 
--- The bytes begin with a packet of this length, or with none, and the length is as it was.
+-- The bytes begin with a packet, whose length is written; or with none, and the length is as it
+-- was.
 abbrev pub PutsLength : List ℕ → ℕ → ℕ → Status → Type 0
 PutsLength bytes old new Done =
     (p : Message) × (rest : List ℕ) × IsPacket p × IsTextBefore p rest bytes × (new ≡ length (text_of p))
 PutsLength bytes old new BadPacket = (¬ BeginsWithPacket bytes) × (new ≡ old)
 PutsLength bytes old new _ = ⊥
 
--- The bytes are a packet's text; or they are none for this reason; or they are a report's, and memory ran out.
+-- The bytes are the text of one packet; or they are none, for this reason; or memory ran out while
+-- a report was read.
 abbrev pub ChecksPacket : List ℕ → ℕ → ℕ → Status → Type 0
 ChecksPacket bytes old new Done = (p : Message) × IsPacket p × IsTextOf p bytes × (new ≡ old)
 ChecksPacket bytes old new BadPacket =

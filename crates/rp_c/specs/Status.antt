@@ -8,7 +8,7 @@ use Rattle.rp_base.specs.declared.fault.PacketReason.TheVariants.{Short, Long, V
 use Rattle.rp_c.specs.declared.status.Status.{Status}
 use Rattle.rp_c.specs.declared.status.Status.TheVariants.{Done, OutOfMemory, BadPacket, BadDeck, Io, ShortAnswer}
 
--- 0, the number of the fault of the same name, or 64 for what only this library has
+-- 0, the number of the fault of the same name, or 64 for the status that only this library has
 abbrev pub status_code : Status → ℕ
 status_code Done = 0
 status_code OutOfMemory = code_of faults.OutOfMemory

@@ -1,21 +1,21 @@
-//! How a call by a handle ends, as a number, and what it writes besides.
+//! The number that a call by a handle returns, and what else it writes.
 
 ghost use Rattle.std.specs.Prelude.{◌≡◌};
 ghost use Rattle.rp_c.specs.Handles.{WritesLengths, answer_code, opening_code};
 
 use rp_requests::{Lengths, Refusal};
 
-/// How long an answer is, where a C caller reads it.
+/// The length of an answer, in the layout that a C caller reads.
 #[repr(C)]
 #[derive(Clone, Copy, Debug, PartialEq, Eq)]
 pub struct AnswerLengths {
-    /// How many of its first bytes are to be stored.
+    /// How many of the answer's first bytes are to be stored.
     pub stored: usize,
-    /// How many bytes it has, or needs.
+    /// How many bytes the answer has, or needs.
     pub used: usize,
 }
 
-/// The number of an opening: that of its refusal, or 0.
+/// The number that an opening returns: that of its refusal, or 0.
 pub(crate) fn code_of_opening(refusal: Option<Refusal>) -> u8
     ensures { result ≡ opening_code refusal }
 {
@@ -25,8 +25,8 @@ pub(crate) fn code_of_opening(refusal: Option<Refusal>) -> u8
     }
 }
 
-/// The number of an answer: 0, that of its refusal, or `RP_WRONG_HANDLE` if the handle keeps none
-/// of that kind.
+/// The number that a call returns: 0, that of its refusal, or `RP_WRONG_HANDLE` if the handle keeps
+/// no actor of that kind.
 pub(crate) fn code_of_answer(ended: &Option<Result<Lengths, Refusal>>) -> u8
     ensures { result ≡ answer_code ended.now }
 {

@@ -6,14 +6,14 @@ ghost use Rattle.rp_c.specs.Status.{status_code};
 
 use crate::status::Status;
 use rp_base::Fault;
-use rp_script::{MOST_BYTES, run_script, tell};
+use rp_script::{MOST_BYTES, print_fault, run_script};
 use std::alloc::Global;
 
-/// Runs the script of a deck, and puts what it prints into the answer, with its length into `used`;
-/// with `traced` also each packet that is sent. `BadDeck`: the answer is the line that says where and
-/// why the deck is bad. `ShortAnswer`: the answer is longer than its buffer, of which nothing is
-/// changed, and `used` is the length that it needs. `OutOfMemory`, and `Io` where the deck has more
-/// than 1,048,576 bytes, change nothing.
+/// Runs the script of a deck, and puts what it prints into the answer, and its length into `used`;
+/// with `traced` each packet that is sent is printed as well. `BadDeck`: the answer is the line
+/// that reports where and why the deck is bad. `ShortAnswer`: the answer is longer than its buffer,
+/// of which nothing is changed, and `used` is the length that it needs. `OutOfMemory`, and `Io` if
+/// the deck has more than 1,048,576 bytes, change nothing.
 #[unsafe(no_mangle)]
 pub extern "C" fn rp_run_deck(
     alloc: Global,
@@ -31,7 +31,7 @@ pub extern "C" fn rp_run_deck(
     run(alloc, deck, traced, answer, used).code()
 }
 
-/// The same, with its status by name.
+/// As `rp_run_deck`, but returns its status by name.
 fn run(alloc: Global, deck: &[u8], traced: bool, answer: &mut [u8], used: &mut usize) -> Status
     ensures { RunsDeck traced deck.now answer.old answer.new used.old used.new result }
 {
@@ -42,7 +42,7 @@ fn run(alloc: Global, deck: &[u8], traced: bool, answer: &mut [u8], used: &mut u
     let mut text = Vec::new(alloc);
     match run_script(alloc, &mut reader, traced, &mut text) {
         Ok(()) => put(text.as_slice(), answer, used, Status::Done),
-        Err(fault @ Fault::BadDeck { .. }) => match tell(&fault, &mut text) {
+        Err(fault @ Fault::BadDeck { .. }) => match print_fault(&fault, &mut text) {
             Ok(()) => put(text.as_slice(), answer, used, Status::BadDeck),
             Err(_) => Status::OutOfMemory,
         },
@@ -50,8 +50,8 @@ fn run(alloc: Global, deck: &[u8], traced: bool, answer: &mut [u8], used: &mut u
     }
 }
 
-/// Puts a text into the answer, where it fits, and its length into `used`: then the status is the one
-/// given, and else `ShortAnswer`.
+/// Puts a text into the answer, if it fits, and its length into `used`. The status is then the one
+/// given, and otherwise `ShortAnswer`.
 fn put(text: &[u8], answer: &mut [u8], used: &mut usize, done: Status) -> Status
     ensures { PutsText text.now answer.old answer.new used.new done result }
 {

@@ -1,4 +1,4 @@
-//! A node or a task is called and closed by its handle.
+//! Calls and closes a node or a task by its handle.
 
 ghost use Rattle.std.specs.Prelude.{◌≡◌, Option, Result, None};
 ghost use Rattle.rp_handles.specs.Handles.{kind_of};
@@ -12,7 +12,7 @@ use rp_requests::{Lengths, Refusal};
 use std::alloc::Global;
 
 /// Answers a request to the node of a handle, if the kind is 1, or to its task, if it is 2, as
-/// `Node::call` or `Task::call` of `rp_requests` says. `RP_WRONG_HANDLE` if the handle is closed or
+/// `Node::call` or `Task::call` of `rp_requests`. `RP_WRONG_HANDLE` if the handle is closed or
 /// keeps the other kind, or if there is no such kind: then nothing has changed.
 #[unsafe(no_mangle)]
 pub extern "C" fn rp_handle_call(
@@ -51,7 +51,7 @@ fn called(
     call(alloc, handle, kind, request, answer)
 }
 
-/// Gives back what a handle keeps: it is closed. A closed handle stays closed.
+/// Frees what a handle keeps, and closes the handle. A closed handle stays closed.
 #[unsafe(no_mangle)]
 pub extern "C" fn rp_handle_close(alloc: Global, handle: &mut Handle)
     // claim: A handle that a C caller closes keeps nothing

@@ -1,14 +1,14 @@
-//! What C and Ada call: packets checked, decks run, and nodes and tasks by handle, as bytes in and
-//! bytes out. `include/rp.h` declares it, with the obligations of each call.
+//! The interface for C and Ada: checks packets, runs decks, and has nodes and tasks by handle, with
+//! bytes in and bytes out. `include/rp.h` declares it, with the obligations of each call.
 //!
 //! In reading order:
 //! - `status`: how a call on packets or a deck ends, as a number
 //! - `packets`: how long a packet is, and whether bytes are one
 //! - `decks`: runs the script of a deck
-//! - `answer`: how a call by a handle ends, as a number, and what it writes besides
-//! - `nodes`: a node of a deck is opened by its handle
-//! - `tasks`: a task's stub is opened by its handle
-//! - `handles`: a node or a task is called and closed by its handle
+//! - `answer`: the number that a call by a handle returns, and what else it writes
+//! - `nodes`: opens a node of a deck by its handle
+//! - `tasks`: opens a task's stub by its handle
+//! - `handles`: calls and closes a node or a task by its handle
 #![tactic(auto)]
 
 mod answer;

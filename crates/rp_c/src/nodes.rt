@@ -1,4 +1,4 @@
-//! A node of a deck is opened by its handle.
+//! Opens a node of a deck by its handle.
 
 ghost use Rattle.std.specs.Prelude.{◌≡◌, Option};
 ghost use Rattle.rp_requests.specs.declared.refusal.Refusal.{Refusal as RefusalOf};
@@ -11,9 +11,9 @@ use rp_requests::Refusal;
 use rp_script::MOST_BYTES;
 use std::alloc::Global;
 
-/// Opens a node of a deck over the bytes of its device, which are copied; what the handle kept before
-/// is closed. The deck's script is not run. `found` is what the device holds: the caller truncates its
-/// device to these bytes before the node's first step. A refusal changes nothing.
+/// Opens a node of a deck over the bytes of its device, which are copied; what the handle kept
+/// before is closed. The deck's script is not run. `found` is what the device holds: the caller
+/// truncates its device to `kept` bytes before the node's first step. A refusal changes nothing.
 #[unsafe(no_mangle)]
 pub extern "C" fn rp_node_open(
     alloc: Global,
@@ -45,7 +45,7 @@ struct DeckNode<'a> {
     device: &'a [u8],
 }
 
-/// Opens a node, or returns why not.
+/// Opens a node, or returns the refusal.
 fn opened(
     alloc: Global,
     asked: DeckNode<'_>,

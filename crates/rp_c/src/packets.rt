@@ -8,8 +8,8 @@ use crate::status::{Status, reason_number};
 use rp_codec::{decode, packet_len};
 use std::alloc::Global;
 
-/// Writes how many bytes the packet has that the bytes begin with; any bytes may follow it.
-/// `BadPacket` where they begin with none: then nothing is written.
+/// Writes the length of the packet that the bytes begin with; any bytes may follow it. `BadPacket`
+/// if they begin with none: then nothing is written.
 #[unsafe(no_mangle)]
 pub extern "C" fn rp_packet_length(bytes: &[u8], count: &mut usize) -> u8
     // claim: A C caller gets the length of the packet that its bytes begin with, or that they begin
@@ -20,7 +20,7 @@ pub extern "C" fn rp_packet_length(bytes: &[u8], count: &mut usize) -> u8
     put_length(bytes, count).code()
 }
 
-/// The same, with its status by name.
+/// As `rp_packet_length`, but returns its status by name.
 fn put_length(bytes: &[u8], count: &mut usize) -> Status
     ensures { PutsLength bytes.now count.old count.new result }
 {
@@ -33,9 +33,9 @@ fn put_length(bytes: &[u8], count: &mut usize) -> Status
     }
 }
 
-/// Whether the bytes are one packet, all of them. `BadPacket` where they are not: then the number
-/// of the reason is written (`reason_number`). `OutOfMemory` only for a report. Otherwise nothing
-/// is written.
+/// Whether the bytes are exactly one packet. `BadPacket` if they are not: then the number of the
+/// reason is written (`reason_number`). `OutOfMemory` only for a report. Otherwise nothing is
+/// written.
 #[unsafe(no_mangle)]
 pub extern "C" fn rp_packet_check(alloc: Global, bytes: &[u8], reason: &mut u8) -> u8
     // claim: A C caller learns whether its bytes are one packet, and else the one reason
@@ -45,7 +45,7 @@ pub extern "C" fn rp_packet_check(alloc: Global, bytes: &[u8], reason: &mut u8) 
     check(alloc, bytes, reason).code()
 }
 
-/// The same, with its status by name.
+/// As `rp_packet_check`, but returns its status by name.
 fn check(alloc: Global, bytes: &[u8], reason: &mut u8) -> Status
     ensures { ChecksPacket bytes.now reason.old reason.new result }
 {

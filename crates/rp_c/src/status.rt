@@ -9,13 +9,13 @@ use rp_base::PacketReason;
 /// How a call ends.
 #[derive(Clone, Copy, Debug, PartialEq, Eq)]
 pub enum Status {
-    /// The call did what it is for.
+    /// The call succeeded.
     Done,
-    /// There was no memory for it, and nothing has changed.
+    /// There was not enough memory for the call, and nothing has changed.
     OutOfMemory,
     /// The bytes are no packet.
     BadPacket,
-    /// The deck is bad, and the answer is the line that says where and why.
+    /// The deck is bad, and the answer is the line that reports where and why.
     BadDeck,
     /// The deck has more than 1,048,576 bytes, and nothing has changed.
     Io,
@@ -24,7 +24,8 @@ pub enum Status {
 }
 
 impl Status {
-    /// Its number: 0, the number of the fault of its name, or that of `ShortAnswer`.
+    /// The status as a number: 0, the number of the fault of the same name, or that of
+    /// `ShortAnswer`.
     pub fn code(self) -> u8
         ensures { result ≡ status_code self }
     {

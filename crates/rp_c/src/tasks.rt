@@ -1,4 +1,4 @@
-//! A task's stub is opened by its handle.
+//! Opens a task's stub by its handle.
 
 ghost use Rattle.std.specs.Prelude.{◌≡◌, Option};
 ghost use Rattle.rp_requests.specs.declared.refusal.Refusal.{Refusal as RefusalOf};
@@ -21,7 +21,7 @@ pub extern "C" fn rp_task_open(alloc: Global, number: u8, stub: &mut Handle) -> 
     code_of_opening(opened(alloc, number, stub))
 }
 
-/// Opens a task, or returns why not.
+/// Opens a task, or returns the refusal.
 fn opened(alloc: Global, number: u8, stub: &mut Handle) -> Option<Refusal>
     ensures { TaskByHandle number stub.old.kept stub.new.kept result }
 {

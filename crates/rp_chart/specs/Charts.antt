@@ -1,4 +1,4 @@
--- What the drawing of a deck's run is.
+-- The drawing of a deck's run.
 use Rattle.std.specs.Prelude.{ℕ, ◌+◌, false, Option, List}
 use Rattle.std.specs.Io.KnownBytes.{Appends}
 use Rattle.indexmap.specs.IndexMap.{index_map_len}
@@ -21,8 +21,9 @@ tasks_of deck = index_map_len deck.tasks
 abbrev pub stage_of : Deck → View → Stage
 stage_of deck view = record { tasks = tasks_of deck; view = view }
 
--- The text is the drawing of the history to which the deck's script leads. Its arrows, and it has no
--- other, are the messages of that history, each from where it was sent down to where it was settled.
+-- The text is the drawing of the history to which the deck's script leads. It has the messages of
+-- that history as its arrows, and no others, each from where it was sent down to where it was
+-- settled.
 abbrev pub IsChartAt : {S : Type 0} → Deck → View → List ℕ → RunSetting S → Type 0
 IsChartAt deck view text s =
     IsDrawingOf s.setting (stage_of deck view) (tasks_of deck + deck.config.nodes)
@@ -35,7 +36,7 @@ IsChartBy deck view text (Objects program) = IsChartAt deck view text (objects_r
 abbrev pub IsChartOf : Deck → View → List ℕ → Type 0
 IsChartOf deck view text = IsChartBy deck view text deck.program
 
--- what is written where all goes well: the chart of the deck that the reader's bytes mean
+-- what is written without a fault: the chart of the deck that the reader's bytes mean
 abbrev pub DrawsScript : View → Option (List ℕ) → Option (List ℕ) → Option (List ℕ) → Type 0
 DrawsScript view given old new =
     (deck : Deck) × MeansDeck Script given deck

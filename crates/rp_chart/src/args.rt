@@ -11,13 +11,13 @@ use std::convert::AsStr;
 /// The program's version.
 const VERSION: &str = "1.0.0";
 
-/// What the program takes.
+/// The program's command line.
 fn command<'a>(alloc: Global) -> Result<Command<'a>, AllocError> {
     let position = Arg::new(alloc, "position")
         .long("position")
         .value_name("P")
         .help("Draws only what names this position, 1 to 65535")
-        .value_parser(value_parser!(u16).range(1..=65535));
+        .value_parser(value_parser!(u16).range(1..));
     let hide_self = Arg::new(alloc, "hide-self")
         .long("hide-self")
         .help("Leaves out the packets from a node to itself")
@@ -31,7 +31,8 @@ fn command<'a>(alloc: Global) -> Result<Command<'a>, AllocError> {
         .arg(hide_self)
 }
 
-/// Reads the words, of which the first is the program's name. An error has the text for the user.
+/// Reads the words, of which the first is the program's name. An error carries the text for the
+/// user.
 pub fn read_args<S: AsStr>(alloc: Global, words: &[S]) -> Result<View, Error> {
     let matches = command(alloc)?.try_get_matches_from(words)?;
     let position = matches.get_one::<u16>("position").unwrap_or(0);
@@ -42,7 +43,7 @@ pub fn read_args<S: AsStr>(alloc: Global, words: &[S]) -> Result<View, Error> {
     })
 }
 
-/// Why words of which one is not UTF-8 are refused, or `OutOfMemory` where there is none for that.
+/// The refusal of words of which one is not UTF-8, or `OutOfMemory` if there is no memory for it.
 pub fn unread_words(alloc: Global) -> Error {
     match not_utf8(alloc) {
         Ok(error) => error,
@@ -50,12 +51,12 @@ pub fn unread_words(alloc: Global) -> Error {
     }
 }
 
-/// A word is not UTF-8.
+/// The error that a word is not UTF-8.
 fn not_utf8(alloc: Global) -> Result<Error, AllocError> {
     command(alloc)?.error(ErrorKind::InvalidValue, "a word is not UTF-8")
 }
 
-/// Why words that were not read ask for no run.
+/// Why words that could not be read ask for no run.
 pub fn no_run(error: &Error) -> NoRun {
     match error.kind() {
         ErrorKind::OutOfMemory => NoRun::OutOfMemory,

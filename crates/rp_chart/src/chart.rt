@@ -20,9 +20,9 @@ use rp_store::MemDevice;
 use std::alloc::{AllocError, Global};
 use std::io::{Read, Write};
 
-/// Draws the run of the script of the deck that the reader holds. Where its bytes mean none, nothing is
-/// written, and the fault has the first bad line and the first reason on it. Any other fault is
-/// `OutOfMemory` or `Io`, and leaves nothing written, or a beginning of the drawing.
+/// Draws the run of the script of the deck that the reader holds. If its bytes mean no deck,
+/// nothing is written, and the fault has the first bad line and the first reason on it. Any other
+/// fault is `OutOfMemory` or `Io`, after which nothing or a prefix of the drawing was written.
 pub fn draw_script<R: Read, W: Write>(
     alloc: Global,
     reader: &mut R,
@@ -50,7 +50,7 @@ pub fn draw_script<R: Read, W: Write>(
     write_out(writer)
 }
 
-/// The drawing of the run of a deck of these lines.
+/// The drawing of the run of a deck, of which these are the lines.
 fn draw_deck(alloc: Global, deck: Deck, view: View, lines: &[&[u8]]) -> Result<String, Fault>
     requires { IsRightDeck deck }
     ensures { IfOk result (λ text. IsChartOf deck view (string_bytes text)) }
@@ -117,7 +117,7 @@ fn lanes_of(
     Ok(lanes)
 }
 
-/// The name of a task by its place from 0, or nothing.
+/// The name of the task at this place, from 0, or an empty text.
 fn name_at(tasks: &IndexMap<String, Task>, place: usize) -> &str {
     match tasks.get_index(place) {
         Some((name, _)) => name.as_str(),

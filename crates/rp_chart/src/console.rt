@@ -7,7 +7,8 @@ use std::alloc::Global;
 use std::convert::AsStr;
 use std::io::{Read, Write};
 
-/// Draws the deck's run as the words ask for and reports its fault, or reports why the words are wrong.
+/// Draws the deck's run as the words ask for and reports its fault, or reports why the words are
+/// wrong.
 pub fn obey<S: AsStr, R: Read + Drop, W: Write + Drop, E: Write + Drop>(
     alloc: Global,
     words: &[S],

@@ -1,4 +1,4 @@
-//! The words of a drawing.
+//! The words in a drawing.
 
 use indexmap::IndexMap;
 use rp_base::{Answer, NodeId, Rec};
@@ -40,7 +40,7 @@ pub fn line_at<'a>(deck: &[&'a [u8]], number: u32) -> &'a [u8] {
     }
 }
 
-/// The record that a node writes where it takes a packet, if it writes one then.
+/// The record that a node writes when it takes a packet, if it writes one then.
 fn record_for(body: &Body) -> Option<Rec> {
     match *body {
         Body::Prepare { position, ballot } => Some(Rec::Promised(position, ballot)),
@@ -60,7 +60,7 @@ fn record_for(body: &Body) -> Option<Rec> {
     }
 }
 
-/// The record that a leader writes before it asks by this packet, if it writes one then.
+/// The record that a leader writes before it sends this request, if it writes one then.
 fn record_before(body: &Body) -> Option<Rec> {
     match *body {
         Body::Prepare { ballot, .. } | Body::PrepareRange { ballot, .. } => {
@@ -107,7 +107,8 @@ impl fmt::Display for RecordText {
     }
 }
 
-/// The words of what happened: of the packet that was delivered, or else of the line of the deck.
+/// The words for the cause of an event: the packet that was delivered, or else the line of the
+/// deck.
 pub fn cause_words(
     alloc: Global,
     tasks: &IndexMap<String, Task>,
@@ -123,7 +124,7 @@ pub fn cause_words(
     }
 }
 
-/// The words of what the actor did.
+/// The words for what the actor did.
 pub fn effect_words(alloc: Global, happened: &Happened) -> Result<Words, AllocError> {
     match happened.event {
         Event::Submit { .. } | Event::Again { .. } => Ok(Words::none(alloc)),
@@ -134,7 +135,7 @@ pub fn effect_words(alloc: Global, happened: &Happened) -> Result<Words, AllocEr
     }
 }
 
-/// How a restart went.
+/// The words for a restart.
 fn restart_words(alloc: Global, happened: &Happened) -> Result<Words, AllocError> {
     let Some((records, bytes)) = happened.effect.opened else {
         return Words::fitted(alloc, b"already running".as_slice());
@@ -144,14 +145,14 @@ fn restart_words(alloc: Global, happened: &Happened) -> Result<Words, AllocError
     Words::fitted(alloc, text.as_bytes())
 }
 
-/// What a stop within a step leaves.
+/// The words for a stop within a step: how many bytes are kept.
 fn cut_words(alloc: Global, happened: &Happened) -> Result<Words, AllocError> {
     let kept = happened.after.stored.saturating_sub(happened.before.stored);
     let text = format!(in alloc; "stopped, {kept} bytes kept")?;
     Words::fitted(alloc, text.as_bytes())
 }
 
-/// What a step did.
+/// The words for what a step did.
 fn step_words(alloc: Global, happened: &Happened) -> Result<Words, AllocError> {
     if happened.effect.dropped == Dropped::Full {
         return Words::fitted(alloc, b"pending full".as_slice());
@@ -162,8 +163,8 @@ fn step_words(alloc: Global, happened: &Happened) -> Result<Words, AllocError> {
     }
 }
 
-/// The record that a step wrote, and how many actions its node has then applied, where these are more
-/// than before.
+/// The words for the record that a step wrote, and for how many actions its node has then applied,
+/// if these are more than before.
 fn record_words(alloc: Global, happened: &Happened) -> Result<Words, AllocError> {
     let Some(record) = record_of(happened) else {
         return Ok(Words::none(alloc));
@@ -192,7 +193,7 @@ fn record_of(happened: &Happened) -> Option<Rec> {
     }
 }
 
-/// A reply that a task takes: `reply 1 value 5`.
+/// The words for a reply that a task takes: `reply 1 value 5`.
 fn reply_words(alloc: Global, answer: Answer) -> Result<Words, AllocError> {
     let number = answer.number;
     let reply = ReplyText {
@@ -202,14 +203,14 @@ fn reply_words(alloc: Global, answer: Answer) -> Result<Words, AllocError> {
     Words::fitted(alloc, text.as_bytes())
 }
 
-/// How many actions a node has applied: `node 1 applied 3`.
+/// The words for how many actions a node has applied: `node 1 applied 3`.
 pub fn applied_words(alloc: Global, node: NodeId, applied: u16) -> Result<Words, AllocError> {
     let node = node.get();
     let text = format!(in alloc; "node {node} applied {applied}")?;
     Words::fitted(alloc, text.as_bytes())
 }
 
-/// A node is stopped: `node 1 stopped`.
+/// The words for a stopped node: `node 1 stopped`.
 pub fn stopped_words(alloc: Global, node: NodeId) -> Result<Words, AllocError> {
     let node = node.get();
     let text = format!(in alloc; "node {node} stopped")?;

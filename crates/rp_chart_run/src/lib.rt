@@ -2,7 +2,7 @@
 //!
 //! In reading order:
 //! - `walk`: runs the lines of a script, and charts what happens from its events and their effects
-//! - `prospect`: what is known of an event before it happens, and what happened then
+//! - `prospect`: what is known before an event, and what happened in it
 //! - `labels`: the words of a drawing
 #![tactic(auto)]
 

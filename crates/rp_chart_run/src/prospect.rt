@@ -1,4 +1,4 @@
-//! What is known of an event before it happens, and what happened then.
+//! What is known before an event, and what happened in it.
 
 ghost use Rattle.std.specs.Prelude.{◌≡◌, ◌+◌, ◌-◌, ◌≤◌, length, drop, IfOk};
 ghost use Rattle.rp_history.specs.Histories.{ending_by, end_at};
@@ -14,8 +14,8 @@ use rp_store::CutDevice;
 use rp_world::Cluster;
 use std::alloc::Global;
 
-/// What is known of an event before it happens: how the way of the message ends that it is to deliver, if
-/// it is to deliver one that was sent, who acts, and what is asked of that node.
+/// What is known before an event: how the way of the message that it delivers ends, if it delivers
+/// one that was sent; who acts; and the state of that node.
 #[derive(Clone, Copy)]
 pub struct Prospect {
     pub ending: Option<Ending>,
@@ -23,7 +23,7 @@ pub struct Prospect {
     before: NodeState,
 }
 
-/// What is known of an event before it happens.
+/// Determines what is known before an event.
 pub fn prospect_of<M: Machine, D: CutDevice>(
     alloc: Global,
     cluster: &Cluster<M, D>,
@@ -32,7 +32,7 @@ pub fn prospect_of<M: Machine, D: CutDevice>(
     ensures { IfOk result (λ prospect. prospect.ending ≡ ending_by cluster.now.world event.now) }
 {
     let ending = ending_of(alloc, cluster, event)?;
-    let receiver = receiver_of(alloc, cluster, event)?;
+    let receiver = receiver_of_message(alloc, cluster, event)?;
     let mut prospect = Prospect {
         ending,
         actor: actor_of(event, receiver),
@@ -42,7 +42,7 @@ pub fn prospect_of<M: Machine, D: CutDevice>(
     Ok(prospect)
 }
 
-/// How the way of the message ends that an event is to deliver, if it is to deliver one that was sent.
+/// How the way of the message that an event delivers ends, if it delivers one that was sent.
 fn ending_of<M: Machine, D: CutDevice>(
     alloc: Global,
     cluster: &Cluster<M, D>,
@@ -60,8 +60,8 @@ fn ending_of<M: Machine, D: CutDevice>(
     Ok(Some(Ending { message, end }))
 }
 
-/// Who receives the message that an event is to deliver, if it is to deliver one that was sent.
-fn receiver_of<M: Machine, D: CutDevice>(
+/// The receiver of the message that an event delivers, if it delivers one that was sent.
+fn receiver_of_message<M: Machine, D: CutDevice>(
     alloc: Global,
     cluster: &Cluster<M, D>,
     event: &Event,
@@ -75,7 +75,7 @@ fn receiver_of<M: Machine, D: CutDevice>(
     }
 }
 
-/// How the way of a packet ends that is delivered to this party.
+/// How the way of a packet that is delivered to this party ends.
 fn end_at<M: Machine, D: CutDevice>(cluster: &Cluster<M, D>, party: Party) -> End
     ensures { result ≡ end_at cluster.now.world party }
 {
@@ -88,7 +88,7 @@ fn end_at<M: Machine, D: CutDevice>(cluster: &Cluster<M, D>, party: Party) -> En
     }
 }
 
-/// What is asked of who acts in an event, or nothing where that is no node.
+/// The state of the actor of an event, or `NO_NODE` if that is no node.
 fn state_of<M: Machine, D: CutDevice>(cluster: &Cluster<M, D>, actor: Option<Party>) -> NodeState {
     match actor {
         Some(party) => state_at(cluster, party),
@@ -96,7 +96,7 @@ fn state_of<M: Machine, D: CutDevice>(cluster: &Cluster<M, D>, actor: Option<Par
     }
 }
 
-/// What is asked of a party, or nothing where it is no node.
+/// The state of a party, or `NO_NODE` if it is no node.
 fn state_at<M: Machine, D: CutDevice>(cluster: &Cluster<M, D>, party: Party) -> NodeState {
     match party {
         Party::Node(node) => {
@@ -111,14 +111,14 @@ fn state_at<M: Machine, D: CutDevice>(cluster: &Cluster<M, D>, party: Party) -> 
     }
 }
 
-/// What is asked where no node acts.
+/// The state that is noted if no node acts.
 const NO_NODE: NodeState = NodeState {
     stored: 0,
     applied: 0,
     is_stopped: false,
 };
 
-/// What happened, by what was known of it before, in the cluster after it.
+/// What happened in an event, from what was known before it and the cluster after it.
 pub fn happened_after<M: Machine, D: CutDevice>(
     alloc: Global,
     cluster: &Cluster<M, D>,

@@ -143,7 +143,7 @@ impl<M: Machine, D: CutDevice> Walk<M, D> {
         }
     }
 
-    /// What is drawn of an event that happened beside the ways of packets.
+    /// The label of an event that happened, drawn beside the ways of packets.
     fn label(&self, scene: &Scene<'_>, line: u32, happened: &Happened) -> Result<Label, Fault> {
         let text = line_at(scene.deck, line);
         let cause = cause_words(self.alloc, scene.options.tasks, text, happened)?;
@@ -172,7 +172,7 @@ impl<M: Machine, D: CutDevice> Walk<M, D> {
         self.stay(None, label)
     }
 
-    /// Charts a moment in which nothing happens, but that a message may be lost.
+    /// Charts a moment in which nothing happens, except that a message may be lost.
     fn stay(&mut self, lost: Option<u64>, label: Label) -> Result<(), Fault>
         requires lost { IsEndingWithin (length self.old.cluster.world.sent) (lost_of lost) }
         requires charted { IsCharted M.next M.answers M.begin self.old.cluster self.old.chart }
@@ -185,7 +185,7 @@ impl<M: Machine, D: CutDevice> Walk<M, D> {
         self.chart.stay::<M>(self.alloc, lost, label)
     }
 
-    /// The messages from the first to the last count as settled, where all of them were sent.
+    /// The messages from the first to the last count as settled, if all of them were sent.
     fn lose(&mut self, scene: &Scene<'_>, line: u32, first: u64, last: u64) -> Result<(), Fault>
         requires first { 1 ≤ first }
         requires last { last < 2 ^ 63 }

@@ -82,11 +82,6 @@ option_at name option (Some p) rows named self e =
     let same : p.1 ≡ rows = cc in
     rw is (rw self (ap (one_of option) (sym same)))
 
-not_there : (other option : Text) (found : Option (Text × List Row)) (name : Text) → option_map (λ p. p.0) found ≡ Some name → bytes_eq name other ≡ false
-    → option_and_then (λ p. cond (bytes_eq p.0 other) (one_of option p.1) None) found ≡ None
-not_there other option None name named differs = refl
-not_there other option (Some p) name named differs = let is : p.0 ≡ name = cc in rw is (rw differs refl)
-
 -- what clap says of a command holds of this one
 
 pub no_fault : (a : App) (words : List Text) → a ≡ console → (is_simple_and_free a ≡ true → fault_of a words ≡ []) → fault_of console words ≡ []
@@ -116,7 +111,3 @@ module _ (a : App) (words : List Text) (m : ArgMatches) (rows : Type 0) (same : 
   option_read name option inner named self there =
       one_text-rows (found_of inner) option
       ∙ option_at name option (subcommand_of console words) _ (met_name ∙ named) self (ap (option_map (λ p. p.1)) (sym met_rows) ∙ there)
-
-  -- the words say nothing of the options of another subcommand
-  pub option_elsewhere : (name other option : Text) → subcommand_name_of m ≡ Some name → bytes_eq name other ≡ false → option_of other option words ≡ None
-  option_elsewhere name other option named differs = not_there other option (subcommand_of console words) name (met_name ∙ named) differs

@@ -15,7 +15,7 @@ use Rattle.rp_output.specs.declared.ending.NoRun.TheVariants as no_runs
 use Rattle.rp_console.specs.declared.args.Args.{Args}
 use Rattle.rp_console.specs.declared.args.Args.TheVariants.{Script, Live}
 
--- a command that has a version and requires one of its subcommands, which `help` is not
+-- a command that has a version and requires one of its subcommands, not counting `help`
 abbrev pub with_choice : Shape → Shape
 with_choice s = record s { subcommand_required = true; disable_help_subcommand = true; has_version = true }
 
@@ -27,7 +27,7 @@ trace = record (new_rule (codes "trace")) { long = Some (codes "trace"); action 
 abbrev pub script : App
 script = with_rule (new_app (codes "script")) trace
 
--- an option by this name that has one number of a range, and this text where it is not given
+-- an option of this name that takes one number of a range, and this text if it is not given
 abbrev pub number_option : Text → ℕ → ℕ → Text → Rule
 number_option name low high otherwise = record (new_rule name) {
   long = Some name;
@@ -48,34 +48,34 @@ turns = number_option (codes "turns") 1 1000000 (codes "10000")
 abbrev pub live : App
 live = with_rule (with_rule (new_app (codes "live")) seed) turns
 
--- what the program takes: the subcommands `script` and `live`
+-- the program's command line: the subcommands `script` and `live`
 abbrev pub console : App
 console = with_subcommand (with_subcommand (on_top with_choice (new_app (codes "rp_console"))) script.top) live.top
 
--- the subcommand by which it is asked for
+-- the subcommand that asks for this
 abbrev pub name_of : Args → Text
 name_of (Script traced) = codes "script"
 name_of (Live s t) = codes "live"
 
--- what the words say of an option of this subcommand, where they name that one
+-- the value that the words give to an option of this subcommand, if they name that subcommand
 abbrev pub option_of : Text → Text → List Text → Option Text
 option_of name option words =
     option_and_then (λ found. if bytes_eq found.0 name then one_of option found.1 else None)
     (subcommand_of console words)
 
--- of `--trace`: `true` where it is among them, else `false`
+-- the value of `--trace`: `true` if it is among the words, else `false`
 abbrev pub trace_of : List Text → Option Text
 trace_of words = option_of (codes "script") (codes "trace") words
 
--- of `--seed`: the text of a number
+-- the value of `--seed`: the text of a number
 abbrev pub seed_of : List Text → Option Text
 seed_of words = option_of (codes "live") (codes "seed") words
 
--- of `--turns`: the text of a number
+-- the value of `--turns`: the text of a number
 abbrev pub turns_of : List Text → Option Text
 turns_of words = option_of (codes "live") (codes "turns") words
 
--- the text is decimal digits, after one plus at most, that write this number of 32 bits
+-- the text is decimal digits, after at most one plus, for this number of 32 bits
 pub record IsNumberText (text : Text) (number : ℕ) : Type 0 where
   pub digits : IsNumeral 10 (without_leading_plus text)
   pub value : number ≡ digits_value 10 (without_leading_plus text)
@@ -86,7 +86,7 @@ abbrev pub ReadsAs : Option Text → ℕ → Type 0
 ReadsAs None number = ⊥
 ReadsAs (Some text) number = IsNumberText text number
 
--- why words that are not read ask for no run
+-- why words that could not be read ask for no run
 abbrev pub no_run_of : ErrorKind → NoRun
 no_run_of OutOfMemory = no_runs.OutOfMemory
 no_run_of DisplayHelp = no_runs.Help

@@ -30,19 +30,19 @@ pub record AsksFor (words : List Text) (args : Args) : Type 0 where
   pub quiet : trace_of words ≡ Some (codes "false") → args ≡ Script false
   pub live : (seed turns : ℕ) → ReadsAs (seed_of words) seed → ReadsAs (turns_of words) turns → args ≡ Live seed turns
 
--- what a run without a fault prints, of the deck that the bytes given to it mean: a script has no figures to report,
--- and a run in threads has those of the run that it prints
+-- What a run without a fault prints, of the deck that the bytes given to it mean. A script reports
+-- no figures, and a run in threads reports those of the run that it prints.
 abbrev pub Prints : Args → Option (List ℕ) → Option (List ℕ) → Option (List ℕ) → Option FiguresLine → Type 0
 Prints (Script traced) given old new figures = ScriptPrints traced given old new × (figures ≡ None)
 Prints (Live seed turns) given old new None = ⊥
 Prints (Live seed turns) given old new (Some line) = LivePrints seed turns given old new line.figures
 
--- what a run that a fault ends printed: nothing, or a beginning of that
+-- what a run that a fault ends has printed: nothing, or a prefix of that
 abbrev pub HasBegun : Args → Option (List ℕ) → Option (List ℕ) → Option (List ℕ) → Type 0
 HasBegun (Script traced) given old new = ScriptBegins traced given old new
 HasBegun (Live seed turns) given old new = LiveBegins seed turns given old new
 
--- the mode that a deck is read for
+-- the mode in which a deck is read
 abbrev pub mode_of : Args → Mode
 mode_of (Script traced) = modes.Script
 mode_of (Live seed turns) = modes.Live
@@ -53,10 +53,11 @@ report_of (Ok None) = []
 report_of (Ok (Some figures)) = with_line_feed (figures_line_of figures)
 report_of (Err fault) = with_line_feed (fault_message_of fault)
 
--- What the words ask for was run, with the deck that the bytes given to it mean. It printed what such a run prints, or
--- a fault ended it, after a beginning of that at most. Where the bytes mean no deck, nothing is printed, and the
--- fault has the first bad line and the first reason on it. The status is 0 where it had no fault, and else that of
--- the fault, which is reported; so are the figures of a live run, which are those of the run that it printed.
+-- What the words ask for was run, with the deck that the bytes given to it mean. It printed the
+-- output of such a run, or a fault ended it after a prefix of that. If the bytes mean no deck,
+-- nothing is printed, and the fault has the first bad line and the first reason on it. The status
+-- is 0 without a fault, and otherwise that of the fault, which is reported. The figures of a live
+-- run are reported as well, and are those of the run that it printed.
 pub record RunsAs (args : Args) (given output output_after errors errors_after : Option (List ℕ)) (ending : Ending)
     : Type 0 where
   pub ran : Result (Option FiguresLine) Fault
@@ -68,16 +69,17 @@ pub record RunsAs (args : Args) (given output output_after errors errors_after :
   pub status : ending.status ≡ status_after ran
   pub reported : OnOk ending.reported (Appends errors errors_after (report_of ran))
 
--- Wrong words were reported, and help or the version alone was printed.
+-- Wrong words were reported, or help or the version was printed and nothing else.
 abbrev pub RefusesAs : ErrorKind → Option (List ℕ) → Option (List ℕ) → Option (List ℕ) → Option (List ℕ) → Ending
     → Type 0
 RefusesAs kind = RefusesFor (no_run_of kind)
 
--- one of the words is not UTF-8, or memory ran out for saying so
+-- one of the words is not UTF-8, or there is no memory to report that
 abbrev pub IsUnread : ErrorKind → Type 0
 IsUnread kind = (kind ≡ InvalidValue) ⊎ (kind ≡ OutOfMemory)
 
--- The words ask for a run, which ran; or they are wrong, or memory ran out, which was reported.
+-- The words ask for a run, which was made; or they are wrong or memory ran out, and that was
+-- reported.
 abbrev pub FollowsWords : List Text → Option (List ℕ) → Option (List ℕ) → Option (List ℕ) → Option (List ℕ)
     → Option (List ℕ) → Ending → Type 0
 FollowsWords words given output output_after errors errors_after ending =

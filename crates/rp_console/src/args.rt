@@ -22,7 +22,7 @@ pub enum Args {
     },
     /// Runs the deck on standard input in threads.
     Live {
-        /// What the faults of the lines follow from.
+        /// The seed of the faults of the links.
         seed: u32,
         /// How many turns each node and each task makes, 1 to 1,000,000.
         turns: u32,
@@ -32,7 +32,7 @@ pub enum Args {
 /// The program's version.
 const VERSION: &str = "1.0.0";
 
-/// What the program takes.
+/// The program's command line.
 fn command<'a>(alloc: Global) -> Result<Command<'a>, AllocError>
     ensures { IfOk result (λ command. app_of command ≡ console) }
 {
@@ -84,7 +84,8 @@ fn live_command<'a>(alloc: Global) -> Result<Command<'a>, AllocError>
         .arg(turns)
 }
 
-/// Reads the words, of which the first is the program's name. An error has the text for the user.
+/// Reads the words, of which the first is the program's name. An error carries the text for the
+/// user.
 pub fn read_args<S: AsStr>(alloc: Global, words: &[S]) -> Result<Args, Error>
     // claim: The words of the command line name a subcommand and its options, or are refused as
     //   clap's rules say
@@ -114,7 +115,7 @@ pub fn read_args<S: AsStr>(alloc: Global, words: &[S]) -> Result<Args, Error>
     }
 }
 
-/// The number that an option has, 0 if it has none.
+/// The value of an option that takes a number, 0 if it has none.
 fn number_of(found: &ArgMatches<'_>, id: &str) -> u32
     ensures { (number : ℕ) → ReadsAs (one_text (found_of found.now) id.now) number
         → result ≡ number }
@@ -122,7 +123,7 @@ fn number_of(found: &ArgMatches<'_>, id: &str) -> u32
     found.get_one::<u32>(id).unwrap_or(0)
 }
 
-/// Why words of which one is not UTF-8 are refused, or `OutOfMemory` where there is none for that.
+/// The refusal of words of which one is not UTF-8, or `OutOfMemory` if there is no memory for it.
 pub fn unread_words(alloc: Global) -> Error
     ensures { IsUnread (kind_of result) }
 {
@@ -132,14 +133,14 @@ pub fn unread_words(alloc: Global) -> Error
     }
 }
 
-/// A word is not UTF-8.
+/// The error that a word is not UTF-8.
 fn not_utf8(alloc: Global) -> Result<Error, AllocError>
     ensures { IfOk result (λ error. kind_of error ≡ ErrorKind.InvalidValue) }
 {
     command(alloc)?.error(ErrorKind::InvalidValue, "a word is not UTF-8")
 }
 
-/// Why words that were not read ask for no run.
+/// Why words that could not be read ask for no run.
 pub fn no_run(error: &Error) -> NoRun
     ensures { result ≡ no_run_of (kind_of error.now) }
 {

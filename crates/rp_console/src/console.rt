@@ -49,8 +49,8 @@ pub fn obey<T: Threads + Wait + Clock, S: AsStr, R: Read + Drop, W: Write + Drop
     }
 }
 
-/// Runs the deck that the reader holds, in its script's order or in threads. A run in threads has
-/// its figures to report.
+/// Runs the deck that the reader holds, in its script's order or in threads. A run in threads
+/// returns its figures for the report.
 fn run_as<T: Threads + Wait + Clock, R: Read, W: Write>(
     rt: &T,
     alloc: Global,

@@ -1,4 +1,4 @@
--- What opening a node of a deck returns.
+-- The result of opening a node of a deck.
 use Rattle.std.specs.Prelude.{◌≡◌, ◌≤◌, ℕ, Ok, Err, List}
 use Rattle.std.specs.Arc.{arc_value}
 use Rattle.rp_base.specs.Number.{IsNode}
@@ -21,8 +21,8 @@ pub record MeansDeck (bytes : List ℕ) (deck : Deck) : Type 0 where
   pub meaning : meaning_of Script bytes ≡ Ok (deck_text deck)
   pub right : IsRightDeck deck
 
--- The bytes mean a deck of protected objects, and the node runs its program by the whole records that the device's
--- bytes begin with.
+-- The bytes mean a deck of protected objects, and the node runs its program with the whole records
+-- at the front of the device's bytes.
 pub record OpensNode (text : List ℕ) (number : ℕ) (bytes : List ℕ) (node : NodeState Running) (records kept : ℕ)
     : Type 0 where
   pub deck : Deck
@@ -38,8 +38,8 @@ IsNoDeck text (refusals.Fault (faults.BadDeck line reason)) =
     meaning_of Script text ≡ Err (record { line = line; reason = reason })
 IsNoDeck text _ = ⊥
 
--- Why a node is not opened: the bytes mean no deck, or one of a tally, or one that has no node of this number; or
--- memory ran out.
+-- Why a node is not opened: the bytes mean no deck, or the deck of a tally, or a deck without a
+-- node of this number; or memory ran out.
 abbrev pub OpensNoNode : List ℕ → ℕ → Refusal → Type 0
 OpensNoNode text number (refusals.Fault faults.BadConfig) =
     (deck : Deck) × MeansDeck text deck × (¬ (IsNode number × (number ≤ deck.config.nodes)))

@@ -1,4 +1,4 @@
--- What a handle keeps once it is opened, and what a call by it answers.
+-- What a handle keeps after it is opened, and the answer to a call by it.
 use Rattle.std.specs.Prelude.{◌≡◌, ◌⊎◌, ◌==◌, if◌then◌else◌, ℕ, Option, Some, None, Result, List}
 use Rattle.rp_base.specs.declared.fault.Fault.TheVariants as faults
 use Rattle.rp_base.specs.Number.{IsTask}
@@ -18,14 +18,15 @@ use Rattle.rp_handles.specs.declared.actor.Actor.TheVariants.{Node, Task}
 use Rattle.rp_handles.specs.declared.actor.ActorKind.{ActorKind}
 use Rattle.rp_handles.specs.declared.actor.ActorKind.TheVariants as kinds
 
--- the kind of a number
+-- the kind with this number
 abbrev pub kind_of : ℕ → Option ActorKind
 kind_of number =
     if number == 1 then Some kinds.Node else
     if number == 2 then Some kinds.Task else
     None
 
--- The answer to a request to an actor of this kind; none by one of the other kind, and then nothing changed.
+-- The answer of an actor to a request to this kind; none from an actor of the other kind, and then
+-- nothing changed.
 abbrev pub ActorAnswers : ActorKind → List ℕ → Actor → Actor → List ℕ → List ℕ → Option (Result Lengths Refusal)
     → Type 0
 ActorAnswers kinds.Node request (Node old) (Node new) before after (Some result) =
@@ -36,7 +37,7 @@ ActorAnswers kinds.Node request (Task old) new before after None = (new ≡ Task
 ActorAnswers kinds.Task request (Node old) new before after None = (new ≡ Node old) × (after ≡ before)
 ActorAnswers kind request old new before after result = ⊥
 
--- The same, by what a handle keeps; none if it is closed, and it stays closed.
+-- The answer of the actor that a handle keeps; none if the handle is closed, and it stays closed.
 abbrev pub HandleAnswers : ActorKind → List ℕ → Option Actor → Option Actor → List ℕ → List ℕ
     → Option (Result Lengths Refusal) → Type 0
 HandleAnswers kind request (Some old) (Some new) before after result =
@@ -54,7 +55,7 @@ KeepsNode text number bytes None records kept = ⊥
 abbrev pub KeepsTask : ℕ → Option Actor → Type 0
 KeepsTask number kept = kept ≡ Some (Task (no_calls number))
 
--- Why no task is opened: there is none of this number, or memory ran out.
+-- Why no task is opened: no task has this number, or memory ran out.
 abbrev pub IsNoTask : ℕ → Refusal → Type 0
 IsNoTask number (refusals.Fault faults.OutOfMemory) = Unit {0}
 IsNoTask number (refusals.Fault faults.BadConfig) = ¬ IsTask number

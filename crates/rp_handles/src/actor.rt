@@ -14,7 +14,7 @@ pub enum Actor {
     Task(Task),
 }
 
-/// Which of the two an actor is.
+/// The kind of an actor.
 #[derive(Clone, Copy, Debug, PartialEq, Eq)]
 pub enum ActorKind {
     Node,
@@ -22,7 +22,7 @@ pub enum ActorKind {
 }
 
 impl ActorKind {
-    /// The kind of this number, if it is one: 1 is a node, 2 a task.
+    /// The kind with this number, if there is one: 1 is a node, 2 a task.
     pub fn of(number: u8) -> Option<Self>
         ensures { result ≡ kind_of number }
     {
@@ -35,8 +35,8 @@ impl ActorKind {
 }
 
 impl Actor {
-    /// Answers a request to an actor of this kind, as `Node::call` or `Task::call` says; `None` if it
-    /// is of the other kind.
+    /// Answers a request to an actor of this kind, as `Node::call` or `Task::call`; `None` if the
+    /// actor is of the other kind.
     pub(crate) fn call(
         &mut self,
         alloc: Global,

@@ -1,4 +1,4 @@
-//! An actor is opened, called and closed by its handle.
+//! Opens, calls and closes an actor by its handle.
 
 ghost use Rattle.std.specs.Prelude.{◌≡◌, ◌<◌, ◌+◌, ◌^◌, length, Some, None, IfOk, IfErr, OnOk, OnErr};
 ghost use Rattle.rp_base.specs.declared.fault.Fault.TheVariants as faults;
@@ -25,9 +25,9 @@ pub struct Found {
 }
 
 /// Opens a node of a deck over the bytes of its device, which are copied; the deck's script is not
-/// run. What the handle kept before is closed. Refused with `BadDeck`, with `NoObjects` where the
-/// deck declares a tally, with `BadConfig` where it has no such node, or with `OutOfMemory`: then
-/// the handle keeps what it kept.
+/// run. What the handle kept before is closed. Refused with `BadDeck`, with `NoObjects` if the deck
+/// declares a tally, with `BadConfig` if it has no such node, or with `OutOfMemory`: then the
+/// handle keeps what it kept.
 pub fn open_node(
     alloc: Global,
     deck: &[u8],
@@ -73,7 +73,7 @@ pub fn open_task(alloc: Global, number: u8, handle: &mut Handle) -> Result<(), R
 }
 
 /// Answers a request to the node or the task of a handle, as `Node::call` or `Task::call` of
-/// `rp_requests` says; `None` if the handle is closed or keeps an actor of the other kind.
+/// `rp_requests`; `None` if the handle is closed or keeps an actor of the other kind.
 pub fn call(
     alloc: Global,
     handle: &mut Handle,
@@ -93,7 +93,7 @@ pub fn call(
     result
 }
 
-/// Gives back what a handle keeps: it is closed.
+/// Frees what a handle keeps, and closes the handle.
 pub fn close(alloc: Global, handle: &mut Handle)
     // claim: A handle that was closed keeps nothing
     ensures { handle.new.kept ≡ None }
@@ -102,7 +102,7 @@ pub fn close(alloc: Global, handle: &mut Handle)
     let _ = into_box(alloc, taken);
 }
 
-/// The actor in a box.
+/// Puts an actor into a box.
 fn boxed(alloc: Global, actor: Actor) -> Result<Box<Actor>, Refusal>
     ensures ok { IfOk result (λ boxed. boxed.value ≡ actor) }
     ensures err { IfErr result (λ refusal. refusal ≡ refusals.Fault faults.OutOfMemory) }
@@ -113,7 +113,7 @@ fn boxed(alloc: Global, actor: Actor) -> Result<Box<Actor>, Refusal>
     }
 }
 
-/// Has the handle keep the actor, and closes what it kept.
+/// Puts the actor into the handle, and closes what the handle kept before.
 fn keep(alloc: Global, actor: Box<Actor>, handle: &mut Handle)
     ensures { handle.new.kept ≡ Some actor.value }
 {

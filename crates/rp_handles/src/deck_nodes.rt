@@ -1,4 +1,4 @@
-//! A node of a deck that is opened over a caller's bytes.
+//! Opens a node of a deck over a caller's bytes.
 
 ghost use Rattle.std.specs.Prelude.{◌≡◌, ◌≤◌, ◌<◌, ◌+◌, ◌^◌, length, IfOk, IfErr};
 ghost use Rattle.rp_base.specs.Number.{IsNode};
@@ -13,7 +13,7 @@ use rp_requests::{Node, Opened, Refusal};
 use std::alloc::Global;
 
 /// Opens a node of a deck over the bytes of its device. The deck's script is not run. Refused with
-/// `BadDeck`, with `NoObjects` where the deck declares a tally, with `BadConfig` where it has no such
+/// `BadDeck`, with `NoObjects` if the deck declares a tally, with `BadConfig` if it has no such
 /// node, or with `OutOfMemory`.
 pub(crate) fn node_of_deck(
     alloc: Global,
@@ -50,7 +50,7 @@ fn deck_of(alloc: Global, bytes: &[u8]) -> Result<Deck, Refusal>
     }
 }
 
-/// The node of this number, one of n.
+/// The node of this number, if there are n nodes.
 fn node_of(nodes: u8, number: u8) -> Result<NodeId, Refusal>
     ensures ok { IfOk result (λ node. (node ≡ number) × (node ≤ nodes)) }
     ensures err { IfErr result (λ refusal. (refusal ≡ refusals.Fault faults.BadConfig)

@@ -1,4 +1,4 @@
-//! What a caller keeps of an actor.
+//! The handle by which a caller keeps an actor.
 
 ghost use Rattle.std.specs.Prelude.{◌≡◌, Some, None, is_some, IfSome, IfNone};
 ghost use Rattle.std.specs.declared.option.Option.{Option};
@@ -11,14 +11,14 @@ use crate::loose::Loose;
 use std::alloc::Global;
 use std::marker::Model;
 
-/// A handle, as a caller in C keeps it: closed, or the address of an actor. One that is all zero is
-/// closed. The caller changes no byte of an open handle, and copies none.
+/// A handle, in a C caller's memory: closed, or the address of an actor. A handle of zero bytes is
+/// closed. The caller changes no byte of an open handle, and makes no copy of it.
 #[repr(C)]
 #[derive(Drop)]
 pub struct Handle {
-    /// Whether it keeps an actor.
+    /// Whether the handle keeps an actor.
     pub(crate) full: bool,
-    /// Where the actor is.
+    /// The address of the actor.
     pub(crate) at: *mut u8,
     /// The actor.
     pub ghost kept: { Option Actor } by { coded_option the_row.coded },
@@ -52,7 +52,7 @@ pub(crate) fn of(actor: Box<Actor>) -> Handle
     shut(Loose::of(actor))
 }
 
-/// The actor of a handle, or `None` where it is closed.
+/// The actor of a handle, or `None` if it is closed.
 pub(crate) fn into_box(alloc: Global, handle: Handle) -> Option<Box<Actor>>
     ensures some { IfSome result (λ actor. handle.kept ≡ Some actor.value) }
     ensures none { IfNone result (handle.kept ≡ None) }
@@ -60,7 +60,7 @@ pub(crate) fn into_box(alloc: Global, handle: Handle) -> Option<Box<Actor>>
     Some(unshut(alloc, handle)?.into_box())
 }
 
-/// A handle that keeps what a loose box owns.
+/// A handle that keeps what a box that was taken apart owns.
 fn shut(actor: Loose<Actor, Global>) -> Handle
     ensures { result.kept ≡ Some actor.value }
 {
@@ -71,7 +71,7 @@ fn shut(actor: Loose<Actor, Global>) -> Handle
     }
 }
 
-/// What a handle keeps, or `None` where it is closed.
+/// What a handle keeps, or `None` if it is closed.
 fn unshut(alloc: Global, handle: Handle) -> Option<Loose<Actor, Global>>
     ensures some { IfSome result (λ actor. handle.kept ≡ Some actor.value) }
     ensures none { IfNone result (handle.kept ≡ None) }

@@ -3,10 +3,10 @@
 //!
 //! In reading order:
 //! - `actor`: a node or a task, which answers requests
-//! - `deck_nodes`: a node of a deck that is opened over a caller's bytes
+//! - `deck_nodes`: opens a node of a deck over a caller's bytes
 //! - `loose`: a box as its pointer
-//! - `handle`: what a caller keeps of an actor
-//! - `calls`: an actor is opened, called and closed by its handle
+//! - `handle`: the handle by which a caller keeps an actor
+//! - `calls`: opens, calls and closes an actor by its handle
 #![tactic(auto)]
 
 mod actor;

@@ -1,5 +1,5 @@
--- What the sketch of a cluster's run says of its history: which messages were sent in each moment, and which one was
--- settled there, and how.
+-- How the sketch of a cluster's run describes its history: which messages were sent in each moment,
+-- and which one was settled there, and how.
 use Rattle.std.specs.Prelude.{◌≡◌, ℕ, ◌^◌, ◌≤◌, Option, Some, None, List, [], ◌∷◌, length, map, drop}
 use Rattle.rp_codec.specs.Message.{Message}
 use Rattle.rp_codec.specs.declared.packet.Party.{Party}
@@ -43,7 +43,8 @@ delivered_by (Cut step kept) = delivered_in step
 delivered_by (Stop node) = None
 delivered_by (Restart node) = None
 
--- A running node takes what it is given; at a stopped one, or where there is none, it is not heard.
+-- A running node takes what it is given; a stopped node, or one that does not exist, does not hear
+-- it.
 abbrev pub end_by_state : Option Running → End
 end_by_state None = Unheard
 end_by_state (Some running) = Taken
@@ -57,7 +58,7 @@ end_at w (Node node) = end_by_part (part_at w.nodes node)
 end_at w (Task task) = Taken
 end_at w Audit = Taken
 
--- how the way of a message of this number ends where it is delivered
+-- how the way of a message of this number ends if it is delivered
 abbrev pub ending_of : World → ℕ → Option Message → Option Ending
 ending_of w number None = None
 ending_of w number (Some m) = Some (record { message = number; end = end_at w m.to })
@@ -66,11 +67,11 @@ abbrev pub ending_at : World → Option ℕ → Option Ending
 ending_at w None = None
 ending_at w (Some number) = ending_of w number (part_at w.sent number)
 
--- what an event ends
+-- how the way of the message that an event delivers ends, if it delivers one
 abbrev pub ending_by : World → Event → Option Ending
 ending_by w event = ending_at w (delivered_by event)
 
--- how the way of a message ends that is lost, if one is
+-- how the way of a lost message ends, if one is lost
 abbrev pub lost_of : Option ℕ → Option Ending
 lost_of None = None
 lost_of (Some number) = Some (record { message = number; end = Lost })
@@ -84,8 +85,8 @@ pub record HistoryStep : Type 0 where
   pub after : World
 
 module _ {S : Type 0} (s : Setting S) (stage : Stage) where
-  -- An event happened, and ended what it delivered; or none did, and the world stays: a line was refused, a message
-  -- was lost, or a node was shown.
+  -- An event happened, and ended the way of the message that it delivered; or none did, and the
+  -- world does not change: a line was refused, a message was lost, or a node was shown.
   abbrev pub HappensBy : World → Option Event → World → Option Ending → Type 0
   HappensBy w None after ending = (after ≡ w) × (lost : Option ℕ) × (ending ≡ lost_of lost)
   HappensBy w (Some event) after ending = ResultsIn s w (event_of event) after × (ending ≡ ending_by w event)
@@ -96,7 +97,7 @@ module _ {S : Type 0} (s : Setting S) (stage : Stage) where
     pub sends : step.moment.sends.items ≡ map (sending_of stage) (drop (length w.sent) step.after.sent)
     pub happens : HappensBy w step.event step.after step.moment.ending
 
-  -- steps lead from a world to another
+  -- steps lead from one world to another
   abbrev pub Leads : World → List HistoryStep → World → Type 0
   Leads w [] last = last ≡ w
   Leads w (step ∷ rest) last = IsStepFrom w step × Leads step.after rest last
@@ -107,21 +108,22 @@ module _ {S : Type 0} (s : Setting S) (stage : Stage) where
     pub moments_are : moments ≡ map (λ step. step.moment) steps
     pub leads : Leads (opening_world s.config.nodes) steps last
 
--- Each message has its way in the sketch, none upwards.
+-- Each message has its way in the sketch, none of them upwards.
 pub record IsDrawable (sketch : Sketch) : Type 0 where
   pub ways : AreWays sketch.rows.items sketch.ways.items
   pub down : AreDown sketch.lines sketch.ways.items
   pub few : sketch.lines ≤ 2 ^ 32
 
--- The sketch is that of a history that leads to this world, and each message of that has its way.
+-- The sketch is that of a history that leads to this world, and each message of the history has its
+-- way.
 pub record IsSketchOf {S : Type 0} (s : Setting S) (stage : Stage) (sketch : Sketch) (last : World) : Type 0 where
   pub history : IsHistory s stage (moments_of sketch) last
   pub drawable : IsDrawable sketch
   pub count : length sketch.ways.items ≡ length last.sent
 
--- The text is the drawing of a sketch of a history that leads to this world. The arrows in it, and
--- it has no other, are the ways of the messages of that history, each from the moment in which it
--- was sent down to the one in which it was settled.
+-- The text is the drawing of a sketch of a history that leads to this world. It has the ways of
+-- the messages of that history as its arrows, and no others, each from the moment in which the
+-- message was sent down to the one in which it was settled.
 pub record IsDrawingOf {S : Type 0} (s : Setting S) (stage : Stage) (lanes : ℕ) (last : World) (text : List ℕ)
     : Type 0 where
   pub sketch : Sketch

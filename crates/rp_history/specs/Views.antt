@@ -39,7 +39,7 @@ names_position (Report first applied actions) at = false
 names_position (PrepareRange range ballot) at = is_covered range at
 names_position (PromiseRange range ballot votes) at = is_covered range at
 
--- the same where there is a position
+-- the packet names the position, if there is one
 abbrev pub is_about : Option ℕ → Body → Bool
 is_about None body = true
 is_about (Some position) body = names_position body position
@@ -63,7 +63,7 @@ named_ballot (Report first applied actions) = None
 named_ballot (PrepareRange range ballot) = Some ballot
 named_ballot (PromiseRange range ballot votes) = Some ballot
 
--- the colour of a ballot: that of its owner, and another one in every other round
+-- the colour of a ballot: that of its owner, and a second one in every other round
 abbrev pub ballot_colour : Option ℕ → ℕ
 ballot_colour None = 0
 ballot_colour (Some ballot) = if nat_eq (round_of ballot % 2) 1 then owner_of ballot else owner_of ballot + 7

@@ -1,4 +1,4 @@
-//! The chart of a run so far.
+//! The chart of the run so far.
 
 ghost use Rattle.std.specs.Prelude.{◌≡◌, ◌≤◌, length, drop, IfErr, IfOk, OnOk, string_bytes};
 ghost use Rattle.rp_history.specs.Histories.{ending_by, IsDrawable, IsDrawingOf, IsSketchOf, lost_of};
@@ -17,7 +17,7 @@ use rp_machine::Machine;
 use rp_model::worlds_grow;
 use std::alloc::Global;
 
-/// The chart of a run so far: its moments, and the ways of its messages.
+/// The chart of the run so far: its moments, and the ways of its messages.
 #[derive(Drop)]
 pub struct Chart {
     pub stage: Stage,
@@ -38,8 +38,8 @@ impl Chart {
         }
     }
 
-    /// One more moment, in which an event happened: these packets are sent, and the way of this message
-    /// ends. `OutOfMemory`: then the chart may lack the moment.
+    /// Adds a moment in which an event happened: these packets are sent, and the way of this
+    /// message ends. `OutOfMemory`: then the chart may lack the moment.
     pub fn happen<M: Machine>(
         &mut self,
         alloc: Global,
@@ -71,8 +71,8 @@ impl Chart {
         self.sketch.add(moment, label)
     }
 
-    /// One more moment, in which nothing happened, but that a message may have been lost. `OutOfMemory`: then
-    /// the chart may lack the moment.
+    /// Adds a moment in which nothing happened, except that a message may have been lost.
+    /// `OutOfMemory`: then the chart may lack the moment.
     pub fn stay<M: Machine>(
         &mut self,
         alloc: Global,
@@ -105,8 +105,8 @@ impl Chart {
         self.sketch.ways.len() as u64
     }
 
-    /// The drawing of the run, of at most 300 bytes for each message, moment and lane, and 9,300 besides.
-    /// `OutOfMemory`.
+    /// The drawing of the run, of at most 300 bytes for each message, moment and lane, and 9,300
+    /// more. `OutOfMemory`.
     pub fn draw<M: Machine>(&self, alloc: Global, lanes: &[Lane]) -> Result<String, Fault>
         requires drawable { IsDrawable self.now.sketch }
         requires lanes { length lanes.now ≤ 16 }
@@ -122,7 +122,7 @@ impl Chart {
     }
 }
 
-/// How the way of a message ends that is lost, if one is.
+/// How the way of a lost message ends, if one is lost.
 fn lost_of(message: Option<u64>) -> Option<Ending>
     ensures { result ≡ lost_of message }
 {

@@ -1,4 +1,4 @@
-//! What happened in an event, by its effect and by its node before it and after it.
+//! What happened in an event: its effect, and its node's state before and after it.
 
 ghost use Rattle.std.specs.Prelude.{◌≡◌};
 ghost use Rattle.rp_history.specs.Histories.{delivered_by};
@@ -9,18 +9,18 @@ use rp_codec::{Packet, Party};
 use rp_drawing::{Kind, Label, Mark, Words};
 use rp_model::{Dropped, Effect, Event, Step};
 
-/// What is asked of a node before an event and after it.
+/// What is noted of a node before an event and after it.
 #[derive(Clone, Copy)]
 pub struct NodeState {
     /// How many bytes its device holds.
     pub stored: u64,
-    /// How many actions it has applied, 0 where it is stopped.
+    /// How many actions it has applied, 0 if it is stopped.
     pub applied: u16,
     pub is_stopped: bool,
 }
 
-/// An event that happened, its effect, who acted, and what was asked of that node before it and after it.
-/// The packet is the one that it delivered, or else the first one that it sent.
+/// An event that happened, its effect, who acted, and that node's state before and after it. The
+/// packet is the one that it delivered, or else the first one that it sent.
 #[derive(Drop)]
 pub struct Happened {
     pub event: Event,
@@ -45,7 +45,7 @@ pub fn delivered_by(event: &Event) -> Option<u64>
     }
 }
 
-/// Who acts in an event that delivers a packet to this receiver, if it delivers one.
+/// Who acts in an event; the receiver is that of the packet that it delivers, if it delivers one.
 pub fn actor_of(event: &Event, receiver: Option<Party>) -> Option<Party> {
     match *event {
         Event::Submit { task, .. } | Event::Again { task, .. } => Some(Party::Task(task)),
@@ -62,13 +62,13 @@ pub fn actor_of(event: &Event, receiver: Option<Party>) -> Option<Party> {
 }
 
 impl Happened {
-    /// Whether its node wrote a record, or a part of one.
+    /// Whether the event's node wrote a record, or a part of one.
     pub fn has_written(&self) -> bool {
         self.after.stored > self.before.stored
     }
 
-    /// What is drawn of it beside the ways of packets, with the words of what happened and of what its actor
-    /// did then.
+    /// The label that is drawn beside the ways of packets, with the words for the event and for
+    /// what its actor then did.
     pub fn label(&self, stage: &Stage, cause: Words, effect: Words) -> Label {
         Label {
             cause,
@@ -78,7 +78,7 @@ impl Happened {
         }
     }
 
-    /// Its mark.
+    /// The mark of the event, if it has one.
     fn mark(&self, stage: &Stage) -> Option<Mark> {
         let actor = self.actor?;
         let colour = match &self.packet {
@@ -92,7 +92,7 @@ impl Happened {
         })
     }
 
-    /// What its mark means.
+    /// The kind of the mark: what it means.
     fn kind(&self) -> Kind {
         match self.event {
             Event::Stop(_) => Kind::Stop,
@@ -105,7 +105,7 @@ impl Happened {
         }
     }
 
-    /// Whether more is to be drawn of it than the way of a packet.
+    /// Whether more is to be drawn of the event than the way of a packet.
     fn is_notable(&self) -> bool {
         match self.event {
             Event::Node(Step::Deliver(_)) => {

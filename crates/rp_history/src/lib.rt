@@ -1,8 +1,9 @@
-//! The chart of a run: each event is a moment in it, and each message has its way through the moments.
+//! The chart of a run: each event is a moment in it, and each message has its way through the
+//! moments.
 //!
 //! In reading order:
-//! - `chart`: the chart of a run so far, and its drawing
-//! - `happened`: what happened in an event, by its effect and by its node before it and after it
+//! - `chart`: the chart of the run so far, and its drawing
+//! - `happened`: what happened in an event: its effect, and its node's state before and after it
 //! - `stage`: on which lanes packets are drawn
 //! - `view`: which packets are drawn, and in which colour
 #![tactic(auto)]

@@ -28,7 +28,7 @@ impl Stage {
         }
     }
 
-    /// How a packet is sent.
+    /// How a packet is sent: its lanes and its colour, or whether it is drawn at all.
     pub fn sending_of(&self, packet: &Packet) -> Sending
         ensures { result ≡ sending_of self.now packet.now }
     {

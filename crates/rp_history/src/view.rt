@@ -1,4 +1,4 @@
-//! What of a run is drawn.
+//! Which part of a run is drawn.
 
 ghost use Rattle.std.specs.Prelude.{◌≡◌};
 ghost use Rattle.rp_history.specs.Views.{named_ballot, colour_of, is_about, is_node, is_to_itself, names_position, shows};
@@ -6,12 +6,12 @@ ghost use Rattle.rp_history.specs.Views.{named_ballot, colour_of, is_about, is_n
 use rp_base::{Ballot, NodeId, Position};
 use rp_codec::{Body, Packet, Party};
 
-/// What of a run is drawn.
+/// Which part of a run is drawn.
 #[derive(Clone, Copy)]
 pub struct View {
-    /// Only what names this position, if there is one.
+    /// Only what names this position is drawn, if there is one.
     pub position: Option<Position>,
-    /// No packets from a node to itself.
+    /// Packets from a node to itself are not drawn.
     pub hides_self: bool,
 }
 
@@ -26,7 +26,7 @@ impl View {
         self.is_about(packet.body())
     }
 
-    /// Whether a packet names the position, if there is one.
+    /// Whether a packet names the chosen position; every packet does if none is chosen.
     fn is_about(&self, body: &Body) -> bool
         ensures { result ≡ is_about self.now.position body.now }
     {
@@ -36,7 +36,7 @@ impl View {
         }
     }
 
-    /// Whether what names no position is drawn, as calls.
+    /// Whether events that name no position, as calls, are drawn.
     pub fn shows_all(&self) -> bool {
         self.position.is_none()
     }
@@ -99,8 +99,8 @@ fn named_ballot(body: &Body) -> Option<Ballot>
     }
 }
 
-/// The colour of the ballot that a packet names: that of the node that owns it, 1 to 7, and 7 more in every
-/// other round; or 0.
+/// The colour of the ballot that a packet names: that of the node that owns it, 1 to 7, plus 7 in
+/// every other round; 0 if the packet names none.
 pub fn colour_of(body: &Body) -> u8
     ensures { result ≡ colour_of body.now }
 {

@@ -13,17 +13,17 @@ pub(crate) enum Call {
     Sync,
 }
 
-/// A device in memory of which one call fails, once. An append that fails leaves half of its bytes.
+/// A device in memory that fails at most once. An append that fails leaves half of its bytes.
 #[derive(Drop)]
 pub(crate) struct FailingDevice {
     inner: MemDevice,
-    /// The call that fails, and how many bytes the device holds then. `None` from then on.
+    /// The call that fails, and how many bytes the device holds then. `None` once it has failed.
     fails: Option<(Call, u64)>,
     failures: Count,
 }
 
 impl FailingDevice {
-    /// It holds nothing, and fails at the first such call.
+    /// An empty device, which fails at the first such call.
     pub(crate) fn new(alloc: Global, fails: Option<(Call, u64)>) -> Self {
         FailingDevice {
             inner: MemDevice::new(alloc),

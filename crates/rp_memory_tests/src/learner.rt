@@ -8,7 +8,7 @@ use std::alloc::Global;
 use std::process::Abort;
 use std::test::Fail;
 
-/// A node by its number, and one of the learner's.
+/// The node of this number, which is one of the learner's nodes.
 pub(crate) fn node_of(rt: &impl Abort, number: u8, nodes: u8) -> NodeId
     ensures { result ≤ nodes }
 {
@@ -31,8 +31,9 @@ fn expect_noop(rt: &impl Abort, learner: &Learner, from: NodeId, ballot: Ballot,
     expect_eq(rt, found, status);
 }
 
-/// Notes a vote of a node in a ballot for Noop at position 1, and compares what holds once it is
-/// counted. A note that is refused for memory leaves that, and succeeds again.
+/// Notes a vote of a node in a ballot for Noop at position 1, and compares the status that it has
+/// once it is counted. If memory runs out, this status does not change, and the vote is noted
+/// again.
 fn note_noop(
     rt: &impl Abort,
     learner: &mut Learner,
@@ -74,7 +75,7 @@ fn note_all(
     }
 }
 
-/// A learner, made again where memory was refused once.
+/// A new learner, tried again if memory ran out once.
 fn new_learner(rt: &impl Abort, alloc: Global, nodes: u8, max_positions: u16) -> Learner
     requires { (3 ≤ nodes) × (nodes ≤ 7) }
     ensures { result ≡ fresh nodes max_positions }
@@ -85,7 +86,7 @@ fn new_learner(rt: &impl Abort, alloc: Global, nodes: u8, max_positions: u16) ->
     }
 }
 
-/// Votes of four nodes, of whom three are a majority, and the statuses that they then have.
+/// Votes of four nodes, of whom three are a majority, and the statuses that result from them.
 const OF_FOUR: [(u8, u64, VoteStatus); 6] = [
     (1, 9, VoteStatus::Counting),
     (2, 9, VoteStatus::Counting),
@@ -95,7 +96,7 @@ const OF_FOUR: [(u8, u64, VoteStatus); 6] = [
     (4, 9, VoteStatus::Known),
 ];
 
-/// Votes of seven nodes, of whom four are a majority.
+/// Votes of seven nodes, of whom four are a majority, and the statuses that result from them.
 const OF_SEVEN: [(u8, u64, VoteStatus); 7] = [
     (1, 9, VoteStatus::Counting),
     (2, 9, VoteStatus::Counting),
@@ -144,7 +145,7 @@ fn expect_status(
     expect_eq(rt, found, status);
 }
 
-/// Notes a vote of a node in ballot 9, and again where memory was refused once.
+/// Notes a vote of a node in ballot 9, and retries once if memory ran out.
 fn note(rt: &impl Abort, learner: &mut Learner, alloc: Global, cast: (u8, u16), action: &Action)
     requires { learner.old.nodes ≡ 3 }
     ensures { SameSizes learner.new learner.old }
@@ -173,7 +174,7 @@ fn a_majority_is_for_one_action(rt: HostRuntime) -> Result<(), Fail> {
     Ok(())
 }
 
-/// The learner has decided this at a position.
+/// The learner has this decision at a position.
 fn expect_decided(rt: &impl Abort, learner: &Learner, at: u16, decision: Decision) {
     expect_eq(rt, learner.decided(position(rt, at)), decision);
 }
@@ -194,7 +195,7 @@ fn a_settled_position_is_known_and_no_other(rt: HostRuntime) -> Result<(), Fail>
     Ok(())
 }
 
-/// Node 1 votes at positions 64 and 65, of which the window has the first alone.
+/// Node 1 votes at positions 64 and 65, of which only the first is in the window.
 fn vote_at_the_window_s_end(rt: &impl Abort, learner: &mut Learner, alloc: Global)
     requires { learner.old.nodes ≡ 3 }
     ensures { SameSizes learner.new learner.old }
@@ -209,7 +210,7 @@ fn vote_at_the_window_s_end(rt: &impl Abort, learner: &mut Learner, alloc: Globa
     learner.settled(Position::first());
 }
 
-/// What holds once the window begins at position 2: the vote at 64 still counts.
+/// Once the window begins at position 2, the vote at 64 still counts.
 fn expect_moved_by_one(rt: &impl Abort, learner: &Learner)
     requires { learner.now.nodes ≡ 3 }
 {

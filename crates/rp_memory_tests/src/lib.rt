@@ -1,5 +1,6 @@
-//! Tests that go on where memory is refused, and see that a call which was refused changed nothing. The
-//! gate runs them also with each one of their requests for memory refused (tools/memory).
+//! Tests that continue when memory runs out, and check that a call that was refused changed
+//! nothing. The gate also runs them with each one of their requests for memory refused
+//! (tools/memory).
 #![tactic(auto)]
 
 #[cfg(test)]

@@ -12,10 +12,10 @@ use std::alloc::Global;
 use std::process::Abort;
 use std::test::Fail;
 
-/// What a node is given, how many packets it then sends, and how many bytes its device then holds.
+/// A node's input, how many packets the node then sends, and how many bytes its device then holds.
 type Case = (&'static str, Input<'static>, usize, u64);
 
-/// What node 1 of three makes of each kind of input. Its ballot at position 1 is 9.
+/// The effect of each kind of input on node 1 of three. Its ballot at position 1 is 9.
 const CASES: [Case; 15] = [
     (
         "the first call of task 1, procedure 1 of object 1 with 5",
@@ -127,7 +127,7 @@ fn opened_once<M: Machine, D: Device>(
     }
 }
 
-/// A node of three over the device, opened once more where memory was refused.
+/// A node of three over the device, opened once more if memory ran out.
 fn opened<M: Machine, D: Device>(
     rt: &impl Abort,
     alloc: Global,
@@ -164,7 +164,7 @@ fn is_right(input: &Input) -> bool
     }
 }
 
-/// A step, taken once more where memory was refused and nothing has changed.
+/// A step, retried once if memory ran out and nothing has changed.
 fn step<M: Machine, D: Device>(
     rt: &impl Abort,
     alloc: Global,
@@ -181,7 +181,7 @@ fn step<M: Machine, D: Device>(
     }
 }
 
-/// The node sends this many packets at an input, and its device then holds this many bytes.
+/// The node sends this many packets for an input, and its device then holds this many bytes.
 fn expect_step<M: Machine, D: Device>(
     rt: &impl Abort,
     alloc: Global,
@@ -193,7 +193,7 @@ fn expect_step<M: Machine, D: Device>(
     expect_at(rt, name, (sent.packets, node.stored()), (*packets, *stored));
 }
 
-/// Node 1 does at each of the cases what it says, and then reports in one packet.
+/// Node 1 takes the input of each case with the stated effect, and then reports in one packet.
 fn expect_steps<M: Machine, D: Device>(
     rt: &impl Abort,
     alloc: Global,
@@ -222,7 +222,7 @@ fn a_step_that_memory_refused_has_the_same_result_later(rt: HostRuntime) -> Resu
     Ok(())
 }
 
-/// How many bytes are left where a node stops within its first step, once more where memory was refused.
+/// How many bytes are left if a node stops within its first step, retried once if memory ran out.
 fn left_by_a_cut<M: Machine, D: CutDevice>(
     rt: &impl Abort,
     alloc: Global,
@@ -248,28 +248,28 @@ fn a_cut_that_memory_refused_gives_the_node_back(rt: HostRuntime) -> Result<(), 
     Ok(())
 }
 
-/// What node 3 hears of ballot 9 at position 1 from node 1: a Prepare, an Accept and a decision.
+/// What node 3 hears about ballot 9 at position 1 from node 1: a Prepare, an Accept and a decision.
 const HEARD: [&[u8]; 3] = [
     b"\x02\x02\x01\x03\0\x01\0\0\0\0\0\0\0\x09",
     b"\x02\x04\x01\x03\0\x01\0\0\0\0\0\0\0\x09\x01\x01\0\0\0\x01\x01\x02\x01\0\0\0\0\0\0\0\x05",
     b"\x02\x06\x01\x03\0\x01\x01\x01\0\0\0\x01\x01\x02\x01\0\0\0\0\0\0\0\x05",
 ];
 
-/// What it answers: a promise and a vote.
+/// The node's answers: a promise and a vote.
 const ANSWERS: &[u8] =
     b"\x02\x03\x03\x01\0\x01\0\0\0\0\0\0\0\x09\0\x02\x05\x03\x01\0\x01\0\0\0\0\0\0\0\x09\x01\x01\0\0\0\x01\x01\x02\x01\0\0\0\0\0\0\0\x05";
 
-/// What comes of packets that a node hears, opened anew each time that its device fails.
+/// The result of the packets that a node hears, opened again whenever its device fails.
 #[derive(Drop)]
 struct Heard {
-    /// The texts of the packets that it sends.
+    /// The texts of the packets that the node sends.
     sent: Vec<u8>,
     openings: u32,
     stored: u64,
     image: Vec<u8>,
 }
 
-/// The node opens, a few times where its device fails.
+/// The node opens, after a few attempts if its device fails.
 fn opens_at_last<M: Machine, D: Device>(
     rt: &impl Abort,
     alloc: Global,
@@ -291,7 +291,7 @@ fn opens_at_last<M: Machine, D: Device>(
     panic!(rt; "it does not open")
 }
 
-/// The node whose device failed is silent until it is opened anew.
+/// The node whose device failed refuses each step until it is opened again.
 fn opens_anew<M: Machine, D: Device>(
     rt: &impl Abort,
     alloc: Global,
@@ -305,7 +305,8 @@ fn opens_anew<M: Machine, D: Device>(
     opens_at_last::<M, D>(rt, alloc, program, node.close(), openings)
 }
 
-/// Node 3 hears a packet. Where its device fails it is opened anew, and then hears the same again.
+/// Node 3 hears a packet. If its device fails it is opened again, and then hears the same packet
+/// again.
 fn hears<M: Machine, D: Device>(
     rt: &impl Abort,
     alloc: Global,
@@ -353,7 +354,7 @@ fn hears_all<M: Machine, D: Device>(
     heard
 }
 
-/// The texts of a step are after the others, tried once more where memory was refused.
+/// Appends the texts of a step to the others, and retries once if memory ran out.
 fn extends(rt: &impl Abort, all: &mut Vec<u8>, answer: Result<Sent, Fault>) {
     let sent = answer.expect(rt, "the step");
     if all.extend_from_slice(&sent.bytes).is_err() {
@@ -362,7 +363,7 @@ fn extends(rt: &impl Abort, all: &mut Vec<u8>, answer: Result<Sent, Fault>) {
     }
 }
 
-/// The node's image, asked for once more where memory was refused.
+/// The node's image, requested once more if memory ran out.
 fn image_of<M: Machine, D: Device>(
     rt: &impl Abort,
     alloc: Global,
@@ -374,11 +375,11 @@ fn image_of<M: Machine, D: Device>(
     }
 }
 
-/// The call that fails and the bytes that the device holds then; how often the node is opened; and how
-/// many bytes of its answers are never sent.
+/// The call that fails and the bytes that the device then holds; how often the node is opened; and
+/// how many bytes of its answers are never sent.
 type Failure = (Option<(Call, u64)>, u32, usize);
 
-/// A promise that was written and not sent is not sent later.
+/// A promise that was written but not sent is not sent later.
 const FAILURES: [Failure; 9] = [
     (Some((Call::Read, 0)), 2, 0),
     (Some((Call::Sync, 0)), 2, 0),
@@ -391,7 +392,7 @@ const FAILURES: [Failure; 9] = [
     (None, 1, 0),
 ];
 
-/// A node whose device fails so answers and stores all the same.
+/// A node whose device fails in this way still gives the answers and stores the records.
 fn expect_heard(rt: &impl Abort, heard: &Heard, failure: &Failure) {
     let (_, openings, unsent) = *failure;
     expect_at(rt, failure, (heard.openings, heard.stored), (openings, 62));

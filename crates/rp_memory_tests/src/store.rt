@@ -63,7 +63,7 @@ fn voted(rt: &impl Abort) -> Rec
     Rec::Voted(Position::first(), nine(rt), call)
 }
 
-/// Appends the bytes, once more where memory was refused.
+/// Appends the bytes, and retries once if memory ran out.
 fn appends<D: Device>(rt: &impl Abort, device: &mut D, bytes: &[u8]) {
     let answer = match device.append(bytes) {
         Err(Fault::OutOfMemory) => device.append(bytes),
@@ -79,7 +79,7 @@ fn holding<D: Device>(rt: &impl Abort, device: D, bytes: &[u8]) -> D {
     device
 }
 
-/// The device holds these bytes. It is read once more where memory was refused.
+/// The device holds these bytes. It is read once more if memory ran out.
 fn expect_holds<D: Device>(rt: &impl Abort, alloc: Global, device: D, bytes: &[u8]) -> D {
     let mut device = device;
     let found = match device.read(alloc) {
@@ -90,7 +90,7 @@ fn expect_holds<D: Device>(rt: &impl Abort, alloc: Global, device: D, bytes: &[u
     device
 }
 
-/// Opens the device, once more where memory was refused.
+/// Opens the device, and retries once if memory ran out.
 fn opened<D: Device>(rt: &impl Abort, alloc: Global, device: D) -> Opened<D> {
     match Store::open(alloc, device) {
         Ok(opened) => opened,
@@ -115,13 +115,13 @@ fn found<D: Device>(
     opened.store
 }
 
-/// Opens the device and then again, which truncates nothing.
+/// Opens the device, and then again, which truncates nothing.
 fn opens<D: Device>(rt: &impl Abort, alloc: Global, device: D, records: &[Rec], cut_bytes: u64) {
     let store = found(rt, alloc, device, records, cut_bytes);
     found(rt, alloc, store.close(), records, 0);
 }
 
-/// Puts the record, once more where memory was refused.
+/// Puts the record, and retries once if memory ran out.
 fn puts<D: Device>(rt: &impl Abort, store: &mut Store<D>, rec: &Rec)
     requires { IsRightRecord rec.now }
 {
@@ -131,7 +131,7 @@ fn puts<D: Device>(rt: &impl Abort, store: &mut Store<D>, rec: &Rec)
     }
 }
 
-/// What a stop inside the put of the record leaves, tried once more where memory was refused.
+/// What a stop within the put of the record leaves, retried once if memory ran out.
 fn torn<D: CutDevice>(rt: &impl Abort, store: Store<D>, rec: &Rec, kept: u64) -> D
     requires { IsRightRecord rec.now }
 {
@@ -182,7 +182,7 @@ fn starts<D: Device>(rt: &impl Abort, alloc: Global, device: D) -> Store<D> {
     store
 }
 
-/// What a stop inside the put of a vote after a `Started` leaves.
+/// What a stop within the put of a vote after a `Started` leaves.
 fn stops_in_a_vote<D: CutDevice>(rt: &impl Abort, alloc: Global, device: D, kept: u64) -> D {
     let store = starts(rt, alloc, device);
     torn(rt, store, &voted(rt), kept)
@@ -205,7 +205,7 @@ fn a_stop_keeps_what_was_put_and_a_whole_record_after_it(rt: HostRuntime) -> Res
     Ok(())
 }
 
-/// The device, closed once it was opened, as a stop leaves it that keeps what is stable.
+/// The device after it was opened and closed, and after a stop that keeps only stable bytes.
 fn stops_once_opened<D: CutDevice>(rt: &impl Abort, alloc: Global, device: D) -> D {
     let mut device = opened(rt, alloc, device).store.close();
     device.stop(0);
@@ -221,7 +221,7 @@ fn what_an_opening_read_stays_through_a_stop(rt: HostRuntime) -> Result<(), Fail
     Ok(())
 }
 
-/// The device of a node that started and voted, as a stop leaves it that keeps what is stable.
+/// The device of a node that started and voted, after a stop that keeps only stable bytes.
 fn stops_after_a_vote<D: CutDevice>(rt: &impl Abort, alloc: Global, device: D) -> D {
     let mut store = starts(rt, alloc, device);
     puts(rt, &mut store, &voted(rt));
@@ -240,13 +240,14 @@ fn a_put_refused_for_memory_writes_nothing(rt: HostRuntime) -> Result<(), Fail> 
     Ok(())
 }
 
-/// A device in memory that holds these bytes, none of them stable, and whose sync of this number fails.
+/// A device in memory that holds these bytes, none of them stable, and whose sync of this number
+/// fails.
 fn failing(rt: &impl Abort, alloc: Global, bytes: &[u8], sync: u64) -> FailDevice<MemDevice> {
     let device = FailDevice::new(MemDevice::new(alloc), DeviceCall::Sync, sync, 0);
     holding(rt, device, bytes)
 }
 
-/// A put of the vote is refused so. It is tried once more where memory was refused.
+/// A put of the vote is refused with this fault. It is retried once if memory ran out.
 fn expect_refused<D: Device>(rt: &impl Abort, store: &mut Store<D>, fault: WriteFault) {
     let voted = voted(rt);
     let answer = match store.put(&voted) {
@@ -256,7 +257,7 @@ fn expect_refused<D: Device>(rt: &impl Abort, store: &mut Store<D>, fault: Write
     expect_eq(rt, answer, Err(fault));
 }
 
-/// The device opens, and a put of the vote is then refused since it fails.
+/// The device opens, and a put of the vote is then refused because the device fails.
 fn fails_at_a_vote<D: Device>(rt: &impl Abort, alloc: Global, device: D) -> Store<D> {
     let mut store = opened(rt, alloc, device).store;
     expect_refused(rt, &mut store, WriteFault::Device);
@@ -272,7 +273,7 @@ fn an_opening_syncs_once_whatever_the_device_holds(rt: HostRuntime) -> Result<()
     Ok(())
 }
 
-/// The device, where opening it fails. It is tried once more where memory was refused.
+/// The device after opening it fails. The opening is retried once if memory ran out.
 fn not_opened<D: Device>(rt: &impl Abort, alloc: Global, device: D) -> D {
     let answer = match Store::open(alloc, device) {
         Err((Fault::OutOfMemory, device)) => Store::open(alloc, device),
@@ -281,7 +282,7 @@ fn not_opened<D: Device>(rt: &impl Abort, alloc: Global, device: D) -> D {
     answer.err().expect(rt, "it does not open").1
 }
 
-/// The device of a store that failed at the put of a vote, and writes no more.
+/// The device of a store that failed at the put of a vote, and then writes nothing more.
 fn writes_no_more<D: Device>(rt: &impl Abort, alloc: Global, device: D) -> D {
     let mut store = fails_at_a_vote(rt, alloc, device);
     expect_refused(rt, &mut store, WriteFault::Failed);

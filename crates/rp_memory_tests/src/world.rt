@@ -21,7 +21,7 @@ enum Line {
     Deliver(u64),
     /// A message is never delivered.
     Lose(u64),
-    /// This many bytes of the record are kept, of a node that stops within the delivery of a message.
+    /// A node stops within the delivery of a message, and this many bytes of its record are kept.
     Cut(u64, u64),
     Stop(u8),
     Restart(u8),
@@ -31,14 +31,14 @@ enum Line {
 
 use Line::{Again, Call, Cut, Deliver, Drain, Lead, Lose, Range, Restart, Stop};
 
-/// How a run ends: how many messages there are, how many actions each node has applied, and the last
-/// replies of tasks 1 and 2.
+/// The end of a run: how many messages there are, how many actions each node has applied, and the
+/// last replies of tasks 1 and 2.
 type End = (u64, [u16; 3], Option<Reply>, Option<Reply>);
 
-/// Which messages, by their numbers, were delivered or lost.
+/// Whether each message, by its number, was delivered or lost.
 type Settled = [bool; 64];
 
-/// A step, taken once more if memory was refused and no message was sent.
+/// A step, retried once if memory ran out and no message was sent.
 fn step<M: Machine, D: CutDevice>(
     rt: &impl Abort,
     cluster: &mut Cluster<M, D>,
@@ -86,7 +86,7 @@ fn task(rt: &impl Abort, number: u8) -> TaskId {
     TaskId::new(number).expect(rt, "a task")
 }
 
-/// The event that a line asks for, if it is one.
+/// The event that a line asks for, if it asks for one.
 fn event_of(rt: &impl Abort, line: Line) -> Option<Event> {
     let event = match line {
         Line::Call(caller, number, arg) => Event::Submit {
@@ -156,7 +156,7 @@ fn last<M: Machine, D: CutDevice>(
     Some(answer.reply)
 }
 
-/// How a run has ended.
+/// The end of a run.
 fn end_of<M: Machine, D: CutDevice>(rt: &impl Abort, cluster: &Cluster<M, D>) -> End {
     let first = applied(rt, cluster, 1);
     let second = applied(rt, cluster, 2);
@@ -166,7 +166,7 @@ fn end_of<M: Machine, D: CutDevice>(rt: &impl Abort, cluster: &Cluster<M, D>) ->
     (cluster.messages(), nodes, replies.0, replies.1)
 }
 
-/// Runs a script on three nodes. It gives the end, or why the cluster does not open.
+/// Runs a script on three nodes. Returns the end, or why the cluster does not open.
 fn run<M: Machine, D: CutDevice>(
     rt: &impl Abort,
     alloc: Global,
@@ -186,7 +186,7 @@ fn run<M: Machine, D: CutDevice>(
     Ok(end_of(rt, &cluster))
 }
 
-/// Three devices that hold nothing, made once more if memory was refused.
+/// Three empty devices, retried once if memory ran out.
 fn devices(rt: &impl Abort, alloc: Global) -> Vec<MemDevice> {
     let mut devices = Vec::new(alloc);
     for _ in 0..3 {
@@ -204,8 +204,8 @@ fn run_once(rt: &impl Abort, alloc: Global, script: &[Line]) -> Result<End, Faul
     run::<Tally, MemDevice>(rt, alloc, program, devices(rt, alloc), script)
 }
 
-/// A script on a tally ends so. It is run once more if memory was refused before the cluster was
-/// there.
+/// A run of a script on a tally has this end. It is run once more if memory ran out before the
+/// cluster was opened.
 fn expect_end(rt: &impl Abort, alloc: Global, script: &[Line], end: End) {
     let found = match run_once(rt, alloc, script) {
         Err(Fault::OutOfMemory) => run_once(rt, alloc, script),
@@ -217,7 +217,7 @@ fn expect_end(rt: &impl Abort, alloc: Global, script: &[Line], end: End) {
 /// One call, and a restart.
 const ONE_CALL: [Line; 6] = [Call(1, 1, 5), Drain, Lead(1), Stop(2), Restart(2), Drain];
 
-/// A caller that asks again, also another node.
+/// A caller that repeats its call, also to another node.
 const ASKING_AGAIN: [Line; 12] = [
     Call(1, 1, 5),
     Again(1, 1),
@@ -263,8 +263,8 @@ fn each_script_ends_the_same(rt: HostRuntime) -> Result<(), Fail> {
     Ok(())
 }
 
-/// Two callers, of whom the leader's has the vote of node 3 alone; then node 2 leads, and a packet is
-/// lost.
+/// Two callers: the leader of the first one's call gets only the vote of node 3; then node 2 leads,
+/// and a packet is lost.
 fn late_vote(lost: u64) -> [Line; 16] {
     [
         Call(1, 1, 5),
@@ -295,7 +295,7 @@ fn two_leaders_and_a_late_vote_end_the_same(rt: HostRuntime) -> Result<(), Fail>
     Ok(())
 }
 
-/// The vote of node 3 is cut, and its reply is not sent: node 2 is then decided for.
+/// The vote of node 3 is cut, and its reply is not sent: then the call through node 2 is decided.
 const CUT_VOTE: [Line; 16] = [
     Call(1, 1, 5),
     Call(2, 2, 2),

@@ -99,6 +99,3 @@ module _ (a b c : Option (List ℕ)) (rest whole : List ℕ) (so_far : WroteBefo
 
   pub wrote_all : Appends b c rest → Appends a c whole
   wrote_all more = subst (λ l. Appends a c l) (sym so_far.parts) (Appends-trans a b c so_far.front rest so_far.written more)
-
-pub wrote_before : (a b : Option (List ℕ)) (rest whole : List ℕ) → WroteBefore a b rest whole → Begins a b whole
-wrote_before a b rest whole so_far = (rest, so_far)

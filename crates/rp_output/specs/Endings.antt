@@ -1,4 +1,4 @@
--- The status that a program ends with, and what it reports where its words ask for no run.
+-- The status that a program ends with, and what it reports if its words ask for no run.
 use Rattle.std.specs.Prelude.{◌≡◌, ◌≢◌, ◌⊎◌, ℕ, Option, Result, Ok, Err, List, OnOk}
 use Rattle.std.specs.Io.KnownBytes.{Appends}
 use Rattle.rp_base.specs.declared.fault.Fault.{Fault}
@@ -8,17 +8,17 @@ use Rattle.rp_output.specs.declared.ending.Ending.{Ending}
 use Rattle.rp_output.specs.declared.ending.NoRun.{NoRun}
 use Rattle.rp_output.specs.declared.ending.NoRun.TheVariants.{OutOfMemory, Help, Mistake}
 
--- a bad deck is 3, and every other fault 4
+-- 3 for a bad deck, and 4 for every other fault
 abbrev pub status_of : Fault → ℕ
 status_of (faults.BadDeck line reason) = 3
 status_of _ = 4
 
--- the status after a run: 0 where it had no fault
+-- the status after a run: 0 if it had no fault
 abbrev pub status_after : {A : Type 0} → Result A Fault → ℕ
 status_after (Ok done) = 0
 status_after (Err fault) = status_of fault
 
--- the status without a run: 0 after help or the version, 4 where memory ran out, else 2
+-- the status without a run: 0 after help or the version, 4 if memory ran out, else 2
 abbrev pub no_run_status : NoRun → ℕ
 no_run_status OutOfMemory = 4
 no_run_status Help = 0
@@ -29,9 +29,9 @@ abbrev pub ReportsFault : Fault → Option (List ℕ) → Option (List ℕ) → 
 ReportsFault fault errors errors_after ending =
     OnOk ending.reported (Appends errors errors_after (with_line_feed (fault_message_of fault)))
 
--- Wrong words were reported, and help or the version alone was printed. The status is the one for
--- why there is no run; where help or the version could not be printed it is that of `Io`, which is
--- reported.
+-- Wrong words were reported, or help or the version was printed and nothing else. The status is the
+-- one for why there is no run; if help or the version could not be printed it is that of `Io`,
+-- which is reported.
 pub record RefusesFor (why : NoRun) (output output_after errors errors_after : Option (List ℕ)) (ending : Ending)
     : Type 0 where
   pub status : (ending.status ≡ no_run_status why)

@@ -1,4 +1,4 @@
--- What is printed of a fault.
+-- The line that is printed for a fault.
 use Rattle.std.specs.Prelude.{ℕ, List, ◌∷◌, [], ◌++◌, codes, decimal}
 use Rattle.rp_base.specs.Fault.{code_of, name_of}
 use Rattle.rp_base.specs.declared.fault.Fault.{Fault}
@@ -9,7 +9,7 @@ use Rattle.rp_base.specs.declared.fault.DeckReason.TheVariants.{BadNumber, BadNa
 use Rattle.rp_base.specs.declared.fault.DeckReason.TheVariants.{BadExpression, TaskExpected, ObjectExpected}
 use Rattle.rp_base.specs.declared.fault.DeckReason.TheVariants.{EndExpected, ScriptExpected, NotInLive}
 
--- the words of a reason
+-- the words for a reason
 abbrev pub reason_text_of : DeckReason → List ℕ
 reason_text_of NodesExpected = codes "nodes expected"
 reason_text_of UnknownWord = codes "unknown word"
@@ -26,7 +26,7 @@ reason_text_of EndExpected = codes "end expected"
 reason_text_of ScriptExpected = codes "script expected"
 reason_text_of NotInLive = codes "not in live"
 
--- the line of a fault, without its end
+-- the line for a fault, without its end
 abbrev pub fault_message_of : Fault → List ℕ
 fault_message_of (BadDeck line reason) = codes "deck line " ++ (decimal line ++ (codes ": " ++ reason_text_of reason))
 fault_message_of fault = codes "fault " ++ (decimal (code_of fault) ++ (codes " " ++ name_of fault))

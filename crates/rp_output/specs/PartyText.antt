@@ -1,4 +1,4 @@
--- What is printed of a party that is to be shown.
+-- How a party is printed.
 use Rattle.std.specs.Prelude.{ℕ, List, codes, decimal}
 use Rattle.rp_output.specs.declared.trace.PartyText.{PartyText}
 use Rattle.rp_output.specs.declared.trace.PartyText.TheVariants.{Node, Task, Audit}

@@ -8,7 +8,7 @@ use Rattle.rp_output.specs.declared.printed.NodeState.{NodeState}
 use Rattle.rp_output.specs.declared.printed.NodeState.TheVariants as states
 use Rattle.rp_base.specs.declared.reply.Reply.TheVariants.{Value, Truth, ConstraintError, ProgramError, NoSuchOperation}
 
--- what a call is answered
+-- the words for a reply
 abbrev pub reply_text_of : Reply → List ℕ
 reply_text_of (Value v) = codes "value " ++ signed_decimal v
 reply_text_of (Truth true) = codes "truth true"
@@ -17,38 +17,39 @@ reply_text_of ConstraintError = codes "Constraint_Error"
 reply_text_of ProgramError = codes "Program_Error"
 reply_text_of NoSuchOperation = codes "No_Such_Operation"
 
--- a task takes the reply to one of its calls
+-- the line of a task that takes the reply to one of its calls
 abbrev pub reply_line_of : List ℕ → ℕ → Reply → List ℕ
 reply_line_of task number reply =
     codes "reply " ++ (task ++ (codes " " ++ (decimal number ++ (codes " " ++ reply_text_of reply))))
 
--- a step of the script was refused
+-- the line of a step of the script that was refused
 abbrev pub refused_line_of : ℕ → Fault → List ℕ
 refused_line_of line fault =
     codes "line " ++ (decimal line ++ (codes ": refused " ++ (decimal (code_of fault) ++ (codes " " ++ name_of fault))))
 
--- a stopped node runs again: how many records it found, and how many bytes it truncated
+-- the line of a stopped node that runs again: how many records it found, and how many bytes it
+-- truncated
 abbrev pub opened_line_of : ℕ → ℕ → ℕ → List ℕ
 opened_line_of node records bytes =
     codes "node " ++ (decimal node ++ (codes " open records " ++ (decimal records ++ (codes " cut " ++ decimal bytes))))
 
--- a node that is to start again runs
+-- the line of a node that is to start again and is running already
 abbrev pub running_line_of : ℕ → List ℕ
 running_line_of node = codes "node " ++ (decimal node ++ codes " already running")
 
--- a node has no place for one more pending item
+-- the line of a node that has no place for one more pending item
 abbrev pub full_line_of : ℕ → List ℕ
 full_line_of node = codes "node " ++ (decimal node ++ codes " pending full")
 
--- how many actions a node has applied
+-- the line of how many actions a node has applied
 abbrev pub applied_line_of : ℕ → ℕ → List ℕ
 applied_line_of node applied = codes "node " ++ (decimal node ++ (codes " applied " ++ decimal applied))
 
--- a node is stopped
+-- the line of a stopped node
 abbrev pub stopped_line_of : ℕ → List ℕ
 stopped_line_of node = codes "node " ++ (decimal node ++ codes " stopped")
 
--- what is said of a node
+-- the line of a node in this state
 abbrev pub node_line_of : ℕ → NodeState → List ℕ
 node_line_of node (states.Opened records bytes) = opened_line_of node records bytes
 node_line_of node states.Running = running_line_of node
@@ -56,10 +57,10 @@ node_line_of node states.Full = full_line_of node
 node_line_of node (states.Applied applied) = applied_line_of node applied
 node_line_of node states.Stopped = stopped_line_of node
 
--- `drain` delivered as many messages as it may, and more are left
+-- the line that `drain` delivered as many messages as it may, and more are left
 abbrev pub limit_line_of : ℕ → List ℕ
 limit_line_of line = codes "line " ++ (decimal line ++ codes ": drain limit")
 
--- what each node applied begins one order
+-- the line that what each node has applied is a prefix of one order
 abbrev pub agreed_line : List ℕ
 agreed_line = codes "logs agree"

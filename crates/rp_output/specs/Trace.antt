@@ -25,7 +25,7 @@ party_text_of names (Node node) = decimal node
 party_text_of names (Task task) = task_name names task
 party_text_of names Audit = codes "audit"
 
--- the number of the call that an action is
+-- the number of the call, 0 for an action that is no call
 abbrev pub call_number : Action → ℕ
 call_number actions.Noop = 0
 call_number (actions.Call task number object operation arg) = number
@@ -36,7 +36,7 @@ call_number (actions.Tick now) = 0
 abbrev pub ballot_text_of : ℕ → ℕ → List ℕ
 ballot_text_of position ballot = decimal position ++ (codes " " ++ decimal ballot)
 
--- a range, its first position and how many they are, and a ballot
+-- a range, as its first position and its count, and a ballot
 abbrev pub range_text_of : Range → ℕ → List ℕ
 range_text_of range ballot =
     decimal range.first ++ (codes " " ++ (decimal range.count ++ (codes " " ++ decimal ballot)))
@@ -56,7 +56,7 @@ body_text_of (Report first applied printed) = codes "report " ++ decimal first
 body_text_of (PrepareRange range ballot) = codes "prepare_range " ++ range_text_of range ballot
 body_text_of (PromiseRange range ballot votes) = codes "promise_range " ++ range_text_of range ballot
 
--- the message of a number: who says what to whom
+-- the line of the message of a number, with its sender, its receiver and its body
 abbrev pub trace_line_of : ℕ → List ℕ → List ℕ → Body → List ℕ
 trace_line_of number from to body =
     codes "m" ++ (decimal number ++ (codes " " ++ (from ++ (codes ">" ++ (to ++ (codes " " ++ body_text_of body))))))

@@ -5,14 +5,15 @@ ghost use Rattle.std.specs.Io.KnownBytes.{Appends};
 ghost use Rattle.rp_output.specs.Endings.{RefusesFor, no_run_status, status_of};
 ghost use Rattle.rp_output.specs.FaultMessage.{fault_message_of, with_line_feed};
 
-use crate::fault_message::tell;
+use crate::fault_message::print_fault;
 use crate::stream::write_out;
 use rp_base::Fault;
 use std::fmt::Display;
 use std::io;
 use std::io::Write;
 
-/// Where a program reads its deck, prints, and reports its faults.
+/// The streams from which a program reads its deck, to which it prints, and on which it reports its
+/// faults.
 #[derive(Drop)]
 pub struct Streams<R: Drop, W: Drop, E: Drop> {
     pub reader: R,
@@ -25,7 +26,7 @@ pub struct Streams<R: Drop, W: Drop, E: Drop> {
 pub struct Ending {
     /// The status that it ends with.
     pub status: u8,
-    /// Whether what it had to report was written.
+    /// Whether the program's report was written.
     pub reported: io::Result<()>,
 }
 
@@ -34,7 +35,7 @@ pub struct Ending {
 pub enum NoRun {
     /// Memory ran out while they were read.
     OutOfMemory,
-    /// They ask for a text: help, or the version.
+    /// They ask for a text to be printed: help, or the version.
     Help,
     /// They are wrong.
     Mistake,
@@ -86,14 +87,14 @@ pub fn fail<E: Write>(errors: &mut E, fault: Fault) -> Ending
     ensures reported { OnOk result.reported (Appends (E.contents errors.old)
         (E.contents errors.new) (with_line_feed (fault_message_of fault))) }
 {
-    let reported = tell(&fault, errors);
+    let reported = print_fault(&fault, errors);
     Ending {
         status: status(&fault),
         reported,
     }
 }
 
-/// The status that a program ends with: 3 where the deck is bad, and 4 at every other fault.
+/// The status that a program ends with: 3 if the deck is bad, and 4 for every other fault.
 fn status(fault: &Fault) -> u8
     ensures { result ≡ status_of fault.now }
 {

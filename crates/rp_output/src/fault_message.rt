@@ -1,4 +1,4 @@
-//! What is printed of a fault.
+//! The line that is printed for a fault.
 
 ghost use Rattle.std.specs.Prelude.{◌≡◌, ◌≤◌, ◌↔◌, IsTrue, OnOk, Some};
 ghost use Rattle.rp_base.specs.Fault.{code_of};
@@ -9,7 +9,7 @@ use rp_base::{DeckReason, Fault};
 use std::io::Write;
 use std::{fmt, io};
 
-/// Whether the fault refuses one step, after which a script goes on.
+/// Whether the fault refuses only one step, after which the script continues.
 pub fn is_refusal(fault: &Fault) -> bool
     ensures { IsTrue result ↔ ((5 ≤ code_of fault.now) × (code_of fault.now ≤ 10)) }
 {
@@ -24,8 +24,8 @@ pub fn is_refusal(fault: &Fault) -> bool
     )
 }
 
-/// Writes the line of a fault: where and why the deck is bad, or the fault's number and name.
-pub fn tell<W: Write>(fault: &Fault, writer: &mut W) -> io::Result<()>
+/// Writes the line for a fault: where and why the deck is bad, or the fault's number and name.
+pub fn print_fault<W: Write>(fault: &Fault, writer: &mut W) -> io::Result<()>
     ensures { OnOk result (Appends (W.contents writer.old) (W.contents writer.new)
         (with_line_feed (fault_message_of fault.now))) }
 {
@@ -33,7 +33,7 @@ pub fn tell<W: Write>(fault: &Fault, writer: &mut W) -> io::Result<()>
     writeln!(writer, "{line}")
 }
 
-/// The words by which a reason is printed.
+/// The words for a reason.
 pub fn reason_text(reason: DeckReason) -> &'static str
     ensures { result.now ≡ reason_text_of reason }
 {

@@ -3,7 +3,7 @@
 //! In reading order:
 //! - `printed`: the lines that a run prints
 //! - `trace`: the line of a trace for a packet
-//! - `fault_message`: what is printed of a fault
+//! - `fault_message`: the line that is printed for a fault
 //! - `stream`: writes what a run prints
 //! - `ending`: how a program ends, and what it reports
 #![tactic(auto)]
@@ -15,7 +15,7 @@ mod stream;
 mod trace;
 
 pub use ending::{Ending, NoRun, Streams, fail, refuse};
-pub use fault_message::{FaultMessage, is_refusal, reason_text, tell};
+pub use fault_message::{FaultMessage, is_refusal, print_fault, reason_text};
 pub use printed::{
     AgreedLine, DrainLimitLine, NodeLine, NodeState, RefusedLine, ReplyLine, ReplyText,
 };

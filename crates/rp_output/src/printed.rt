@@ -1,4 +1,4 @@
-//! The lines that a run prints. The caller ends each by a line feed.
+//! The lines that a run prints. The caller ends each with a line feed.
 
 ghost use Rattle.std.specs.Prelude.{Some};
 ghost use Rattle.rp_output.specs.Printed.{reply_text_of, reply_line_of, refused_line_of, node_line_of, limit_line_of, agreed_line};
@@ -6,7 +6,7 @@ ghost use Rattle.rp_output.specs.Printed.{reply_text_of, reply_line_of, refused_
 use rp_base::{Fault, NodeId, Reply};
 use std::fmt;
 
-/// What a call is answered, as `value 5`.
+/// The words for a reply, as `value 5`.
 #[derive(Clone, Copy, Debug, PartialEq, Eq)]
 pub struct ReplyText {
     pub reply: Reply,
@@ -64,23 +64,23 @@ impl fmt::Display for RefusedLine {
     }
 }
 
-/// What is said of a node.
+/// The state of a node, or what changed in it.
 #[derive(Clone, Copy, Debug, PartialEq, Eq)]
 pub enum NodeState {
     /// It was stopped and runs again: `open records 3 cut 5`. It found n records, and truncated the
     /// bytes after them.
     Opened { records: u64, bytes: u64 },
-    /// It is to start again, and runs: `already running`.
+    /// It is to start again, and is running already: `already running`.
     Running,
     /// It has no place for one more pending item: `pending full`.
     Full,
     /// It has applied n actions: `applied 1`.
     Applied(u32),
-    /// `stopped`.
+    /// It is stopped: `stopped`.
     Stopped,
 }
 
-/// The state of a node: `node 2 stopped`.
+/// The line of a node: `node 2 stopped`.
 #[derive(Clone, Copy, Debug, PartialEq, Eq)]
 pub struct NodeLine {
     pub node: NodeId,
@@ -119,7 +119,7 @@ impl fmt::Display for DrainLimitLine {
     }
 }
 
-/// What each node applied begins one order: `logs agree`.
+/// What each node has applied is a prefix of one order: `logs agree`.
 #[derive(Clone, Copy, Debug, PartialEq, Eq)]
 pub struct AgreedLine;
 

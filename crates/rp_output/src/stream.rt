@@ -10,10 +10,10 @@ use std::alloc::Global;
 use std::fmt::Display;
 use std::io::Write;
 
-/// Most lines have no more bytes than this, with their ends.
+/// The length of most lines, with their ends, is at most this.
 const USUAL_LINE: usize = 80;
 
-/// Writes all bytes. `Io` where a write fails or takes nothing, and then a beginning of them is
+/// Writes all bytes. `Io` if a write fails or writes nothing, and then a prefix of them was
 /// written.
 pub fn write_whole<W: Write>(writer: &mut W, bytes: &[u8]) -> Result<(), Fault>
     ensures written { Writes (W.contents writer.old) (W.contents writer.new) bytes.now result }
@@ -30,7 +30,7 @@ pub fn write_whole<W: Write>(writer: &mut W, bytes: &[u8]) -> Result<(), Fault>
     Ok(())
 }
 
-/// Lets out what was written and waits in a buffer of the writer. `Io` where that fails.
+/// Flushes the bytes that are still in a buffer of the writer. `Io` if that fails.
 pub fn write_out<W: Write>(writer: &mut W) -> Result<(), Fault>
     ensures kept { Keeps (W.contents writer.old) (W.contents writer.new) }
     ensures fault { IfErr result IsRunFault }

@@ -1,4 +1,4 @@
-//! The line of a trace for a packet. The caller ends it by a line feed.
+//! The line of a trace for a packet. The caller ends it with a line feed.
 
 ghost use Rattle.std.specs.Prelude.{◌≡◌, Some};
 ghost use Rattle.rp_output.specs.Trace.{body_text_of, call_number, trace_line_of};
@@ -51,7 +51,7 @@ impl fmt::Display for BallotText {
     }
 }
 
-/// A range, its first position and how many they are, and a ballot: `1 4 9`.
+/// A range, as its first position and its count, and a ballot: `1 4 9`.
 #[derive(Clone, Copy, Debug, PartialEq, Eq)]
 struct RangeText {
     range: PositionRange,
@@ -147,7 +147,7 @@ impl fmt::Display for BodyText<'_> {
     }
 }
 
-/// The number of the call that an action is, 0 where it is none.
+/// The number of the call, 0 for an action that is no call.
 fn call_number(action: Action) -> u32
     ensures { result ≡ call_number action }
 {
@@ -157,7 +157,7 @@ fn call_number(action: Action) -> u32
     }
 }
 
-/// The message of a number: `m2 1>3 prepare 1 9`.
+/// The line of the message of a number: `m2 1>3 prepare 1 9`.
 #[derive(Clone, Copy, Debug)]
 pub struct TraceLine<'a> {
     pub number: u64,

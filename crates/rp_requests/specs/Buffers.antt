@@ -5,13 +5,14 @@ use Rattle.rp_requests.specs.declared.refusal.Refusal.{Refusal}
 use Rattle.rp_requests.specs.declared.refusal.Refusal.TheVariants.{Fault, ShortAnswer, BadRequest, NoObjects}
 use Rattle.rp_requests.specs.declared.refusal.Refusal.TheVariants.{LongAnswer}
 
--- The bytes to be stored and then the others are at the front of the buffer, whose other bytes are as they were.
+-- The bytes to be stored, and the other bytes after them, are at the front of the buffer, whose
+-- remaining bytes are as they were.
 pub record IsPut (stored others before after : List ℕ) (lengths : Lengths) : Type 0 where
   pub front : after ≡ (stored ++ others) ++ drop (length (stored ++ others)) before
   pub stored_is : lengths.stored ≡ length stored
   pub used_is : lengths.used ≡ length (stored ++ others)
 
--- They are longer than the buffer, which is as it was, and this is their length.
+-- They are longer than the buffer, which is as it was, and this is their total length.
 pub record IsTooLong (stored others before after : List ℕ) (needed : ℕ) : Type 0 where
   pub longer : length before < needed
   pub kept : after ≡ before
@@ -22,7 +23,7 @@ abbrev pub Puts : List ℕ → List ℕ → List ℕ → List ℕ → Result Len
 Puts stored others before after (Ok lengths) = IsPut stored others before after lengths
 Puts stored others before after (Err needed) = IsTooLong stored others before after needed
 
--- The same, where only its length is given out if they are too long.
+-- As `Puts`, but if they are too long only their length is given out.
 abbrev pub PutsOr : List ℕ → List ℕ → List ℕ → List ℕ → Result Lengths Refusal → Type 0
 PutsOr stored others before after (Ok lengths) = IsPut stored others before after lengths
 PutsOr stored others before after (Err (ShortAnswer needed)) = IsTooLong stored others before after needed

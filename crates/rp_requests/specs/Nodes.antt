@@ -1,4 +1,4 @@
--- What the answer of a node is (ours).
+-- The answer of a node (ours).
 use Rattle.std.specs.Prelude.{◌≡◌, ◌<◌, ℕ, Option, Some, None, Result, Ok, Err, List, [], length}
 use Rattle.std.specs.Int.{w32, to_be_bytes}
 use Rattle.rp_base.specs.Records.{applied_of}
@@ -21,18 +21,18 @@ use Rattle.rp_requests.specs.declared.refusal.Refusal.TheVariants as refusals
 use Rattle.rp_requests.specs.Buffers.{IsPut, IsTooLong, PutsOr}
 use Rattle.rp_requests.specs.Requests.{Asked, Step, Applied, Image, LastAnswer}
 
--- The node, and the answer of its last step: what is to be stored, and the packets.
+-- The node, and the answer of its last step: the bytes to be stored, and the packets.
 pub record NodeState (S : Type 0) : Type 0 where
   pub replica : ReplicaState S
   pub stored : List ℕ
   pub packets : List ℕ
 
--- what a step puts on the device
+-- the bytes that a step appends to the device
 abbrev pub stored_by : Option Rec → List ℕ
 stored_by None = []
 stored_by (Some rec) = record_text rec
 
--- a node once a step took effect
+-- a node after a step took effect
 abbrev pub after_step : {S : Type 0} → NodeState S → Turn → NodeState S
 after_step node turn =
     record { replica = after_turn node.replica turn; stored = stored_by turn.written; packets = texts_of turn.sent }
@@ -62,7 +62,7 @@ pub record IsSame {S : Type 0} (old new : NodeState S) (before after : List ℕ)
   pub node : new ≡ old
   pub buffer : after ≡ before
 
--- The answer of a step: it took effect, or nothing changed for this reason.
+-- The answer of a step: it took effect, or nothing changed, for this reason.
 abbrev pub StepAnswers : {S : Type 0} → Result Turn Fault → NodeState S → NodeState S → List ℕ → List ℕ
     → Result Lengths Refusal → Type 0
 StepAnswers effect old new before after (Ok lengths) = StepPut effect old new before after lengths
@@ -75,7 +75,7 @@ StepAnswers effect old new before after (Err refusals.NoObjects) = ⊥
 StepAnswers effect old new before after (Err (refusals.LongAnswer needed)) =
     StepTooLong effect old new before after needed
 
--- The answer that shows the objects, for which there may be no memory.
+-- The answer that shows the objects, unless there is no memory for it.
 abbrev pub ImageAnswers : List ℕ → List ℕ → List ℕ → Result Lengths Refusal → Type 0
 ImageAnswers image before after (Err (refusals.Fault fault)) = (fault ≡ faults.OutOfMemory) × (after ≡ before)
 ImageAnswers image before after result = PutsOr [] image before after result
@@ -85,7 +85,7 @@ module _ {S : Type 0} (next : S → Action → S) (answers : S → Action → Li
   abbrev pub image_of : NodeState S → List ℕ
   image_of node = image (replay_state next answers node.replica.begin (applied_of node.replica.records))
 
-  -- The answer of a request.
+  -- The answer to a request.
   abbrev pub Answers : Option Asked → NodeState S → NodeState S → List ℕ → List ℕ → Result Lengths Refusal → Type 0
   Answers None old new before after result = IsSame old new before after × (result ≡ Err refusals.BadRequest)
   Answers (Some (Step input)) old new before after result =

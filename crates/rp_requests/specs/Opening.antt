@@ -1,12 +1,12 @@
--- What opening a node gives (ours).
+-- The result of opening a node (ours).
 use Rattle.std.specs.Prelude.{◌≡◌, ℕ, List, [], length}
 use Rattle.rp_base.specs.declared.config.Config.{Config}
 use Rattle.rp_store.specs.Disk.{Disk}
 use Rattle.rp_replica.specs.Opening.{Opens}
 use Rattle.rp_requests.specs.Nodes.{NodeState}
 
--- The node runs by the whole records that the device's bytes begin with, n of them, which have these many bytes; it
--- has made no step.
+-- The node runs with the whole records at the front of the device's bytes; there are n of them,
+-- with this many bytes together. It has made no step.
 pub record IsOpenedNode {S : Type 0} (me : ℕ) (config : Config) (begin : S) (bytes : List ℕ) (node : NodeState S)
     (records kept : ℕ) : Type 0 where
   pub disk : Disk

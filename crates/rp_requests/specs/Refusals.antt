@@ -5,7 +5,7 @@ use Rattle.rp_requests.specs.declared.refusal.Refusal.{Refusal}
 use Rattle.rp_requests.specs.declared.refusal.Refusal.TheVariants.{Fault, ShortAnswer, BadRequest, NoObjects}
 use Rattle.rp_requests.specs.declared.refusal.Refusal.TheVariants.{LongAnswer}
 
--- that of the fault, or one of the request's from 64 on
+-- the number of the fault, or one from 64 on for a refusal of the request itself
 abbrev pub refusal_code : Refusal → ℕ
 refusal_code (Fault fault) = code_of fault
 refusal_code (ShortAnswer length) = 64

@@ -10,8 +10,8 @@ use Rattle.rp_rules.specs.Inputs.{given_by, packet_given, IsRightInput}
 use Rattle.rp_requests.specs.declared.request.Request.{Request}
 use Rattle.rp_requests.specs.declared.request.Request.TheVariants as requests
 
--- A step, with what the node is given, or why the bytes of its packet are none; how many actions are applied; the
--- lines that show the objects; or the answer of the last step.
+-- A step, with the node's input, or the reason for which the bytes of its packet are none; how many
+-- actions are applied; the lines that show the objects; or the answer of the last step.
 pub data Asked : Type 0 where
   Step : Result NodeInput Fault → Asked
   Applied : Asked
@@ -78,7 +78,7 @@ question_asked kind [] =
     if kind == 16 then Some Applied else if kind == 17 then Some Image else if kind == 18 then Some LastAnswer else None
 question_asked kind _ = None
 
--- by the byte that says what it is, and the operands: what is asked for, or nothing
+-- what is asked for, if anything, by the byte of the request's kind and its operands
 unfoldable pub asked_by : ℕ → List ℕ → Option Asked
 asked_by kind operands =
     if kind == 1 then Some (Step (packet_given (all_of operands)))

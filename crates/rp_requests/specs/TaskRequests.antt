@@ -7,7 +7,8 @@ use Rattle.rp_base.specs.declared.action.Operation.TheVariants.{Function, Proced
 use Rattle.rp_requests.specs.declared.task_request.TaskRequest.{TaskRequest}
 use Rattle.rp_requests.specs.declared.task_request.TaskRequest.TheVariants as requests
 
--- The next call, through a node; the outstanding call again, through a node; or what a packet replies.
+-- The next call, through a node; the outstanding call again, through a node; or the reply in a
+-- packet.
 pub data TaskAsked : Type 0 where
   MakeCall : ℕ → ℕ → Operation → ℤ → TaskAsked
   SendAgain : ℕ → TaskAsked
@@ -64,7 +65,7 @@ task_asked_by kind operands =
     else if kind == 2 then again_asked operands
     else if kind == 3 then Some (TakePacket operands) else None
 
--- what is asked for, or nothing
+-- what is asked for, if anything
 unfoldable pub task_asked_of : List ℕ → Option TaskAsked
 task_asked_of [] = None
 task_asked_of (kind ∷ operands) = task_asked_by kind operands

@@ -1,4 +1,4 @@
--- What the answer of a task is (ours).
+-- The answer of a task (ours).
 use Rattle.std.specs.Prelude.{◌≡◌, ◌<◌, ℕ, nat_eq, Bool, false, Option, Some, None, Result, Ok, Err, List, [], length}
 use Rattle.std.specs.Prelude.{if◌then◌else◌}
 use Rattle.rp_base.specs.Calls.{next_call, is_reply_to}
@@ -34,7 +34,7 @@ pub record IsSameTask (old new : Calls) (before after : List ℕ) : Type 0 where
 abbrev pub call_packet : ℕ → ℕ → Action → Message
 call_packet task node call = record { from = Task task; to = Node node; body = bodies.Call call }
 
--- the text of the outstanding call's packet, or of none
+-- the text of the packet of the outstanding call, empty if there is no such call
 abbrev pub again_text : ℕ → ℕ → Option Action → List ℕ
 again_text task node None = []
 again_text task node (Some call) = text_of (call_packet task node call)
@@ -45,12 +45,12 @@ is_task task (Task number) = nat_eq number task
 is_task task (Node number) = false
 is_task task Audit = false
 
--- the reply to the outstanding call that a body carries, or none
+-- the reply to the outstanding call in a body, if it has one
 abbrev pub reply_in : Calls → Body → Option Reply
 reply_in calls (bodies.Reply number reply) = if is_reply_to number calls.outstanding then Some reply else None
 reply_in calls _ = None
 
--- the reply to the task's outstanding call that a packet carries, or none
+-- the reply to the task's outstanding call in a packet, if it has one
 abbrev pub reply_taken : Calls → Message → Option Reply
 reply_taken calls packet = if is_task calls.task packet.to then reply_in calls packet.body else None
 
@@ -69,7 +69,7 @@ pub record CallPut (call : Action) (node : ℕ) (old new : Calls) (before after 
   pub goes : new ≡ with_call old call
   pub put : IsPut [] (text_of (call_packet old.task node call)) before after lengths
 
--- The reply that the packet carries, if it is to the outstanding call, is taken, and in the buffer.
+-- The reply in the packet, if it is one to the outstanding call, is taken, and is in the buffer.
 pub record ReplyPut (read : Result Message PacketReason) (old new : Calls) (before after : List ℕ) (lengths : Lengths)
     : Type 0 where
   pub packet : Message
@@ -77,13 +77,13 @@ pub record ReplyPut (read : Result Message PacketReason) (old new : Calls) (befo
   pub goes : new ≡ once_taken old (reply_taken old packet)
   pub put : IsPut [] (taken_text (reply_taken old packet)) before after lengths
 
--- Why a packet was not taken: it is none, or memory ran out.
+-- Why a packet was not taken: the bytes are no packet, or memory ran out.
 abbrev pub NotTaken : Result Message PacketReason → Fault → Type 0
 NotTaken read (faults.BadPacket reason) = read ≡ Err reason
 NotTaken read faults.OutOfMemory = Unit {0}
 NotTaken read _ = ⊥
 
--- What a request that was read is answered.
+-- The answer to a request that was read.
 abbrev pub TaskDoes : Option TaskAsked → Calls → Calls → List ℕ → List ℕ → Result Lengths Refusal → Type 0
 TaskDoes None old new before after result = IsSameTask old new before after × (result ≡ Err refusals.BadRequest)
 TaskDoes (Some (MakeCall node object operation arg)) old new before after (Ok lengths) =

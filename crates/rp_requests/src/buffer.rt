@@ -5,17 +5,17 @@ ghost use Rattle.rp_requests.specs.Buffers.{IsPut, Puts, PutsOr};
 
 use crate::refusal::Refusal;
 
-/// How long an answer is: first are the bytes to be stored, then the others.
+/// The length of an answer: first are the bytes to be stored, then the others.
 #[derive(Clone, Copy, Debug, PartialEq, Eq)]
 pub struct Lengths {
-    /// How many of its first bytes are to be stored.
+    /// How many of the answer's first bytes are to be stored.
     pub stored: usize,
-    /// How many bytes it has.
+    /// How many bytes the answer has.
     pub used: usize,
 }
 
-/// Puts what is to be stored and then the others at the front of the buffer, where they fit; or returns
-/// how many bytes they are.
+/// Puts the bytes to be stored, and then the others, at the front of the buffer, if they fit;
+/// otherwise returns how many bytes they are.
 pub(crate) fn put_parts(stored: &[u8], others: &[u8], answer: &mut [u8]) -> Result<Lengths, usize>
     ensures { Puts stored.now others.now answer.old answer.new result }
 {
@@ -31,7 +31,7 @@ pub(crate) fn put_parts(stored: &[u8], others: &[u8], answer: &mut [u8]) -> Resu
     })
 }
 
-/// Puts a text of which nothing is to be stored at the front of the buffer, where it fits.
+/// Puts a text with nothing to be stored at the front of the buffer, if it fits.
 pub(crate) fn put(text: &[u8], answer: &mut [u8]) -> Result<Lengths, Refusal>
     ensures { PutsOr [] text.now answer.old answer.new result }
 {
@@ -41,7 +41,7 @@ pub(crate) fn put(text: &[u8], answer: &mut [u8]) -> Result<Lengths, Refusal>
     }
 }
 
-/// Puts a text of which nothing is to be stored at the front of the buffer, into which it fits.
+/// Puts a text with nothing to be stored at the front of the buffer, which is long enough.
 pub(crate) fn put_short(text: &[u8], answer: &mut [u8]) -> Lengths
     requires { length text.now ≤ length answer.old }
     ensures { IsPut [] text.now answer.old answer.new result }

@@ -1,13 +1,13 @@
-//! Nodes and tasks as a caller in C or Ada has them: requests as bytes in, answers as bytes out. The
-//! caller keeps the device and sends the packets.
+//! Nodes and tasks for a caller in C or Ada: requests as bytes in, answers as bytes out. The caller
+//! keeps the device and sends the packets.
 //!
 //! In reading order:
 //! - `refusal`: why a request is refused
-//! - `request`: what a caller asks of a node, as bytes
+//! - `request`: a caller's request to a node, as bytes
 //! - `buffer`: answers that are put into a caller's buffer
 //! - `opening`: a node that is opened over a caller's bytes
 //! - `node`: a node that answers requests
-//! - `task_request`: what a caller asks of a task, as bytes
+//! - `task_request`: a caller's request to a task, as bytes
 //! - `task`: a task that answers requests
 #![tactic(auto)]
 

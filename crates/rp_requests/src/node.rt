@@ -19,7 +19,7 @@ use std::marker::Model;
 /// The fewest bytes of a buffer for the answer of a step.
 pub const STEP_BYTES: usize = 8192;
 
-/// A node over a copy of its device.
+/// A node with a copy of its device.
 #[derive(Drop)]
 pub struct Node<M: Machine> {
     replica: Replica<M, MemDevice>,
@@ -45,7 +45,7 @@ impl<M: Machine> Model for Node<M> {
 }
 
 impl<M: Machine> Node<M> {
-    /// A node that was opened, and has made no step.
+    /// A node that was just opened, and has made no step.
     pub(crate) fn new(alloc: Global, replica: Replica<M, MemDevice>) -> Self
         ensures { result ≡ record { replica = replica; stored = []; packets = [] } }
     {
@@ -57,11 +57,11 @@ impl<M: Machine> Node<M> {
         }
     }
 
-    /// Answers a request. The answer of a step is the bytes that the caller puts at the end of the
-    /// device and syncs, and then the packets that it sends after that; its buffer has `STEP_BYTES`
-    /// bytes at least. Refused with `BadRequest` where the bytes are no request, with `ShortAnswer`
-    /// where the buffer is too short, with `LongAnswer` where the step was made and its answer is
-    /// longer than the buffer, and else as `Replica::turn` says, but never with `Device`.
+    /// Answers a request. The answer of a step is first the bytes that the caller appends to its
+    /// device and syncs, and then the packets that it sends after that; a step's buffer has at
+    /// least `STEP_BYTES` bytes. Refused with `BadRequest` if the bytes are no request, with
+    /// `ShortAnswer` if the buffer is too short, with `LongAnswer` if the step was made and its
+    /// answer is longer than the buffer, and otherwise as `Replica::turn`, but never with `Device`.
     pub fn call(
         &mut self,
         alloc: Global,
@@ -116,7 +116,7 @@ impl<M: Machine> Node<M> {
         }
     }
 
-    /// Puts the answer of the last step into the buffer, where it fits; or returns its length.
+    /// Puts the answer of the last step into the buffer, if it fits; otherwise returns its length.
     fn put_last(&self, answer: &mut [u8]) -> Result<Lengths, usize>
         ensures { Puts self.now.stored self.now.packets answer.old answer.new result }
     {
@@ -124,7 +124,7 @@ impl<M: Machine> Node<M> {
         put_parts(record, &self.last_packets, answer)
     }
 
-    /// Puts the lines that show the objects into the buffer, where they fit.
+    /// Puts the lines that show the objects into the buffer, if they fit.
     fn put_image(&self, alloc: Global, answer: &mut [u8]) -> Result<Lengths, Refusal>
         ensures { ImageAnswers (image_of M.next M.answers M.image self.now)
             answer.old answer.new result }
@@ -136,7 +136,7 @@ impl<M: Machine> Node<M> {
     }
 }
 
-/// The bytes of a replica's device, where they are.
+/// The bytes of a replica's device, in place.
 fn device_bytes<M: Machine>(replica: &Replica<M, MemDevice>) -> &[u8]
     ensures { result.now ≡ replica.now.disk.contents }
 {

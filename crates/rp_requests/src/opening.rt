@@ -15,7 +15,7 @@ use rp_replica::Replica;
 use rp_store::{Device, MemDevice};
 use std::alloc::Global;
 
-/// What opening a node gives.
+/// The result of opening a node.
 #[derive(Drop)]
 pub struct Opened<M: Machine> {
     pub node: Node<M>,
@@ -26,8 +26,8 @@ pub struct Opened<M: Machine> {
 }
 
 impl<M: Machine> Node<M> {
-    /// Opens a node over the bytes of its device, which are copied: it runs by the whole records that
-    /// they begin with. Refused with `OutOfMemory`.
+    /// Opens a node over the bytes of its device, which are copied: it runs with the whole records
+    /// at the front of these bytes. Refused only with `OutOfMemory`.
     pub fn open(
         alloc: Global,
         node: NodeId,
@@ -67,7 +67,7 @@ fn device_of(alloc: Global, bytes: &[u8]) -> Result<MemDevice, Refusal>
     ensures err { IfErr result (λ refusal. refusal ≡ refusals.Fault faults.OutOfMemory) }
 {
     let mut device = MemDevice::new(alloc);
-    // It does not fail.
+    // A device in memory does not fail.
     if device.append(bytes).is_err() || device.sync().is_err() {
         return Err(Refusal::Fault(Fault::OutOfMemory));
     }

@@ -7,24 +7,26 @@ ghost use Rattle.rp_requests.specs.declared.refusal.Refusal.TheVariants as refus
 
 use rp_base::Fault;
 
-/// Why a request is refused. After each of these nothing has changed, but for what the variant says.
+/// Why a request is refused. Nothing has changed after any of these, unless the variant says
+/// otherwise.
 #[derive(Clone, Copy, Debug, PartialEq, Eq)]
 pub enum Refusal {
-    /// As the deck, the node or the task says.
+    /// A fault of the deck, the node or the task.
     Fault(Fault),
-    /// The buffer has fewer bytes than this, and only that number is given out.
+    /// The buffer has fewer bytes than this, and nothing else is given out.
     ShortAnswer(usize),
     /// The bytes are no request.
     BadRequest,
     /// The deck declares a tally, and no protected objects.
     NoObjects,
     /// The step was made, and its answer has this many bytes, more than the buffer: the request for
-    /// the last answer gives it.
+    /// the last answer returns it.
     LongAnswer(usize),
 }
 
 impl Refusal {
-    /// Its number: that of the fault, or one of the request's from 64 on.
+    /// The refusal's number: that of the fault, or one from 64 on for a refusal of the request
+    /// itself.
     pub fn code(&self) -> u8
         // claim: A refused request has the number of its fault, or one of its own from 64 on
         ensures { result ≡ refusal_code self.now }

@@ -1,5 +1,5 @@
-//! What a caller asks of a node, as bytes: one that says what it is, and its operands, numbers in
-//! big-endian order.
+//! A caller's request to a node, as bytes: one for the kind of request, and then its operands, with
+//! numbers in big-endian order.
 
 ghost use Rattle.std.specs.Prelude.{◌≡◌, ◌∷◌, [], Some, None, IfSome, IfNone, option_map};
 ghost use Rattle.std.specs.Int.{w16, from_be_bytes};
@@ -9,14 +9,14 @@ ghost use Rattle.rp_requests.specs.Requests.{asked, asked_of, lead_asked, interr
 use rp_base::{MOST_SOURCES, Position, PositionRange};
 use rp_replica::Input;
 
-/// What a caller asks of a node.
+/// A caller's request to a node.
 #[derive(Clone, Copy, Debug)]
 pub(crate) enum Request<'a> {
     /// A step.
     Step(Input<'a>),
-    /// How many actions it has applied.
+    /// How many actions the node has applied.
     Applied,
-    /// Lines that show the state of its objects.
+    /// Lines that show the state of the node's objects.
     Image,
     /// The answer of the last step that was made.
     LastAnswer,
@@ -43,7 +43,7 @@ pub(crate) fn request_of(bytes: &[u8]) -> Option<Request<'_>>
     }
 }
 
-/// The command to lead, at a position of two bytes or at the least free one.
+/// The command to lead, at a position of two bytes or at the lowest free one.
 fn lead_of(operands: &[u8]) -> Option<Request<'static>>
     ensures asked { option_map asked result ≡ lead_asked operands.now }
     ensures right { IfSome result IsRightRequest }
@@ -58,7 +58,7 @@ fn lead_of(operands: &[u8]) -> Option<Request<'static>>
     }
 }
 
-/// An interrupt: its source, 1 to 8, and the number of its occurrence, four bytes and from 1.
+/// An interrupt: its source, 1 to 8, and the number of its occurrence, from 1, in four bytes.
 fn interrupt_of(operands: &[u8]) -> Option<Request<'static>>
     ensures asked { option_map asked result ≡ interrupt_asked operands.now }
     ensures right { IfSome result IsRightRequest }
@@ -76,7 +76,7 @@ fn interrupt_of(operands: &[u8]) -> Option<Request<'static>>
     }))
 }
 
-/// A tick: the clock, four bytes.
+/// A tick: the clock, in four bytes.
 fn tick_of(operands: &[u8]) -> Option<Request<'static>>
     ensures asked { option_map asked result ≡ tick_asked operands.now }
     ensures right { IfSome result IsRightRequest }
@@ -88,7 +88,7 @@ fn tick_of(operands: &[u8]) -> Option<Request<'static>>
     Some(Request::Step(Input::Tick { now }))
 }
 
-/// The wish for a report: the position from which on, two bytes.
+/// The request for a report: its first position, in two bytes.
 fn report_of(operands: &[u8]) -> Option<Request<'static>>
     ensures asked { option_map asked result ≡ report_asked operands.now }
     ensures right { IfSome result IsRightRequest }
@@ -100,7 +100,7 @@ fn report_of(operands: &[u8]) -> Option<Request<'static>>
     Some(Request::Step(Input::Report(first)))
 }
 
-/// The command to lead in a range: its first position, two bytes, and how many it has, one byte.
+/// The command to lead in a range: its first position, in two bytes, and its count, in one byte.
 fn range_of(operands: &[u8]) -> Option<Request<'static>>
     ensures asked { option_map asked result ≡ range_asked operands.now }
     ensures right { IfSome result IsRightRequest }
@@ -115,7 +115,7 @@ fn range_of(operands: &[u8]) -> Option<Request<'static>>
     }
 }
 
-/// The position of these two bytes.
+/// The position in these two bytes.
 fn position_of(high: u8, low: u8) -> Option<Position>
     ensures some { IfSome result (λ position. position ≡ from_be_bytes w16 (high ∷ low ∷ [])) }
     ensures right { IfSome result IsPosition }

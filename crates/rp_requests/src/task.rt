@@ -26,7 +26,7 @@ use std::marker::Model;
 /// The fewest bytes of a buffer for the answer of a task.
 pub const TASK_BYTES: usize = 40;
 
-/// A task, by its number and the calls that it made.
+/// A task, with its number and the calls that it made.
 #[derive(Drop)]
 pub struct Task {
     task: TaskId,
@@ -62,10 +62,10 @@ impl Task {
         }
     }
 
-    /// Answers a request: the packet of a call to send, or the reply that a packet carries; the buffer
-    /// has `TASK_BYTES` bytes at least. Refused with `ShortAnswer` where the buffer is too short, with
-    /// `BadRequest` where the bytes are no request, with `TaskBusy` or `NumbersSpent` where no call
-    /// may be made, with `BadPacket` or `OutOfMemory` where a packet is not read.
+    /// Answers a request: the packet of a call to send, or the reply in a packet; the buffer has at
+    /// least `TASK_BYTES` bytes. Refused with `ShortAnswer` if the buffer is too short, with
+    /// `BadRequest` if the bytes are no request, with `TaskBusy` or `NumbersSpent` if no call may
+    /// be made, and with `BadPacket` or `OutOfMemory` if a packet could not be read.
     pub fn call(
         &mut self,
         alloc: Global,
@@ -114,7 +114,7 @@ impl Task {
         }
     }
 
-    /// Puts the packet of the outstanding call to a node, or nothing.
+    /// Puts the packet of the outstanding call to a node, or nothing if there is no such call.
     fn put_again(&self, node: NodeId, answer: &mut [u8]) -> Lengths
         requires room { 40 ≤ length answer.old }
         ensures { IsPut [] (again_text self.now.task node self.now.outstanding)
@@ -126,7 +126,8 @@ impl Task {
         }
     }
 
-    /// Takes the reply of a packet, where it is to the outstanding call; otherwise the answer is empty.
+    /// Takes the reply of a packet, if it is one to the outstanding call; otherwise the answer is
+    /// empty.
     fn receive(
         &mut self,
         alloc: Global,
@@ -144,7 +145,8 @@ impl Task {
         }
     }
 
-    /// Takes the reply of a packet, where it is to the outstanding call; otherwise the answer is empty.
+    /// Takes the reply of a decoded packet, if it is one to the outstanding call; otherwise the
+    /// answer is empty.
     fn take(&mut self, packet: &Packet, answer: &mut [u8]) -> Lengths
         requires room { 40 ≤ length answer.old }
         ensures taken { self.new ≡ once_taken self.old (reply_taken self.old packet.now) }
@@ -163,7 +165,7 @@ impl Task {
         put_reply(reply, answer)
     }
 
-    /// Whether the party is the task.
+    /// Whether the party is this task.
     fn is_to(&self, party: Party) -> bool
         ensures { result ≡ is_task self.now.task party }
     {
@@ -185,7 +187,7 @@ fn put_call(task: TaskId, node: NodeId, action: Action, answer: &mut [u8]) -> Le
     put_short(text_of_packet(&packet).as_slice(), answer)
 }
 
-/// Puts a reply: 1 and a value of eight bytes, 2 and a truth of one, or 3 to 5 alone.
+/// Puts a reply: 1 and a value of eight bytes, 2 and a boolean of one byte, or 3 to 5 alone.
 fn put_reply(reply: Reply, answer: &mut [u8]) -> Lengths
     requires room { 40 ≤ length answer.old }
     ensures { IsPut [] (reply_text reply) answer.old answer.new result }

@@ -1,5 +1,5 @@
-//! What a caller asks of a task, as bytes: one that says what it is, and its operands, numbers in
-//! big-endian order.
+//! A caller's request to a task, as bytes: one for the kind of request, and then its operands, with
+//! numbers in big-endian order.
 
 ghost use Rattle.std.specs.Prelude.{◌≡◌, ◌≤◌, IfSome, option_map};
 ghost use Rattle.rp_base.specs.Action.{IsIndex, IsRightOperation};
@@ -7,7 +7,7 @@ ghost use Rattle.rp_requests.specs.TaskRequests.{task_asked, task_asked_of, arg_
 
 use rp_base::{MOST_OBJECTS, NodeId, Operation};
 
-/// What a caller asks of a task.
+/// A caller's request to a task.
 #[derive(Debug, Drop)]
 pub(crate) enum TaskRequest<'a> {
     /// The packet of its next call, through a node.
@@ -17,9 +17,9 @@ pub(crate) enum TaskRequest<'a> {
         operation: Operation,
         arg: i64,
     },
-    /// The packet of the outstanding call again, through a node.
+    /// The packet of the outstanding call once more, through a node.
     Again(NodeId),
-    /// The reply that a packet carries.
+    /// The reply in a packet.
     Receive(&'a [u8]),
 }
 
@@ -38,7 +38,7 @@ pub(crate) fn task_request_of(bytes: &[u8]) -> Option<TaskRequest<'_>>
     }
 }
 
-/// The outstanding call again, through a node.
+/// The outstanding call once more, through a node.
 fn again_of(operands: &[u8]) -> Option<TaskRequest<'static>>
     ensures asked { option_map task_asked result ≡ again_asked operands.now }
     ensures right { IfSome result IsRightTaskRequest }
@@ -50,7 +50,7 @@ fn again_of(operands: &[u8]) -> Option<TaskRequest<'static>>
     Some(TaskRequest::Again(node))
 }
 
-/// A call: the node, the object, which kind of operation, its index, and the argument of eight bytes.
+/// A call: the node, the object, the kind of operation, its index, and the argument of eight bytes.
 fn call_of(operands: &[u8]) -> Option<TaskRequest<'static>>
     ensures asked { option_map task_asked result ≡ call_asked operands.now }
     ensures right { IfSome result IsRightTaskRequest }

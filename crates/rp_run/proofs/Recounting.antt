@@ -31,7 +31,7 @@ use Rattle.rp_agreement.specs.Order.{Begins}
 use Rattle.rp_agreement.specs.Asked.{Asks}
 use Rattle.rp_agreement.proofs.PartPlaces.{part_below, put_there, put_beside}
 use Rattle.rp_run.specs.Agreeing.{call_for}
-use Rattle.rp_run.specs.Items.{Item, Called, Replied, Shown, Noted, Note, Refused, DrainLimit, Asked, asked_in, asked_by}
+use Rattle.rp_run.specs.Items.{Item, Replied, Shown, Noted, Note, Refused, DrainLimit, Asked, asked_in, asked_by}
 use Rattle.rp_run.specs.Output.{RunSetting, Play, Said, nothing_said, note_said, and_then, called_by, taken_items, traced_notes, changed_notes, state_item, part_items, nodes_items, least_unsettled, effect_of, effect_said, event_said, drain_from, command_said, script_said, opening_play, run_said, from_to}
 use Rattle.rp_output.specs.Trace.{task_name}
 use Rattle.rp_run.proofs.Acting.{made_by, calls_as, IsForNone, IsFor, event_is_for, StepsOn, task_steps_on}
@@ -94,13 +94,6 @@ module _ {S : Type 0} (s : RunSetting S) where
   }
 
   -- ---- items that say nothing of replies, states and calls
-
-  -- the item is no reply, no state and no call
-  abbrev IsText : Item → Type 0
-  IsText (Called task asked) = ⊥
-  IsText (Replied name answer) = ⊥
-  IsText (Shown node applied image) = ⊥
-  IsText (Noted notes) = Unit {0}
 
   pub no_more : (items : List Item) (w : World) → IsRecounted items w → IsRecounted (items ++ []) w
   no_more items w old = subst (λ (l : List Item). IsRecounted l w) (sym (append-nil items)) old

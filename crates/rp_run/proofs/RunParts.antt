@@ -5,7 +5,6 @@ use Rattle.std.specs.Io.KnownBytes.{Appends}
 use Rattle.std.proofs.KnownBytes.{Appends-nil, Appends-trans}
 use Rattle.std.proofs.lemmas.List.{drop_more, drop_all}
 use Rattle.std.proofs.lemmas.List.Folds.{list_any-append}
-use Rattle.std.proofs.lemmas.Bool.{le-leb}
 use Rattle.std.proofs.lemmas.Bool.Decides.{nat_tests}
 use Rattle.rp_base.specs.declared.fault.Fault.{Fault}
 use Rattle.rp_base.specs.declared.fault.Fault.TheVariants.{NoSuchMessage}
@@ -194,32 +193,9 @@ module _ {S : Type 0} (s : RunSetting S) (line : ℕ) (play : Play) (event : Eve
 
 -- ---- messages that are lost
 
-lost_by : (one other : Bool) (there not_there : Said) → one ≡ true → other ≡ true → cond (one && other) there not_there ≡ there
-lost_by true true there not_there first second = refl
-lost_by true false there not_there first second = absurd (cc)
-lost_by false other there not_there first second = absurd (cc)
-
 module _ (line first last : ℕ) (play : Play) (world : World) (settled : Settled) (follows : Follows world settled play) where
   sent_is : length world.sent ≡ length play.world.sent
   sent_is = ap (λ (w : World). length w.sent) follows.world_is
-
-  pub was_lost : (after : Settled) (old : Option (List ℕ)) (answer : Result Unit Fault) → first ≤ length world.sent → last ≤ length world.sent
-      → ((m : ℕ) → is_settled after m ≡ (is_among (from_to first last) m || is_settled settled m))
-      → Says world after old old (lost line play first last) (Ok tt)
-  was_lost after old answer low high settles =
-      let here : Said = record { items = []; play = record { world = play.world; settled = from_to first last ++ play.settled } } in
-      let is : lost line play first last ≡ here =
-      lost_by (nat_le first (length play.world.sent)) (nat_le last (length play.world.sent)) here (note_said play (Refused line NoSuchMessage))
-      (le-leb first (length play.world.sent) (omega (arith, low, sent_is))) (le-leb last (length play.world.sent) (omega (arith, high, sent_is))) in
-      subst (λ (x : Said). Says world after old old x (Ok tt)) (sym is) (
-        record {
-          world_is = follows.world_is;
-          settled_are = λ m. settles m
-              ∙ ap (λ (b : Bool). is_among (from_to first last) m || b) (follows.settled_are m)
-              ∙ sym (list_any-append (nat_eq m) (from_to first last) play.settled);
-        },
-        Appends-nil old,
-      )
 
   none_lost : (one other : Bool) (there : Said) → one ≡ nat_le first (length play.world.sent) → other ≡ nat_le last (length play.world.sent)
       → (length play.world.sent < first) ⊎ (length play.world.sent < last) → cond (one && other) there (note_said play (Refused line NoSuchMessage)) ≡ note_said play (Refused line NoSuchMessage)

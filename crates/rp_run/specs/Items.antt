@@ -1,4 +1,4 @@
--- What a run does that its reader sees, item by item.
+-- The visible items of a run.
 use Rattle.std.specs.Prelude.{ℕ, ℤ, nat_eq, Option, Some, None, List, [], ◌++◌, filter_map, flat_map, if◌then◌else◌}
 use Rattle.rp_base.specs.declared.action.Operation.{Operation}
 use Rattle.rp_base.specs.declared.fault.Fault.{Fault}
@@ -15,10 +15,11 @@ pub record Asked : Type 0 where
   pub operation : Operation
   pub arg : ℤ
 
--- What else a line is printed of: the packet of a number is sent, by one party to another, each under its name; a
--- node that was stopped runs again, with the numbers of records found and bytes truncated, or ran already; it has no
--- place for one more pending item; it is shown, and is stopped; a step of the line of a number was refused, and why;
--- or `drain` in that line delivered as many messages as it may.
+-- What else is printed: the packet of this number was sent, by one party to another, each under its
+-- name; a stopped node runs again, with the numbers of records found and bytes truncated, or it was
+-- running already; it has no place for one more pending item; it is shown, and is stopped; a step
+-- of the line of this number was refused, and why; or `drain` in that line delivered as many
+-- messages as it may.
 pub data Note : Type 0 where
   Sent : ℕ → List ℕ → List ℕ → Body → Note
   Opened : ℕ → ℕ → ℕ → Note
@@ -38,19 +39,19 @@ note_line (Stopped node) = stopped_line_of node
 note_line (Refused line why) = refused_line_of line why
 note_line (DrainLimit line) = limit_line_of line
 
--- the lines of notes
+-- the lines of some notes
 abbrev pub notes_text : List Note → List ℕ
 notes_text notes = flat_map (λ note. with_line_feed (note_line note)) notes
 
--- A task makes its next call; a task takes a reply, under the task's name; a running node is shown: its
--- number, how many actions it has applied, and its image; or there are notes.
+-- A task makes its next call; a task takes a reply, under the task's name; a running node is shown,
+-- with its number, how many actions it has applied, and its image; or there are notes.
 pub data Item : Type 0 where
   Called : ℕ → Asked → Item
   Replied : List ℕ → Answer → Item
   Shown : ℕ → ℕ → List ℕ → Item
   Noted : List Note → Item
 
--- the text of an item: of a call none, since nothing is printed where it is made
+-- the text of an item: that of a call is empty, since nothing is printed when it is made
 abbrev pub item_text : Item → List ℕ
 item_text (Called task asked) = []
 item_text (Replied name answer) = with_line_feed (reply_line_of name answer.number answer.reply)

@@ -1,4 +1,4 @@
--- What the lines of a script print.
+-- The output of the lines of a script.
 use Rattle.std.specs.Prelude.{ℕ, zero, suc, ◌+◌, ◌-◌, ◌^◌, ◌&&◌, min, not, nat_eq, nat_le, Bool, Option, Some}
 use Rattle.std.specs.Prelude.{None, Result, Ok, Err, List, [], ◌∷◌, ◌++◌, length, map, filter, find}
 use Rattle.std.specs.Prelude.{flat_map, if◌then◌else◌, true, false, String, string_bytes}
@@ -32,8 +32,8 @@ use Rattle.rp_deck.specs.declared.deck.Command.{Command}
 use Rattle.rp_deck.specs.declared.deck.Command.TheVariants.{Take, Lose, Drain, Show}
 use Rattle.rp_deck.specs.declared.deck.Line.{Line}
 
--- What stays through a run: the configuration and the machine, how a state of it is shown, the tasks' names in order,
--- and whether the packets are printed.
+-- What is constant in a run: the configuration and the machine, how a state of it is shown, the
+-- tasks' names in order, and whether the packets are printed.
 pub record RunSetting (S : Type 0) : Type 0 where
   pub setting : Setting S
   pub image : S → List ℕ
@@ -45,24 +45,24 @@ pub record Play : Type 0 where
   pub world : World
   pub settled : List ℕ
 
--- what something results in: its items in order, and the play after it
+-- the result of a part of a run: its items in order, and the play after it
 pub record Said : Type 0 where
   pub items : List Item
   pub play : Play
 
--- what it prints
+-- the text that it prints
 abbrev pub text_of : Said → List ℕ
 text_of said = items_text said.items
 
--- nothing is printed, and the play stays
+-- nothing is printed, and the play does not change
 abbrev pub nothing_said : Play → Said
 nothing_said play = record { items = []; play = play }
 
--- there is one note, and the play stays
+-- one note is printed, and the play does not change
 abbrev pub note_said : Play → Note → Said
 note_said play note = record { items = Noted (note ∷ []) ∷ []; play = play }
 
--- one thing, and then the result of the play after it
+-- one result, and then that of a part that starts from the play after it
 abbrev pub and_then : Said → (Play → Said) → Said
 and_then here further = record { items = here.items ++ (further here.play).items; play = (further here.play).play }
 
@@ -80,7 +80,7 @@ is_among numbers m = list_any (nat_eq m) numbers
 abbrev pub from_to : ℕ → ℕ → List ℕ
 from_to first last = filter (nat_le first) (one_to last)
 
--- the least message that is not settled: the first such number from 1 to the last message
+-- the least message that is not settled: the first unsettled number from 1 to the last message
 abbrev pub least_unsettled : Play → Option ℕ
 least_unsettled play = find (λ m. not (is_among play.settled m)) (one_to (length play.world.sent))
 
@@ -93,7 +93,7 @@ delivered_by (Interrupt node interrupt) = []
 delivered_by (Tick node now) = []
 delivered_by (Report node first) = []
 
--- the messages that an event settles where it happens
+-- the messages that an event settles if it happens
 abbrev pub settled_by : Event → List ℕ
 settled_by (Submit task node object operation arg) = []
 settled_by (Again task node) = []
@@ -107,21 +107,21 @@ abbrev pub listed : Option ℕ → List ℕ
 listed None = []
 listed (Some message) = message ∷ []
 
--- The messages of these numbers count as settled, where all of them were sent.
+-- The messages from the first to the last count as settled, if all of them were sent.
 abbrev pub lost : ℕ → Play → ℕ → ℕ → Said
 lost line play first last =
     if nat_le first (length play.world.sent) && nat_le last (length play.world.sent)
     then record { items = []; play = record { world = play.world; settled = from_to first last ++ play.settled } }
     else note_said play (Refused line NoSuchMessage)
 
--- ---- what is printed of an event that happened
+-- ---- the output of an event that happened
 
--- a packet by its number, if there is one
+-- the line of a packet, if there is one of this number
 abbrev pub message_text : List (List ℕ) → ℕ → Option Message → List ℕ
 message_text names number None = []
 message_text names number (Some m) = with_line_feed (message_line_of names number m)
 
--- each packet, by its number
+-- the lines of packets, numbered from this one on
 abbrev pub trace_text : List (List ℕ) → ℕ → List Message → List ℕ
 trace_text names number [] = []
 trace_text names number (m ∷ rest) =
@@ -130,7 +130,7 @@ trace_text names number (m ∷ rest) =
 abbrev pub traced_text : Bool → List (List ℕ) → ℕ → List Message → List ℕ
 traced_text traced names number packets = if traced then trace_text names number packets else []
 
--- the notes of these
+-- the notes of packets, numbered from this one on
 abbrev pub trace_notes : List (List ℕ) → ℕ → List Message → List Note
 trace_notes names number [] = []
 trace_notes names number (m ∷ rest) =
@@ -139,7 +139,7 @@ trace_notes names number (m ∷ rest) =
 abbrev pub traced_notes : Bool → List (List ℕ) → ℕ → List Message → List Note
 traced_notes traced names number packets = if traced then trace_notes names number packets else []
 
--- of a restart: what the node found, or that it runs
+-- the line of a restart: what the node found, or that it was running already
 abbrev pub restarted_text : ℕ → Option (ℕ × ℕ) → List ℕ
 restarted_text node None = with_line_feed (running_line_of node)
 restarted_text node (Some found) = with_line_feed (opened_line_of node found.0 found.1)
@@ -169,7 +169,7 @@ abbrev pub is_restart : Event → Bool
 is_restart (Restart node) = true
 is_restart _ = false
 
--- the node that a packet is for
+-- the node that receives a packet
 abbrev pub node_of_party : Party → Option ℕ
 node_of_party (parties.Node node) = Some node
 node_of_party (parties.Task task) = None
@@ -179,7 +179,7 @@ abbrev pub receiver_of : Option Message → Option ℕ
 receiver_of None = None
 receiver_of (Some m) = node_of_party m.to
 
--- the node that makes a step: of a delivery, the one that the packet is for
+-- the node that makes a step: for a delivery, the receiver of the packet
 abbrev pub node_of_step : List Message → Step → Option ℕ
 node_of_step sent (Deliver message) = receiver_of (part_at sent message)
 node_of_step sent (Lead node position) = Some node
@@ -201,7 +201,7 @@ abbrev pub full_text : Option ℕ → List ℕ
 full_text None = []
 full_text (Some node) = with_line_feed (full_line_of node)
 
--- a pending item found no place at this node
+-- the line of a pending item for which this node has no place
 abbrev pub dropped_text : Option ℕ → Dropped → List ℕ
 dropped_text place No = []
 dropped_text place Full = full_text place
@@ -234,7 +234,7 @@ called_by (Restart node) = []
 abbrev pub reply_item : List (List ℕ) → Answer → Item
 reply_item names answer = Replied (task_name names answer.task) answer
 
--- the reply that a task takes, if one took any
+-- the item of the reply that a task takes, if one takes any
 abbrev pub taken_items : List (List ℕ) → Option Answer → List Item
 taken_items names None = []
 taken_items names (Some answer) = reply_item names answer ∷ []
@@ -243,14 +243,14 @@ abbrev pub taken_text : List (List ℕ) → Option Answer → List ℕ
 taken_text names None = []
 taken_text names (Some answer) = item_text (reply_item names answer)
 
--- how a restart went, and a pending item that was dropped
+-- the lines of a restart and of a pending item that was dropped
 abbrev pub changed_text : List Message → Event → Option (ℕ × ℕ) → Dropped → List ℕ
 changed_text sent event opened dropped = opened_text event opened ++ dropped_text (node_of_event sent event) dropped
 
 abbrev pub changed_notes : List Message → Event → Option (ℕ × ℕ) → Dropped → List Note
 changed_notes sent event opened dropped = opened_notes event opened ++ dropped_notes (node_of_event sent event) dropped
 
--- the same, and then the line of a reply that was taken
+-- the same lines, and then that of a reply that was taken
 abbrev pub effect_text : List (List ℕ) → List Message → Event → Option (ℕ × ℕ) → Dropped → Option Answer → List ℕ
 effect_text names sent event opened dropped taken =
     opened_text event opened ++ (dropped_text (node_of_event sent event) dropped ++ taken_text names taken)
@@ -262,15 +262,16 @@ module _ {S : Type 0} (s : RunSetting S) where
   abbrev pub effect_of : World → Event → Result Transition Fault
   effect_of world event = event_effect s.setting world (event_of event)
 
-  -- Where something happens in a world: the call that is made, what is noted, packets first if they are printed, and
-  -- the reply that is taken.
+  -- The items of an event that happened in a world: the call that is made, the notes, packets first
+  -- if they are printed, and the reply that is taken.
   abbrev pub transition_items : World → Event → Transition → List Item
   transition_items before event transition =
       called_by event ++ Noted (traced_notes s.traced s.names (length before.sent + 1) transition.sends
       ++ changed_notes transition.world.sent event transition.opened transition.dropped)
       ∷ taken_items s.names transition.taken
 
-  -- What happened is printed, and settles its messages. What was refused prints why, and leaves the play as it is.
+  -- An event that happened is printed, and settles its messages. For a refused one the reason is
+  -- printed, and the play does not change.
   abbrev pub effect_said : ℕ → Play → Event → Result Transition Fault → Said
   effect_said line play event (Ok transition) =
       record {
@@ -295,23 +296,23 @@ module _ {S : Type 0} (s : RunSetting S) where
   abbrev pub drained : ℕ → ℕ → Play → Said
   drained line most play = drain_from line play (least_unsettled play) most
 
-  -- what is shown of a node with these records, stopped or running
+  -- the item of a node with these records, stopped or running
   abbrev pub state_item : ℕ → List Rec → Option Running → Item
   state_item node records None = Noted (Stopped node ∷ [])
   state_item node records (Some running) =
       Shown node (min (length (applied_of records)) (2 ^ 16 - 1))
       (s.image (replay_state s.setting.next s.setting.answers s.setting.begin (applied_of records)))
 
-  -- what is shown of a node, if there is one of this number
+  -- the item of a node, if there is one of this number
   abbrev pub part_items : ℕ → Option NodePart → List Item
   part_items node None = []
   part_items node (Some part) = state_item node part.records part.running ∷ []
 
-  -- what is shown of the nodes 1 to n
+  -- the items of the nodes 1 to n
   unfoldable pub nodes_items : World → ℕ → List Item
   nodes_items world count = flat_map (λ node. part_items node (part_at world.nodes node)) (one_to count)
 
-  -- the texts of these
+  -- the text of the item of a node with these records
   abbrev pub state_text : ℕ → List Rec → Option Running → List ℕ
   state_text node records running = item_text (state_item node records running)
 
@@ -322,14 +323,14 @@ module _ {S : Type 0} (s : RunSetting S) where
   unfoldable pub nodes_text : World → ℕ → List ℕ
   nodes_text world count = flat_map (λ node. part_text node (part_at world.nodes node)) (one_to count)
 
-  -- a command of the line of this number, where a `drain` may deliver n messages
+  -- the result of a command in the line of this number, where a `drain` may deliver n messages
   abbrev pub command_said : ℕ → ℕ → Play → Command → Said
   command_said most line play (Take event) = event_said line play event
   command_said most line play (Lose first last) = lost line play first last
   command_said most line play Drain = drained line most play
   command_said most line play Show = record { items = nodes_items play.world s.setting.config.nodes; play = play }
 
-  -- the lines of a script in order
+  -- the result of the lines of a script in order
   unfoldable pub script_said : ℕ → Play → List Line → Said
   script_said most play [] = nothing_said play
   script_said most play (line ∷ rest) =

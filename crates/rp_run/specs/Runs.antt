@@ -1,4 +1,4 @@
--- How a run in memory is related to a play, and what it writes.
+-- The relation of a run in memory to a play, and what it writes.
 use Rattle.std.specs.Prelude.{◌≡◌, ℕ, ◌-◌, Option, Result, Ok, Err, List, ◌++◌, length, replicate, drop}
 use Rattle.std.specs.Io.KnownBytes.{Appends}
 use Rattle.rp_base.specs.declared.action.Action.{Action}
@@ -16,7 +16,7 @@ use Rattle.rp_output.specs.Stream.{Begins}
 use Rattle.rp_run.specs.declared.options.RunOptions.{RunOptions}
 use Rattle.rp_run.specs.declared.settled.Settled.{Settled}
 
--- what stays through a run of a cluster
+-- what is constant in a run of a cluster
 abbrev pub run_setting : {S P : Type 0} → (S → Action → S) → (S → Action → List Answer) → (P → S) → (S → List ℕ)
     → Setup P → RunOptions → RunSetting S
 run_setting next answers start image cluster options = record {
@@ -26,7 +26,7 @@ run_setting next answers start image cluster options = record {
   traced = options.traced;
 }
 
--- a cluster that opens over devices that have not failed
+-- a cluster that is opened over devices that have not failed
 abbrev pub opening_setup : {P : Type 0} → Config → P → Setup P
 opening_setup config program = record {
   config = config;
@@ -35,7 +35,7 @@ opening_setup config program = record {
   failures = replicate config.nodes 0;
 }
 
--- what is printed of an event with this effect, once these messages were sent
+-- the text that is printed for an event with this effect, after these messages were sent
 abbrev pub printed_text : RunOptions → List Message → Event → Effect → List ℕ
 printed_text options sent event effect =
     let names = names_of options.tasks.now in
@@ -48,13 +48,13 @@ pub record HasParts {P : Type 0} (nodes : ℕ) (cluster : Setup P) : Type 0 wher
   pub nodes_there : length cluster.world.nodes ≡ nodes
   pub tasks : length cluster.world.tasks ≡ 8
 
--- a world and what is settled of it are those of the play
+-- the world and its settled messages are those of the play
 pub record Follows (world : World) (settled : Settled) (play : Play) : Type 0 where
   pub world_is : world ≡ play.world
   pub settled_are : (m : ℕ) → is_settled settled m ≡ is_among play.settled m
 
--- The run has reached the play that is said, and what it wrote is the text; or it wrote a beginning of the text where
--- something failed.
+-- The run has reached the stated play, and wrote its text; or, if something failed, it wrote a
+-- prefix of the text.
 abbrev pub Says : World → Settled → Option (List ℕ) → Option (List ℕ) → Said → Result Unit Fault → Type 0
 Says world settled old new said (Ok done) = Follows world settled said.play × Appends old new (text_of said)
 Says world settled old new said (Err fault) = Begins old new (text_of said)

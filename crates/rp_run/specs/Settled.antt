@@ -4,7 +4,7 @@ use Rattle.std.specs.Ordering.{nat_cmp}
 use Rattle.std.specs.BTreeSet.{BTreeSet, contains}
 use Rattle.rp_run.specs.declared.settled.Settled.{Settled}
 
--- a number from 1 to the one before `least`, or one of those above
+-- a number from 1 to the one before `least`, or one of the set `above`
 abbrev pub is_settled_by : ℕ → BTreeSet ℕ → ℕ → Bool
 is_settled_by least above m = (nat_le 1 m && nat_lt m least) || contains nat_cmp above m
 

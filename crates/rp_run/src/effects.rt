@@ -1,4 +1,4 @@
-//! Prints the parts of the result of an event.
+//! Prints the parts of an event's effect.
 
 ghost use Rattle.std.specs.Prelude.{◌≡◌, ◌≤◌, ◌-◌, Some, drop, IfErr, IfOk};
 ghost use Rattle.rp_model.specs.World.{part_at};
@@ -83,7 +83,7 @@ fn print_message<M: Machine, D: CutDevice, W: Write>(
     }
 }
 
-/// The message of this number, from 1; `None` above the last.
+/// The message of this number, from 1; `None` if there is no such message.
 pub fn sent_packet<M: Machine, D: CutDevice>(
     alloc: Global,
     cluster: &Cluster<M, D>,
@@ -122,7 +122,7 @@ fn print_packet<W: Write>(
     print(alloc, writer, line)
 }
 
-/// How a party is printed: a task by its name.
+/// A party as it is printed: a task by its name.
 pub fn party_text(tasks: &IndexMap<String, Task>, party: Party) -> PartyText<'_>
     ensures { shown_party result ≡ party_text_of (names_of tasks.now) party }
 {
@@ -143,7 +143,7 @@ fn task_name(tasks: &IndexMap<String, Task>, task: TaskId) -> &str
     }
 }
 
-/// Whether a node starts again, of which a line is printed.
+/// Whether a node starts again, for which a line is printed.
 #[inline(always)]
 pub(crate) fn is_restart(event: &Event) -> bool
     ensures { result ≡ is_restart event.now }
@@ -151,7 +151,7 @@ pub(crate) fn is_restart(event: &Event) -> bool
     matches!(event, Event::Restart(_))
 }
 
-/// Prints how a restart went.
+/// Prints the line of a restart.
 #[inline(always)]
 pub(crate) fn print_restart<W: Write>(
     alloc: Global,
@@ -178,7 +178,7 @@ pub(crate) fn print_restart<W: Write>(
     }
 }
 
-/// Prints that a pending item found no place, if one did not.
+/// Prints that a pending item was dropped because there was no place for it, if one was.
 #[inline(always)]
 pub(crate) fn print_dropped<M: Machine, D: CutDevice, W: Write>(
     alloc: Global,
@@ -218,7 +218,7 @@ fn print_full<M: Machine, D: CutDevice, W: Write>(
     }
 }
 
-/// The node that takes an event: none where a task does.
+/// The node that takes an event; `None` if a task does.
 pub fn node_of_event<M: Machine, D: CutDevice>(
     alloc: Global,
     cluster: &Cluster<M, D>,
@@ -253,7 +253,7 @@ fn node_of_step<M: Machine, D: CutDevice>(
     }
 }
 
-/// The node that a message is for.
+/// The node that receives a message.
 fn receiver<M: Machine, D: CutDevice>(
     alloc: Global,
     cluster: &Cluster<M, D>,

@@ -3,22 +3,22 @@
 //! In reading order:
 //! - `run`: runs the lines of a script, at any machine and over any devices that never fail
 //! - `options`: a script, and how it is run
-//! - `agreeing`: at any two lines of a script nodes agree, and replies are those of one order
+//! - `agreement`: at any two lines of a script nodes agree, and replies are those of one order
 //! - `effects`: prints the result of an event
 //! - `settled`: which messages of a run are settled
-//! - `settling`: which message an event settles
+//! - `settled_message`: which message an event settles
 #![tactic(auto)]
 
-mod agreeing;
+mod agreement;
 mod effects;
 mod options;
 mod run;
 mod settled;
-mod settling;
+mod settled_message;
 
-pub use agreeing::scripts_agree;
+pub use agreement::scripts_agree;
 pub use effects::{node_of_event, party_text, print_reply, sent_packet};
 pub use options::RunOptions;
 pub use run::run_lines;
 pub use settled::Settled;
-pub use settling::settled_by;
+pub use settled_message::settled_by;

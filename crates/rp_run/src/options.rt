@@ -12,7 +12,7 @@ pub struct RunOptions<'a> {
     pub config: Config,
     pub tasks: &'a IndexMap<String, Task>,
     pub lines: &'a [Line],
-    /// Whether the packets are printed.
+    /// Whether packets are printed.
     pub traced: bool,
     /// The most messages that one `drain` delivers.
     pub most: u32,

@@ -13,7 +13,7 @@ ghost use Rattle.rp_output.specs.Faults.{IsRunFault};
 use crate::effects::{is_restart, print_dropped, print_restart, print_taken, print_trace};
 use crate::options::RunOptions;
 use crate::settled::Settled;
-use crate::settling::settled_by;
+use crate::settled_message::settled_by;
 use rp_base::{Fault, NodeId};
 use rp_deck::{Command, Line};
 use rp_machine::Machine;
@@ -24,9 +24,9 @@ use rp_world::{Cluster, no_effect};
 use std::alloc::Global;
 use std::io::Write;
 
-/// Runs the lines of a script over a cluster of new devices that never fail, and writes what they print.
-/// A fault ends the run where it comes, and then a beginning of that is written: `OutOfMemory`, or `Io`
-/// where the writer fails.
+/// Runs the lines of a script over a cluster of new devices that never fail, and writes what they
+/// print. A fault ends the run at once, and then a prefix of that is written: `OutOfMemory`, or
+/// `Io` if the writer fails.
 pub fn run_lines<M: Machine, D: CutDevice + InfallibleDevice, W: Write>(
     alloc: Global,
     options: &RunOptions<'_>,
@@ -85,7 +85,7 @@ impl<M: Machine, D: CutDevice> Run<M, D> {
         ensures parts { OnOk result (HasParts options.now.config.nodes self.new.cluster) }
         ensures setup { IsSameSetup self.old.cluster self.new.cluster }
         ensures counts { OnOk result (self.new.cluster.failures ≡ self.old.cluster.failures) }
-        ensures said { (play : Play) → Follows self.old.cluster.world self.old.settled play
+        ensures printed { (play : Play) → Follows self.old.cluster.world self.old.settled play
             → Says self.new.cluster.world self.new.settled
             (W.contents writer.old) (W.contents writer.new)
             (command_said (run_setting M.next M.answers M.begin M.image self.old.cluster
@@ -103,8 +103,8 @@ impl<M: Machine, D: CutDevice> Run<M, D> {
         }
     }
 
-    /// Takes a step, settles its messages and prints its effect; or prints that it was refused. It is
-    /// compiled into `drain` for deliveries alone.
+    /// Takes a step, settles its messages and prints its effect; or prints that it was refused. It
+    /// is inlined into `drain`, where events are always deliveries.
     #[inline(always)]
     fn step<W: Write>(
         &mut self,
@@ -118,7 +118,7 @@ impl<M: Machine, D: CutDevice> Run<M, D> {
         ensures parts { OnOk result (HasParts options.now.config.nodes self.new.cluster) }
         ensures setup { IsSameSetup self.old.cluster self.new.cluster }
         ensures counts { OnOk result (self.new.cluster.failures ≡ self.old.cluster.failures) }
-        ensures said { (play : Play) → Follows self.old.cluster.world self.old.settled play
+        ensures printed { (play : Play) → Follows self.old.cluster.world self.old.settled play
             → Says self.new.cluster.world self.new.settled
             (W.contents writer.old) (W.contents writer.new)
             (event_said (run_setting M.next M.answers M.begin M.image self.old.cluster options.now)
@@ -127,7 +127,8 @@ impl<M: Machine, D: CutDevice> Run<M, D> {
             self.new.cluster.failures) }
     {
         worlds_grow::<M>();
-        // What the event is, is read before it is taken, so that `drain` knows it from its deliveries.
+        // The settled message is determined before the event is taken, so that `drain` knows it
+        // from its deliveries.
         let settled = settled_by(event);
         let restarts = is_restart(event);
         match self.cluster.step_into(self.alloc, event, &mut self.effect) {
@@ -142,7 +143,7 @@ impl<M: Machine, D: CutDevice> Run<M, D> {
         }
     }
 
-    /// Prints the result of an event: mostly no more than the reply that a task takes.
+    /// Prints the effect of an event: usually only the reply that a task takes.
     #[inline(always)]
     fn print_effect<W: Write>(
         &self,
@@ -165,7 +166,7 @@ impl<M: Machine, D: CutDevice> Run<M, D> {
         }
     }
 
-    /// Whether more is printed of an event than the reply that a task takes.
+    /// Whether an event prints more than the reply that a task takes.
     #[inline(always)]
     fn prints_more(&self, options: &RunOptions<'_>, restarts: bool) -> bool
         ensures { result ≡ (options.now.traced || (restarts || is_full self.now.effect.dropped)) }
@@ -173,7 +174,7 @@ impl<M: Machine, D: CutDevice> Run<M, D> {
         options.traced || restarts || matches!(self.effect.dropped, Dropped::Full)
     }
 
-    /// Prints the result of an event: its packets, if they are printed, how a restart went, a
+    /// Prints the effect of an event: its packets, if they are printed, the line of a restart, a
     /// pending item that was dropped, and the reply that a task takes.
     #[inline(never)]
     fn print_whole_effect<W: Write>(
@@ -195,7 +196,7 @@ impl<M: Machine, D: CutDevice> Run<M, D> {
         print_taken(self.alloc, options.tasks, effect.taken, writer)
     }
 
-    /// The messages from the first to the last count as settled, where all of them were sent.
+    /// The messages from the first to the last count as settled, if all of them were sent.
     fn lose<W: Write>(
         &mut self,
         line: u32,
@@ -206,7 +207,7 @@ impl<M: Machine, D: CutDevice> Run<M, D> {
         requires first { 1 ≤ first }
         requires last { last < 2 ^ 63 }
         ensures cluster { self.new.cluster ≡ self.old.cluster }
-        ensures said { (play : Play) → Follows self.old.cluster.world self.old.settled play
+        ensures printed { (play : Play) → Follows self.old.cluster.world self.old.settled play
             → Says self.new.cluster.world self.new.settled
             (W.contents writer.old) (W.contents writer.new) (lost line play first last) result }
         ensures fault { IfErr result IsRunFault }
@@ -230,7 +231,7 @@ impl<M: Machine, D: CutDevice> Run<M, D> {
         ensures parts { OnOk result (HasParts options.now.config.nodes self.new.cluster) }
         ensures setup { IsSameSetup self.old.cluster self.new.cluster }
         ensures counts { OnOk result (self.new.cluster.failures ≡ self.old.cluster.failures) }
-        ensures said { (play : Play) → Follows self.old.cluster.world self.old.settled play
+        ensures printed { (play : Play) → Follows self.old.cluster.world self.old.settled play
             → Says self.new.cluster.world self.new.settled
             (W.contents writer.old) (W.contents writer.new)
             (drained (run_setting M.next M.answers M.begin M.image self.old.cluster options.now)

@@ -10,9 +10,9 @@ use std::collections::BTreeSet;
 /// The messages that were delivered, cut at or lost, by their numbers from 1.
 #[derive(Drop)]
 pub struct Settled {
-    /// Not settled, and all from 1 to the one before it are.
+    /// This number is not settled, and all from 1 to the one before it are.
     least: u64,
-    /// The settled ones above it.
+    /// The settled numbers above `least`.
     above: BTreeSet<u64>,
     ghost from_one: { 1 ≤ least },
     ghost all_above: { (m : ℕ) → contains nat_cmp above m ≡ true → (least < m) × (m + 1 < 2 ^ 64) },
@@ -41,7 +41,7 @@ impl Settled {
         self.least
     }
 
-    /// A message is settled from now on. Together, the calls take logarithmic time each.
+    /// Settles a message, in amortized logarithmic time.
     #[inline(always)]
     pub fn settle(&mut self, message: u64) -> Result<(), AllocError>
         requires from_one { 1 ≤ message }
@@ -58,7 +58,7 @@ impl Settled {
         Ok(())
     }
 
-    /// The messages from the first to the last are settled from now on.
+    /// Settles the messages from the first to the last.
     pub fn settle_all(&mut self, first: u64, last: u64) -> Result<(), AllocError>
         requires from_one { 1 ≤ first }
         requires not_last { last + 1 < 2 ^ 64 }
@@ -71,7 +71,7 @@ impl Settled {
         Ok(())
     }
 
-    /// The message, if there is one, is settled from now on.
+    /// Settles the message, if there is one.
     #[inline(always)]
     pub fn settle_any(&mut self, message: Option<u64>) -> Result<(), AllocError>
         requires { IfSome message (λ m. (1 ≤ m) × (m < 2 ^ 63)) }
@@ -84,7 +84,7 @@ impl Settled {
         }
     }
 
-    /// Settles the least number, and passes those that are settled after it.
+    /// Settles the least number, and moves `least` past those that are already settled after it.
     #[inline(always)]
     fn pass(&mut self)
         requires { least_of self.old + 1 < 2 ^ 64 }
@@ -98,7 +98,7 @@ impl Settled {
         }
     }
 
-    /// The same, where some are settled above it.
+    /// As `pass`, if some numbers above `least` are settled.
     #[inline(never)]
     fn pass_above(&mut self)
         requires { least_of self.old + 1 < 2 ^ 64 }

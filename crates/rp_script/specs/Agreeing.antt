@@ -1,4 +1,5 @@
--- What holds of what the run of a deck prints, and of what the program prints of all bytes that it reads.
+-- What holds of the output of a deck's run, and of the program's output for all bytes that it
+-- reads.
 use Rattle.std.specs.Prelude.{◌≡◌, ◌⊎◌, ℕ, Bool, Option, List}
 use Rattle.std.specs.Io.KnownBytes.{Appends}
 use Rattle.rp_run.specs.Agreeing.{RunPrints}
@@ -10,7 +11,8 @@ use Rattle.rp_deck.specs.declared.deck.Mode.TheVariants.{Script}
 use Rattle.rp_deck_declarations.specs.declared.deck_program.DeckProgram.{DeckProgram}
 use Rattle.rp_deck_declarations.specs.declared.deck_program.DeckProgram.TheVariants.{Tally, Objects}
 
--- the texts of the items of a deck's lines were written, one order gives them, and nodes agree, by its program
+-- the texts of the items of a deck's lines were written, one order gives them, and nodes agree, for
+-- its program
 abbrev pub PrintsAt : Bool → Deck → Option (List ℕ) → Option (List ℕ) → DeckProgram → Type 0
 PrintsAt traced deck old new (Tally objects) =
     RunPrints (tally_run traced deck objects) drain_limit deck.script.items old new
@@ -20,13 +22,14 @@ PrintsAt traced deck old new (Objects program) =
 abbrev pub DeckPrints : Bool → Deck → Option (List ℕ) → Option (List ℕ) → Type 0
 DeckPrints traced deck old new = PrintsAt traced deck old new deck.program
 
--- what a run of a script prints: the output of the deck that the reader's bytes mean, of which the same is so
+-- what a run of a script prints: the output of the deck that the reader's bytes mean, of which
+-- `DeckPrints` holds
 abbrev pub ScriptPrints : Bool → Option (List ℕ) → Option (List ℕ) → Option (List ℕ) → Type 0
 ScriptPrints traced given old new =
     (deck : Deck) × MeansDeck Script given deck × Appends old new (output_of traced deck)
     × DeckPrints traced deck old new
 
--- where a fault ends it: nothing, or a beginning of that deck's output
+-- what it prints if a fault ends it: nothing, or a prefix of that deck's output
 abbrev pub ScriptBegins : Bool → Option (List ℕ) → Option (List ℕ) → Option (List ℕ) → Type 0
 ScriptBegins traced given old new =
     (new ≡ old) ⊎ ((deck : Deck) × MeansDeck Script given deck × Begins old new (output_of traced deck))

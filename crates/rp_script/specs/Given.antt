@@ -1,4 +1,4 @@
--- What the bytes that a reader gives mean: a deck, or the first bad line and its first reason.
+-- The meaning of the bytes that a reader gives: a deck, or the first bad line and its first reason.
 use Rattle.std.specs.Prelude.{◌≡◌, ℕ, Option, Result, Ok, Err, List, IfSome}
 use Rattle.rp_base.specs.declared.fault.Fault.{Fault}
 use Rattle.rp_base.specs.declared.fault.Fault.TheVariants.{BadDeck}
@@ -9,11 +9,12 @@ use Rattle.rp_deck.specs.Meaning.{DeckText, meaning_of}
 use Rattle.rp_deck.specs.declared.deck.Deck.{Deck}
 use Rattle.rp_deck.specs.declared.deck.Mode.{Mode}
 
--- how many bytes a deck has at most
+-- the most bytes that a deck may have
 abbrev pub most_bytes : ℕ
 most_bytes = 1048576
 
--- Some bytes mean this in a mode, and they are all that the reader gives, where it is known what it gives.
+-- Some bytes mean this in a mode, and they are all that the reader gives, if it is known what it
+-- gives.
 pub record Means (mode : Mode) (given : Option (List ℕ)) (meaning : Result DeckText BadLine) : Type 0 where
   pub bytes : List ℕ
   pub all : IfSome given (λ whole. bytes ≡ whole)
@@ -24,7 +25,8 @@ pub record MeansDeck (mode : Mode) (given : Option (List ℕ)) (deck : Deck) : T
   pub right : IsRightDeck deck
   pub meant : Means mode given (Ok (deck_text deck))
 
--- the line and the reason of a bad deck are the first bad line that they mean and the first reason on it
+-- the line and the reason of a bad deck are the first bad line of these bytes and the first reason
+-- on it
 abbrev pub IsMeant : Mode → Option (List ℕ) → Fault → Type 0
 IsMeant mode given (BadDeck line reason) = Means mode given (Err (record { line = line; reason = reason }))
 IsMeant mode given _ = Unit {0}

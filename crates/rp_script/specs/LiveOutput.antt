@@ -1,4 +1,4 @@
--- What a run in threads prints.
+-- The output of a run in threads.
 use Rattle.std.specs.Prelude.{ℕ, suc, Bool, List, [], ◌∷◌, ◌++◌, flat_map, if◌then◌else◌}
 use Rattle.rp_base.specs.declared.reply.Answer.{Answer}
 use Rattle.rp_live.specs.declared.run.LiveOutcome.{LiveOutcome}
@@ -6,28 +6,29 @@ use Rattle.rp_output.specs.Printed.{reply_line_of, applied_line_of, agreed_line}
 use Rattle.rp_output.specs.FaultMessage.{with_line_feed}
 use Rattle.rp_output.specs.Trace.{task_name}
 
--- a reply, under the name of its task
+-- the line of a reply, under the name of its task
 abbrev pub reply_text : List (List ℕ) → Answer → List ℕ
 reply_text names answer = with_line_feed (reply_line_of (task_name names answer.task) answer.number answer.reply)
 
--- replies in order
+-- the lines of replies in order
 abbrev pub replies_text : List (List ℕ) → List Answer → List ℕ
 replies_text names replies = flat_map (reply_text names) replies
 
--- how many actions a node has applied
+-- the line of how many actions a node has applied
 abbrev pub node_text : ℕ → ℕ → List ℕ
 node_text node applied = with_line_feed (applied_line_of node applied)
 
--- the same of the nodes from this number on
+-- the lines of the nodes from this number on
 abbrev pub applied_text : ℕ → List ℕ → List ℕ
 applied_text node [] = []
 applied_text node (applied ∷ others) = node_text node applied ++ applied_text (suc node) others
 
--- whether the logs agree
+-- the line that the logs agree, if they do
 abbrev pub agreed_text : Bool → List ℕ
 agreed_text agree = if agree then with_line_feed agreed_line else []
 
--- the replies of all tasks, how many actions each node has applied, and whether the logs agree
+-- the replies of all tasks, how many actions each node has applied, and that the logs agree, if
+-- they do
 abbrev pub outcome_text : List (List ℕ) → LiveOutcome → List ℕ
 outcome_text names outcome =
     replies_text names outcome.replies.items ++ (applied_text 1 outcome.applied.items ++ agreed_text outcome.agree)

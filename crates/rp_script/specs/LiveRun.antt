@@ -33,8 +33,8 @@ event_of Show = None
 abbrev pub events_of : List Line → List Event
 events_of lines = filter_map (λ line. event_of line.command) lines
 
--- a run of a program over the configuration and the events of a deck may have this result, by the seed and for n
--- turns
+-- A run of a program over the configuration and the events of a deck may have this result, for the
+-- seed and n turns.
 abbrev pub IsOutcomeOf : Deck → DeckProgram → ℕ → ℕ → LiveOutcome → Type 0
 IsOutcomeOf deck (Tally objects) seed turns outcome =
     IsLiveRun tally_next tally_answers (λ objects. replicate objects (pos 0)) deck.config objects
@@ -43,12 +43,12 @@ IsOutcomeOf deck (Objects program) seed turns outcome =
     IsLiveRun objects_next objects_answers (λ program. first_state (arc_value program.declarations)) deck.config program
     (events_of deck.script.items) seed turns outcome
 
--- and a run of the deck's own program
+-- a run of the deck's program may have this result
 abbrev pub IsOutcome : Deck → ℕ → ℕ → LiveOutcome → Type 0
 IsOutcome deck seed turns outcome = IsOutcomeOf deck deck.program seed turns outcome
 
--- a text of a possible result of the deck that the reader's bytes mean, by the seed and for n turns, and the figures
--- of the same run
+-- A text of a possible result of the deck that the reader's bytes mean, for the seed and n turns,
+-- and the figures of the same run.
 pub record IsLiveText (seed turns : ℕ) (given : Option (List ℕ)) (text : List ℕ) (figures : Figures) : Type 0 where
   pub deck : Deck
   pub means : MeansDeck Live given deck
@@ -58,12 +58,12 @@ pub record IsLiveText (seed turns : ℕ) (given : Option (List ℕ)) (text : Lis
   pub text_is : text ≡ outcome_text (names_of deck.tasks) outcome
   pub figures_are : figures ≡ outcome.figures
 
--- what a run in threads prints: such a text, whose run has these figures
+-- what a run in threads prints: such a text, of a run with these figures
 abbrev pub LivePrints : ℕ → ℕ → Option (List ℕ) → Option (List ℕ) → Option (List ℕ) → Figures → Type 0
 LivePrints seed turns given old new figures =
     (text : List ℕ) × IsLiveText seed turns given text figures × Appends old new text
 
--- where a fault ends it: nothing, or a beginning of such a text
+-- what it prints if a fault ends it: nothing, or a prefix of such a text
 abbrev pub LiveBegins : ℕ → ℕ → Option (List ℕ) → Option (List ℕ) → Option (List ℕ) → Type 0
 LiveBegins seed turns given old new =
     (new ≡ old) ⊎ ((text : List ℕ) × (figures : Figures) × IsLiveText seed turns given text figures

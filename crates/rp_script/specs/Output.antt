@@ -1,4 +1,4 @@
--- What the script of a deck prints.
+-- The output of a deck's script.
 use Rattle.std.specs.Prelude.{ℕ, ℤ, pos, Bool, List, replicate}
 use Rattle.std.specs.Arc.{arc_value}
 use Rattle.rp_machine.specs.TallyRule.{tally_next, tally_answers, tally_image}
@@ -11,11 +11,11 @@ use Rattle.rp_deck.specs.declared.deck.Deck.{Deck}
 use Rattle.rp_deck_declarations.specs.declared.deck_program.DeckProgram.{DeckProgram}
 use Rattle.rp_deck_declarations.specs.declared.deck_program.DeckProgram.TheVariants.{Tally, Objects}
 
--- how many messages one `drain` of a deck delivers at most
+-- the most messages that one `drain` of a deck delivers
 abbrev pub drain_limit : ℕ
 drain_limit = 100000
 
--- the output of a deck's script at a machine
+-- the output of a deck's script with a machine
 abbrev pub output_at : {S : Type 0} → ℕ → Deck → RunSetting S → List ℕ
 output_at most deck s = text_of (run_said s most deck.script.items)
 
@@ -44,7 +44,7 @@ objects_run traced deck program = record {
   traced = traced;
 }
 
--- the output of a deck, where packets are printed or not
+-- the output of a deck, with or without packets
 abbrev pub output_by : Bool → Deck → DeckProgram → List ℕ
 output_by traced deck (Tally objects) = output_at drain_limit deck (tally_run traced deck objects)
 output_by traced deck (Objects program) = output_at drain_limit deck (objects_run traced deck program)

@@ -17,10 +17,10 @@ pub const MOST_BYTES: usize = 1_048_576;
 /// The most reads that a deck takes.
 const MOST_READS: u32 = 2_097_152;
 
-/// How many bytes are asked for at a time.
+/// How many bytes are read at a time.
 const CHUNK: usize = 4096;
 
-/// Reads the deck that the reader's bytes mean in a mode. Where they mean none, the fault has the
+/// Reads the deck that the reader's bytes mean in a mode. If they mean none, the fault has the
 /// first bad line and the first reason on it.
 pub fn read_given<R: Read>(alloc: Global, reader: &mut R, mode: Mode) -> Result<Deck, Fault>
     // claim: All bytes that the reader gives mean a deck, which is read and is right, or the fault
@@ -35,8 +35,8 @@ pub fn read_given<R: Read>(alloc: Global, reader: &mut R, mode: Mode) -> Result<
     read_deck(alloc, &text, mode)
 }
 
-/// Reads all that the reader gives. `Io` where a read fails, where there are more than 1,048,576
-/// bytes, and where the end does not come within 2,097,152 reads.
+/// Reads all that the reader gives. `Io` if a read fails, if there are more than 1,048,576 bytes,
+/// or if the end is not reached within 2,097,152 reads.
 pub fn read_whole<R: Read>(alloc: Global, reader: &mut R) -> Result<Vec<u8>, Fault>
     ensures whole { IfOk result (λ bytes. IfSome (R.remaining reader.old) (λ all. bytes.items
         ≡ all)) }

@@ -23,10 +23,10 @@ use std::io::{Read, Write};
 /// The most messages that one `drain` delivers.
 pub const DRAIN_LIMIT: u32 = 100_000;
 
-/// Reads a deck and runs its script, and prints the packets where this is asked for. What it prints
-/// is the output of the deck that the reader's bytes mean. Where they mean none, nothing is printed,
-/// and the fault has the first bad line and the first reason on it. Any other fault leaves nothing
-/// printed, or a beginning of that output.
+/// Reads a deck and runs its script, and prints the packets if this is asked for. It prints the
+/// output of the deck that the reader's bytes mean. If they mean none, nothing is printed, and the
+/// fault has the first bad line and the first reason on it. After any other fault, nothing or a
+/// prefix of that output was printed.
 pub fn run_script<R: Read, W: Write>(
     alloc: Global,
     reader: &mut R,
@@ -52,8 +52,8 @@ pub fn run_script<R: Read, W: Write>(
     write_out(writer)
 }
 
-/// Runs the script of a deck, and writes what it prints. A fault ends the run where it comes, and then a
-/// beginning of that is written: `OutOfMemory`, or `Io` where the writer fails. One order of actions
+/// Runs the script of a deck, and writes what it prints. A fault ends the run at once, and then a
+/// prefix of that is written: `OutOfMemory`, or `Io` if the writer fails. One order of actions
 /// gives all states and replies that are written, and after any two lines nodes agree.
 pub fn run_deck<W: Write>(
     alloc: Global,

@@ -11,7 +11,7 @@ use std::{fmt, io};
 #[derive(Clone, Copy, Debug)]
 pub struct FiguresLine {
     pub figures: Figures,
-    /// How long the threads and the audit took, where the clock could be read.
+    /// How long the threads and the audit took, if the clock could be read.
     pub milliseconds: Option<u64>,
 }
 
@@ -29,7 +29,7 @@ impl fmt::Display for FiguresLine {
     }
 }
 
-/// The same without how long it took.
+/// The line without the time.
 #[derive(Clone, Copy, Debug)]
 struct CallsLine {
     figures: Figures,
@@ -53,7 +53,7 @@ impl fmt::Display for CallsLine {
     }
 }
 
-/// How many milliseconds have passed, where the clock could be read.
+/// How many milliseconds have passed, if the clock could be read.
 pub fn milliseconds_since<C: Clock>(clock: &C, begun: io::Result<Instant>) -> Option<u64> {
     let took = begun.ok()?.elapsed(clock).ok()?;
     u64::try_from(took.as_millis()).ok()

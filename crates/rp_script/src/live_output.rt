@@ -15,7 +15,7 @@ use rp_run::print_reply;
 use std::alloc::Global;
 use std::io::Write;
 
-/// Prints the whole result of a run, and lets it out.
+/// Prints the whole result of a run, and flushes the writer.
 pub fn write_outcome<W: Write>(
     alloc: Global,
     tasks: &IndexMap<String, Task>,

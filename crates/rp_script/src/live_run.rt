@@ -30,19 +30,19 @@ use std::sync::Wait;
 use std::thread::Threads;
 use std::time::{Clock, Instant};
 
-/// What a live run is asked for.
+/// The options of a live run.
 #[derive(Clone, Copy, Debug, PartialEq, Eq)]
 pub struct LiveRequest {
-    /// Which packets are lost, repeated and reordered follows from it.
+    /// The seed: it determines which packets are lost, repeated and reordered.
     pub seed: u32,
     /// How many turns each node and each task makes.
     pub turns: u32,
 }
 
-/// Reads a deck, runs its nodes and tasks in threads for the turns that are asked for, and then
-/// prints the result. It returns how the run went, in figures. The deck is the one that the reader's bytes mean. Where they mean none,
-/// nothing is printed, and the fault has the first bad line and the first reason on it. Any other
-/// fault leaves nothing printed, or a beginning of the result of the run.
+/// Reads a deck, runs its nodes and tasks in threads for the given number of turns, and then prints
+/// the result. It returns how the run went, in figures. The deck is the one that the reader's bytes
+/// mean. If they mean none, nothing is printed, and the fault has the first bad line and the first
+/// reason on it. After any other fault, nothing or a prefix of the run's result was printed.
 pub fn run_live<T: Threads + Wait + Clock, R: Read, W: Write>(
     rt: &T,
     alloc: Global,

@@ -6,12 +6,12 @@ pub(crate) fn expect_eq<T: PartialEq + Debug + Drop>(rt: &impl Abort, found: T, 
     assert_eq!(rt; found, expected);
 }
 
-/// Ends the test unless it is this text.
+/// Ends the test unless both texts are equal.
 pub(crate) fn expect_text(rt: &impl Abort, found: &[u8], expected: &[u8]) {
     assert_eq!(rt; found, expected);
 }
 
-/// Ends the test unless both values are equal, and says of what they are.
+/// Ends the test unless both values are equal, and reports which case they are of.
 pub(crate) fn expect_at<N: Debug, T: PartialEq + Debug + Drop>(
     rt: &impl Abort,
     name: &N,

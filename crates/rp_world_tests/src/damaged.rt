@@ -8,7 +8,8 @@ use rp_store::*;
 use std::alloc::Global;
 use std::process::Abort;
 
-/// A `Started`, a `Promised`, a `Voted` and a `Learned` of the call of one task, as a device holds them.
+/// A `Started`, a `Promised`, a `Voted` and a `Learned` of the call of one task, as stored on a
+/// device.
 const RECORDS: [u8; 72] = [
     2, 1, 0, 0, 0, 0, 0, 0, 0, 9, 2, 2, 0, 1, 0, 0, 0, 0, 0, 0, 0, 9, 2, 3, 0, 1, 0, 0, 0, 0, 0, 0,
     0, 9, 1, 1, 0, 0, 0, 1, 1, 2, 1, 0, 0, 0, 0, 0, 0, 0, 5, 2, 4, 0, 1, 1, 1, 0, 0, 0, 1, 1, 2, 1,
@@ -18,24 +19,24 @@ const RECORDS: [u8; 72] = [
 /// Where each of the records ends.
 const ENDS: [usize; 4] = [10, 22, 51, 72];
 
-/// How many of the records lie before this byte.
+/// How many of the records end before this byte.
 fn records_before(place: usize) -> usize {
     ENDS.iter().filter(|end| **end <= place).count()
 }
 
-/// Where the last of n records ends, 0 where there is none.
+/// Where the n-th record ends, 0 if n is 0.
 fn end_of(records: usize) -> usize {
     ENDS.get(records.wrapping_sub(1)).copied().unwrap_or(0)
 }
 
-/// What opening finds on a device that holds these bytes, and how many of them it truncates.
+/// The records that opening finds on a device with these bytes, and how many bytes it truncates.
 fn found<D: Device>(rt: &impl Abort, alloc: Global, device: D, bytes: &[u8]) -> (Vec<Rec>, u64) {
     let device = holding(rt, device, bytes);
     let opened = Store::open(alloc, device).ok().expect(rt, "it opens");
     (opened.records, opened.cut_bytes)
 }
 
-/// How many of the first records are the same.
+/// How many of the first records are equal.
 fn same_front(found: &[Rec], all: &[Rec]) -> usize {
     let mut same = 0usize;
     for (one, other) in found.iter().zip(all) {
@@ -47,7 +48,7 @@ fn same_front(found: &[Rec], all: &[Rec]) -> usize {
     same
 }
 
-/// A device with these bytes opens with this many of the records at least, and they are as they were.
+/// A device with these bytes opens with at least this many of the records, unchanged.
 fn expect_kept(rt: &impl Abort, alloc: Global, bytes: &[u8], all: &[Rec], least: usize) -> u64 {
     let (records, cut_bytes) = found(rt, alloc, MemDevice::new(alloc), bytes);
     let same = same_front(&records, all);
@@ -55,7 +56,8 @@ fn expect_kept(rt: &impl Abort, alloc: Global, bytes: &[u8], all: &[Rec], least:
     cut_bytes
 }
 
-/// The front of the records up to a byte leaves the whole records within it, and the rest is truncated.
+/// If the device has only the records' bytes up to this one, the whole records among them are kept,
+/// and the rest is truncated.
 fn expect_front_kept(rt: &impl Abort, alloc: Global, all: &[Rec], end: usize) {
     let front = RECORDS.get(..end).expect(rt, "a front");
     let whole = records_before(end);
@@ -63,7 +65,7 @@ fn expect_front_kept(rt: &impl Abort, alloc: Global, all: &[Rec], end: usize) {
     expect_eq(rt, cut_bytes, end.saturating_sub(end_of(whole)) as u64);
 }
 
-/// The records with the byte of this place set to each other value leave the records before it.
+/// If the byte at this place is set to any value, the records before it are kept.
 fn expect_rest_kept(rt: &impl Abort, alloc: Global, all: &[Rec], place: usize) {
     let mut changed = RECORDS;
     for value in 0..=255u8 {
@@ -105,7 +107,7 @@ const PACKETS: [&[u8]; 11] = [
     b"\x02\x0a\x02\x20\0\x01\0\x01\x01\x01\x01\0\0\0\x01\x01\x02\x01\0\0\0\0\0\0\0\x05",
 ];
 
-/// A node refuses what no packet has as its text, for the reason of its text, and nothing else.
+/// A node refuses a text that is no packet, with the decoder's reason, and refuses nothing else.
 fn expect_heard<M: Machine, D: Device>(
     rt: &impl Abort,
     alloc: Global,
@@ -119,7 +121,7 @@ fn expect_heard<M: Machine, D: Device>(
     expect_eq(rt, heard.err(), reason.map(Fault::BadPacket));
 }
 
-/// A node hears the packet with the byte of this place set to each other value.
+/// A node hears the packet with the byte at this place set to each value.
 fn hears_damaged(
     rt: &impl Abort,
     alloc: Global,

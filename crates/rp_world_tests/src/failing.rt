@@ -8,12 +8,12 @@ use rp_world::*;
 use std::alloc::Global;
 use std::process::Abort;
 
-/// The result of a call that task 1 makes at node 1, where a device of the three fails meanwhile.
+/// The result of a call that task 1 makes through node 1, while a device of the three fails.
 #[derive(Clone, Copy, Debug, PartialEq, Eq)]
 struct Outcome {
     /// How many steps were answered with `Device`.
     failures: u32,
-    /// How many records and torn bytes the node found that was started again.
+    /// How many records and torn bytes the restarted node found.
     opened: Option<(u64, u64)>,
     reply: Option<Reply>,
     /// How many actions nodes 1, 2 and 3 have applied.
@@ -46,7 +46,7 @@ impl<M: Machine, D: CutDevice> Run<M, D> {
         })
     }
 
-    /// A step. A device that fails is counted, and the run goes on.
+    /// Makes a step. A fault of a device is counted, and the run continues.
     fn makes(&mut self, rt: &impl Abort, alloc: Global, event: &Event) {
         match self.cluster.step(alloc, event) {
             Ok(effect) => self.outcome.opened = effect.opened.or(self.outcome.opened),
@@ -57,7 +57,7 @@ impl<M: Machine, D: CutDevice> Run<M, D> {
         }
     }
 
-    /// Delivers each message that was not delivered, in order.
+    /// Delivers each message that was not yet delivered, in order.
     fn delivers_all(&mut self, rt: &impl Abort, alloc: Global) {
         for _ in 0..100 {
             if self.delivered >= self.cluster.messages() {
@@ -88,9 +88,9 @@ impl<M: Machine, D: CutDevice> Run<M, D> {
     }
 }
 
-/// Task 1 calls node 1, which leads. Then the node of this place is started again, once more where its
-/// device fails at that; the task asks again, and node 1 leads again. Each event with whether all
-/// deliveries follow it.
+/// Task 1 calls node 1, which leads. Then the node at this place is restarted, a second time in
+/// case its device fails at the first; the task repeats its call, and node 1 leads again. Each
+/// event is paired with whether all messages are delivered after it.
 fn events(rt: &impl Abort, place: usize) -> [(Event, bool); 6] {
     let restarted = [1, 2, 3].get(place).copied().expect(rt, "one of three");
     let restarted = node(rt, restarted);
@@ -126,22 +126,23 @@ fn one_call<M: Machine, D: CutDevice>(
     Ok(run.outcome(rt))
 }
 
-/// The call of a device that fails: its kind, its number from 1, and how many bytes of an append stay.
+/// The call of a device that fails: its kind, its number from 1, and how many bytes of an append
+/// are kept.
 type Failing = (DeviceCall, u64, usize);
 
-/// No call fails.
+/// A call that never happens, so that none fails.
 const NONE: Failing = (DeviceCall::Cut, 0, 0);
 
-/// A device in memory of which two calls fail, one after the other.
+/// A device in memory with two failing calls.
 type Device = FailDevice<FailDevice<MemDevice>>;
 
-/// A device of which these calls fail.
+/// A device with these failing calls.
 fn device(alloc: Global, first: Failing, second: Failing) -> Device {
     let inner = FailDevice::new(MemDevice::new(alloc), first.0, first.1, first.2);
     FailDevice::new(inner, second.0, second.1, second.2)
 }
 
-/// Three devices, of which these calls fail at the one of this place.
+/// Three devices; these calls fail on the one at this place.
 fn devices(
     rt: &impl Abort,
     alloc: Global,
@@ -163,7 +164,7 @@ fn devices(
     devices
 }
 
-/// The result of the call where these calls of a device fail.
+/// The result of the call if these calls of a device fail.
 fn outcome_of(
     rt: &impl Abort,
     alloc: Global,
@@ -175,7 +176,8 @@ fn outcome_of(
     one_call::<Tally, Device>(rt, alloc, program(rt), devices, &events(rt, at))
 }
 
-/// The call is answered though one call of a device fails, and all nodes have applied as much.
+/// The call is answered although one call of a device fails, and all nodes have applied equally
+/// many actions.
 fn expect_answered(rt: &impl Abort, alloc: Global, at: usize, fails: Failing) {
     let outcome = outcome_of(rt, alloc, at, fails, NONE).expect(rt, "the run");
     let [first, ..] = outcome.applied;
@@ -203,7 +205,7 @@ fn a_call_is_answered_though_an_append_or_a_sync_fails(rt: HostRuntime) {
     }
 }
 
-/// Node 1 finds this many records and torn bytes where these calls of its device fail.
+/// Node 1 finds this many records and torn bytes if these calls of its device fail.
 fn expect_found(
     rt: &impl Abort,
     alloc: Global,

@@ -1,5 +1,5 @@
-//! Tests of nodes and clusters by events. Each helper is generic in the machine and the device, so that it is
-//! proved once, by their contracts alone.
+//! Tests of nodes and clusters by events. Each helper is generic in the machine and the device, so
+//! that it is proved once, from their contracts alone.
 #![tactic(auto)]
 
 #[cfg(test)]

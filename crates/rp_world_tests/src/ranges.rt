@@ -9,7 +9,7 @@ use rp_world::*;
 use std::alloc::Global;
 use std::process::Abort;
 
-/// A node is to lead at this many positions from 1 on.
+/// A node is to lead at this many positions, from position 1.
 fn range(rt: &impl Abort, leader: u8, count: u8) -> Event {
     Event::Node(Step::LeadRange {
         node: node(rt, leader),
@@ -18,8 +18,9 @@ fn range(rt: &impl Abort, leader: u8, count: u8) -> Event {
     })
 }
 
-/// A run over three nodes: first these events alone; then more, each with the number from which on the
-/// messages after it are delivered, where that is above those that were.
+/// A run over three nodes: first these events without deliveries; then more events, after each of
+/// which the messages from the next one on are delivered, or from the given number on if that is
+/// higher.
 #[derive(Drop)]
 struct Run<'a> {
     alone: &'a [Event],
@@ -47,7 +48,7 @@ fn after<M: Machine, D: CutDevice>(
     cluster
 }
 
-/// A run leaves what it says.
+/// A run leaves the stated result.
 fn expect_run<M: Machine, D: CutDevice>(
     rt: &impl Abort,
     alloc: Global,
@@ -59,7 +60,7 @@ fn expect_run<M: Machine, D: CutDevice>(
     expect_left(rt, alloc, &cluster, &run.left);
 }
 
-/// A run leaves what it says of three nodes over devices that hold nothing.
+/// A run over three nodes with empty devices leaves the stated result.
 fn expect_tally(rt: &impl Abort, alloc: Global, run: &Run) {
     let devices = devices(rt, alloc);
     expect_run::<Tally, MemDevice>(rt, alloc, program(rt), devices, run);
@@ -94,7 +95,7 @@ fn deliver(number: u64) -> Event {
 
 #[test]
 fn a_range_hears_of_a_vote_in_a_lower_ballot(rt: HostRuntime) {
-    // Node 3 alone votes in ballot 9.
+    // Only node 3 votes in ballot 9.
     let alone = [
         call(&rt, 1, 1, 5),
         call(&rt, 2, 2, 2),

@@ -16,7 +16,7 @@ const CALL: [u8; 21] = [
     2, 1, 17, 1, 1, 1, 0, 0, 0, 1, 1, 2, 1, 0, 0, 0, 0, 0, 0, 0, 5,
 ];
 
-/// Its second call, with 7, in a text of version 1.
+/// The second call of task 1, with 7, in a text of version 1.
 const OLD_CALL: [u8; 21] = [
     1, 1, 17, 1, 1, 1, 0, 0, 0, 2, 1, 2, 1, 0, 0, 0, 0, 0, 0, 0, 7,
 ];
@@ -78,7 +78,7 @@ fn opened<M: Machine, D: Device>(
     opening.ok().expect(rt, "it opens")
 }
 
-/// The node alone.
+/// The node that opening returns, without the counts.
 fn node_over<M: Machine, D: Device>(
     rt: &impl Abort,
     alloc: Global,
@@ -89,7 +89,7 @@ fn node_over<M: Machine, D: Device>(
     opened::<M, D>(rt, alloc, at, program, device).replica
 }
 
-/// Takes a step, which is not refused.
+/// Takes a step, which must not be refused.
 fn turn<M: Machine, D: Device>(
     rt: &impl Abort,
     alloc: Global,
@@ -100,7 +100,7 @@ fn turn<M: Machine, D: Device>(
     sent.expect(rt, "the step")
 }
 
-/// Puts a text after the others.
+/// Appends a text to the others.
 fn push_text(rt: &impl Abort, alloc: Global, texts: &mut Vec<Vec<u8>>, text: &[u8]) {
     let text = text.to_vec(alloc).expect(rt, "memory for a text");
     if texts.push(text).is_err() {
@@ -108,7 +108,7 @@ fn push_text(rt: &impl Abort, alloc: Global, texts: &mut Vec<Vec<u8>>, text: &[u
     }
 }
 
-/// Puts the texts of a step's packets after the others.
+/// Appends the texts of a step's packets to the others.
 fn take_texts(rt: &impl Abort, alloc: Global, sent: &Sent, texts: &mut Vec<Vec<u8>>) {
     let mut rest = sent.bytes.as_slice();
     for _ in 0..sent.packets {
@@ -118,7 +118,7 @@ fn take_texts(rt: &impl Abort, alloc: Global, sent: &Sent, texts: &mut Vec<Vec<u
     }
 }
 
-/// The first record of these bytes goes after the others as a text of version 1. It gives the bytes
+/// Appends the first record of these bytes to the others, as a text of version 1. Returns the bytes
 /// after it.
 fn push_old<'a>(rt: &impl Abort, old: &mut Vec<u8>, bytes: &'a [u8]) -> &'a [u8] {
     let (_, len) = decode_front(bytes).expect(rt, "a record");
@@ -128,7 +128,7 @@ fn push_old<'a>(rt: &impl Abort, old: &mut Vec<u8>, bytes: &'a [u8]) -> &'a [u8]
     bytes.get(len..).expect(rt, "the rest")
 }
 
-/// The texts of the records that these bytes are, in version 1.
+/// The texts of the records in these bytes, in version 1.
 fn in_version_1(rt: &impl Abort, alloc: Global, bytes: &[u8]) -> Vec<u8> {
     let mut old = Vec::new(alloc);
     let mut rest = bytes;
@@ -149,7 +149,7 @@ struct Nodes<M: Machine, D: Device> {
     delivered: usize,
 }
 
-/// Opens a node and puts it after the others. Its log has 1000 positions.
+/// Opens a node and appends it to the others. Its log has 1000 positions.
 fn push_node<M: Machine, D: Device>(
     rt: &impl Abort,
     alloc: Global,
@@ -165,7 +165,7 @@ fn push_node<M: Machine, D: Device>(
     }
 }
 
-/// The device closed, and its records in version 1 on another one.
+/// Closes the device, and puts its records in version 1 on another device.
 fn onto_version_1<D: Device>(rt: &impl Abort, alloc: Global, device: D, other: D) -> D {
     let mut device = device;
     let bytes = device.read(alloc).expect(rt, "the bytes");
@@ -186,7 +186,7 @@ impl<M: Machine, D: Device> Nodes<M, D> {
         }
     }
 
-    /// Gives a text to the node that it is for.
+    /// Gives a text to its receiver.
     fn give(&mut self, rt: &impl Abort, alloc: Global, text: &[u8]) {
         let to = usize::from(text.get(3).copied().unwrap_or(0));
         if let Some(node) = self.nodes.get_mut(to.saturating_sub(1)) {
@@ -195,8 +195,8 @@ impl<M: Machine, D: Device> Nodes<M, D> {
         }
     }
 
-    /// Gives each text that was not delivered to the node that it is for, in order, with all that
-    /// results.
+    /// Gives each text that was not yet delivered to its receiver, in order, and so on with the
+    /// texts that result.
     fn deliver(&mut self, rt: &impl Abort, alloc: Global) {
         for _ in 0..100 {
             let Some(text) = self.texts.get(self.delivered) else {
@@ -224,7 +224,7 @@ impl<M: Machine, D: Device> Nodes<M, D> {
         self.deliver(rt, alloc);
     }
 
-    /// Each of three nodes shows this text.
+    /// Each of the three nodes shows this text.
     fn expect_images(&self, rt: &impl Abort, alloc: Global, text: &[u8]) {
         expect_eq(rt, self.nodes.len(), 3);
         for node in &self.nodes {
@@ -233,7 +233,7 @@ impl<M: Machine, D: Device> Nodes<M, D> {
         }
     }
 
-    /// Each of three nodes stored this many bytes, and has applied one action.
+    /// Each of the three nodes stored this many bytes, and has applied one action.
     fn expect_stored(&self, rt: &impl Abort, stored: [u64; 3]) {
         for (node, stored) in self.nodes.iter().zip(stored) {
             expect_eq(rt, (node.stored(), node.applied()), (stored, 1));
@@ -247,7 +247,7 @@ impl<M: Machine, D: Device> Nodes<M, D> {
         report.expect(rt, "the report").bytes
     }
 
-    /// The nodes closed, and opened over their records in version 1 on other devices.
+    /// Closes the nodes, and opens them over their records in version 1 on other devices.
     fn reopened(
         self,
         rt: &impl Abort,
@@ -316,7 +316,7 @@ fn of_version_1<M: Machine, D: Device>(
     run.reopened(rt, alloc, program, others)
 }
 
-/// The nodes go on over their records in version 1 with a second call, in a text of version 1.
+/// The nodes continue over their records in version 1 with a second call, in a text of version 1.
 fn expect_going_on<M: Machine, D: Device>(
     rt: &impl Abort,
     alloc: Global,
@@ -338,7 +338,7 @@ fn replicas_go_on_from_records_of_version_1(rt: HostRuntime) {
     expect_going_on::<Tally, MemDevice>(&rt, alloc, &program(&rt), first, second);
 }
 
-/// What a node of three with a log of n positions makes of a packet: what it drops, how many
+/// The effect of a packet on a node of three with a log of n positions: what it drops, how many
 /// packets it sends, and how many bytes its device then holds.
 pub(crate) fn hears<M: Machine, D: Device>(
     rt: &impl Abort,
@@ -353,7 +353,7 @@ pub(crate) fn hears<M: Machine, D: Device>(
     Ok((sent.dropped, sent.packets, node.stored()))
 }
 
-/// What nodes hear that changes nothing: the node and the length of its log, and the packet.
+/// Packets that change nothing: the node and the length of its log, and the packet.
 const FOREIGN: [(&str, u8, u16, &[u8]); 10] = [
     (
         "for another node",
@@ -412,7 +412,7 @@ const FOREIGN: [(&str, u8, u16, &[u8]); 10] = [
     ),
 ];
 
-/// What a node over an empty device makes of a packet.
+/// The effect of a packet on a node over an empty device.
 fn heard_by(
     rt: &impl Abort,
     alloc: Global,
@@ -434,7 +434,7 @@ fn what_is_foreign_changes_nothing(rt: HostRuntime) {
     expect_eq(&rt, unknown, Err(kind));
 }
 
-/// The node finds no place for a tick.
+/// The node has no place for a tick.
 fn drops_tick<M: Machine, D: Device>(
     rt: &impl Abort,
     alloc: Global,
@@ -446,7 +446,7 @@ fn drops_tick<M: Machine, D: Device>(
     sent.dropped == Dropped::Full
 }
 
-/// The first tick, of those from 1 on, for which there is no place.
+/// The first tick, counted from 1, for which there is no place.
 fn first_full_tick<M: Machine, D: Device>(
     rt: &impl Abort,
     alloc: Global,
@@ -501,7 +501,7 @@ fn a_replica_opens_over_what_its_device_holds(rt: HostRuntime) {
     }
 }
 
-/// What node 3 answers to a packet.
+/// The answer of node 3 to a packet.
 fn answer<M: Machine, D: Device>(
     rt: &impl Abort,
     alloc: Global,
@@ -523,7 +523,7 @@ fn of_two_votes_in_a_ballot_the_first_is_reported(rt: HostRuntime) {
     expect_text(&rt, &answer, promise);
 }
 
-/// The device of node 3 that stopped within the step of hearing to vote.
+/// The device of node 3 after a stop within the step in which it hears a request to vote.
 fn cut<M: Machine, D: CutDevice>(
     rt: &impl Abort,
     alloc: Global,
@@ -551,7 +551,7 @@ fn a_cut_keeps_n_bytes_of_the_vote(rt: HostRuntime) {
     }
 }
 
-/// Node 1 leads these positions one after another, and is then refused since its log is full.
+/// Node 1 leads at these positions one after another, and is then refused because its log is full.
 fn expect_led<M: Machine, D: Device>(
     rt: &impl Abort,
     alloc: Global,

@@ -45,7 +45,7 @@ pub(crate) fn lead(rt: &impl Abort, leader: u8) -> Event {
     })
 }
 
-/// A step of the cluster, which is not refused.
+/// A step of the cluster, which must not be refused.
 pub(crate) fn step<M: Machine, D: CutDevice>(
     rt: &impl Abort,
     cluster: &mut Cluster<M, D>,
@@ -66,7 +66,7 @@ fn deliver<M: Machine, D: CutDevice>(
     step(rt, cluster, alloc, &Event::Node(Step::Deliver(number)));
 }
 
-/// Delivers the messages in order, from a number on, until none is left. It gives the number of the
+/// Delivers the messages in order, from a number on, until none is left. Returns the number of the
 /// next one.
 pub(crate) fn deliver_from<M: Machine, D: CutDevice>(
     rt: &impl Abort,
@@ -85,8 +85,7 @@ pub(crate) fn deliver_from<M: Machine, D: CutDevice>(
     next
 }
 
-/// Delivers the messages above the one number, up to the other, from the highest down, each three
-/// times.
+/// Delivers the messages above one number, up to another, from the highest down, each three times.
 fn deliver_thrice<M: Machine, D: CutDevice>(
     rt: &impl Abort,
     cluster: &mut Cluster<M, D>,
@@ -101,7 +100,7 @@ fn deliver_thrice<M: Machine, D: CutDevice>(
     }
 }
 
-/// In rounds, delivers what was not delivered in an earlier round, until a round sends nothing.
+/// In rounds, delivers the messages that were sent since the last round, until a round sends none.
 fn deliver_in_rounds<M: Machine, D: CutDevice>(
     rt: &impl Abort,
     cluster: &mut Cluster<M, D>,
@@ -120,8 +119,8 @@ fn deliver_in_rounds<M: Machine, D: CutDevice>(
     above
 }
 
-/// What a run leaves: how many messages there are, how many bytes each node stored, how many actions
-/// each has applied, and what all of them show.
+/// The state after a run: how many messages there are, how many bytes each node stored, how many
+/// actions each has applied, and the image that all of them show.
 #[derive(Drop)]
 pub(crate) struct Left {
     pub(crate) messages: u64,
@@ -130,7 +129,7 @@ pub(crate) struct Left {
     pub(crate) image: &'static [u8],
 }
 
-/// A node stored this many bytes, has applied as many actions and shows as it is said.
+/// A node stored this many bytes, has applied this many actions and shows this image.
 fn expect_node<M: Machine, D: CutDevice>(
     rt: &impl Abort,
     alloc: Global,
@@ -145,7 +144,7 @@ fn expect_node<M: Machine, D: CutDevice>(
     expect_text(rt, &image, left.image);
 }
 
-/// The cluster is left so, and task 1 has the one reply 5.
+/// The cluster is in this state, and task 1 has exactly one reply, 5.
 pub(crate) fn expect_left<M: Machine, D: CutDevice>(
     rt: &impl Abort,
     alloc: Global,
@@ -167,11 +166,12 @@ pub(crate) fn expect_left<M: Machine, D: CutDevice>(
 enum Delivery {
     /// In order, each once.
     InOrder,
-    /// In rounds: those that were sent in the last one, from the highest down, each three times.
+    /// In rounds: those that were sent since the last round, from the highest down, each three
+    /// times.
     InRounds,
 }
 
-/// Delivers the messages above this number until none is left. It gives the number of the last.
+/// Delivers the messages above this number until none is left. Returns the number of the last one.
 fn deliver_all<M: Machine, D: CutDevice>(
     rt: &impl Abort,
     cluster: &mut Cluster<M, D>,
@@ -204,7 +204,7 @@ fn one_call<M: Machine, D: CutDevice>(
     cluster
 }
 
-/// One call in rounds leaves this.
+/// One call, delivered in rounds, leaves this state.
 fn expect_left_in_rounds<M: Machine, D: CutDevice>(
     rt: &impl Abort,
     alloc: Global,
@@ -221,7 +221,7 @@ pub(crate) fn program(rt: &impl Abort) -> TallyProgram {
     TallyProgram::new(1).expect(rt, "one object")
 }
 
-/// Three devices that hold nothing.
+/// Three empty devices.
 pub(crate) fn devices(rt: &impl Abort, alloc: Global) -> Vec<MemDevice> {
     match MemDevice::several(alloc, 3) {
         Ok(devices) => devices,
@@ -314,7 +314,7 @@ fn expect_message<M: Machine, D: CutDevice>(
     expect_text(rt, &found, text);
 }
 
-/// Of 16 messages of one call each that is among these texts has it.
+/// Of the 16 messages of one call, those with an expected text have it.
 fn expect_texts<M: Machine, D: CutDevice>(
     rt: &impl Abort,
     alloc: Global,
@@ -336,7 +336,7 @@ fn each_message_has_its_text(rt: HostRuntime) {
     expect_texts::<Tally, MemDevice>(&rt, alloc, program(&rt), devices, &TEXTS);
 }
 
-/// Where a run of these events stops, and how many messages there are then.
+/// The event at which a run of these events stops, and how many messages there are then.
 fn run_of<M: Machine, D: CutDevice>(
     rt: &impl Abort,
     alloc: Global,

@@ -32,7 +32,7 @@ returns-in_err-taken-clause-output g c =
     let s = run_setting m.next m.answers m.begin m.image (opening_setup options.config c.args.program) options in
     let so_far = c.loop-line.invariant.so_far in
     let same = same_setting m.next m.answers m.begin m.image options _ c.loop-line.run.cluster c.loop-line.invariant.setup in
-    let said = c.in_err-taken.ensures.said so_far.said.play so_far.follows in
+    let said = c.in_err-taken.ensures.printed so_far.said.play so_far.follows in
     writes_failed _ _ _ c.from_residual-in_err-taken.result c.from_residual-in_err-taken.ensures.0
     (line_fails s options.most options.lines.now c.loop-line.line-index c.line-item.result (omega arith) c.line-item.is so_far (rw same at said))
 
@@ -49,7 +49,7 @@ loop-line-preserved g c =
     let s = run_setting m.next m.answers m.begin m.image opening options in
     let so_far = c.loop-line.invariant.so_far in
     let same = same_setting m.next m.answers m.begin m.image options opening c.loop-line.run.cluster c.loop-line.invariant.setup in
-    let said = c.in_ok-taken.ensures.said so_far.said.play so_far.follows in
+    let said = c.in_ok-taken.ensures.printed so_far.said.play so_far.follows in
     let resulted = rw same at said in
     record {
       parts = c.in_ok-taken.ensures.parts;

@@ -26,8 +26,8 @@ loop-delivered-init g c =
           (sets_out c.args.self.now.cluster.world c.args.self.now.settled start play (λ (now : Play). drained s c.args.line most now) follows);
     }
 
-pub returns-then-message-messages-clause-said : goal.returns-then-message-messages-clause-said
-returns-then-message-messages-clause-said g c =
+pub returns-then-message-messages-clause-printed : goal.returns-then-message-messages-clause-printed
+returns-then-message-messages-clause-printed g c =
     let m = g.M.Machine in
     let s = run_setting m.next m.answers m.begin m.image c.args.self.now.cluster c.args.options.now in
     let run = c.loop-delivered.self in
@@ -41,8 +41,8 @@ returns-then-message-messages-clause-said g c =
     (drained s c.args.line c.args.options.now.most play) (λ (p : Play). drained s c.args.line most p) so_far tt
     (drained_none s c.args.line now most (none_is_left run.cluster.world run.settled now so_far.follows least.result least.ensures.least past))
 
-pub returns-in_err-step-clause-said : goal.returns-in_err-step-clause-said
-returns-in_err-step-clause-said g c =
+pub returns-in_err-step-clause-printed : goal.returns-in_err-step-clause-printed
+returns-in_err-step-clause-printed g c =
     let m = g.M.Machine in
     let s = run_setting m.next m.answers m.begin m.image c.args.self.now.cluster c.args.options.now in
     let run = c.loop-delivered.self in
@@ -56,7 +56,7 @@ returns-in_err-step-clause-said g c =
     λ play follows.
     let so_far = c.loop-delivered.invariant.so_far play follows in
     let now = so_far.said.play in
-    let said = c.in_err-step.ensures.said now so_far.follows in
+    let said = c.in_err-step.ensures.printed now so_far.follows in
     says_failed _ _ _ _ (drained s c.args.line most play) c.from_residual.result c.from_residual.ensures.0
     (fails run.cluster.world c.step.new.self.cluster.world run.settled c.step.new.self.settled
     (g.W.Write.contents c.args.writer.now) (g.W.Write.contents c.loop-delivered.writer) (g.W.Write.contents c.step.new.writer)
@@ -85,7 +85,7 @@ loop-delivered-preserved g c =
       so_far = λ play follows.
           let so_far = c.loop-delivered.invariant.so_far play follows in
           let now = so_far.said.play in
-          let said = c.in_ok-step.ensures.said now so_far.follows in
+          let said = c.in_ok-step.ensures.printed now so_far.follows in
           let here = rw same at said in
           goes_on run.cluster.world c.step.new.self.cluster.world run.settled c.step.new.self.settled
           (g.W.Write.contents c.args.writer.now) (g.W.Write.contents c.loop-delivered.writer) (g.W.Write.contents c.step.new.writer)
@@ -96,8 +96,8 @@ loop-delivered-preserved g c =
           here.0 here.1;
     }
 
-pub returns-then-least-messages-clause-said : goal.returns-then-least-messages-clause-said
-returns-then-least-messages-clause-said g c =
+pub returns-then-least-messages-clause-printed : goal.returns-then-least-messages-clause-printed
+returns-then-least-messages-clause-printed g c =
     let m = g.M.Machine in
     let s = run_setting m.next m.answers m.begin m.image c.args.self.now.cluster c.args.options.now in
     let run = c.loop-delivered.self in
@@ -111,8 +111,8 @@ returns-then-least-messages-clause-said g c =
     (drained s c.args.line c.args.options.now.most play) (λ (p : Play). drained s c.args.line most p) so_far tt
     (drained_none s c.args.line now most (none_is_left run.cluster.world run.settled now so_far.follows least.result least.ensures.least past))
 
-pub returns-clause-said : goal.returns-clause-said
-returns-clause-said g c =
+pub returns-clause-printed : goal.returns-clause-printed
+returns-clause-printed g c =
     let m = g.M.Machine in
     let s = run_setting m.next m.answers m.begin m.image c.args.self.now.cluster c.args.options.now in
     let run = c.loop-delivered.self in

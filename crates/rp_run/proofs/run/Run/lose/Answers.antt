@@ -4,8 +4,8 @@ use Rattle.rp_run.proofs.RunParts.{was_not_lost}
 use Rattle.rp_run.proofs.run.Run.lose.Goals as goal
 use Rattle.rp_run.proofs.run.Run.lose.Goals.{then-first-sent-via-then-first-sent, then-first-sent-via-else-first-sent+then-last-sent}
 
-pub returns-then-first-sent-clause-said : goal.returns-then-first-sent-clause-said
-returns-then-first-sent-clause-said g c =
+pub returns-then-first-sent-clause-printed : goal.returns-then-first-sent-clause-printed
+returns-then-first-sent-clause-printed g c =
     let world = c.args.self.now.cluster.world in
     let value = c.messages-sent.ensures.value in
     let above : (length world.sent < c.args.first) ⊎ (length world.sent < c.args.last) = elim c.then-first-sent.branch [

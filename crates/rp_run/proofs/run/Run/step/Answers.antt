@@ -19,8 +19,8 @@ returns-in_ok-settle_any-in-Ok-clause-parts g c =
     always_ok c.print_effect.result (parts_stay m.next m.answers m.begin c.args.options.now.config.nodes c.args.self.now.cluster c.step_into.new.self c.args.event.now
     c.requires.parts c.requires.event c.step_into.new.effect c.in-Ok.ensures.step.setup c.in-Ok.ensures.step.world)
 
-pub returns-in_ok-settle_any-in-Ok-clause-said : goal.returns-in_ok-settle_any-in-Ok-clause-said
-returns-in_ok-settle_any-in-Ok-clause-said g c =
+pub returns-in_ok-settle_any-in-Ok-clause-printed : goal.returns-in_ok-settle_any-in-Ok-clause-printed
+returns-in_ok-settle_any-in-Ok-clause-printed g c =
     let m = g.M.Machine in
     let old = c.args.self.now.cluster in
     let s = run_setting m.next m.answers m.begin m.image old c.args.options.now in
@@ -29,8 +29,8 @@ returns-in_ok-settle_any-in-Ok-clause-said g c =
     happened s c.args.line play c.args.event.now old.world c.args.self.now.settled follows c.step_into.new.self.world c.settle_any.new.self c.step_into.new.effect _ _ c.print_effect.result
     done (c.worlds_grow.ensures s.setting old.world (event_of c.args.event.now) done.transition done.resulted) (settled_alike c.args.self.now.settled c.settle_any.new.self _ _ c.settled_by-settled.ensures.value c.in_ok-settle_any-in-Ok.ensures) c.print_effect.ensures.printed
 
-pub returns-in_err-settle_any-in-Ok-clause-said : goal.returns-in_err-settle_any-in-Ok-clause-said
-returns-in_err-settle_any-in-Ok-clause-said g c =
+pub returns-in_err-settle_any-in-Ok-clause-printed : goal.returns-in_err-settle_any-in-Ok-clause-printed
+returns-in_err-settle_any-in-Ok-clause-printed g c =
     let m = g.M.Machine in
     let s = run_setting m.next m.answers m.begin m.image c.args.self.now.cluster c.args.options.now in
     λ play follows. says_failed _ _ _ _ (event_said s c.args.line play c.args.event.now) c.from_residual.result c.from_residual.ensures.0 (begins_nothing _ _)
@@ -42,8 +42,8 @@ returns-in-Err-clause-parts g c =
     always_ok c.print.result (parts_left m.next m.answers m.begin c.args.options.now.config.nodes c.args.self.now.cluster c.step_into.new.self c.args.event.now
     c.requires.parts c.requires.event c.in-Err.fault c.in-Err.ensures.step.setup (refused_of _ _ _ c.args.event.now c.in-Err.fault c.in-Err.ensures.step.world numbered))
 
-pub returns-in-Err-clause-said : goal.returns-in-Err-clause-said
-returns-in-Err-clause-said g c =
+pub returns-in-Err-clause-printed : goal.returns-in-Err-clause-printed
+returns-in-Err-clause-printed g c =
     let m = g.M.Machine in
     let old = c.args.self.now.cluster in
     let s = run_setting m.next m.answers m.begin m.image old c.args.options.now in
@@ -52,8 +52,8 @@ returns-in-Err-clause-said g c =
     was_refused s c.args.line play c.args.event.now old.world c.args.self.now.settled follows c.step_into.new.self.world c.in-Err.fault _ _ c.print.result
     (refused_of s.setting old.world c.step_into.new.self.world c.args.event.now c.in-Err.fault c.in-Err.ensures.step.world numbered) c.print.ensures.printed
 
-pub returns-in-Err-2-clause-said : goal.returns-in-Err-2-clause-said
-returns-in-Err-2-clause-said g c = λ play follows. begins_nothing _ _
+pub returns-in-Err-2-clause-printed : goal.returns-in-Err-2-clause-printed
+returns-in-Err-2-clause-printed g c = λ play follows. begins_nothing _ _
 
 pub returns-in-Err-2-clause-fault : goal.returns-in-Err-2-clause-fault
 returns-in-Err-2-clause-fault g c =

@@ -1,4 +1,4 @@
-//! What holds of what the lines of a script print, and of the world at any two of them.
+//! What holds of the output of a script's lines, and of the world after any two of them.
 
 ghost use Rattle.std.specs.Prelude.{All};
 ghost use Rattle.rp_run.specs.Agreeing.{RunAgrees, RunIsPrinted};
@@ -11,8 +11,8 @@ use rp_deck::{Command, Line};
 use rp_machine::Machine;
 use rp_world::histories_are_ordered;
 
-/// Whatever the lines of a script are: after any number of them one order gives all that they print, and
-/// after any two of them nodes agree. It does nothing: what it promises is for contracts.
+/// For all lines of a script: after any number of them one order gives all that they print, and
+/// after any two of them nodes agree. It does nothing: its contract is for the callers' proofs.
 pub fn scripts_agree<M: Machine>(options: &RunOptions<'_>)
     // claim: For every machine, whatever the lines of a script are, one order gives the states and
     //   the replies that its run prints, and after any two lines nodes agree

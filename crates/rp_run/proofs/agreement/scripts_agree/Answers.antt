@@ -5,7 +5,7 @@ use Rattle.rp_run.specs.Agreeing.{RunIsPrinted, world_after}
 use Rattle.rp_run.specs.Runs.{run_setting, opening_setup}
 use Rattle.rp_run.proofs.Histories.{run_is_history, run_has_moments}
 use Rattle.rp_run.proofs.Printing.{run_is_printed}
-use Rattle.rp_run.proofs.agreeing.scripts_agree.Goals as goal
+use Rattle.rp_run.proofs.agreement.scripts_agree.Goals as goal
 use Rattle.rp_deck.specs.declared.deck.Line.{Line}
 
 pub returns-clause-agrees : goal.returns-clause-agrees

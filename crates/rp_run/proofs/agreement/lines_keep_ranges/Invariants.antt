@@ -2,7 +2,7 @@ use Rattle.std.proofs.Common.{ℕ, ◌<◌}
 use Rattle.std.specs.Prelude.{slice_index_or}
 use Rattle.rp_deck.specs.Script.{KeepsRanges}
 use Rattle.rp_deck.specs.declared.deck.Line.{Line}
-use Rattle.rp_run.proofs.agreeing.lines_keep_ranges.Given as goal
+use Rattle.rp_run.proofs.agreement.lines_keep_ranges.Given as goal
 
 -- so does each line that was passed
 abbrev pub invariant-loop-line : goal.invariant-loop-line

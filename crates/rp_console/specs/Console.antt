@@ -1,6 +1,6 @@
 -- What the program does with the words of the command line, and how it ends.
-use Rattle.std.specs.Prelude.{◌≡◌, ◌⊎◌, ℕ, true, false, Option, Some, None, Result, Ok, Err, List, [], codes}
-use Rattle.std.specs.Prelude.{option_map, IfOk, OnOk, IfErr, OnErr}
+use Rattle.std.specs.Prelude.{◌≡◌, ◌⊎◌, ℕ, true, false, Option, Some, None, Result, Ok, Err}
+use Rattle.std.specs.Prelude.{List, [], codes, option_map, IfOk, OnOk, IfErr, OnErr}
 use Rattle.std.specs.Io.KnownBytes.{Appends}
 use Rattle.clap.specs.Kinds.{IsAmong}
 use Rattle.clap.specs.Words.{Text, fault_of, subcommand_of}
@@ -10,7 +10,8 @@ use Rattle.rp_base.specs.declared.fault.Fault.{Fault}
 use Rattle.rp_deck.specs.declared.deck.Mode.{Mode}
 use Rattle.rp_deck.specs.declared.deck.Mode.TheVariants as modes
 use Rattle.rp_script.specs.Agreeing.{ScriptBegins, ScriptPrints}
-use Rattle.rp_console.specs.CommandLine.{console, name_of, seed_of, trace_of, turns_of, ReadsAs, no_run_of}
+use Rattle.rp_console.specs.CommandLine.{console, name_of, seed_of, trace_of, turns_of}
+use Rattle.rp_console.specs.CommandLine.{ReadsAs, no_run_of}
 use Rattle.rp_script.specs.Faults.{IsBadDeck, IsProgramFault}
 use Rattle.rp_script.specs.Figures.{figures_line_of}
 use Rattle.rp_script.specs.Given.{IsMeant}
@@ -22,23 +23,28 @@ use Rattle.rp_console.specs.declared.args.Args.TheVariants.{Script, Live}
 use Rattle.rp_output.specs.declared.ending.Ending.{Ending}
 use Rattle.rp_script.specs.declared.figures.FiguresLine.{FiguresLine}
 
+-- the bytes that a stream has, if the contract of its type says which they are
+abbrev pub Content : Type 0
+Content = Option (List ℕ)
+
 -- these words ask for this
 pub record AsksFor (words : List Text) (args : Args) : Type 0 where
   pub right : fault_of console words ≡ []
   pub named : option_map (λ found. found.0) (subcommand_of console words) ≡ Some (name_of args)
   pub traced : trace_of words ≡ Some (codes "true") → args ≡ Script true
   pub quiet : trace_of words ≡ Some (codes "false") → args ≡ Script false
-  pub live : (seed turns : ℕ) → ReadsAs (seed_of words) seed → ReadsAs (turns_of words) turns → args ≡ Live seed turns
+  pub live : (seed turns : ℕ) → ReadsAs (seed_of words) seed → ReadsAs (turns_of words) turns
+      → args ≡ Live seed turns
 
 -- What a run without a fault prints, of the deck that the bytes given to it mean. A script reports
 -- no figures, and a run in threads reports those of the run that it prints.
-abbrev pub Prints : Args → Option (List ℕ) → Option (List ℕ) → Option (List ℕ) → Option FiguresLine → Type 0
+abbrev pub Prints : Args → Content → Content → Content → Option FiguresLine → Type 0
 Prints (Script traced) given old new figures = ScriptPrints traced given old new × (figures ≡ None)
 Prints (Live seed turns) given old new None = ⊥
 Prints (Live seed turns) given old new (Some line) = LivePrints seed turns given old new line.figures
 
 -- what a run that a fault ends has printed: nothing, or a prefix of that
-abbrev pub HasBegun : Args → Option (List ℕ) → Option (List ℕ) → Option (List ℕ) → Type 0
+abbrev pub HasBegun : Args → Content → Content → Content → Type 0
 HasBegun (Script traced) given old new = ScriptBegins traced given old new
 HasBegun (Live seed turns) given old new = LiveBegins seed turns given old new
 
@@ -58,8 +64,8 @@ report_of (Err fault) = with_line_feed (fault_message_of fault)
 -- nothing is printed, and the fault has the first bad line and the first reason on it. The status
 -- is 0 without a fault, and otherwise that of the fault, which is reported. The figures of a live
 -- run are reported as well, and are those of the run that it printed.
-pub record RunsAs (args : Args) (given output output_after errors errors_after : Option (List ℕ)) (ending : Ending)
-    : Type 0 where
+pub record RunsAs (args : Args) (given output output_after errors errors_after : Content)
+    (ending : Ending) : Type 0 where
   pub ran : Result (Option FiguresLine) Fault
   pub printed : IfOk ran (Prints args given output output_after)
   pub begun : OnErr ran (HasBegun args given output output_after)
@@ -70,8 +76,7 @@ pub record RunsAs (args : Args) (given output output_after errors errors_after :
   pub reported : OnOk ending.reported (Appends errors errors_after (report_of ran))
 
 -- Wrong words were reported, or help or the version was printed and nothing else.
-abbrev pub RefusesAs : ErrorKind → Option (List ℕ) → Option (List ℕ) → Option (List ℕ) → Option (List ℕ) → Ending
-    → Type 0
+abbrev pub RefusesAs : ErrorKind → Content → Content → Content → Content → Ending → Type 0
 RefusesAs kind = RefusesFor (no_run_of kind)
 
 -- one of the words is not UTF-8, or there is no memory to report that
@@ -80,8 +85,8 @@ IsUnread kind = (kind ≡ InvalidValue) ⊎ (kind ≡ OutOfMemory)
 
 -- The words ask for a run, which was made; or they are wrong or memory ran out, and that was
 -- reported.
-abbrev pub FollowsWords : List Text → Option (List ℕ) → Option (List ℕ) → Option (List ℕ) → Option (List ℕ)
-    → Option (List ℕ) → Ending → Type 0
+abbrev pub FollowsWords : List Text → Content → Content → Content → Content → Content → Ending
+    → Type 0
 FollowsWords words given output output_after errors errors_after ending =
     ((args : Args) × AsksFor words args × RunsAs args given output output_after errors errors_after ending)
     ⊎ ((kind : ErrorKind) × ((kind ≡ OutOfMemory) ⊎ IsAmong kind (fault_of console words))

@@ -292,7 +292,7 @@ fn opens_at_last<M: Machine, D: Device>(
 }
 
 /// The node whose device failed refuses each step until it is opened again.
-fn opens_anew<M: Machine, D: Device>(
+fn reopens<M: Machine, D: Device>(
     rt: &impl Abort,
     alloc: Global,
     program: &M::Program,
@@ -319,7 +319,7 @@ fn hears<M: Machine, D: Device>(
     match step(rt, alloc, &mut node, &input) {
         Err(Fault::Device) => {
             let openings = (&input, &mut heard.openings);
-            let mut node = opens_anew::<M, D>(rt, alloc, program, node, openings);
+            let mut node = reopens::<M, D>(rt, alloc, program, node, openings);
             let answer = step(rt, alloc, &mut node, &input);
             extends(rt, &mut heard.sent, answer);
             node

@@ -16,7 +16,7 @@ use Rattle.rp_model.specs.Parts.{NodePart}
 use Rattle.rp_model.specs.Parts.{TaskPart}
 use Rattle.rp_model.specs.Effect.{Setting}
 use Rattle.rp_agreement.specs.Sound.{IsSound}
-use Rattle.rp_agreement.specs.Order.{Begins, AllSent}
+use Rattle.rp_agreement.specs.Order.{IsPrefix, AllSent}
 use Rattle.rp_agreement.specs.Computed.{order_of}
 use Rattle.rp_agreement.specs.Answered.{SaysAnswer, answers_of, IsAnswered, IsReady}
 use Rattle.rp_agreement.proofs.Computing.{order_is}
@@ -43,16 +43,16 @@ pub still_answered : (given more : List Answer) → ((answer : Answer) → Has a
 still_answered given more inside t part old = record { numbered = old.numbered; waits = old.waits; replied = λ answer h. inside answer (old.replied answer h) }
 
 -- what a node applied begins the order, and the order begins every later one
-pub applied_begins : (nodes : ℕ) (node : ℕ → NodePart) (sent : List Message) → IsSound nodes node sent → (x : ℕ) → Begins (applied_of (node x).records) (order_of nodes sent)
+pub applied_begins : (nodes : ℕ) (node : ℕ → NodePart) (sent : List Message) → IsSound nodes node sent → (x : ℕ) → IsPrefix (applied_of (node x).records) (order_of nodes sent)
 applied_begins nodes node sent sound x = decided_begins sound (applied_of (node x).records) (order_of nodes sent) (applied_decided sound x) (order_is nodes sent)
 
-pub order_grows : (nodes : ℕ) (node : ℕ → NodePart) (sent later : List Message) → IsSound nodes node later → AllSent sent later → Begins (order_of nodes sent) (order_of nodes later)
+pub order_grows : (nodes : ℕ) (node : ℕ → NodePart) (sent later : List Message) → IsSound nodes node later → AllSent sent later → IsPrefix (order_of nodes sent) (order_of nodes later)
 order_grows nodes node sent later sound all =
     decided_begins sound (order_of nodes sent) (order_of nodes later) (all_decided_stays nodes sent later (order_of nodes sent) all (order_is nodes sent).decided) (order_is nodes later)
 
 module _ {S : Type 0} (s : Setting S) where
   -- a longer list leads to the answers of the shorter, and to more
-  pub answers_grow : (xs ys : List Action) → Begins xs ys → (answer : Answer) → Has answer (answers_of s xs) → Has answer (answers_of s ys)
+  pub answers_grow : (xs ys : List Action) → IsPrefix xs ys → (answer : Answer) → Has answer (answers_of s xs) → Has answer (answers_of s ys)
   answers_grow xs ys begins answer h =
       let on = goes_on_from s.next s.answers (replay_of s.next s.answers s.begin xs) begins.0 in
       let whole : answers_of s (xs ++ begins.0) ≡ answers_of s xs ++ on.more = ap (λ r. r.given) (replay_from-append s.next s.answers (unmoved s.begin) xs begins.0) ∙ on.given in
@@ -60,7 +60,7 @@ module _ {S : Type 0} (s : Setting S) where
       subst (λ (given : List Answer). Has answer given) (sym longer) (has_left answer (answers_of s xs) on.more h)
 
   -- a beginning stays one
-  pub ready_grows : (order longer : List Action) (t n : ℕ) → Begins order longer → IsReady s order t n → IsReady s longer t n
+  pub ready_grows : (order longer : List Action) (t n : ℕ) → IsPrefix order longer → IsReady s order t n → IsReady s longer t n
   ready_grows order longer t n more ready = record {
     before = ready.before;
     begins = (ready.begins.0 ++ more.0, more.1 ∙ ap (λ (list : List Action). list ++ more.0) ready.begins.1 ∙ append_assoc ready.before ready.begins.0 more.0);

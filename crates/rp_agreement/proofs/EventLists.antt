@@ -22,7 +22,7 @@ use Rattle.rp_model.specs.Events.{Event}
 use Rattle.rp_model.specs.World.{World, Transition, opening_world, part_at, event_effect}
 use Rattle.rp_model.proofs.WorldGrowing.{GrowsIf, event_grows}
 use Rattle.rp_agreement.specs.History.{IsHistory, AreMoments}
-use Rattle.rp_agreement.specs.Order.{Begins, AreAlike, AllSent}
+use Rattle.rp_agreement.specs.Order.{IsPrefix, AreAlike, AllSent}
 use Rattle.rp_agreement.specs.Worlds.{node_in, IsSoundWorld}
 
 abbrev transition_or : Transition → Result Transition Fault → Transition
@@ -83,7 +83,7 @@ module _ {nodes : ℕ} {now later : World} (both : AreSoundMoments nodes now lat
   pub one_action : (i : ℕ) (v w : Action) → IsDecided nodes now.sent i v → IsDecided nodes later.sent i w → v ≡ w
   one_action i v w before after = one_decided both.second.sound i v w (decided_more nodes now.sent later.sent both.sent i v before) after
 
-  pub order_begins : Begins (order_of nodes now.sent) (order_of nodes later.sent)
+  pub order_begins : IsPrefix (order_of nodes now.sent) (order_of nodes later.sent)
   order_begins =
       let order = order_of nodes now.sent in
       decided_begins both.second.sound order (order_of nodes later.sent) (all_decided_stays nodes now.sent later.sent order both.sent (order_is nodes now.sent).decided) (order_is nodes later.sent)

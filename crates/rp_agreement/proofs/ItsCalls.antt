@@ -16,7 +16,7 @@ use Rattle.rp_machine.proofs.Calling.{made_number, one_to_bound}
 use Rattle.rp_machine.proofs.Numbering.{length-one_to, counted}
 use Rattle.rp_model.specs.Effect.{Setting}
 use Rattle.rp_model.specs.Parts.{NodePart, TaskPart}
-use Rattle.rp_agreement.specs.Order.{Begins}
+use Rattle.rp_agreement.specs.Order.{IsPrefix}
 use Rattle.rp_agreement.specs.Computed.{order_of}
 use Rattle.rp_agreement.specs.Answered.{answers_of, named, calls_so_far, calls_by, AreMade, AreItsCalls, IsKept}
 use Rattle.rp_agreement.proofs.Lists.{get_mapped, get_unmapped, get_one_to}
@@ -66,7 +66,7 @@ number_at t k (y ∷ ys) x are h =
     ]
 
 -- of two lists numbered alike the one is a prefix of the other, if all of it is in the other
-begins_all : (t k : ℕ) (xs ys : List Action) → AreNumbered t k xs → AreNumbered t k ys → ((x : Action) → Has x xs → Has x ys) → Begins xs ys
+begins_all : (t k : ℕ) (xs ys : List Action) → AreNumbered t k xs → AreNumbered t k ys → ((x : Action) → Has x xs → Has x ys) → IsPrefix xs ys
 begins_all t k [] ys are other inside = (ys, refl)
 begins_all t k (x ∷ xs) [] are other inside = absurd (inside x (inl refl))
 begins_all t k (x ∷ xs) (y ∷ ys) are other inside =
@@ -118,7 +118,7 @@ module _ (sent : List Message) (t : ℕ) (part : TaskPart) (made actions : List 
   made_length : length made ≡ calls_so_far part
   made_length = as_many t (calls_so_far part) made are.numbered
 
-  own_begins : Begins own made
+  own_begins : IsPrefix own made
   own_begins = begins_all t 0 own made (from_one t m own own_names) (from_one t (calls_so_far part) made are.numbered) inside
 
   so_far : (waiting : Option Action) → part.outstanding ≡ waiting → calls_so_far part ≡ (if is_some waiting then suc (length part.replies) else length part.replies)

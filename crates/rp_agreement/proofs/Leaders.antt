@@ -1,6 +1,6 @@
 -- A node's steps as a leader are sound.
 use Rattle.std.proofs.Common.{◌≡◌, ℕ, ◌+◌, ◌-◌, ◌/◌, ◌<◌, ◌≤◌, max, Bool, true, false, if◌then◌else◌, Result, Ok, Err, Option, Some, None, List, [], ◌∷◌, ◌++◌, map, inl, inr, refl, sym, ap, subst, ◌∙◌, arith}
-use Rattle.std.specs.Prelude.{nat_eq, nat_le, is_some, ◌^◌, ◌&&◌, not, IfSome, find, filter, length, unwrap_or}
+use Rattle.std.specs.Prelude.{nat_eq, nat_le, is_some, ◌^◌, ◌&&◌, not, IfSome, find, filter, length}
 use Rattle.std.specs.List.{list_any}
 use Rattle.std.proofs.lemmas.Bool.{cases_Bool, cond-true, cond-false, eqb-true, and_parts, false≢true}
 use Rattle.std.proofs.Math.Nat.{mul-add-mod_self_left, mod-eq_of_lt}
@@ -40,7 +40,7 @@ use Rattle.rp_agreement.proofs.RecordGrowth.{started_below}
 use Rattle.rp_agreement.proofs.Turns.{IsSoundTurn, said_plain, plain, quiet, either, runs_written}
 use Rattle.rp_agreement.proofs.Proposing.{member_or_new, proposal_or_new}
 use Rattle.rp_base.proofs.Apart.{with_apart, passing_apart, positions_stay, promised_there}
-use Rattle.rp_agreement.proofs.Offering.{noop_asked, offer_is_asked, founds}
+use Rattle.rp_agreement.proofs.Offering.{noop_asked, own_or_noop, offer_is_asked, founds}
 
 -- a node that puts a proposal in its place knows what it knew
 runs_with : (sent : List Message) (records : List Rec) (running : Running) (q : Proposal) → IsRunning sent records running → IsProposal sent records q
@@ -72,7 +72,7 @@ promised_with sent p from last old new a o h =
     ]
 
 -- one promise more
-more_promised : (sent : List Message) (records : List Rec) (p : Proposal) (from : ℕ) (last : Option Vote) → IsProposal sent records p
+pub more_promised : (sent : List Message) (records : List Rec) (p : Proposal) (from : ℕ) (last : Option Vote) → IsProposal sent records p
     → HasPromised sent from p.position p.ballot last → IsProposal sent records (with_promise p (from, last))
 more_promised sent records p from last is stated = record {
   started = is.started;
@@ -97,7 +97,7 @@ now_offers sent records p is = record {
 }
 
 -- what is offered to all is one action
-offer_is : (x i b : ℕ) (u : Action) (to : List ℕ) (j c : ℕ) (v : Action) → IsOffered (map (says x (bodies.Accept i b u)) to) j c v → (j ≡ i) × (c ≡ b) × (v ≡ u)
+pub offer_is : (x i b : ℕ) (u : Action) (to : List ℕ) (j c : ℕ) (v : Action) → IsOffered (map (says x (bodies.Accept i b u)) to) j c v → (j ≡ i) × (c ≡ b) × (v ≡ u)
 offer_is x i b u to j c v offer =
     let hit = mapped_has (says x (bodies.Accept i b u)) _ to offer.2 in
     let same : bodies.Accept j c v ≡ bodies.Accept i b u = ap (λ (m : Message). m.body) hit.2 in
@@ -191,10 +191,6 @@ runs_passing sent records running test refused runs = record {
   heard = runs.heard;
 }
 
-pub runs_without : (sent : List Message) (records : List Rec) (running : Running) (i : ℕ) (refused : Option ℕ) → IsRunning sent records running
-    → IsRunning sent records (record running { proposals = without_proposal running.proposals i; refused = refused })
-runs_without sent records running i refused runs = runs_passing sent records running (λ p. not (nat_eq p.position i)) refused runs
-
 pub nack_sound : (nodes x : ℕ) (records : List Rec) (sent : List Message) (running : Running) (i b bound : ℕ) → IsRunning sent records running
     → IsSoundTurn nodes x records sent (on_nack nodes running i b bound)
 nack_sound nodes x records sent running i b bound runs =
@@ -254,19 +250,20 @@ new_unoffered nodes x node sent i b v sound own above offer =
     let below : b ≤ started_of (node x).records = started_below b (node x).records (subst (λ (k : ℕ). Has (Started b) (node k).records) same started) in
     absurd (omega (arith, below, above))
 
-found_asked : (sent : List Message) (item : Option Action) → IfSome item (IsAsked sent) → IsAsked sent (unwrap_or item Noop)
-found_asked sent None h = noop_asked sent
-found_asked sent (Some action) h = h
+item_is_so : (P : Action → Type 0) (kept : List Action) (others : List Proposal) (pending : List Action) (item : Option Action)
+    → ((c : Action) → Has c pending → P c) → find (is_free_item kept others) pending ≡ item → IfSome item P
+item_is_so P kept others pending None each is = tt
+item_is_so P kept others pending (Some c) each is = each c (found_has (is_free_item kept others) c pending is).0
 
-item_asked : (sent : List Message) (kept : List Action) (others : List Proposal) (pending : List Action) (item : Option Action)
-    → ((c : Action) → Has c pending → IsAsked sent c) → find (is_free_item kept others) pending ≡ item → IfSome item (IsAsked sent)
-item_asked sent kept others pending None asked is = tt
-item_asked sent kept others pending (Some c) asked is = asked c (found_has (is_free_item kept others) c pending is).0
+-- a fact of each pending item and of the action that does nothing is one of what a proposal takes as its own
+pub own_is_so : (P : Action → Type 0) (kept : List Action) (others : List Proposal) (pending : List Action) → P Noop → ((c : Action) → Has c pending → P c)
+    → P (own_action kept others pending)
+own_is_so P kept others pending noop each =
+    own_or_noop P (find (is_free_item kept others) pending) noop (item_is_so P kept others pending (find (is_free_item kept others) pending) each refl)
 
 own_is_asked : (sent : List Message) (kept : List Action) (others : List Proposal) (pending : List Action) → ((c : Action) → Has c pending → IsAsked sent c)
     → IsAsked sent (own_action kept others pending)
-own_is_asked sent kept others pending asked =
-    found_asked sent (find (is_free_item kept others) pending) (item_asked sent kept others pending (find (is_free_item kept others) pending) asked refl)
+own_is_asked sent kept others pending asked = own_is_so (IsAsked sent) kept others pending (noop_asked sent) asked
 
 -- the result of a turn, if it is not refused, is a sound step
 abbrev pub IsSoundIf : ℕ → ℕ → List Rec → List Message → Result Turn Fault → Type 0
@@ -287,9 +284,9 @@ started_new sent records i b own unoffered asked = record {
   unoffered = λ _. unoffered;
 }
 
-unless_asked : (sent : List Message) (own : Action) (vote : Option Vote) → IsAsked sent own → IfSome (own_unless own vote) (IsAsked sent)
-unless_asked sent own None asked = asked
-unless_asked sent own (Some vote) asked = tt
+pub unless_is_so : (P : Action → Type 0) (own : Action) (vote : Option Vote) → P own → IfSome (own_unless own vote) P
+unless_is_so P own None is = is
+unless_is_so P own (Some vote) is = tt
 
 module _ {S : Type 0} (next : S → Action → S) (answers : S → Action → List Answer) (begin : S) where
   begins_sound : (nodes x : ℕ) (node : ℕ → NodePart) (sent : List Message) (running : Running) (i b : ℕ)
@@ -329,7 +326,7 @@ module _ {S : Type 0} (next : S → Action → S) (answers : S → Action → Li
       (record {
         started = is.started;
         promised = is.promised;
-        asked = unless_asked sent own (highest_vote p.promises) asked;
+        asked = unless_is_so (IsAsked sent) own (highest_vote p.promises) asked;
         unoffered = is.unoffered;
       }) (waits_by p.phase both.0) both.1
 

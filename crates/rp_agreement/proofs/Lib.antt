@@ -42,3 +42,5 @@ pub mod RangeKeeping
 pub mod OnlyMade
 pub mod NearTurns
 pub mod NearKeeping
+pub mod NotedTurns
+pub mod NotedWorlds

@@ -19,7 +19,7 @@ use Rattle.rp_codec.specs.declared.packet.Body.{Body}
 use Rattle.rp_codec.specs.declared.packet.Body.TheVariants as bodies
 use Rattle.rp_model.specs.Parts.{Running, NodePart, TaskPart, Turn, fresh_node, with_record}
 use Rattle.rp_model.specs.Texts.{written_for}
-use Rattle.rp_model.specs.Leader.{window}
+use Rattle.rp_base.specs.Number.{window}
 use Rattle.rp_model.specs.Receiving.{party_number}
 use Rattle.rp_model.specs.Tasks.{TaskInput, Submit, Again, Take, asks, next_call, may_call, calls_if, asks_again, takes, takes_reply, task_hears, task_effect}
 use Rattle.rp_model.specs.Effect.{Setting, Done, goes_on_as, NodeInput, Receive, Lead, LeadRange, Interrupt, Tick, Report, running_effect, turn_done_if, effect_while, node_effect, stop_part, cut_part, stops_while, cut_if, restart_while, untorn_part}
@@ -29,7 +29,7 @@ use Rattle.rp_model.proofs.AppliedGrowing.{applied_more}
 use Rattle.rp_agreement.specs.History.{IsHistory}
 use Rattle.rp_agreement.specs.Inputs.{IsInput}
 use Rattle.rp_agreement.specs.Ranges.{AreVotesNear}
-use Rattle.rp_agreement.proofs.EventWalk.{IsKeptByAll, history_keeps}
+use Rattle.rp_agreement.proofs.EventWalk.{IsKeptByAll, any_input, any_event, history_keeps}
 use Rattle.rp_agreement.proofs.LogKeeping.{same_everywhere}
 use Rattle.rp_agreement.proofs.NearTurns.{IsNear, AreNear, SaysNear, MayVote, MayVoteFor, IsNearIf, turn_near}
 use Rattle.rp_agreement.proofs.PartPlaces.{part_has, put_there, put_beside}
@@ -259,9 +259,9 @@ task_plain config t part (Take message) = hears t part message.body
 
 -- ---- histories
 
-pub near_kept : {S : Type 0} (s : Setting S) → IsKeptByAll s IsNearWorld
+pub near_kept : {S : Type 0} (s : Setting S) → IsKeptByAll s any_input IsNearWorld
 near_kept s = record {
-  input = λ w me part input done all here right resulted. input_results w me part all here s input part.running done right refl resulted;
+  input = λ w me part input done all here right _ resulted. input_results w me part all here s input part.running done right refl resulted;
   cut = λ w me kept part input done all here right resulted. cut_results w me part all here kept (node_effect s me part input) done resulted;
   stop = λ w me part done all here resulted. stop_results w me part all here part.running done resulted;
   restart = λ w me part all here. restarts w me part all here part.running;
@@ -282,7 +282,7 @@ opening_near nodes = record {
 
 pub votes_near : {S : Type 0} (s : Setting S) (events : List Event) (w : World) → IsHistory s events w → AreVotesNear w
 votes_near s events w history from x i b v h part here =
-    let all : IsNearWorld w = history_keeps s IsNearWorld (near_kept s) (opening_world s.config.nodes) events w (opening_near s.config.nodes) history.right history.happened in
+    let all : IsNearWorld w = history_keeps s any_input IsNearWorld (near_kept s) (opening_world s.config.nodes) events w (opening_near s.config.nodes) history.right (λ event _. any_event event) history.happened in
     let sent = all.sent (record { from = from; to = Node x; body = bodies.Accepted i b v }) h in
     let same : x ≡ sent.0 = cc in
     let one : sent.2.part ≡ part = some_is sent.2.part part (sym sent.2.here ∙ ap (part_at w.nodes) (sym same) ∙ here) in

@@ -36,7 +36,8 @@ use Rattle.rp_base.specs.Ranges.{Range, positions_of, range_of}
 use Rattle.rp_model.specs.Parts.{Running, Turn}
 use Rattle.rp_model.specs.Says.{says, says_to_all, says_to_others, says_to_task, sends, notes, writes, drops_full, drops_foreign}
 use Rattle.rp_model.specs.Acceptor.{answers_prepare, answers_prepare_range, answers_accept}
-use Rattle.rp_model.specs.Leader.{chosen_position, window, is_beyond, is_out_of_reach, starts_above, counts_promise, on_promise_to, on_nack, begins_if, leads_at, unlearned_in, on_lead_range}
+use Rattle.rp_base.specs.Number.{window}
+use Rattle.rp_model.specs.Leader.{chosen_position, is_beyond, is_out_of_reach, starts_above, counts_promise, on_promise_to, on_nack, begins_if, leads_at, unlearned_in, on_lead_range}
 use Rattle.rp_model.specs.Learner.{missing_position, asks_for, answers_ask, learns, on_vote, on_decision}
 use Rattle.rp_model.specs.Pending.{most_pending, adds_pending, on_numbered, on_call, is_answered_by, replies_to, is_same_call, own_action}
 use Rattle.rp_model.specs.Receiving.{is_for_node, party_number, on_body}

@@ -20,7 +20,7 @@ use Rattle.rp_model.specs.Tasks.{asks}
 use Rattle.rp_model.proofs.AppliedGrowing.{applied_more}
 use Rattle.rp_agreement.specs.Asked.{Asks}
 use Rattle.rp_agreement.specs.Sound.{IsSound}
-use Rattle.rp_agreement.specs.Order.{Begins, AllSent}
+use Rattle.rp_agreement.specs.Order.{IsPrefix, AllSent}
 use Rattle.rp_agreement.specs.Computed.{order_of}
 use Rattle.rp_agreement.specs.Inputs.{NodeMoves}
 use Rattle.rp_agreement.specs.Answered.{SaysAnswer, answers_of, IsKept}
@@ -43,7 +43,7 @@ node_asks_nothing x t sent sent' packets action from sends asked =
 module _ {S : Type 0} (s : Setting S) where
   -- ---- a node's step
 
-  written_begins : (records : List Rec) (written : Option Rec) → Begins (applied_of records) (applied_of (with_record records written))
+  written_begins : (records : List Rec) (written : Option Rec) → IsPrefix (applied_of records) (applied_of (with_record records written))
   written_begins records None = ([], sym (append-nil (applied_of records)))
   written_begins records (Some rec) = applied_more records (rec ∷ [])
 
@@ -54,11 +54,11 @@ module _ {S : Type 0} (s : Setting S) where
       → IsKept s node' task sent'
   node_keeps x done node task sent node' sent' kept sound d stated moves =
       let all : AllSent sent sent' = λ m h. (moves.sends m).1 (inl h) in
-      let grown : (a : ℕ) → Begins (applied_of (node a).records) (applied_of (node' a).records) = λ a. elim (cases_eq a x) [
+      let grown : (a : ℕ) → IsPrefix (applied_of (node a).records) (applied_of (node' a).records) = λ a. elim (cases_eq a x) [
         | inl same ↦
-            let here = subst (λ (records : List Rec). Begins (applied_of (node x).records) (applied_of records)) (sym (ap (λ (p : NodePart). p.records) moves.part ∙ d.records)) (written_begins (node x).records d.wrote) in
-            subst (λ (k : ℕ). Begins (applied_of (node k).records) (applied_of (node' k).records)) (sym same) here
-        | inr other ↦ subst (λ (p : NodePart). Begins (applied_of (node a).records) (applied_of p.records)) (sym (moves.others a other)) ([], sym (append-nil (applied_of (node a).records)))
+            let here = subst (λ (records : List Rec). IsPrefix (applied_of (node x).records) (applied_of records)) (sym (ap (λ (p : NodePart). p.records) moves.part ∙ d.records)) (written_begins (node x).records d.wrote) in
+            subst (λ (k : ℕ). IsPrefix (applied_of (node k).records) (applied_of (node' k).records)) (sym same) here
+        | inr other ↦ subst (λ (p : NodePart). IsPrefix (applied_of (node a).records) (applied_of p.records)) (sym (moves.others a other)) ([], sym (append-nil (applied_of (node a).records)))
       ] in
       record {
         sound = sound;

@@ -63,27 +63,35 @@ offer_asked nodes node sent sound i b v offer = (sound.says _ offer.2).1.2
 pub noop_asked : (sent : List Message) → IsAsked sent Noop
 noop_asked sent = record { right = tt; asked = λ call h. absurd h }
 
-own_asked : (sent : List Message) (own : Option Action) → IfSome own (IsAsked sent) → IsAsked sent (unwrap_or own Noop)
-own_asked sent None h = noop_asked sent
-own_asked sent (Some action) h = h
+-- a fact of the action that does nothing and of an own one
+pub own_or_noop : (P : Action → Type 0) (own : Option Action) → P Noop → IfSome own P → P (unwrap_or own Noop)
+own_or_noop P None noop h = noop
+own_or_noop P (Some action) noop h = h
 
-vote_or_own : (sent : List Message) (own : Action) (vote : Option Vote) → IsAsked sent own → ((w : Vote) → vote ≡ Some w → IsAsked sent w.action) → IsAsked sent (action_or own vote)
-vote_or_own sent own None asked reported = asked
-vote_or_own sent own (Some w) asked reported = reported w refl
+vote_or_own : (P : Action → Type 0) (own : Action) (vote : Option Vote) → P own → ((w : Vote) → vote ≡ Some w → P w.action) → P (action_or own vote)
+vote_or_own P own None is reported = is
+vote_or_own P own (Some w) is reported = reported w refl
 
 -- each promise of the list was sent
 abbrev pub AreStated : List Message → ℕ → ℕ → List Promise → Type 0
 AreStated sent i b promises = (a : ℕ) (last : Option Vote) → Has (a, last) promises → HasPromised sent a i b last
 
+-- a fact of all that was offered, of the own action and of the one that does nothing is one of the offer
+pub offer_is_so : (P : Action → Type 0) (nodes : ℕ) (node : ℕ → NodePart) (sent : List Message) → IsSound nodes node sent
+    → P Noop → ((i b : ℕ) (v : Action) → IsOffered sent i b v → P v) → (i b : ℕ) (promises : List Promise) (own : Option Action)
+    → AreStated sent i b promises → IfSome own P → P (offer_of own promises)
+offer_is_so P nodes node sent sound noop offered i b promises own stated is_own =
+    vote_or_own P (unwrap_or own Noop) (highest_vote promises) (own_or_noop P own noop is_own) (λ w is.
+    let picked = has_picked (λ (p : Promise). p.1) w promises (highest_has w _ is) in
+    let kept = promise_kept nodes node sent sound picked.0.0 i b picked.0.1 (stated picked.0.0 picked.0.1 picked.1) in
+    let cast = kept.1.cast w picked.2 in
+    offered i w.ballot w.action (sound.voted picked.0.0 i w.ballot w.action cast.0))
+
 -- the offer was asked for
 pub offer_is_asked : (nodes : ℕ) (node : ℕ → NodePart) (sent : List Message) → IsSound nodes node sent → (i b : ℕ) (promises : List Promise) (own : Option Action)
     → AreStated sent i b promises → IfSome own (IsAsked sent) → IsAsked sent (offer_of own promises)
 offer_is_asked nodes node sent sound i b promises own stated asked =
-    vote_or_own sent (unwrap_or own Noop) (highest_vote promises) (own_asked sent own asked) (λ w is.
-    let picked = has_picked (λ (p : Promise). p.1) w promises (highest_has w _ is) in
-    let kept = promise_kept nodes node sent sound picked.0.0 i b picked.0.1 (stated picked.0.0 picked.0.1 picked.1) in
-    let cast = kept.1.cast w picked.2 in
-    offer_asked nodes node sent sound i w.ballot w.action (sound.voted picked.0.0 i w.ballot w.action cast.0))
+    offer_is_so (IsAsked sent) nodes node sent sound (noop_asked sent) (offer_asked nodes node sent sound) i b promises own stated asked
 
 promiser : (a : ℕ) (promises : List Promise) → Has a (promisers_of promises) → (last : Option Vote) × (let p : Promise = (a, last) in Has p promises)
 promiser a promises h =

@@ -9,7 +9,7 @@ use Rattle.rp_codec.specs.Message.{Message}
 use Rattle.rp_model.specs.Facts.{IsDecided, IsOrder}
 use Rattle.rp_model.specs.Parts.{NodePart}
 use Rattle.rp_agreement.specs.Sound.{IsSound}
-use Rattle.rp_agreement.specs.Order.{Begins, AreAlike, AreDecided, AllSent}
+use Rattle.rp_agreement.specs.Order.{IsPrefix, AreAlike, AreDecided, AllSent}
 use Rattle.rp_agreement.proofs.RecordGrowth.{learned_has}
 use Rattle.rp_agreement.proofs.Sending.{decided_more}
 use Rattle.rp_agreement.proofs.Following.{one_decided}
@@ -45,7 +45,7 @@ get_after [] v rest = refl
 get_after (x ∷ xs) v rest = get_after xs v rest
 
 -- a list that the other begins, where nothing follows the other
-no_more : (xs ys : List Action) → Begins xs ys → ((v : Action) → ¬ (slice_get ys (length xs) ≡ Some v)) → ys ≡ xs
+no_more : (xs ys : List Action) → IsPrefix xs ys → ((v : Action) → ¬ (slice_get ys (length xs) ≡ Some v)) → ys ≡ xs
 no_more xs ys begins none = by begins.0 begins.1
   where
     by : (rest : List Action) → ys ≡ xs ++ rest → ys ≡ xs
@@ -58,7 +58,7 @@ module _ {nodes : ℕ} {node : ℕ → NodePart} {sent : List Message} (sound : 
   decided_alike xs ys left right = alike (λ k. IsDecided nodes sent (suc k)) (λ k. one_decided sound (suc k)) xs ys left right
 
   -- a list of decided actions begins the order
-  pub decided_begins : (xs order : List Action) → AreDecided nodes sent xs → IsOrder nodes sent order → Begins xs order
+  pub decided_begins : (xs order : List Action) → AreDecided nodes sent xs → IsOrder nodes sent order → IsPrefix xs order
   decided_begins xs order decided is =
       elim (decided_alike xs order decided is.decided) [
         | inl begins ↦ begins
@@ -91,7 +91,7 @@ applied_alike nodes node after sent later before now all x y =
     decided_alike now xs (applied_of (after y).records) (all_decided_stays nodes sent later xs all (applied_decided before x)) (applied_decided now y)
 
 -- equally long lists of which one is a prefix of the other are equal
-begins_equal : (xs ys : List Action) → Begins xs ys → length xs ≡ length ys → ys ≡ xs
+begins_equal : (xs ys : List Action) → IsPrefix xs ys → length xs ≡ length ys → ys ≡ xs
 begins_equal xs ys begins long = no_more xs ys begins (λ v e. let within : length xs < length ys = slice_get_within ys (length xs) v e in omega (arith, within, long))
 
 pub alike_equal : (xs ys : List Action) → AreAlike xs ys → length xs ≡ length ys → xs ≡ ys

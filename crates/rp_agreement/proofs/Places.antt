@@ -22,7 +22,7 @@ use Rattle.rp_model.specs.Effect.{Setting}
 use Rattle.rp_model.specs.Parts.{NodePart}
 use Rattle.rp_model.specs.Parts.{TaskPart}
 use Rattle.rp_codec.specs.Message.{Message}
-use Rattle.rp_agreement.specs.Order.{Begins}
+use Rattle.rp_agreement.specs.Order.{IsPrefix}
 use Rattle.rp_agreement.specs.Computed.{order_of}
 use Rattle.rp_agreement.specs.Answered.{answers_of, named, calls_so_far, Occurs, IsKept}
 use Rattle.rp_agreement.proofs.Lists.{some_same, has_picked}
@@ -44,7 +44,7 @@ taken_has : {A : Type 0} (k : ℕ) (x : A) (xs : List A) → Has x (take k xs) �
 taken_has {A} k x xs h = subst (λ (list : List A). Has x list) (take-append-drop k xs) (has_left x (take k xs) (drop k xs) h)
 
 -- a beginning no longer than k begins the first k
-begins_take : {A : Type 0} (before rest : List A) (k : ℕ) → length before ≤ k → Begins before (take k (before ++ rest))
+begins_take : {A : Type 0} (before rest : List A) (k : ℕ) → length before ≤ k → IsPrefix before (take k (before ++ rest))
 begins_take [] rest k short = (take k rest, refl)
 begins_take (x ∷ xs) rest zero short = absurd (omega (arith, short))
 begins_take (x ∷ xs) rest (suc k) short =
@@ -138,7 +138,7 @@ module _ {S : Type 0} (s : Setting S) where
         | inr there ↦ (occurs.0, there, occurs.2)
       ]
 
-  answered_more : (xs ys : List Action) → Begins xs ys → (call : CallName) → Has call (map call_of (answers_of s xs)) → Has call (map call_of (answers_of s ys))
+  answered_more : (xs ys : List Action) → IsPrefix xs ys → (call : CallName) → Has call (map call_of (answers_of s xs)) → Has call (map call_of (answers_of s ys))
   answered_more xs ys begins call h =
       let hit = mapped_has call_of call (answers_of s xs) h in
       subst (λ (c : CallName). Has c (map call_of (answers_of s ys))) (sym hit.2) (has_mapped call_of hit.0 (answers_of s ys) (answers_grow s xs ys begins hit.0 hit.1))
@@ -233,7 +233,7 @@ module _ {S : Type 0} (s : Setting S) where
             let inside : slice_get ready.before k ≡ Some action = sym (get_left ready.before ready.begins.0 k high.1) ∙ ap (λ (list : List Action). slice_get list k) (sym ready.begins.1) ∙ occurs in
             absurd (ready.absent (action, part_has ready.before (suc k) action inside, of_it))
       ] in
-      let begins : Begins ready.before (take k order) = subst (λ (list : List Action). Begins ready.before (take k list)) (sym ready.begins.1) (begins_take ready.before ready.begins.0 k short) in
+      let begins : IsPrefix ready.before (take k order) = subst (λ (list : List Action). IsPrefix ready.before (take k list)) (sym ready.begins.1) (begins_take ready.before ready.begins.0 k short) in
       let answered : (m ≡ 0) ⊎ Has (named t m) (map call_of (answers_of s (take k order))) = elim ready.answered [
         | inl none ↦ inl none
         | inr stated ↦ inr (answered_more ready.before (take k order) begins (named t m) stated)

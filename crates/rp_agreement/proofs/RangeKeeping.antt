@@ -32,7 +32,7 @@ use Rattle.rp_agreement.specs.Inputs.{IsInput, IsTaskInput, WaitsForOwn}
 use Rattle.rp_agreement.specs.Sound.{IsCall}
 use Rattle.rp_agreement.specs.Ranges.{IsRangedRunning, IsRangedPart, IsRangedWorld}
 use Rattle.rp_agreement.specs.Worlds.{IsSoundWorld}
-use Rattle.rp_agreement.proofs.EventWalk.{IsKeptByAll}
+use Rattle.rp_agreement.proofs.EventWalk.{IsKeptByAll, any_input}
 use Rattle.rp_agreement.proofs.PartPlaces.{part_has, part_below, put_length}
 use Rattle.rp_agreement.proofs.LogKeeping.{part_or_new, same_everywhere}
 use Rattle.rp_agreement.proofs.RangedParts.{AreRecords, written_ranged}
@@ -231,9 +231,9 @@ module _ {S : Type 0} (s : Setting S) (right : IsRightConfig s.config) (fits : (
       let few : s.config.nodes ≤ 7 = right.nodes.1 in
       (place.0, omega (arith, place.1, size, few))
 
-  pub ranges_kept : IsKeptByAll s (IsRangedWorld s.config.nodes)
+  pub ranges_kept : IsKeptByAll s any_input (IsRangedWorld s.config.nodes)
   ranges_kept = record {
-    input = λ w me part input done all here is resulted. node_ranged s.config.nodes w me done all
+    input = λ w me part input done all here is _ resulted. node_ranged s.config.nodes w me done all
         (result_ranged (node_effect s me part input) done
         (input_while me part w.sent input part.running refl (member w me part all here) (all.parts part (part_has w.nodes me part here)) all.packets is) resulted);
     cut = λ w me kept part input done all here is resulted. node_ranged s.config.nodes w me done all

@@ -1,6 +1,6 @@
 -- The result of any input at a node is in range.
 use Rattle.std.proofs.Common.{◌≡◌, ℕ, zero, suc, ◌+◌, ◌-◌, ◌<◌, ◌≤◌, min, Bool, true, false, if◌then◌else◌, Result, Ok, Err, Option, Some, None, List, [], ◌∷◌, ◌++◌, length, take, drop, inl, inr, refl, sym, subst, arith}
-use Rattle.std.specs.Prelude.{nat_lt, nat_le, is_some, IfSome, find, unwrap_or, ◌^◌, ◌||◌, not, nat_eq}
+use Rattle.std.specs.Prelude.{nat_lt, nat_le, is_some, IfSome, ◌^◌, ◌||◌, not, nat_eq}
 use Rattle.std.specs.List.{AllByRecursion, list_any}
 use Rattle.std.proofs.lemmas.Bool.{or_cases, and_parts, leb-true, ltb-true, ltb-false, le-leb, both_ways}
 use Rattle.std.proofs.lemmas.List.{length-take, length-drop}
@@ -18,7 +18,7 @@ use Rattle.rp_base.specs.Ballot.{IsBallot, round_of, next_ballot}
 use Rattle.rp_base.specs.Config.{IsRightConfig}
 use Rattle.rp_base.specs.Number.{IsNode, IsPosition, in_range}
 use Rattle.rp_base.specs.Promises.{same_heard, makes_majority, highest_vote, offer_of}
-use Rattle.rp_base.specs.Proposals.{Proposal, new_proposal, without_proposal, proposal_at, with_proposal, is_prepared, as_offered, own_unless, range_proposal, with_range}
+use Rattle.rp_base.specs.Proposals.{Proposal, new_proposal, without_proposal, proposal_at, with_proposal, is_prepared, as_offered, range_proposal, with_range}
 use Rattle.rp_base.specs.Records.{learned_at, learned_run, unless_missing, applied_of, first_unlearned}
 use Rattle.rp_base.specs.Right.{IsRightVote}
 use Rattle.rp_base.specs.Sets.{Has, with_member}
@@ -37,7 +37,7 @@ use Rattle.rp_model.specs.Parts.{Running}
 use Rattle.rp_model.specs.Parts.{Turn}
 use Rattle.rp_model.specs.Parts.{is_in_log}
 use Rattle.rp_model.specs.Says.{says_to_all, says_to_others, notes, drops_foreign}
-use Rattle.rp_model.specs.Pending.{is_free_item, own_action}
+use Rattle.rp_model.specs.Pending.{own_action}
 use Rattle.rp_model.specs.Leader.{is_free_position, free_from, chosen_position, is_beyond, is_out_of_reach, starts_above, begins, on_lead, begins_if, offers, leads_at, unlearned_in, on_lead_range}
 use Rattle.rp_model.specs.Learner.{learns_above, missing_position, asks_for, learns, on_vote, on_decision}
 use Rattle.rp_model.specs.Receiving.{is_for_node, party_number, on_body, receives}
@@ -47,7 +47,7 @@ use Rattle.rp_agreement.specs.Inputs.{IsInput}
 use Rattle.rp_agreement.specs.Ranges.{IsRangedProposal, IsRangedRunning}
 use Rattle.rp_agreement.proofs.AnswerTurns.{has_dropped}
 use Rattle.rp_agreement.proofs.Lists.{found_has}
-use Rattle.rp_agreement.proofs.Leaders.{next_owned}
+use Rattle.rp_agreement.proofs.Leaders.{next_owned, own_is_so, unless_is_so}
 use Rattle.rp_agreement.proofs.LogKeeping.{applied_in_log}
 use Rattle.rp_agreement.proofs.TaskEffects.{leb_not}
 use Rattle.rp_agreement.proofs.RangedParts.{AreRecords, learned_ranged, with_ranged, without_ranged, written_ranged, AreProposals, offer_ranged}
@@ -150,16 +150,8 @@ within_reach most records i e = ltb-false most i (no_first (nat_lt most i) _ e)
     no_first true b e = absurd (both_ways true e refl)
     no_first false b e = refl
 
-found_right : (item : Option Action) → IfSome item IsRight → IsRight (unwrap_or item actions.Noop)
-found_right None is = tt
-found_right (Some item) is = is
-
-item_right : (kept : List Action) (others : List Proposal) (pending : List Action) (item : Option Action) → AllRight pending → find (is_free_item kept others) pending ≡ item → IfSome item IsRight
-item_right kept others pending None all is = tt
-item_right kept others pending (Some item) all is = all item (found_has (is_free_item kept others) item pending is).0
-
 own_right : (kept : List Action) (others : List Proposal) (pending : List Action) → AllRight pending → IsRight (own_action kept others pending)
-own_right kept others pending all = found_right (find (is_free_item kept others) pending) (item_right kept others pending (find (is_free_item kept others) pending) all refl)
+own_right kept others pending all = own_is_so IsRight kept others pending tt all
 
 -- the result of a turn, if it is not refused
 abbrev pub IsRangedIf : Result Turn Fault → Type 0
@@ -169,10 +161,6 @@ IsRangedIf (Err fault) = Unit {0}
 either_if : (test : Bool) (one other : Result Turn Fault) → (test ≡ true → IsRangedIf one) → (test ≡ false → IsRangedIf other) → IsRangedIf (if test then one else other)
 either_if true one other left right = left refl
 either_if false one other left right = right refl
-
-unless_right : (own : Action) (vote : Option Vote) → IsRight own → IfSome (own_unless own vote) IsRight
-unless_right own None right = right
-unless_right own (Some vote) right = tt
 
 module _ {S : Type 0} (next : S → Action → S) (answers : S → Action → List Answer) (begin : S) where
   begins_ranged : (nodes me : ℕ) (records : List Rec) (running : Running) (i b : ℕ) → nodes ≤ 7 → IsNode me → IsPosition i → IsBallot b → IsRangedRunning running
@@ -199,7 +187,7 @@ module _ {S : Type 0} (next : S → Action → S) (answers : S → Action → Li
       let own = own_action (kept_of next answers begin (applied_of records)) others running.pending in
       let right : IsRight own = own_right (kept_of next answers begin (applied_of records)) others running.pending runs.pending in
       let after = as_offered own p in
-      let new : IsRangedProposal after = record { position = is.position; ballot = is.ballot; own = unless_right own (highest_vote p.promises) right; reported = is.reported } in
+      let new : IsRangedProposal after = record { position = is.position; ballot = is.ballot; own = unless_is_so IsRight own (highest_vote p.promises) right; reported = is.reported } in
       let accept = bodies.Accept p.position p.ballot (offer_of after.own p.promises) in
       sending (record running { proposals = with_proposal running.proposals after }) (says_to_all nodes me accept)
       (record { proposals = with_ranged running.proposals after runs.proposals new; pending = runs.pending })

@@ -22,7 +22,7 @@ use Rattle.rp_model.specs.World.{World, part_at}
 use Rattle.rp_model.specs.Parts.{NodePart}
 use Rattle.rp_model.specs.Parts.{TaskPart}
 use Rattle.rp_agreement.specs.Asked.{Asks}
-use Rattle.rp_agreement.specs.Order.{Begins}
+use Rattle.rp_agreement.specs.Order.{IsPrefix}
 use Rattle.rp_agreement.specs.Computed.{order_of}
 use Rattle.rp_agreement.specs.Sound.{IsSound}
 use Rattle.rp_agreement.specs.Inputs.{WaitsForOwn}
@@ -106,7 +106,7 @@ Occurs call actions = (action : Action) × Has action actions × Has call (calls
 -- not occur in it.
 pub record IsReady {S : Type 0} (s : Setting S) (order : List Action) (t n : ℕ) : Type 0 where
   pub before : List Action
-  pub begins : Begins before order
+  pub begins : IsPrefix before order
   pub absent : ¬ Occurs (named t (suc n)) before
   pub answered : (n ≡ 0) ⊎ Has (named t n) (map call_of (answers_of s before))
 

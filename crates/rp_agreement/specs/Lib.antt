@@ -9,4 +9,5 @@ pub mod Decided
 pub mod Order
 pub mod Computed
 pub mod History
+pub mod Noted
 pub mod Answered

@@ -5,13 +5,13 @@ use Rattle.rp_base.specs.declared.action.Action.{Action}
 use Rattle.rp_codec.specs.Message.{Message}
 use Rattle.rp_model.specs.Facts.{IsDecided}
 
--- the first list begins the second
-abbrev pub Begins : {A : Type 0} → List A → List A → Type 0
-Begins {A} xs ys = (rest : List A) × (ys ≡ xs ++ rest)
+-- the first list is a prefix of the second
+abbrev pub IsPrefix : {A : Type 0} → List A → List A → Type 0
+IsPrefix {A} xs ys = (rest : List A) × (ys ≡ xs ++ rest)
 
 -- of two lists one is a prefix of the other
 abbrev pub AreAlike : {A : Type 0} → List A → List A → Type 0
-AreAlike xs ys = Begins xs ys ⊎ Begins ys xs
+AreAlike xs ys = IsPrefix xs ys ⊎ IsPrefix ys xs
 
 -- the ith action is decided at position i, for each from 1 on
 abbrev pub AreDecided : ℕ → List Message → List Action → Type 0

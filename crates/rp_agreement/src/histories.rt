@@ -1,19 +1,24 @@
 //! Nodes agree in every history, whatever stops, is cut within a step or starts again.
 
-ghost use Rattle.std.specs.Prelude.{◌≡◌, ℕ, pos, Some, List, length};
+ghost use Rattle.std.specs.Prelude.{◌≡◌, ℕ, pos, Some, List, [], ◌∷◌, length};
 ghost use Rattle.rp_base.specs.Records.{applied_of};
 ghost use Rattle.rp_base.specs.declared.action.Action.{Action};
 ghost use Rattle.rp_base.specs.declared.action.Action.TheVariants.{Call};
 ghost use Rattle.rp_base.specs.declared.action.Operation.TheVariants.{Procedure};
+ghost use Rattle.rp_base.specs.declared.reply.Answer.{Answer};
+ghost use Rattle.rp_base.specs.declared.reply.Reply.{Reply};
+ghost use Rattle.rp_base.specs.declared.reply.Reply.TheVariants.{Value};
 ghost use Rattle.rp_machine.specs.Replay.{replay_of};
+ghost use Rattle.rp_machine.specs.TallyRule.{tally_next, tally_answers};
 ghost use Rattle.rp_model.specs.Effect.{Setting};
 ghost use Rattle.rp_model.specs.Events.{Event};
 ghost use Rattle.rp_model.specs.Facts.{IsDecided};
 ghost use Rattle.rp_model.specs.World.{World, part_at};
 ghost use Rattle.rp_model.specs.Parts.{NodePart};
 ghost use Rattle.rp_agreement.specs.Computed.{order_of};
-ghost use Rattle.rp_agreement.specs.History.{IsHistory, AreMoments, three_nodes};
-ghost use Rattle.rp_agreement.specs.Order.{Begins, AreAlike};
+ghost use Rattle.rp_agreement.specs.History.{IsHistory, AreMoments, IsReplied, three_nodes};
+ghost use Rattle.rp_agreement.specs.Noted.{IsNoted};
+ghost use Rattle.rp_agreement.specs.Order.{IsPrefix, AreAlike};
 ghost use Rattle.rp_agreement.specs.Worlds.{IsSoundWorld};
 
 use crate::opening::the_opening_is_sound;
@@ -39,7 +44,7 @@ pub fn histories_agree<M: Machine>()
         → IsDecided nodes now.sent i v → IsDecided nodes later.sent i w → v ≡ w }
     ensures order { (setting : Setting M) (now later : World) → AreMoments setting now later
         → let nodes = setting.config.nodes in
-        Begins (order_of nodes now.sent) (order_of nodes later.sent) }
+        IsPrefix (order_of nodes now.sent) (order_of nodes later.sent) }
     ensures applied { (setting : Setting M) (now later : World) → AreMoments setting now later
         → (x y : ℕ) (one other : NodePart)
         → part_at now.nodes x ≡ Some one → part_at later.nodes y ≡ Some other
@@ -54,6 +59,19 @@ pub fn histories_agree<M: Machine>()
     the_opening_is_sound();
 }
 
+/// Each interrupt and each tick that is decided was noted at some node: the clock and the sources
+/// of interrupts move by what happened alone, and no node has a tick or an interrupt of its own.
+pub fn only_noted_actions_are_decided<M: Machine>()
+    // claim: Each interrupt and tick that is decided was noted at some node by an event of the
+    //   history
+    ensures { (setting : Setting M) (events : List Event) (world : World)
+        → IsHistory setting events world
+        → let nodes = setting.config.nodes in
+        (i : ℕ) (v : Action) → IsDecided nodes world.sent i v → IsNoted events v }
+{
+    the_opening_is_sound();
+}
+
 /// The laws do not speak of nothing: with three nodes, whatever the machine, some history leads to
 /// a world in which a task's call is decided.
 pub fn some_history_decides<M: Machine>()
@@ -61,4 +79,17 @@ pub fn some_history_decides<M: Machine>()
     ensures { (begin : M) → (events : List Event) × (world : World)
         × IsHistory (three_nodes M.next M.answers begin) events world
         × IsDecided 3 world.sent 1 (Call 1 1 1 (Procedure 1) (pos 5)) }
+{}
+
+/// Nor of replies that never come: with three nodes, whatever the machine, if it answers that call
+/// at once, some history brings the task its reply. So task 1 of a tally adds 5 to 0 and gets 5.
+pub fn some_history_replies<M: Machine>()
+    // claim: Some history brings a task the reply to its call: with three nodes twelve right events
+    //   do
+    ensures any { (begin : M) (reply : Reply)
+        → let answer : Answer = record { task = 1; number = 1; reply = reply } in
+        M.answers begin (Call 1 1 1 (Procedure 1) (pos 5)) ≡ answer ∷ []
+        → IsReplied (three_nodes M.next M.answers begin) answer }
+    ensures tally { let answer : Answer = record { task = 1; number = 1; reply = Value (pos 5) } in
+        IsReplied (three_nodes tally_next tally_answers (pos 0 ∷ [])) answer }
 {}

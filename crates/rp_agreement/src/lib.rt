@@ -1,5 +1,5 @@
 //! Nodes agree, whatever stops: at each position one action at most is decided, and what each node
-//! has applied begins one order.
+//! has applied is a prefix of one order.
 //!
 //! Each law is the contract of a function that does nothing. It speaks of the parts of the nodes 1
 //! to `nodes`, `node`, and of all packets ever sent, `sent`, that satisfy the invariant `IsSound`.
@@ -10,7 +10,7 @@
 //! - `decisions`: what is decided, and what is learned
 //! - `order`: what is applied, and where that leads a machine
 //! - `opening`: the invariant holds where nothing has happened
-//! - `keeping`: each event keeps it
+//! - `invariant`: each event keeps it
 //! - `histories`: nodes agree in every history
 //! - `replies`: the replies to tasks
 //! - `ranges`: numbers stay within their ranges
@@ -19,7 +19,7 @@
 
 mod decisions;
 mod histories;
-mod keeping;
+mod invariant;
 mod offers;
 mod opening;
 mod order;
@@ -32,12 +32,15 @@ pub use decisions::{
     decisions_are_one, decisions_stay, only_asked_actions_are_decided,
     only_decided_actions_are_learned,
 };
-pub use histories::{histories_agree, histories_are_sound, some_history_decides};
-pub use keeping::{events_keep, histories_keep, node_events_keep, task_events_keep};
+pub use histories::{
+    histories_agree, histories_are_sound, only_noted_actions_are_decided, some_history_decides,
+    some_history_replies,
+};
+pub use invariant::{events_keep, histories_keep, node_events_keep, task_events_keep};
 pub use offers::{offers_are_one, offers_follow_decisions};
 pub use opening::the_opening_is_sound;
 pub use order::{
-    applied_lists_are_alike, applied_lists_begin_the_order, reports_follow_the_order,
+    applied_lists_are_alike, applied_lists_are_prefixes, reports_follow_the_order,
     states_are_alike, the_order_exists, the_order_grows, the_order_is_one,
 };
 pub use packets::packets_say_so;

@@ -9,7 +9,7 @@ ghost use Rattle.rp_machine.specs.Replay.{replay_of};
 ghost use Rattle.rp_model.specs.Facts.{IsOrder};
 ghost use Rattle.rp_model.specs.Parts.{NodePart};
 ghost use Rattle.rp_agreement.specs.Computed.{order_of};
-ghost use Rattle.rp_agreement.specs.Order.{Begins, AreAlike, AllSent};
+ghost use Rattle.rp_agreement.specs.Order.{IsPrefix, AreAlike, AllSent};
 ghost use Rattle.rp_agreement.specs.Sound.{IsReported, IsSound};
 ghost use Rattle.rp_agreement.specs.Asked.{Says};
 
@@ -35,22 +35,22 @@ pub fn the_order_grows()
     ensures { (nodes : ℕ) (sent later : List Message) (after : ℕ → NodePart)
         → IsSound nodes after later → AllSent sent later
         → (order longer : List Action)
-        → IsOrder nodes sent order → IsOrder nodes later longer → Begins order longer }
+        → IsOrder nodes sent order → IsOrder nodes later longer → IsPrefix order longer }
 {}
 
-/// What a node has applied begins the order, with none left out.
-pub fn applied_lists_begin_the_order()
+/// What a node has applied is a prefix of the order, with none left out.
+pub fn applied_lists_are_prefixes()
     // claim: What a node has applied is a prefix of the order, none left out; of two nodes' applied
     //   lists one is a prefix of the other
     ensures { (nodes : ℕ) (node : ℕ → NodePart) (sent : List Message) → IsSound nodes node sent
         → (order : List Action) → IsOrder nodes sent order
-        → (x : ℕ) → Begins (applied_of (node x).records) order }
+        → (x : ℕ) → IsPrefix (applied_of (node x).records) order }
 {}
 
 /// What one node has applied begins what another has applied, or the other way about; so too where
 /// the one is seen at a later moment than the other.
 pub fn applied_lists_are_alike()
-    // claim as applied_lists_begin_the_order
+    // claim as applied_lists_are_prefixes
     ensures { (nodes : ℕ) (node after : ℕ → NodePart) (sent later : List Message)
         → IsSound nodes node sent → IsSound nodes after later → AllSent sent later
         → (x y : ℕ) → AreAlike (applied_of (node x).records) (applied_of (after y).records) }

@@ -22,7 +22,7 @@ use Rattle.rp_model.specs.Growing.{Grows}
 use Rattle.rp_model.specs.Parts.{NodePart, TaskPart, fresh_node, fresh_task}
 use Rattle.rp_model.specs.World.{World, Transition, part_at, event_effect}
 use Rattle.rp_agreement.specs.Sound.{IsMember, IsSound}
-use Rattle.rp_agreement.specs.Order.{AllSent, Begins, AreAlike}
+use Rattle.rp_agreement.specs.Order.{AllSent, IsPrefix, AreAlike}
 use Rattle.rp_agreement.specs.Computed.{order_of}
 use Rattle.rp_agreement.specs.Answered.{named, calls_so_far, task_in, AreItsCalls, IsKept, IsKeptWorld}
 use Rattle.rp_agreement.specs.Worlds.{node_in}
@@ -131,7 +131,7 @@ promiser_there nodes node sent sound x i b last stated = (promise_kept nodes nod
 -- and there is one order, by which each reply is an answer
 module _ {S : Type 0} (s : Setting S)
     (exists : (n : ℕ) (sent : List Message) → IsOrder n sent (order_of n sent))
-    (begins : (n : ℕ) (node : ℕ → NodePart) (sent : List Message) → IsSound n node sent → (order : List Action) → IsOrder n sent order → (x : ℕ) → Begins (applied_of (node x).records) order)
+    (begins : (n : ℕ) (node : ℕ → NodePart) (sent : List Message) → IsSound n node sent → (order : List Action) → IsOrder n sent order → (x : ℕ) → IsPrefix (applied_of (node x).records) order)
     (describes : (node : ℕ → NodePart) (task : ℕ → TaskPart) (sent : List Message) → IsKept s node task sent → (t k : ℕ) (answer : Answer) → slice_get (task t).replies k ≡ Some answer
     → HasReply s.next s.answers s.begin (order_of s.config.nodes sent) (named t (suc k)) answer)
     (counted : (node : ℕ → NodePart) (task : ℕ → TaskPart) (sent : List Message) → IsKept s node task sent → (t : ℕ) → AreItsCalls sent t (task t) (kept_of s.next s.answers s.begin (order_of s.config.nodes sent)))
@@ -151,6 +151,12 @@ module _ {S : Type 0} (s : Setting S)
       (has.place, has.takes_effect)
   placed order t k part replied false is = once order (named t (suc k))
 
+  -- who made a call is a task of the world
+  made_there : (w : World) (t n : ℕ) (at : Option TaskPart) → part_at w.tasks t ≡ at → (1 ≤ n) × (n ≤ calls_so_far (unwrap_or at fresh_task))
+      → (part : TaskPart) × (part_at w.tasks t ≡ Some part) × (1 ≤ n) × (n ≤ calls_so_far part)
+  made_there w t n None is number = absurd (omega (arith, number.0, number.1))
+  made_there w t n (Some part) is number = (part, is, number.0, number.1)
+
   pub ordered : (w : World) → IsKeptWorld s w → IsOrdered s.next s.answers s.begin s.config.nodes w
   ordered w kept =
       let nodes = s.config.nodes in
@@ -161,13 +167,12 @@ module _ {S : Type 0} (s : Setting S)
         order = order;
         decided = exists nodes w.sent;
         applied = λ x part p.
-            subst (λ (a : NodePart). Begins (applied_of a.records) order) (ap (λ (o : Option NodePart). unwrap_or o fresh_node) p)
+            subst (λ (a : NodePart). IsPrefix (applied_of a.records) order) (ap (λ (o : Option NodePart). unwrap_or o fresh_node) p)
             (begins nodes (node_in w.nodes) w.sent kept.kept.sound order (exists nodes w.sent) x);
         calls = λ t part p.
             subst (λ (a : TaskPart). AreItsCalls w.sent t a (kept_of s.next s.answers s.begin order)) (seated w t part p)
             (counted (node_in w.nodes) (task_in w.tasks) w.sent kept.kept t);
         replies = replied;
         once = λ t k part p. placed order t k part (λ answer. replied t k part answer p) (nat_lt k (length part.replies)) refl;
-        made = λ t n place part p at.
-            subst (λ (a : TaskPart). (1 ≤ n) × (n ≤ calls_so_far a)) (seated w t part p) (only (node_in w.nodes) (task_in w.tasks) w.sent kept.kept t n place at);
+        made = λ t n place at. made_there w t n (part_at w.tasks t) refl (only (node_in w.nodes) (task_in w.tasks) w.sent kept.kept t n place at);
       }

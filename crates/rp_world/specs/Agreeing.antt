@@ -14,7 +14,7 @@ use Rattle.rp_model.specs.Parts.{NodePart}
 use Rattle.rp_model.specs.Parts.{TaskPart}
 use Rattle.rp_agreement.specs.Answered.{named, calls_so_far, AreItsCalls}
 use Rattle.rp_agreement.specs.Justified as justified
-use Rattle.rp_agreement.specs.Order.{Begins, AreAlike}
+use Rattle.rp_agreement.specs.Order.{IsPrefix, AreAlike}
 
 -- a node now and one later
 abbrev pub EachTwo : World → World → (NodePart → NodePart → Type 0) → Type 0
@@ -56,11 +56,12 @@ module _ {S : Type 0} (next : S → Action → S) (answers : S → Action → Li
   -- count in it are those that the task made, in order, with their objects, operations and arguments, all of
   -- them or all but the one that it waits for; the reply that the task got to its nth call is the one that the
   -- order gives, at the call's place. A call of the task takes effect once: at exactly one place of the order
-  -- where the task got its reply, at one at most else; and no call takes effect that the task did not make.
+  -- where the task got its reply, at one at most else; and each call that takes effect is one that a task of the
+  -- world made.
   pub record IsOrdered (nodes : ℕ) (w : World) : Type 0 where
     pub order : List Action
     pub decided : IsOrder nodes w.sent order
-    pub applied : (x : ℕ) (part : NodePart) → part_at w.nodes x ≡ Some part → Begins (applied_of part.records) order
+    pub applied : (x : ℕ) (part : NodePart) → part_at w.nodes x ≡ Some part → IsPrefix (applied_of part.records) order
     pub calls : (t : ℕ) (part : TaskPart) → part_at w.tasks t ≡ Some part
         → AreItsCalls w.sent t part (kept_of next answers begin order)
     pub replies : (t k : ℕ) (part : TaskPart) (answer : Answer) → part_at w.tasks t ≡ Some part
@@ -68,6 +69,5 @@ module _ {S : Type 0} (next : S → Action → S) (answers : S → Action → Li
         → HasReply next answers begin order (named t (suc k)) answer
     pub once : (t k : ℕ) (part : TaskPart) → part_at w.tasks t ≡ Some part
         → TakesEffectOnce order (named t (suc k)) (nat_lt k (length part.replies))
-    pub made : (t n place : ℕ) (part : TaskPart) → part_at w.tasks t ≡ Some part
-        → IsPlace next answers begin order (named t n) place
-        → (1 ≤ n) × (n ≤ calls_so_far part)
+    pub made : (t n place : ℕ) → IsPlace next answers begin order (named t n) place
+        → (part : TaskPart) × (part_at w.tasks t ≡ Some part) × (1 ≤ n) × (n ≤ calls_so_far part)

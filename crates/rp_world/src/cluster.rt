@@ -14,7 +14,7 @@ ghost use Rattle.rp_model.specs.Facts.{HasPromised, HasVoted, IsOffered, IsDecid
 ghost use Rattle.rp_model.specs.Parts.{NodePart};
 ghost use Rattle.rp_model.specs.World.{opening_world, part_at};
 ghost use Rattle.rp_agreement.specs.Decided.{IsCast};
-ghost use Rattle.rp_agreement.specs.Order.{AllSent, Begins};
+ghost use Rattle.rp_agreement.specs.Order.{AllSent, IsPrefix};
 ghost use Rattle.rp_agreement.specs.Asked.{Says};
 ghost use Rattle.rp_agreement.specs.Worlds.{node_in};
 ghost use Rattle.rp_world.specs.Agreeing.{Agree, HasWritten, HasWrittenPromise, IsOrdered};
@@ -27,10 +27,10 @@ ghost use Rattle.rp_world.specs.Steps.{IsStep, IsStored, IsQueryAnswer, IsQueryA
 use crate::effect::{Refused, no_effect};
 use crate::world::World;
 use rp_agreement::{
-    applied_lists_are_alike, applied_lists_begin_the_order, calls_count_in_order,
-    decisions_are_one, decisions_stay, events_keep_ranges, events_keep_replies, offers_are_one,
-    only_made_calls_count, packets_say_so, replies_answer_calls_that_count,
-    replies_follow_the_order, states_are_alike, the_order_exists,
+    applied_lists_are_alike, applied_lists_are_prefixes, calls_count_in_order, decisions_are_one,
+    decisions_stay, events_keep_ranges, events_keep_replies, offers_are_one, only_made_calls_count,
+    packets_say_so, replies_answer_calls_that_count, replies_follow_the_order, states_are_alike,
+    the_order_exists,
 };
 use rp_base::{Answer, Config, Fault, NodeId, TaskId};
 use rp_machine::{Machine, a_call_has_one_place};
@@ -121,7 +121,7 @@ impl<M: Machine, D: CutDevice> Cluster<M, D> {
 
     /// The same, but writes the effect to `effect`, so that none is copied; if the step is refused,
     /// what is there has no meaning. Refused, it changes nothing:
-    /// `NotRunning` for a stopped node or a cut of none, `NoSuchMessage` for a number above the
+    /// `NotRunning` for a stopped node, or if a cut delivery goes to no running node, `NoSuchMessage` for a number above the
     /// last, `TaskBusy` while the task's last call has no answer, `LogFull` and `BallotsSpent` for
     /// a leader, `NumbersSpent` for a task's last number, `BadConfig` for a node above the last, a
     /// call that is not right or a range that is not of 1 to 64 positions, and `OutOfMemory`.
@@ -188,7 +188,7 @@ impl<M: Machine, D: CutDevice> Cluster<M, D> {
         applied_lists_are_alike();
         states_are_alike::<M>();
         the_order_exists();
-        applied_lists_begin_the_order();
+        applied_lists_are_prefixes();
         calls_count_in_order::<M>();
         replies_answer_calls_that_count::<M>();
         only_made_calls_count::<M>();
@@ -240,7 +240,7 @@ impl<M: Machine, D: CutDevice> Cluster<M, D> {
         ensures applied { (order : List Action)
             → IsOrder self.now.config.nodes self.now.world.sent order
             → (x : ℕ) (part : NodePart) → part_at self.now.world.nodes x ≡ Some part
-            → Begins (applied_of part.records) order }
+            → IsPrefix (applied_of part.records) order }
         ensures promised { (x i b : ℕ) (last : Option Vote)
             → HasPromised self.now.world.sent x i b last
             → HasWrittenPromise self.now.world x i b }
@@ -253,7 +253,7 @@ impl<M: Machine, D: CutDevice> Cluster<M, D> {
         self.is_kept();
         decisions_are_one();
         offers_are_one();
-        applied_lists_begin_the_order();
+        applied_lists_are_prefixes();
         packets_say_so();
     }
 

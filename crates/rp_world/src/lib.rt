@@ -2,9 +2,9 @@
 //!
 //! In reading order:
 //! - `cluster`: the cluster: all nodes and tasks, and every message that was sent
-//! - `headline`: the same of every history, with no cluster in it
+//! - `headline`: the theorem over every history, with no cluster in it
 //! - `world`: a world as it lies in memory: the nodes, the tasks, and the messages
-//! - `steps`: the result of an event: steps of nodes, and stops within them
+//! - `steps`: makes the step of each event, whole or cut
 //! - `calls`: what tasks ask for, and the replies to them
 //! - `stops`: stops and restarts of nodes
 //! - `effect`: the result of an event, as a step returns it

@@ -68,8 +68,8 @@ impl<M: Machine, D: CutDevice> World<M, D> {
                 arg,
             } => write_effect(self.submit(task, node, object, operation, arg), effect),
             Event::Again { task, node } => write_effect(self.again(task, node), effect),
-            Event::Node(step) => self.makes(alloc, step, effect),
-            Event::Cut { step, kept } => write_effect(self.cuts(alloc, step, kept), effect),
+            Event::Node(step) => self.make_step(alloc, step, effect),
+            Event::Cut { step, kept } => write_effect(self.make_cut(alloc, step, kept), effect),
             Event::Stop(node) => write_effect(self.stop(node), effect),
             Event::Restart(node) => write_effect(self.restart(alloc, node), effect),
         }
@@ -103,8 +103,8 @@ fn input_of(interrupt: Interrupt) -> Input<'static>
 }
 
 impl<M: Machine, D: CutDevice> World<M, D> {
-    /// A node makes a step. Refused as `deliver` is, or as `gives`.
-    fn makes(&mut self, alloc: Global, step: Step, effect: &mut Effect) -> Result<(), Fault>
+    /// A node makes a step. Refused as `deliver` is, or as `give_input`.
+    fn make_step(&mut self, alloc: Global, step: Step, effect: &mut Effect) -> Result<(), Fault>
         requires config { IsRightConfig self.old.config }
         requires ranged { IsRangedWorld self.old.config.nodes self.old.world }
         requires step { events.IsStep (step_of step) }
@@ -120,7 +120,7 @@ impl<M: Machine, D: CutDevice> World<M, D> {
         events_keep_ranges::<M>();
         match step {
             Step::Deliver(number) => self.deliver(alloc, number, effect),
-            Step::Lead { node, position } => self.gives(
+            Step::Lead { node, position } => self.give_input(
                 alloc,
                 node,
                 &Input::Lead(position),
@@ -128,15 +128,20 @@ impl<M: Machine, D: CutDevice> World<M, D> {
             ),
             Step::LeadRange { node, first, count } => {
                 match Self::range_for(&self.nodes, node, first, count) {
-                    Ok(range) => self.gives(alloc, node, &Input::LeadRange(range), effect),
+                    Ok(range) => self.give_input(alloc, node, &Input::LeadRange(range), effect),
                     Err(fault) => Err(fault),
                 }
             }
             Step::Interrupt { node, interrupt } => {
-                self.gives(alloc, node, &input_of(interrupt), effect)
+                self.give_input(alloc, node, &input_of(interrupt), effect)
             }
-            Step::Tick { node, now } => self.gives(alloc, node, &Input::Tick { now }, effect),
-            Step::Report { node, first } => self.gives(alloc, node, &Input::Report(first), effect),
+            Step::Tick { node, now } => self.give_input(alloc, node, &Input::Tick { now }, effect),
+            Step::Report { node, first } => self.give_input(
+                alloc,
+                node,
+                &Input::Report(first),
+                effect,
+            ),
         }
     }
 
@@ -144,7 +149,7 @@ impl<M: Machine, D: CutDevice> World<M, D> {
     /// itself, or with `NotRunning` for a delivery to no running node; `Device` if the device fails
     /// within the step.
     #[inline(never)]
-    pub(crate) fn cuts(&mut self, alloc: Global, step: Step, kept: u64) -> Result<Effect, Fault>
+    pub(crate) fn make_cut(&mut self, alloc: Global, step: Step, kept: u64) -> Result<Effect, Fault>
         requires ranged { IsRangedWorld self.old.config.nodes self.old.world }
         ensures answer { let setting = setting_of M.next M.answers M.begin self.old in
             Answers self.old.world (cut_step setting self.old.world (step_of step) kept)
@@ -155,7 +160,7 @@ impl<M: Machine, D: CutDevice> World<M, D> {
             (stepping self.old.world (step_of step)) self.old.failures self.new.failures result }
     {
         let first = self.messages() + 1;
-        let (node, input) = match Self::chosen(&self.messages, &self.nodes, step) {
+        let (node, input) = match Self::step_to_cut(&self.messages, &self.nodes, step) {
             Ok(chosen) => chosen,
             Err(fault) => return Err(fault),
         };
@@ -171,7 +176,7 @@ impl<M: Machine, D: CutDevice> World<M, D> {
     /// Which of these nodes makes a step, and the input of the step. `NoSuchMessage` above the last
     /// message, `NotRunning` for a message to none of these nodes, `BadConfig` above the last node,
     /// and as `range_for` if there is no range to lead at.
-    fn chosen<'a>(
+    fn step_to_cut<'a>(
         messages: &'a Outbox,
         nodes: &[node::Node<M, D>],
         step: Step,
@@ -243,7 +248,7 @@ impl<M: Machine, D: CutDevice> World<M, D> {
     /// `NotRunning` if the node is stopped, `LogFull` or `BallotsSpent` if it cannot lead, or out
     /// of memory: nothing changes. `Device` if its device fails: then it is stopped.
     #[inline(always)]
-    fn gives(
+    fn give_input(
         &mut self,
         alloc: Global,
         node: NodeId,

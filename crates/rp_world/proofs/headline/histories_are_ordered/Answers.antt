@@ -15,5 +15,10 @@ returns-clause-ordered g c = λ config program events world history.
     let m = g.M.Machine in
     let s = setting_for m.next m.answers m.begin config program in
     let describes = c.replies_follow_the_order.ensures in
-    ordered s c.the_order_exists.ensures c.applied_lists_begin_the_order.ensures
+    ordered s c.the_order_exists.ensures c.applied_lists_are_prefixes.ensures
     (c.replies_answer_calls_that_count.ensures config program) (c.calls_count_in_order.ensures config program) (c.only_made_calls_count.ensures config program) (c.a_call_has_one_place.ensures (m.begin program)) world (describes.histories s events world history)
+
+pub returns-clause-noted : goal.returns-clause-noted
+returns-clause-noted g c = λ config program events world history.
+    let m = g.M.Machine in
+    c.only_noted_actions_are_decided.ensures (setting_for m.next m.answers m.begin config program) events world history

@@ -5,7 +5,7 @@ use Rattle.rp_base.specs.Records.{applied_of}
 use Rattle.rp_codec.specs.declared.packet.Body.TheVariants.{Accepted, Decided}
 use Rattle.rp_codec.specs.declared.packet.Party.TheVariants.{Node}
 use Rattle.rp_model.specs.Parts.{NodePart, fresh_node}
-use Rattle.rp_agreement.specs.Order.{Begins}
+use Rattle.rp_agreement.specs.Order.{IsPrefix}
 use Rattle.rp_agreement.specs.Worlds.{node_in}
 use Rattle.rp_world.proofs.Sounding.{part_is_there, promiser_there}
 use Rattle.rp_world.proofs.cluster.Cluster.agrees.Goals as goal
@@ -23,8 +23,8 @@ returns g c =
       cast = c.decisions_are_one.ensures.cast n node sent sound;
       offered = c.offers_are_one.ensures n node sent sound;
       applied = λ order is x part here.
-          subst (λ (a : NodePart). Begins (applied_of a.records) order) (ap (λ (o : Option NodePart). unwrap_or o fresh_node) here)
-          (c.applied_lists_begin_the_order.ensures n node sent sound order is x);
+          subst (λ (a : NodePart). IsPrefix (applied_of a.records) order) (ap (λ (o : Option NodePart). unwrap_or o fresh_node) here)
+          (c.applied_lists_are_prefixes.ensures n node sent sound order is x);
       promised = λ x i b last says.
           let member = promiser_there n node sent sound x i b last says in
           (node x, part_is_there now.world n x kept.size member, c.packets_say_so.ensures.written n node sent sound x i b last says);

@@ -19,7 +19,7 @@ returns g c =
       run = ran.run;
       agree = agree m.next m.answers m.image (m.begin old.program) old.config.nodes c.applied_lists_are_alike.ensures (c.states_are_alike.ensures (m.begin old.program)) old.world new.world
           c.is_kept.ensures.kept.kept.sound later.kept.sound ran.sent;
-      ordered = ordered (setting_of m.next m.answers m.begin old) c.the_order_exists.ensures c.applied_lists_begin_the_order.ensures (c.replies_answer_calls_that_count.ensures old.config old.program)
+      ordered = ordered (setting_of m.next m.answers m.begin old) c.the_order_exists.ensures c.applied_lists_are_prefixes.ensures (c.replies_answer_calls_that_count.ensures old.config old.program)
           (c.calls_count_in_order.ensures old.config old.program) (c.only_made_calls_count.ensures old.config old.program) (c.a_call_has_one_place.ensures (m.begin old.program)) new.world later;
       decided = c.decisions_stay.ensures old.config.nodes old.world.sent new.world.sent ran.sent;
     }

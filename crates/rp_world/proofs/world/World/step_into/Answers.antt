@@ -45,7 +45,7 @@ returns-in-Node g c =
     let old = c.args.self.now in
     let s = setting_of m.next m.answers m.begin old in
     let step = step_of c.in-Node.step in
-    let made = c.makes in
+    let made = c.make_step in
     let counts = counts_stated (IsSome (step_writes s old.world step)) (stepping old.world step) old.failures made.new.self.failures made.result made.new.effect made.ensures.failures in
     record {
       step = made_whole m.next m.answers m.begin old made.new.self c.args.event.now (stated made.result made.new.effect) made.ensures.setup step counts (ap event_of c.in-Node.is) made.ensures.answer;
@@ -54,7 +54,7 @@ returns-in-Node g c =
 pub returns-in-Cut : goal.returns-in-Cut
 returns-in-Cut g c =
     let m = g.M.Machine in
-    let made = c.cuts in
+    let made = c.make_cut in
     record {
       step = subst (IsStep m.next m.answers m.begin c.args.self.now c.args.event.now made.new.self) (sym c.write_effect-in-Cut.ensures)
           (made_cut m.next m.answers m.begin c.args.self.now made.new.self c.args.event.now made.result made.ensures.setup (step_of c.in-Cut.step) made.ensures.failures c.in-Cut.kept (ap event_of c.in-Cut.is) made.ensures.answer);

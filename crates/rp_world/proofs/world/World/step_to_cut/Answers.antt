@@ -9,8 +9,8 @@ use Rattle.rp_rules.specs.declared.input.Input.TheVariants.{Receive}
 use Rattle.rp_world.specs.Choosing.{IsOf, IsOfNone}
 use Rattle.rp_world.proofs.Choosing.{as_many, no_text, no_message, for_no_node, past_all, delivered, none_chosen, one_chosen}
 use Rattle.rp_world.proofs.Messages.{packet_found}
-use Rattle.rp_world.proofs.world.World.chosen.Goals.{in-Lead, in-LeadRange+in-Ok, in-Interrupt, in-Tick, in-Report}
-use Rattle.rp_world.proofs.world.World.chosen.Goals as goal
+use Rattle.rp_world.proofs.world.World.step_to_cut.Goals.{in-Lead, in-LeadRange+in-Ok, in-Interrupt, in-Tick, in-Report}
+use Rattle.rp_world.proofs.world.World.step_to_cut.Goals as goal
 
 pub receiver_of-requires : goal.receiver_of-requires
 receiver_of-requires g c =

@@ -17,7 +17,7 @@ use Rattle.rp_world.proofs.Failing.{none_counted}
 use Rattle.rp_world.proofs.Fields.{fields_of, setting_by}
 use Rattle.rp_world.proofs.Hearing.{same_input}
 use Rattle.rp_world.proofs.Messages.{sends_are}
-use Rattle.rp_world.proofs.world.World.makes.Goals as goal
+use Rattle.rp_world.proofs.world.World.make_step.Goals as goal
 
 -- what a cluster answers to a step, and what it counts
 module _ {S P : Type 0} (next : S → Action → S) (answers : S → Action → List Answer) (start : P → S) (was new : Setup P) (result : Result Unit Fault) (effect : Effect) where
@@ -36,11 +36,11 @@ result_of : {S : Type 0} (s : Setting S) (w : World) (step : Step) (me : ℕ) (i
 result_of s w step me input {given = given} {part = part} whole is here resulted =
     whole ∙ ap (node_takes s w me input) here ∙ ap (λ (i : NodeInput). node_done_if w me (node_effect s me part i)) (same_input input given is) ∙ ap (node_done_if w me) resulted
 
-pub gives-requires-clause-given : goal.gives-requires-clause-given
-gives-requires-clause-given g c = ((inputs.Lead c.in-Lead.position), refl)
+pub give_input-requires-clause-given : goal.give_input-requires-clause-given
+give_input-requires-clause-given g c = ((inputs.Lead c.in-Lead.position), refl)
 
-pub gives-requires-clause-sends : goal.gives-requires-clause-sends
-gives-requires-clause-sends g c = λ given part done is here resulted.
+pub give_input-requires-clause-sends : goal.give_input-requires-clause-sends
+give_input-requires-clause-sends g c = λ given part done is here resulted.
     let was = c.args.self.now in
     let me = c.in-Lead.node in
     let step = events.Lead me c.in-Lead.position in
@@ -48,11 +48,11 @@ gives-requires-clause-sends g c = λ given part done is here resulted.
     let results = result_of (setting_of g.M.Machine.next g.M.Machine.answers g.M.Machine.begin was) was.world step me (inputs.Lead c.in-Lead.position) refl is here resulted in
     sends_are was.world.sent done.sends (c.events_keep_ranges.ensures.effect was.config was.program was.world (events.Makes step) (node_done was.world me done) c.requires.config c.requires.ranged range results).packets
 
-pub gives-requires-in-Ok-clause-given : goal.gives-requires-in-Ok-clause-given
-gives-requires-in-Ok-clause-given g c = (inputs.LeadRange c.in-LeadRange.first c.in-LeadRange.count, c.in-Ok.ensures.ok)
+pub give_input-requires-in-Ok-clause-given : goal.give_input-requires-in-Ok-clause-given
+give_input-requires-in-Ok-clause-given g c = (inputs.LeadRange c.in-LeadRange.first c.in-LeadRange.count, c.in-Ok.ensures.ok)
 
-pub gives-requires-in-Ok-clause-sends : goal.gives-requires-in-Ok-clause-sends
-gives-requires-in-Ok-clause-sends g c = λ given part done is here resulted.
+pub give_input-requires-in-Ok-clause-sends : goal.give_input-requires-in-Ok-clause-sends
+give_input-requires-in-Ok-clause-sends g c = λ given part done is here resulted.
     let was = c.args.self.now in
     let me = c.in-LeadRange.node in
     let step = events.LeadRange me c.in-LeadRange.first c.in-LeadRange.count in
@@ -60,14 +60,14 @@ gives-requires-in-Ok-clause-sends g c = λ given part done is here resulted.
     let results = result_of (setting_of g.M.Machine.next g.M.Machine.answers g.M.Machine.begin was) was.world step me (inputs.LeadRange c.in-LeadRange.first c.in-LeadRange.count) refl (sym c.in-Ok.ensures.ok ∙ is) here resulted in
     sends_are was.world.sent done.sends (c.events_keep_ranges.ensures.effect was.config was.program was.world (events.Makes step) (node_done was.world me done) c.requires.config c.requires.ranged range results).packets
 
-pub gives-requires-in-Tick-clause-given : goal.gives-requires-in-Tick-clause-given
-gives-requires-in-Tick-clause-given g c = ((inputs.Tick c.in-Tick.now), refl)
+pub give_input-requires-in-Tick-clause-given : goal.give_input-requires-in-Tick-clause-given
+give_input-requires-in-Tick-clause-given g c = ((inputs.Tick c.in-Tick.now), refl)
 
-pub gives-requires-in-Report-clause-given : goal.gives-requires-in-Report-clause-given
-gives-requires-in-Report-clause-given g c = ((inputs.Report c.in-Report.first), refl)
+pub give_input-requires-in-Report-clause-given : goal.give_input-requires-in-Report-clause-given
+give_input-requires-in-Report-clause-given g c = ((inputs.Report c.in-Report.first), refl)
 
-pub gives-requires-in-Report-clause-sends : goal.gives-requires-in-Report-clause-sends
-gives-requires-in-Report-clause-sends g c = λ given part done is here resulted.
+pub give_input-requires-in-Report-clause-sends : goal.give_input-requires-in-Report-clause-sends
+give_input-requires-in-Report-clause-sends g c = λ given part done is here resulted.
     let was = c.args.self.now in
     let me = c.in-Report.node in
     let step = events.Report me c.in-Report.first in
@@ -83,27 +83,27 @@ returns-in-Deliver g c =
 pub returns-in-Lead : goal.returns-in-Lead
 returns-in-Lead g c =
     let given = inputs.Lead c.in-Lead.position in
-    subst (λ step. IsMade g.M.Machine.next g.M.Machine.answers g.M.Machine.begin c.args.self.now c.gives.new.self c.gives.result c.gives.new.effect (step_of step)) (sym c.in-Lead.is)
-    (record { answer = c.gives.ensures.answer given refl; setup = c.gives.ensures.setup; failures = c.gives.ensures.failures given refl })
+    subst (λ step. IsMade g.M.Machine.next g.M.Machine.answers g.M.Machine.begin c.args.self.now c.give_input.new.self c.give_input.result c.give_input.new.effect (step_of step)) (sym c.in-Lead.is)
+    (record { answer = c.give_input.ensures.answer given refl; setup = c.give_input.ensures.setup; failures = c.give_input.ensures.failures given refl })
 
 pub returns-in-Tick : goal.returns-in-Tick
 returns-in-Tick g c =
     let given = inputs.Tick c.in-Tick.now in
-    let made = c.gives-in-Tick in
+    let made = c.give_input-in-Tick in
     subst (λ step. IsMade g.M.Machine.next g.M.Machine.answers g.M.Machine.begin c.args.self.now made.new.self made.result made.new.effect (step_of step)) (sym c.in-Tick.is)
     (record { answer = made.ensures.answer given refl; setup = made.ensures.setup; failures = made.ensures.failures given refl })
 
 pub returns-in-Report : goal.returns-in-Report
 returns-in-Report g c =
     let given = inputs.Report c.in-Report.first in
-    let made = c.gives-in-Report in
+    let made = c.give_input-in-Report in
     subst (λ step. IsMade g.M.Machine.next g.M.Machine.answers g.M.Machine.begin c.args.self.now made.new.self made.result made.new.effect (step_of step)) (sym c.in-Report.is)
     (record { answer = made.ensures.answer given refl; setup = made.ensures.setup; failures = made.ensures.failures given refl })
 
 pub returns-in-Ok : goal.returns-in-Ok
 returns-in-Ok g c =
     let given = inputs.LeadRange c.in-LeadRange.first c.in-LeadRange.count in
-    let made = c.gives-in-Ok in
+    let made = c.give_input-in-Ok in
     subst (λ step. IsMade g.M.Machine.next g.M.Machine.answers g.M.Machine.begin c.args.self.now made.new.self made.result made.new.effect (step_of step)) (sym c.in-LeadRange.is)
     (record { answer = made.ensures.answer given c.in-Ok.ensures.ok; setup = made.ensures.setup; failures = made.ensures.failures given c.in-Ok.ensures.ok })
 

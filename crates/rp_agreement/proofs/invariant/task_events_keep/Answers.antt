@@ -1,7 +1,7 @@
 -- The task sends nothing but right calls of its own.
 use Rattle.rp_agreement.proofs.TaskEffects.{if_task_done, task_keeps, task_sound}
 use Rattle.rp_model.specs.Tasks.{task_effect}
-use Rattle.rp_agreement.proofs.keeping.task_events_keep.Goals as goal
+use Rattle.rp_agreement.proofs.invariant.task_events_keep.Goals as goal
 
 pub returns-clause-sound : goal.returns-clause-sound
 returns-clause-sound c = λ config nodes t part input done node after sent later waits sound is resulted stays sends.

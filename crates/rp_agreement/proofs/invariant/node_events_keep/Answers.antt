@@ -1,7 +1,7 @@
 -- Each is a sound step.
 use Rattle.rp_model.specs.Effect.{goes_on_as, untorn_part, restart_part}
 use Rattle.rp_agreement.proofs.NodeEffects.{below_eight, if_done, done_keeps, input_sound, cut_sound, stop_sound, restart_sound, untorn_sound}
-use Rattle.rp_agreement.proofs.keeping.node_events_keep.Goals as goal
+use Rattle.rp_agreement.proofs.invariant.node_events_keep.Goals as goal
 
 pub returns-clause-input : goal.returns-clause-input
 returns-clause-input g c = λ setting x input done node after sent later right member sound is resulted moves.

@@ -5,11 +5,11 @@ use Rattle.rp_world.proofs.Failing.{none_counted}
 use Rattle.rp_world.proofs.Fields.{fields_of, same_setup, sent_seen, setting, world, setting_by}
 use Rattle.rp_world.proofs.NodeCuts.{IsStated, within, still_cut, answers_cut, counts_cut, stated_ok, stated_err}
 use Rattle.rp_world.proofs.Placing.{changed, placed_at}
-use Rattle.rp_world.proofs.world.World.cuts.Goals.{in-Ok-answer, in-Err-answer}
-use Rattle.rp_world.proofs.world.World.cuts.Goals as goal
+use Rattle.rp_world.proofs.world.World.make_cut.Goals.{in-Ok-answer, in-Err-answer}
+use Rattle.rp_world.proofs.world.World.make_cut.Goals as goal
 
-pub chosen-requires : goal.chosen-requires
-chosen-requires g c =
+pub step_to_cut-requires : goal.step_to_cut-requires
+step_to_cut-requires g c =
     let ranged = subst (λ v. IsRangedWorld v.config.nodes v.world) (sym c.self.view_is) c.requires.ranged in
     record { packets = ranged.packets }
 

@@ -6,7 +6,7 @@ use Rattle.rp_world.proofs.Fields.{fields_of, member, same_setup, setting_by}
 use Rattle.rp_world.proofs.NodeTurns.{goes_given, answers_given, counts_given}
 use Rattle.rp_world.proofs.Placing.{found_at, placed_at}
 use Rattle.rp_world.proofs.Taking.{still_turned, still_refused, sent_more}
-use Rattle.rp_world.proofs.world.World.gives.Goals as goal
+use Rattle.rp_world.proofs.world.World.give_input.Goals as goal
 
 pub returns-in_default-clause-answer : goal.returns-in_default-clause-answer
 returns-in_default-clause-answer g c = λ given gives.

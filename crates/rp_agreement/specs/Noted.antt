@@ -1,0 +1,15 @@
+-- Which interrupts and ticks the events of a history noted.
+use Rattle.std.specs.Prelude.{ℕ, List}
+use Rattle.rp_base.specs.Sets.{Has}
+use Rattle.rp_base.specs.declared.action.Action.{Action}
+use Rattle.rp_base.specs.declared.action.Action.TheVariants.{Noop, Call, Interrupt, Tick}
+use Rattle.rp_model.specs.Events as events
+use Rattle.rp_model.specs.Events.{Event, Makes}
+
+-- the action, if it is an interrupt or a tick, was noted at some node by one of these events
+abbrev pub IsNoted : List Event → Action → Type 0
+IsNoted happened Noop = Unit {0}
+IsNoted happened (Call task number object operation arg) = Unit {0}
+IsNoted happened (Interrupt source occurrence) =
+    (me : ℕ) × Has (Makes (events.Interrupt me source occurrence)) happened
+IsNoted happened (Tick now) = (me : ℕ) × Has (Makes (events.Tick me now)) happened

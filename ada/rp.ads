@@ -31,7 +31,8 @@ package RP is
    Out_Of_Memory : constant Status := 1;   --  there was no memory for the call; nothing has changed
    Bad_Packet    : constant Status := 4;   --  the bytes are no packet
    Ballots_Spent : constant Status := 6;   --  the node has no ballot left
-   Log_Full      : constant Status := 7;   --  no position is left that the node may lead at
+   Log_Full      : constant Status := 7;   --  the position is above the log, or 64 or more above the first
+                                           --  unlearned one
    Task_Busy     : constant Status := 9;   --  the task's last call has no reply yet
    Numbers_Spent : constant Status := 10;  --  the task made its last call
    Bad_Deck      : constant Status := 11;  --  the deck is bad

@@ -34,7 +34,7 @@ enum rp_status {
   RP_OUT_OF_MEMORY = 1,  /* there was no memory for the call; nothing has changed */
   RP_BAD_PACKET = 4,     /* the bytes are no packet */
   RP_BALLOTS_SPENT = 6,  /* the node has no ballot left */
-  RP_LOG_FULL = 7,       /* no position is left that the node may lead at */
+  RP_LOG_FULL = 7,       /* the position is above the log, or 64 or more above the first unlearned one */
   RP_TASK_BUSY = 9,      /* the task's last call has no reply yet */
   RP_NUMBERS_SPENT = 10, /* the task made its last call */
   RP_BAD_DECK = 11,      /* the deck is bad */

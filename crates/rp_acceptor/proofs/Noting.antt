@@ -11,7 +11,7 @@ use Rattle.rp_base.specs.declared.record.Rec.TheVariants.{Started, Promised, Vot
 use Rattle.rp_base.specs.Sets.{Has}
 use Rattle.rp_base.specs.Records.{bound_in, bound_at, highest, vote_in, last_vote_at}
 use Rattle.rp_base.proofs.MoreRecords.{bound_push, last_push}
-use Rattle.rp_acceptor.specs.Steps.{Level, ballot_at}
+use Rattle.rp_acceptor.specs.Levels.{Level, ballot_at}
 use Rattle.rp_acceptor.specs.Slots.{Kept, ballot_of_vote, stretch_in, promise_at, promise_in, promised_at, kept_at, with_promise, with_vote, with_record, single_in, page_at, kept_in_page, kept_of, HasSlot, AreBounds, KeepsRecords}
 use Rattle.rp_acceptor.proofs.Pages.{written_slot, other_slot}
 
@@ -75,33 +75,6 @@ elsewhere i (Voted position ballot action) k other =
 elsewhere i (Learned position action) k other = unsaid i (Learned position action) k refl refl
 elsewhere i (PromisedRange range ballot) k other = unsaid i (PromisedRange range ballot) k refl refl
 
--- a promise at its position
-pub promised_here : (i position ballot : ℕ) (k : Kept) → i ≡ position → with_record i (Promised position ballot) k ≡ with_promise k ballot
-promised_here i position ballot k here =
-    ap (λ (t : Bool). kept (max k.promised (cond t ballot 0)) (highest (option_to_list k.last ++ []))) (eq-eqb position i (sym here))
-    ∙ ap (kept (max k.promised ballot)) (highest_again k.last)
-
--- a vote at its position
-pub voted_here : (i position ballot : ℕ) (action : Action) (k : Kept) → i ≡ position → with_record i (Voted position ballot action) k ≡ with_vote k (cast ballot action)
-voted_here i position ballot action k here =
-    ap (λ (t : Bool). kept (max k.promised 0) (highest (option_to_list k.last ++ option_to_list (cond t (Some (cast ballot action)) None)))) (eq-eqb position i (sym here))
-    ∙ ap (λ (n : ℕ). kept n (highest (option_to_list k.last ++ cast ballot action ∷ []))) (no_more k.promised)
-
--- one place written, that of the single position of a record
-pub written_right : (pages : List (List Kept)) (k : ℕ) (page : List Kept) (slot : Kept) (rec : Rec) → HasSlot pages k → page ≡ page_at pages (k / 64)
-    → ((j : ℕ) → Has j (single_in rec) → k + 1 ≡ j) → slot ≡ with_record (k + 1) rec (kept_in_page page (k % 64))
-    → (index : ℕ) → kept_of (set pages (k / 64) (set page (k % 64) slot)) index ≡ with_record (index + 1) rec (kept_of pages index)
-written_right pages k page slot rec has is only right index =
-    elim (cases_eq index k) [
-      | inl e ↦
-          ap (kept_of (set pages (k / 64) (set page (k % 64) slot))) e ∙ written_slot pages k page slot has is ∙ right
-          ∙ ap (λ (p : List Kept). with_record (k + 1) rec (kept_in_page p (k % 64))) is
-          ∙ ap (λ (i : ℕ). with_record (i + 1) rec (kept_of pages i)) (sym e)
-      | inr other ↦
-          other_slot pages k page slot index has is other
-          ∙ sym (elsewhere (index + 1) rec (kept_of pages index) (λ j h e. let at = only j h in other (omega (arith, at, e))))
-    ]
-
 -- ---- the bound
 
 one_vote : (t : Bool) (b : ℕ) (vote : Vote) → vote.ballot ≡ b → cond t b 0 ≡ max 0 (max 0 (ballot_of_vote (cond t (Some vote) None)))
@@ -130,7 +103,7 @@ higher_ballot (Some v) None = omega arith
 higher_ballot (Some v) (Some w) =
     elim (leb_tells (suc v.ballot) w.ballot) [ inl lt ↦ rw lt.0 (omega (arith, lt.1)) | inr ge ↦ rw ge.0 (omega (arith, ge.1)) ]
 
--- the steps with the promise noted, if the record is one for a range
+-- the levels with the promise noted, if the record is one for a range
 pub bounds_noted : (before after : List Level) (records : List Rec) (rec : Rec) → ((i : ℕ) → ballot_at after i ≡ max (ballot_at before i) (promise_at i (stretch_in rec)))
     → AreBounds before records → AreBounds after (records ++ rec ∷ [])
 bounds_noted before after records rec raised are = λ i.

@@ -7,13 +7,6 @@ use Rattle.rp_base.specs.Sets.{Has}
 use Rattle.rp_base.proofs.Members.{has_split}
 use Rattle.rp_acceptor.specs.Slots.{Kept, nothing_kept, kept_in_page, page_at, kept_of, HasSlot, HasMore, IsWhole, KeepsRecords, ArePages}
 
--- an absent page after the others changes nothing
-pub absent_page : (pages : List (List Kept)) (n : ℕ) → page_at (pages ++ [] ∷ []) n ≡ page_at pages n
-absent_page [] zero = refl
-absent_page [] (suc n) = refl
-absent_page (page ∷ pages) zero = refl
-absent_page (page ∷ pages) (suc n) = absent_page pages n
-
 -- a page with places is there
 pub page_there : (pages : List (List Kept)) (n : ℕ) → 0 < length (page_at pages n) → n < length pages
 page_there [] n some = absurd (omega (arith, some))
@@ -58,14 +51,6 @@ same_length pages index page slot n has is =
       | inr differs ↦ ap length (other_page pages (index / 64) n (set page (index % 64) slot) differs)
     ]
 
--- pages that are the same, each
-pub same_pages : (before after : List (List Kept)) → ((n : ℕ) → page_at after n ≡ page_at before n) → HasMore before after
-same_pages before after same = record {
-  same = λ index. ap (λ (p : List Kept). kept_in_page p (index % 64)) (same (index / 64));
-  longer = λ n. let e = ap length (same n) in omega (arith, e);
-  whole = λ n. inl (ap length (same n));
-}
-
 -- nothing is kept at any index of no page
 none_there : (page : List Kept) (offset : ℕ) → length page ≡ 0 → kept_in_page page offset ≡ nothing_kept
 none_there [] offset none = refl
@@ -95,18 +80,6 @@ page_made before grown number page same within absent long empty = record {
     | inr other ↦ inl (ap length (other_page grown number n page other ∙ same n))
   ];
 }
-
--- the page that was made has a place for each index of it
-pub slot_made : (grown : List (List Kept)) (index : ℕ) (page : List Kept) → index / 64 < length grown → length page ≡ 64 → HasSlot (set grown (index / 64) page) index
-slot_made grown index page within long =
-    let now = ap length (written_page grown (index / 64) (index / 64) page within refl) in
-    omega (arith, now, long)
-
--- there is no page past the end
-pub page_past : (pages : List (List Kept)) (n : ℕ) → length pages ≤ n → length (page_at pages n) ≡ 0
-page_past [] n most = refl
-page_past (page ∷ pages) zero most = absurd (omega (arith, most))
-page_past (page ∷ pages) (suc n) most = page_past pages n (omega (arith, most))
 
 -- more pages keep what was kept
 pub pages_still : (before after : List (List Kept)) (voted : List ℕ) (records : List Rec) → ArePages before voted records → HasMore before after → ArePages after voted records
@@ -150,10 +123,6 @@ pages_noted before after voted records more kept same right = record {
   room = λ index h. let had = kept.room index h in let long = same (index / 64) in omega (arith, had, long);
   whole = λ n. elim (kept.whole n) [ inl none ↦ inl (same n ∙ none) | inr full ↦ inr (same n ∙ full) ];
 }
-
--- a whole page that is there has a place for each index of it
-pub page_whole : (page : List Kept) (index : ℕ) → IsWhole page → ¬ (length page ≡ 0) → index % 64 < length page
-page_whole page index whole there = elim whole [ inl none ↦ absurd (there none) | inr full ↦ omega (arith, full) ]
 
 -- what holds anyway holds after an error
 pub on_err : {T E P : Type 0} (r : Result T E) → P → OnErr r P

@@ -1,4 +1,4 @@
 pub mod Comparing
 pub mod Noted
 pub mod Slots
-pub mod Steps
+pub mod Levels

@@ -12,7 +12,7 @@ use Rattle.rp_base.specs.Ranges.{Range, end_of, positions_of}
 use Rattle.rp_base.specs.Records.{bound_at, highest, vote_in, last_vote_at}
 use Rattle.rp_acceptor.specs.Comparing.{Bound, compared, compared_bounds}
 use Rattle.rp_acceptor.specs.Noted.{Noted}
-use Rattle.rp_acceptor.specs.Steps.{Level, ballot_at, HasStep, is_between}
+use Rattle.rp_acceptor.specs.Levels.{Level, ballot_at, HasLevel, is_between}
 
 -- ---- promises for ranges
 
@@ -35,10 +35,10 @@ abbrev pub promise_at : ℕ → Option Stretch → ℕ
 promise_at i None = 0
 promise_at i (Some stretch) = if is_between stretch.first stretch.end i then stretch.ballot else 0
 
--- a step begins at each of its ends
+-- a level begins at each of its ends
 abbrev pub HasEnds : List Level → Option Stretch → Type 0
-HasEnds steps None = Unit {0}
-HasEnds steps (Some stretch) = HasStep steps stretch.first × HasStep steps stretch.end
+HasEnds levels None = Unit {0}
+HasEnds levels (Some stretch) = HasLevel levels stretch.first × HasLevel levels stretch.end
 
 -- ---- single positions
 
@@ -166,13 +166,13 @@ AreBoundsOf bounds records range = (b : ℕ) → 0 < b
 
 -- ---- all
 
--- the bound at each position is the greatest of what the steps promise and of what is kept there
+-- the bound at each position is the greatest of what the levels promise and of what is kept there
 abbrev pub AreBounds : List Level → List Rec → Type 0
-AreBounds steps records = (i : ℕ) → max (ballot_at steps i) (bound_of (kept_at records i)) ≡ bound_at records i
+AreBounds levels records = (i : ℕ) → max (ballot_at levels i) (bound_of (kept_at records i)) ≡ bound_at records i
 
--- a step begins at each end of the ranges that were reserved
+-- a level begins at each end of the ranges that were reserved
 abbrev pub HaveEnds : List Level → List Range → Type 0
-HaveEnds steps ranges = (range : Range) → Has range ranges → HasStep steps range.first × HasStep steps (end_of range)
+HaveEnds levels ranges = (range : Range) → Has range ranges → HasLevel levels range.first × HasLevel levels (end_of range)
 
 -- the pages keep what the records say, and have a place for each position reserved for votes
 pub record ArePages (pages : List (List Kept)) (voted : List ℕ) (records : List Rec) : Type 0 where
@@ -180,9 +180,9 @@ pub record ArePages (pages : List (List Kept)) (voted : List ℕ) (records : Lis
   pub room : (index : ℕ) → Has (index + 1) voted → HasSlot pages index
   pub whole : (number : ℕ) → IsWhole (page_at pages number)
 
--- the steps and the pages hold what the records say, and have room for what was reserved
-pub record AreKept (steps : List Level) (pages : List (List Kept)) (noted : Noted) : Type 0 where
-  pub bounds : AreBounds steps noted.records
-  pub ends : HaveEnds steps noted.ranges
+-- the levels and the pages hold what the records say, and have room for what was reserved
+pub record AreKept (levels : List Level) (pages : List (List Kept)) (noted : Noted) : Type 0 where
+  pub bounds : AreBounds levels noted.records
+  pub ends : HaveEnds levels noted.ranges
   pub kept : ArePages pages noted.votes noted.records
   pub both : (i : ℕ) → Has i noted.reserved → Has i noted.votes

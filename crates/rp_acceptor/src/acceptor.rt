@@ -1,16 +1,16 @@
 //! The acceptor's questions and notes.
 
 ghost use Rattle.std.specs.Prelude.{◌≡◌, ◌≤◌, ◌<◌, [], ◌∷◌, flat_map, option_copied, IfOk, IfSome, IfNone, OnOk, OnErr};
-ghost use Rattle.rp_acceptor.specs.Steps.{IsPromised};
+ghost use Rattle.rp_acceptor.specs.Levels.{IsPromised};
 ghost use Rattle.rp_base.specs.Records.{bound_at, last_vote_at};
 ghost use Rattle.rp_base.specs.Ranges.{positions_of};
 ghost use Rattle.rp_base.specs.Sets.{Has};
 ghost use Rattle.rp_acceptor.specs.Noted.{nothing_noted, places_in, HasRoom, reserves, reserves_vote, reserves_range, reserves_for, notes, restored};
 ghost use Rattle.rp_base.specs.Voting.{prepare_answer, vote_answer, accept_answer};
 
+use crate::levels::{Levels, raise_promised, split_ends};
 use crate::page::{Page, kept_at, make, note};
 use crate::slot::{Slot, ballot_of, index_of_position};
-use crate::steps::{Steps, raise_promised, split_ends};
 use rp_base::{
     AcceptAnswer, Action, Ballot, History, Position, PositionRange, PrepareAnswer, Rec, Vote,
 };
@@ -21,11 +21,11 @@ use std::marker::Model;
 /// notes take effect, so that a record can be written between the two (Lamport, "Paxos Made
 /// Simple", section 2.5). The bound at a position is the greatest of three ballots: the one promised
 /// for it alone and the last vote's, which its page keeps, and the one promised for a range, which a
-/// step holds for all positions up to the next one.
+/// level holds for all positions up to the next one.
 #[derive(Drop)]
 pub struct Acceptor {
     alloc: Global,
-    pub(crate) steps: Steps,
+    pub(crate) levels: Levels,
     pub(crate) pages: Vec<Page>,
     reserved: History<Position>,
     votes: History<Position>,
@@ -47,7 +47,7 @@ impl Model for Acceptor {
       ranges = a.ranges;
     } };
 
-    ghost invariant = { λ a. AreKept a.steps a.pages.items (record {
+    ghost invariant = { λ a. AreKept a.levels a.pages.items (record {
       records = a.records;
       reserved = a.reserved;
       votes = a.votes;
@@ -62,7 +62,7 @@ impl Acceptor {
     {
         Acceptor {
             alloc,
-            steps: Steps::new(alloc),
+            levels: Levels::new(alloc),
             pages: Vec::new(alloc),
             reserved: History::new(),
             votes: History::new(),
@@ -140,7 +140,7 @@ impl Acceptor {
         Ok(())
     }
 
-    /// Makes room, so that promises for this range can be noted, however many: two steps at most.
+    /// Makes room, so that promises for this range can be noted, however many: two levels at most.
     /// `OutOfMemory` comes only if there was no room yet, and then nothing has changed.
     pub fn reserve_range(&mut self, range: PositionRange) -> Result<(), AllocError>
         // claim as Acceptor::reserve
@@ -150,7 +150,7 @@ impl Acceptor {
         ensures some { OnErr result (¬ (positions_of range ≡ [])) }
     {
         let first = usize::from(range.first().get());
-        split_ends(&mut self.steps, first, range.end() as usize)?;
+        split_ends(&mut self.levels, first, range.end() as usize)?;
         self.ranges.push(&range);
         Ok(())
     }
@@ -162,7 +162,7 @@ impl Acceptor {
         requires room { HasRoom self.old rec.now }
         ensures noted { self.new ≡ notes self.old rec.now }
     {
-        raise_promised(&mut self.steps, rec);
+        raise_promised(&mut self.levels, rec);
         note(&mut self.pages, rec);
         self.records.push(rec);
     }
@@ -174,7 +174,7 @@ impl Acceptor {
         ensures promised { IsPromised result.bound }
         ensures last { option_copied result.last ≡ last_vote_at self.now.records position }
     {
-        let promised = self.steps.number(usize::from(position.get()));
+        let promised = self.levels.number(usize::from(position.get()));
         match kept_at(&self.pages, index_of_position(position)) {
             Some(kept) => Slot {
                 bound: promised.max(kept.bound_number()),

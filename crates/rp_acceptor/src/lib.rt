@@ -6,7 +6,7 @@
 //! - `range`: its questions for a range of positions
 //! - `comparison`: how a ballot compares with the bounds at positions
 //! - `slot`: what an acceptor keeps for a position
-//! - `steps`: the ballots that it promised for ranges
+//! - `levels`: the ballots that it promised for ranges
 //! - `page`: what it keeps for single positions, in pages, each made when a position of it is first
 //!   reserved
 //! - `places`: what it keeps for the positions of a range
@@ -14,11 +14,11 @@
 
 mod acceptor;
 mod comparison;
+mod levels;
 mod page;
 mod places;
 mod range;
 mod slot;
-mod steps;
 
 pub use acceptor::Acceptor;
 pub use comparison::Comparison;

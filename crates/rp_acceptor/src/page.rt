@@ -4,7 +4,7 @@
 ghost use Rattle.std.specs.Prelude.{◌≡◌, ◌+◌, ◌<◌, ◌≤◌, [], ℕ, length, slice_set, nat_eq, option_copied, ◌/◌, ◌%◌, OnOk, OnErr, IfOk};
 ghost use Rattle.rp_base.specs.Ballot.{number_of};
 ghost use Rattle.rp_base.specs.Sets.{Has};
-ghost use Rattle.rp_acceptor.specs.Steps.{IsPromised};
+ghost use Rattle.rp_acceptor.specs.Levels.{IsPromised};
 ghost use Rattle.rp_acceptor.specs.Slots.{nothing_kept, kept_or_nothing, bound_of, with_promise, with_vote, with_record, single_in, kept_in_page, page_at, kept_of, HasSlot, HasMore, IsWhole};
 
 use crate::slot::{ballot_of, index_of_position};
@@ -25,7 +25,7 @@ pub struct Kept {
 
 impl Model for Kept {
     ghost use Rattle.rp_acceptor.specs.Slots as slots;
-    ghost use Rattle.rp_acceptor.specs.Steps.{IsPromised};
+    ghost use Rattle.rp_acceptor.specs.Levels.{IsPromised};
 
     ghost Value = { slots.Kept };
 

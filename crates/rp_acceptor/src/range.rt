@@ -32,14 +32,14 @@ impl Acceptor {
         }
     }
 
-    /// How the ballot compares with the bounds at the positions of the range. Each step and each
+    /// How the ballot compares with the bounds at the positions of the range. Each level and each
     /// place is read once.
     pub fn compare(&self, range: PositionRange, ballot: Ballot) -> Comparison
         // claim: A ballot is compared with the bounds of a range exactly
         ensures { result ≡ compared (bound_at self.now.records) ballot (positions_of range) }
     {
         let single = self.places(range).compare(ballot);
-        self.steps.compare(range, ballot).combined(single)
+        self.levels.compare(range, ballot).combined(single)
     }
 
     /// The last votes at the positions of the range, in a vector, which takes no memory if there

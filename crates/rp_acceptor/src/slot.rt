@@ -3,7 +3,7 @@
 ghost use Rattle.std.specs.Prelude.{◌≡◌, ◌+◌, ◌<◌, IfSome};
 ghost use Rattle.rp_base.specs.Ballot.{number_of};
 ghost use Rattle.rp_acceptor.specs.Slots.{stretch_in};
-ghost use Rattle.rp_acceptor.specs.Steps.{IsPromised};
+ghost use Rattle.rp_acceptor.specs.Levels.{IsPromised};
 
 use rp_base::{Ballot, Position, Rec, Vote};
 use std::marker::Model;

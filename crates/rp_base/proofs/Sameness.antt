@@ -83,6 +83,3 @@ heard_decides h k =
 
 pub action_decides : (v w : Action) → Decides (same_action v w) (v ≡ w)
 action_decides v w = decides_same same_action action_same v w (action_equal v w)
-
-pub vote_decides : (v w : Vote) → Decides (same_vote v w) (v ≡ w)
-vote_decides v w = decides_same same_vote vote_same v w (vote_equal v w)

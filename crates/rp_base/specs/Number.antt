@@ -17,6 +17,10 @@ IsTask n = IsUpTo 8 n
 abbrev pub IsPosition : ℕ → Type 0
 IsPosition n = (1 ≤ n) × (n < 2 ^ 16)
 
+-- at how many positions from the first unlearned one on a node leads and counts votes
+abbrev pub window : ℕ
+window = 64
+
 -- the number is low to high, as a test
 abbrev pub in_range : ℕ → ℕ → ℕ → Bool
 in_range low high n = nat_le low n && nat_le n high

@@ -54,7 +54,7 @@ pub enum DeckReason {
     /// The declaration or statement passes its limit, or the depth does.
     #[error("too many")]
     TooMany,
-    /// More than 32 nodes.
+    /// More than 32 words in an expression or a condition.
     #[error("bad expression")]
     BadExpression,
     /// At `script`, no task is declared.
@@ -75,31 +75,32 @@ pub enum DeckReason {
 }
 
 /// Why a call was refused. After `OutOfMemory`, `BadPacket` and all from `NotRunning` on nothing
-/// has changed, but for what a call's own text says.
+/// has changed, unless the call says otherwise.
 #[derive(Clone, Copy, Debug, PartialEq, Eq, Error)]
 pub enum Fault {
-    /// A growth was refused.
+    /// An allocation failed.
     #[error("OutOfMemory")]
     OutOfMemory,
-    /// The device's failure count rose in this call.
+    /// The device failed during this call.
     #[error("Device")]
     Device,
-    /// The device failed before, and was not opened again.
+    /// The device failed in an earlier call, and was not opened again.
     #[error("Failed")]
     Failed,
     /// The bytes are no packet.
     #[error("BadPacket")]
     BadPacket(PacketReason),
-    /// The node is stopped.
+    /// The node is stopped, or the packet of a cut goes to no node.
     #[error("NotRunning")]
     NotRunning,
-    /// The node has no ballot above the ones that it has seen.
+    /// The node has no ballot above those that it has seen.
     #[error("BallotsSpent")]
     BallotsSpent,
-    /// No position is left that may be led in.
+    /// The position to lead at, or one of the range, is above the log, or 64 or more above the first
+    /// unlearned one.
     #[error("LogFull")]
     LogFull,
-    /// No message has this number.
+    /// No packet of this number was sent.
     #[error("NoSuchMessage")]
     NoSuchMessage,
     /// The task's last call has no answer yet.
@@ -114,7 +115,7 @@ pub enum Fault {
     /// A number is outside its limits.
     #[error("BadConfig")]
     BadConfig,
-    /// A read or a write failed.
+    /// A read or a write failed, a write took no byte, or the deck has more than 1,048,576 bytes.
     #[error("Io")]
     Io,
 }
@@ -168,11 +169,11 @@ impl Fault {
 /// Why a record is not written, or what it takes is not reserved.
 #[derive(Clone, Copy, Debug, PartialEq, Eq)]
 pub enum WriteFault {
-    /// A growth was refused.
+    /// An allocation failed.
     OutOfMemory,
-    /// The device's failure count rose in this call.
+    /// The device failed during this call.
     Device,
-    /// The device failed before, and was not opened again.
+    /// The device failed in an earlier call, and was not opened again.
     Failed,
 }
 

@@ -46,7 +46,7 @@ pub use fault::{DeckReason, Fault, PacketReason, WriteFault};
 pub use fixed_list::FixedList;
 pub use history::History;
 pub use majorities::{majorities_intersect, majority};
-pub use number::{Id, MOST_NODES, MOST_TASKS, NodeId, Position, TaskId};
+pub use number::{Id, MOST_NODES, MOST_TASKS, NodeId, Position, TaskId, WINDOW};
 pub use placed::{PlacedVote, RangeVotes};
 pub use proposal::Phase;
 pub use range::{MOST_COVERED, PositionRange};

@@ -11,7 +11,10 @@ pub const MOST_NODES: u8 = 7;
 /// The most tasks that a program has.
 pub const MOST_TASKS: u8 = 8;
 
-/// A number from 1 to `MOST`, which names one of so few.
+/// At how many positions, from the first unlearned one on, a node leads and counts votes.
+pub const WINDOW: u32 = 64;
+
+/// A number from 1 to `MOST`: the names of nodes and of tasks.
 #[derive(Clone, Copy, Debug, PartialEq, Eq, PartialOrd, Ord, Hash)]
 pub struct Id<const MOST: u8> {
     number: u8,

@@ -123,11 +123,3 @@ counts_after_bool {m} {is} {n} {bs} {store} h k x =
 at_most : (b : Bool) (a n : ℕ) → a ≡ cond b n (n + 1) → a ≤ n + 1
 at_most true a n e = omega arith
 at_most false a n e = omega arith
-
--- a number that is added is one more at most, and no Boolean
-pub added_ints : (old new : Store) (k : ℕ) (x : Ranged) → new ≡ record { ints = insert old.ints k x; bools = old.bools } → len new.ints ≤ len old.ints + 1
-added_ints old new k x e =
-    at_most (contains_key old.ints k) (len new.ints) (len old.ints) (ap (λ (s : Store). len s.ints) e ∙ len-insert nat_cmp_total old.ints k x)
-
-pub added_bools : (old new : Store) (k : ℕ) (x : Ranged) → new ≡ record { ints = insert old.ints k x; bools = old.bools } → len new.bools ≡ len old.bools
-added_bools old new k x e = ap (λ (s : Store). len s.bools) e

@@ -98,15 +98,6 @@ whole_number : (w : Width) (limit : ℕ) (wide : IsWide w limit) (bytes : List �
 unfolding number_text
 whole_number w limit wide bytes long h = sym (wide.back bytes long h)
 
-pub whole_number16 : (bytes : List ℕ) → length bytes ≡ 2 → IsBytes bytes → bytes ≡ number_text w16 (from_be_bytes w16 bytes)
-whole_number16 bytes long h = whole_number w16 (2 ^ 16) wide16 bytes long h
-
-pub whole_number32 : (bytes : List ℕ) → length bytes ≡ 4 → IsBytes bytes → bytes ≡ number_text w32 (from_be_bytes w32 bytes)
-whole_number32 bytes long h = whole_number w32 (2 ^ 32) wide32 bytes long h
-
-pub whole_number64 : (bytes : List ℕ) → length bytes ≡ 8 → IsBytes bytes → bytes ≡ number_text w64 (from_be_bytes w64 bytes)
-whole_number64 bytes long h = whole_number w64 (2 ^ 64) wide64 bytes long h
-
 abbrev pub TookNumber32 : List ℕ → ℕ × List ℕ → Type 0
 TookNumber32 bytes = Took (number_text w32) (λ n. n < 2 ^ 32) bytes
 

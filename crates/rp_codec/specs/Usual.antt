@@ -12,14 +12,14 @@ use Rattle.rp_codec.specs.declared.packet.Party.TheVariants.{Node, Task}
 use Rattle.rp_codec.specs.declared.kind.Kind.{Kind}
 use Rattle.rp_codec.specs.declared.version.Version.TheVariants.{V2}
 use Rattle.rp_codec.specs.Reading.{◌>>=◌, Read, placed_vote_at, packet_at, body_at}
-use Rattle.rp_codec.specs.declared.usual_texts.Place.{Place}
+use Rattle.rp_codec.specs.declared.usual_texts.Header.{Header}
 use Rattle.rp_codec.specs.declared.usual_texts.SentCall.{SentCall}
 use Rattle.rp_codec.specs.declared.usual_texts.SentDecision.{SentDecision}
 use Rattle.rp_codec.specs.declared.usual_texts.SentReply.{SentReply}
 
--- each number of the place is within its range
-abbrev pub IsPlace : Place → Type 0
-IsPlace place = IsNode place.from × IsNode place.to × IsPosition place.position × IsBallot place.ballot
+-- each number of the header is within its range
+abbrev pub IsHeader : Header → Type 0
+IsHeader header = IsNode header.from × IsNode header.to × IsPosition header.position × IsBallot header.ballot
 
 -- a packet of version 2 and of this kind, from one party to the other: its body is what these bytes are read as
 abbrev pub said_by : Kind → Party → Party → List ℕ → Read Message
@@ -31,27 +31,27 @@ abbrev pub IsHead : List ℕ → Kind → Party → Party → List ℕ → Type 
 IsHead bytes kind from to rest = packet_at bytes ≡ said_by kind from to rest
 
 -- a head, and then a vote to the end
-abbrev pub IsVoteText : List ℕ → Kind → Place → Action → Type 0
-IsVoteText bytes kind place action =
-    (rest : List ℕ) × IsHead bytes kind (Node place.from) (Node place.to) rest
+abbrev pub IsVoteText : List ℕ → Kind → Header → Action → Type 0
+IsVoteText bytes kind header action =
+    (rest : List ℕ) × IsHead bytes kind (Node header.from) (Node header.to) rest
     × (placed_vote_at V2 rest
-    ≡ Ok (record { position = place.position; vote = record { ballot = place.ballot; action = action } }, []))
+    ≡ Ok (record { position = header.position; vote = record { ballot = header.ballot; action = action } }, []))
 
--- the packet between the two nodes of a place that says this
-abbrev pub between : Place → Body → Message
-between place body = record { from = Node place.from; to = Node place.to; body = body }
+-- the packet between the two nodes of a header that says this
+abbrev pub between : Header → Body → Message
+between header body = record { from = Node header.from; to = Node header.to; body = body }
 
-abbrev pub prepare_at : Place → Message
-prepare_at place = between place (bodies.Prepare place.position place.ballot)
+abbrev pub prepare_at : Header → Message
+prepare_at header = between header (bodies.Prepare header.position header.ballot)
 
-abbrev pub promise_at : Place → Message
-promise_at place = between place (bodies.Promise place.position place.ballot None)
+abbrev pub promise_at : Header → Message
+promise_at header = between header (bodies.Promise header.position header.ballot None)
 
-abbrev pub accept_at : Place → Action → Message
-accept_at place action = between place (bodies.Accept place.position place.ballot action)
+abbrev pub accept_at : Header → Action → Message
+accept_at header action = between header (bodies.Accept header.position header.ballot action)
 
-abbrev pub accepted_at : Place → Action → Message
-accepted_at place action = between place (bodies.Accepted place.position place.ballot action)
+abbrev pub accepted_at : Header → Action → Message
+accepted_at header action = between header (bodies.Accepted header.position header.ballot action)
 
 abbrev pub decided_of : SentDecision → Message
 decided_of d = record { from = Node d.from; to = Node d.to; body = bodies.Decided d.position d.action }

@@ -12,7 +12,7 @@ use crate::kind::Kind;
 use crate::list_text::put_list;
 use crate::packet::{Body, Packet};
 use crate::party_text::party_number;
-use crate::short_text::{LONGEST, ShortText};
+use crate::short_text::{LONGEST_TEXT, ShortText};
 use std::alloc::{AllocError, Global};
 
 /// What is before the body.
@@ -74,7 +74,7 @@ pub fn encode_onto(packet: &Packet, out: &mut Vec<u8>) -> Result<(), AllocError>
 pub fn encode(alloc: Global, packet: &Packet) -> Result<Vec<u8>, AllocError>
     ensures { IfOk result (λ v. v.items ≡ text_of packet.now) }
 {
-    let mut out = Vec::with_capacity(alloc, LONGEST)?;
+    let mut out = Vec::with_capacity(alloc, LONGEST_TEXT)?;
     encode_onto(packet, &mut out)?;
     Ok(out)
 }

@@ -60,13 +60,13 @@ pub use record_text::{
     decode_front, encode_rec, one_record_text, text_of_record, two_record_texts,
 };
 pub use rules::report_len;
-pub use short_text::ShortText;
+pub use short_text::{LONGEST_TEXT, ShortText};
 pub use usual_encoding::{
     accept_text, accepted_text, decided_text, is_call, learned_text, prepare_text, promise_text,
     promised_text, value_reply_text, voted_text,
 };
 pub use usual_texts::{
-    Place, SentCall, SentDecision, SentReply, usual_accept, usual_accepted, usual_call,
+    Header, SentCall, SentDecision, SentReply, usual_accept, usual_accepted, usual_call,
     usual_decided, usual_prepare, usual_promise, usual_reply,
 };
 pub use version::Version;

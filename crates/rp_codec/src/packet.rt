@@ -1,4 +1,4 @@
-//! What nodes and tasks say to one another.
+//! The packets that nodes and tasks send to one another.
 
 ghost use Rattle.std.specs.Prelude.{◌≡◌};
 
@@ -8,16 +8,16 @@ use rp_base::{Action, Ballot, NodeId, Position, PositionRange, TaskId, Vote};
 use std::alloc::AllocError;
 use std::marker::Model;
 
-/// Who says a packet, or hears it.
+/// A sender or a receiver of packets.
 #[derive(Clone, Copy, Debug, PartialEq, Eq)]
 pub enum Party {
     Node(NodeId),
     Task(TaskId),
-    /// Who hears what the nodes have applied.
+    /// The audit, which receives what the nodes have applied.
     Audit,
 }
 
-/// What is said (Lamport, "Paxos Made Simple", section 2.2, where `Prepare` to `Accepted` are the
+/// What a packet says (Lamport, "Paxos Made Simple", section 2.2, where `Prepare` to `Accepted` are the
 /// requests of its two phases and their responses).
 #[derive(Clone, Debug, PartialEq, Eq, Drop)]
 pub enum Body {
@@ -89,7 +89,7 @@ pub enum Body {
     },
 }
 
-/// A body with who says it and who hears it, by the rules: a task calls a node, in a call of its
+/// A body with its sender and its receiver, by the rules: a task calls a node, in a call of its
 /// own; a node replies to a task and reports to the audit; all else goes from node to node. Actions
 /// are right, a promise's votes are in lower ballots, those for a range at positions of it that rise,
 /// the bound of a `Nack` is above its ballot, and a report has as many actions as `report_len` says.
@@ -115,7 +115,7 @@ impl Model for Packet {
 impl Packet {
     ghost use Rattle.rp_codec.specs.Message.{IsPacket, KeepsRules};
 
-    /// The packet of this body, where it keeps the rules.
+    /// The packet of this body, which keeps the rules.
     pub fn new(from: Party, to: Party, body: Body) -> Self
         requires { KeepsRules (record { from = from; to = to; body = body }) }
         ensures { result ≡ record { from = from; to = to; body = body } }
@@ -126,21 +126,21 @@ impl Packet {
         Packet { from, to, body }
     }
 
-    /// Who says it.
+    /// The sender.
     pub fn from(&self) -> Party
         ensures { result ≡ self.now.from }
     {
         self.from
     }
 
-    /// Who hears it.
+    /// The receiver.
     pub fn to(&self) -> Party
         ensures { result ≡ self.now.to }
     {
         self.to
     }
 
-    /// What is said.
+    /// What it says.
     pub fn body(&self) -> &Body
         ensures value { result.now ≡ self.now.body }
         ensures packet { IsPacket self.now }

@@ -1,4 +1,4 @@
-//! Who may say what to whom.
+//! Which packets may go from whom to whom.
 
 ghost use Rattle.std.specs.Prelude.{◌≡◌, ◌↔◌, ◌<◌, ◌^◌, All, IsTrue};
 ghost use Rattle.rp_base.specs.Right.{IsReply};

@@ -4,13 +4,14 @@ ghost use Rattle.std.specs.Prelude.{◌≡◌, ◌+◌, ◌≤◌, [], ◌++◌,
 
 use std::marker::Model;
 
-/// How many bytes the longest text but a report's has, that of a `Promise` with a call.
-pub(crate) const LONGEST: usize = 40;
+/// How many bytes the text of a packet has at most, if it is neither a report nor a promise for a
+/// range: that of a `Promise` with a call.
+pub const LONGEST_TEXT: usize = 40;
 
 /// Bytes in order, at most 40, in place.
 #[derive(Drop)]
 pub struct ShortText {
-    bytes: [u8; LONGEST],
+    bytes: [u8; LONGEST_TEXT],
     len: usize,
 }
 
@@ -29,7 +30,7 @@ impl ShortText {
         ensures { result ≡ [] }
     {
         ShortText {
-            bytes: [0; LONGEST],
+            bytes: [0; LONGEST_TEXT],
             len: 0,
         }
     }
@@ -41,7 +42,7 @@ impl ShortText {
         ensures text { result ≡ piece.now }
         ensures len { length result ≡ N }
     {
-        let mut bytes = [0; LONGEST];
+        let mut bytes = [0; LONGEST_TEXT];
         *bytes.first_chunk_mut::<N>().unwrap() = *piece;
         ShortText { bytes, len: N }
     }

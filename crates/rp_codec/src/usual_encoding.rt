@@ -15,7 +15,7 @@ use crate::fields::VERSION;
 use crate::kind::Kind;
 use crate::party_text::TASK_BASE;
 use crate::short_text::overwrite;
-use crate::usual_texts::{Place, SentDecision, SentReply};
+use crate::usual_texts::{Header, SentDecision, SentReply};
 use rp_base::{Action, Ballot, Operation, Position};
 
 /// Whether the action is a call.
@@ -128,49 +128,49 @@ fn vote_bytes(position: Position, ballot: Ballot, action: &Action) -> [u8; 27]
 
 /// The version, a kind, and who says it to whom.
 #[inline(always)]
-fn head_bytes(kind: Kind, place: Place) -> [u8; 4]
-    ensures { result ≡ 2 ∷ number_of kind ∷ place.from ∷ place.to ∷ [] }
+fn head_bytes(kind: Kind, header: Header) -> [u8; 4]
+    ensures { result ≡ 2 ∷ number_of kind ∷ header.from ∷ header.to ∷ [] }
 {
-    [VERSION, kind.number(), place.from.get(), place.to.get()]
+    [VERSION, kind.number(), header.from.get(), header.to.get()]
 }
 
 /// The text of a prepare.
 #[inline(always)]
-pub fn prepare_text(place: Place) -> [u8; 14]
-    ensures { result ≡ text_of (prepare_at place) }
+pub fn prepare_text(header: Header) -> [u8; 14]
+    ensures { result ≡ text_of (prepare_at header) }
 {
-    let body = bound_bytes(place.position, place.ballot);
-    joined(&head_bytes(Kind::Prepare, place), &body)
+    let body = bound_bytes(header.position, header.ballot);
+    joined(&head_bytes(Kind::Prepare, header), &body)
 }
 
 /// The text of a promise that reports no vote.
 #[inline(always)]
-pub fn promise_text(place: Place) -> [u8; 15]
-    ensures { result ≡ text_of (promise_at place) }
+pub fn promise_text(header: Header) -> [u8; 15]
+    ensures { result ≡ text_of (promise_at header) }
 {
-    let ballot: [u8; 9] = joined(&ballot_bytes(place.ballot), &[0]);
-    let body: [u8; 11] = joined(&position_bytes(place.position), &ballot);
-    joined(&head_bytes(Kind::Promise, place), &body)
+    let ballot: [u8; 9] = joined(&ballot_bytes(header.ballot), &[0]);
+    let body: [u8; 11] = joined(&position_bytes(header.position), &ballot);
+    joined(&head_bytes(Kind::Promise, header), &body)
 }
 
 /// The text of an accept whose action is a call.
 #[inline(always)]
-pub fn accept_text(place: Place, action: &Action) -> [u8; 31]
+pub fn accept_text(header: Header, action: &Action) -> [u8; 31]
     requires { IsCall action.now }
-    ensures { result ≡ text_of (accept_at place action.now) }
+    ensures { result ≡ text_of (accept_at header action.now) }
 {
-    let body = vote_bytes(place.position, place.ballot, action);
-    joined(&head_bytes(Kind::Accept, place), &body)
+    let body = vote_bytes(header.position, header.ballot, action);
+    joined(&head_bytes(Kind::Accept, header), &body)
 }
 
 /// The text of a vote for a call.
 #[inline(always)]
-pub fn accepted_text(place: Place, action: &Action) -> [u8; 31]
+pub fn accepted_text(header: Header, action: &Action) -> [u8; 31]
     requires { IsCall action.now }
-    ensures { result ≡ text_of (accepted_at place action.now) }
+    ensures { result ≡ text_of (accepted_at header action.now) }
 {
-    let body = vote_bytes(place.position, place.ballot, action);
-    joined(&head_bytes(Kind::Accepted, place), &body)
+    let body = vote_bytes(header.position, header.ballot, action);
+    joined(&head_bytes(Kind::Accepted, header), &body)
 }
 
 /// The text of a decided call.

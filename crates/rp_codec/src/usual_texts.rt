@@ -18,10 +18,10 @@ use crate::reply_text::read_reply;
 use crate::version::Version;
 use rp_base::{Action, Ballot, NodeId, PacketReason, Position, Reply, TaskId};
 
-/// From whom a packet is and to whom, and its position and ballot: what is before the action in most
-/// packets between nodes.
+/// The sender and the receiver of a packet, its position and its ballot: what most packets between
+/// nodes have before the action.
 #[derive(Clone, Copy, Debug)]
-pub struct Place {
+pub struct Header {
     pub from: NodeId,
     pub to: NodeId,
     pub position: Position,
@@ -138,18 +138,18 @@ fn end(body: &Reader) -> Result<(), PacketReason>
     Ok(())
 }
 
-/// The place of a prepare of which the bytes are the text of version 2. An error is no answer about the
+/// The header of a prepare of which the bytes are the text of version 2. An error is no answer about the
 /// bytes, whatever its reason: `decode` reads those. There is such a function for each usual kind,
 /// compiled into its caller, which so has the fields without a packet in memory. Which packets are read
 /// so is a matter of speed alone, and no clause says it.
 #[inline(always)]
-pub fn usual_prepare(bytes: &[u8]) -> Result<Place, PacketReason>
-    ensures { IfOk result (λ place. IsDecoded bytes.now (Ok (prepare_at place))) }
+pub fn usual_prepare(bytes: &[u8]) -> Result<Header, PacketReason>
+    ensures { IfOk result (λ header. IsDecoded bytes.now (Ok (prepare_at header))) }
 {
     let mut head = nodes_head(bytes, Kind::Prepare, 14)?;
     let (position, ballot) = read_place(&mut head.body)?;
     end(&head.body)?;
-    Ok(Place {
+    Ok(Header {
         from: head.from,
         to: head.to,
         position,
@@ -159,8 +159,8 @@ pub fn usual_prepare(bytes: &[u8]) -> Result<Place, PacketReason>
 
 /// The same, of a promise that reports no vote.
 #[inline(always)]
-pub fn usual_promise(bytes: &[u8]) -> Result<Place, PacketReason>
-    ensures { IfOk result (λ place. IsDecoded bytes.now (Ok (promise_at place))) }
+pub fn usual_promise(bytes: &[u8]) -> Result<Header, PacketReason>
+    ensures { IfOk result (λ header. IsDecoded bytes.now (Ok (promise_at header))) }
 {
     let mut head = nodes_head(bytes, Kind::Promise, 15)?;
     let (position, ballot) = read_place(&mut head.body)?;
@@ -168,7 +168,7 @@ pub fn usual_promise(bytes: &[u8]) -> Result<Place, PacketReason>
         return Err(PacketReason::Field);
     };
     end(&head.body)?;
-    Ok(Place {
+    Ok(Header {
         from: head.from,
         to: head.to,
         position,
@@ -176,39 +176,39 @@ pub fn usual_promise(bytes: &[u8]) -> Result<Place, PacketReason>
     })
 }
 
-/// The place and the action of an accept or of a vote, whose action is a call.
+/// The header and the action of an accept or of a vote, whose action is a call.
 #[inline(always)]
-fn usual_vote(bytes: &[u8], kind: Kind) -> Result<(Place, Action), PacketReason>
+fn usual_vote(bytes: &[u8], kind: Kind) -> Result<(Header, Action), PacketReason>
     ensures { IfOk result (λ vote. IsVoteText bytes.now kind vote.0 vote.1) }
 {
     let mut head = nodes_head(bytes, kind, 31)?;
     let placed = read_placed_vote(&mut head.body, Version::V2)?;
     end(&head.body)?;
-    let place = Place {
+    let header = Header {
         from: head.from,
         to: head.to,
         position: placed.position,
         ballot: placed.vote.ballot,
     };
-    Ok((place, placed.vote.action))
+    Ok((header, placed.vote.action))
 }
 
 /// The same as `usual_prepare`, of an accept whose action is a call.
 #[inline(always)]
-pub fn usual_accept(bytes: &[u8]) -> Result<(Place, Action), PacketReason>
+pub fn usual_accept(bytes: &[u8]) -> Result<(Header, Action), PacketReason>
     ensures { IfOk result (λ vote. IsDecoded bytes.now (Ok (accept_at vote.0 vote.1))) }
 {
-    let (place, action) = usual_vote(bytes, Kind::Accept)?;
-    Ok((place, action))
+    let (header, action) = usual_vote(bytes, Kind::Accept)?;
+    Ok((header, action))
 }
 
 /// The same, of a vote for a call.
 #[inline(always)]
-pub fn usual_accepted(bytes: &[u8]) -> Result<(Place, Action), PacketReason>
+pub fn usual_accepted(bytes: &[u8]) -> Result<(Header, Action), PacketReason>
     ensures { IfOk result (λ vote. IsDecoded bytes.now (Ok (accepted_at vote.0 vote.1))) }
 {
-    let (place, action) = usual_vote(bytes, Kind::Accepted)?;
-    Ok((place, action))
+    let (header, action) = usual_vote(bytes, Kind::Accepted)?;
+    Ok((header, action))
 }
 
 /// The same, of a decided call.

@@ -3,7 +3,7 @@ use Rattle.std.specs.Prelude.{ℕ, List, ◌++◌, codes, decimal, string_bytes}
 use Rattle.rp_drawing.specs.declared.elements.Curve.{Curve}
 use Rattle.rp_drawing.specs.declared.elements.Dash.{Dash}
 use Rattle.rp_drawing.specs.declared.elements.Look.{Look}
-use Rattle.rp_drawing.specs.declared.elements.Place.{Place}
+use Rattle.rp_drawing.specs.declared.elements.Point.{Point}
 use Rattle.rp_drawing.specs.declared.elements.Upright.{Upright}
 use Rattle.rp_drawing.specs.declared.words.Words.{Words}
 
@@ -19,29 +19,29 @@ abbrev pub look_text : Look → List ℕ
 look_text l = codes "c" ++ (decimal l.colour ++ (codes " k" ++ decimal l.kind))
 
 -- a place, as its two numbers
-abbrev pub place_text : Place → List ℕ
-place_text p = decimal p.x ++ (codes " " ++ decimal p.y)
+abbrev pub point_text : Point → List ℕ
+point_text p = decimal p.x ++ (codes " " ++ decimal p.y)
 
 -- a curve, as a path
 abbrev pub curve_text : Curve → List ℕ
 curve_text c =
-    codes "<path class='" ++ (look_text c.look ++ (codes "' d='M" ++ (place_text c.from
-    ++ (codes "Q" ++ (place_text c.by ++ (codes " " ++ (place_text c.to ++ codes "'/>")))))))
+    codes "<path class='" ++ (look_text c.look ++ (codes "' d='M" ++ (point_text c.from
+    ++ (codes "Q" ++ (point_text c.by ++ (codes " " ++ (point_text c.to ++ codes "'/>")))))))
 
 -- a line to the right
 abbrev pub dash_text : Dash → List ℕ
 dash_text d =
-    codes "<path class='" ++ (look_text d.look ++ (codes "' d='M" ++ (place_text d.from
+    codes "<path class='" ++ (look_text d.look ++ (codes "' d='M" ++ (point_text d.from
     ++ (codes "h" ++ (decimal d.width ++ codes "'/>")))))
 
 -- a line down
 abbrev pub upright_text : Upright → List ℕ
 upright_text u =
-    codes "<path class='" ++ (look_text u.look ++ (codes "' d='M" ++ (place_text u.from
+    codes "<path class='" ++ (look_text u.look ++ (codes "' d='M" ++ (point_text u.from
     ++ (codes "V" ++ (decimal u.to_y ++ codes "'/>")))))
 
 -- words of this colour at a place
-abbrev pub words_text : ℕ → Place → Words → List ℕ
+abbrev pub words_text : ℕ → Point → Words → List ℕ
 words_text colour place words =
     codes "<text class='t" ++ (decimal colour ++ (codes "' x='" ++ (decimal place.x
     ++ (codes "' y='" ++ (decimal place.y ++ (codes "'>"

@@ -5,7 +5,7 @@ use Rattle.rp_drawing.specs.Elements.{dash_text, upright_text, words_text}
 use Rattle.rp_drawing.specs.Pages.{lane_x, line_y, name_y}
 use Rattle.rp_drawing.specs.Style.{style_text}
 use Rattle.rp_drawing.specs.declared.drawing.Lane.{Lane}
-use Rattle.rp_drawing.specs.declared.elements.Place.{Place}
+use Rattle.rp_drawing.specs.declared.elements.Point.{Point}
 use Rattle.rp_drawing.specs.declared.sketch.Kind.{Kind}
 use Rattle.rp_drawing.specs.declared.sketch.Kind.TheVariants.{Act, Record, Torn, Stop, Restart, State}
 use Rattle.rp_drawing.specs.declared.sketch.Mark.{Mark}
@@ -40,8 +40,8 @@ abbrev pub lanes_text : ℕ → ℕ → List Lane → List ℕ
 lanes_text lanes end names = lanes_from lanes end 0 names
 
 -- where a text is in the line that begins here
-abbrev pub text_place : ℕ → ℕ → Place
-text_place x y = record { x = x; y = y + 13 }
+abbrev pub text_point : ℕ → ℕ → Point
+text_point x y = record { x = x; y = y + 13 }
 
 -- what a mark looks like
 abbrev pub mark_kind : Kind → ℕ
@@ -64,7 +64,7 @@ mark_text lanes y (Some mark) = codes "\n" ++ dash_text (record {
 -- what an actor does, if there is something
 abbrev pub effect_text : ℕ → Words → List ℕ
 effect_text y effect =
-    if string_len effect.text == 0 then [] else codes "\n" ++ words_text 0 (text_place 600 y) effect
+    if string_len effect.text == 0 then [] else codes "\n" ++ words_text 0 (text_point 600 y) effect
 
 -- the last line that a page has
 abbrev pub within_page : ℕ → ℕ
@@ -74,7 +74,7 @@ within_page line = if nat_lt line (2 ^ 32) then line else 2 ^ 32
 abbrev pub row_element : ℕ → Row → List ℕ
 row_element lanes row =
     let y = line_y lanes (within_page row.line) in
-    words_text 0 (text_place 4 y) row.label.cause
+    words_text 0 (text_point 4 y) row.label.cause
     ++ (mark_text lanes y row.label.mark ++ effect_text y row.label.effect)
 
 abbrev pub row_text : ℕ → Row → List ℕ

@@ -2,10 +2,10 @@
 
 ghost use Rattle.std.specs.Prelude.{◌≡◌, ◌+◌, ◌*◌, ◌++◌, ◌≤◌, ◌<◌, ◌^◌, true, IfOk, OnOk, length, string_bytes, flat_map};
 ghost use Rattle.rp_drawing.specs.Drawings.{end_kind, way_curve, way_text, IsDrawnBy};
-ghost use Rattle.rp_drawing.specs.Lines.{effect_text, head_text, lane_text, lanes_text, mark_kind, mark_text, row_element, row_text, text_place, within_page};
+ghost use Rattle.rp_drawing.specs.Lines.{effect_text, head_text, lane_text, lanes_text, mark_kind, mark_text, row_element, row_text, text_point, within_page};
 ghost use Rattle.rp_drawing.specs.Ways.{IsDown, AreDown};
 
-use crate::elements::{Curve, Dash, Look, Place, Upright, add_element, add_head, words_at};
+use crate::elements::{Curve, Dash, Look, Point, Upright, add_element, add_head, words_at};
 use crate::page::{LEFT, LINE, Page, RIGHT, WIDTH};
 use crate::sketch::{End, Kind, MOST_LINES, Mark, Row, Sketch, Way};
 use crate::style::style_text;
@@ -97,11 +97,11 @@ fn lane_text(
             colour: lane.colour,
             kind: 8,
         },
-        from: Place { x, y: y + 4 },
+        from: Point { x, y: y + 4 },
         to_y: end,
     };
     let line = upright.text(alloc)?;
-    let name = words_at(alloc, lane.colour, Place { x, y }, &lane.name)?;
+    let name = words_at(alloc, lane.colour, Point { x, y }, &lane.name)?;
     format!(in alloc; "{line}\n{name}")
 }
 
@@ -171,12 +171,12 @@ fn way_curve(page: Page, lines: &u64, way: &Way) -> Curve
             colour: way.sending.colour,
             kind,
         },
-        from: Place { x, y },
-        by: Place {
+        from: Point { x, y },
+        by: Point {
             x: by_x,
             y: (y + end_y) / 2,
         },
-        to: Place { x: end_x, y: end_y },
+        to: Point { x: end_x, y: end_y },
     }
 }
 
@@ -223,7 +223,7 @@ fn row_text(alloc: Global, page: Page, row: &Row) -> Result<String, AllocError>
     ensures { IfOk result (λ text. string_bytes text ≡ row_element page.lanes row.now) }
 {
     let y = page.line_y(within_page(row.line));
-    let cause = words_at(alloc, 0, text_place(LEFT, y), &row.label.cause)?;
+    let cause = words_at(alloc, 0, text_point(LEFT, y), &row.label.cause)?;
     let mark = mark_text(alloc, page, y, row.label.mark)?;
     let effect = effect_text(alloc, y, &row.label.effect)?;
     format!(in alloc; "{cause}{mark}{effect}")
@@ -238,11 +238,11 @@ fn within_page(line: u64) -> u64
 }
 
 /// Where a text is in the line that begins here.
-fn text_place(x: u64, y: u64) -> Place
+fn text_point(x: u64, y: u64) -> Point
     requires { y ≤ 2 ^ 40 }
-    ensures { result ≡ text_place x y }
+    ensures { result ≡ text_point x y }
 {
-    Place { x, y: y + 13 }
+    Point { x, y: y + 13 }
 }
 
 /// What an actor does, in the line that begins here, if there is something.
@@ -253,7 +253,7 @@ fn effect_text(alloc: Global, y: u64, effect: &Words) -> Result<String, AllocErr
     if effect.is_empty() {
         return Ok(String::new(alloc));
     }
-    let text = words_at(alloc, 0, text_place(RIGHT, y), effect)?;
+    let text = words_at(alloc, 0, text_point(RIGHT, y), effect)?;
     format!(in alloc; "\n{text}")
 }
 
@@ -270,7 +270,7 @@ fn mark_text(alloc: Global, page: Page, y: u64, mark: Option<Mark>) -> Result<St
             colour: mark.colour,
             kind: mark_kind(mark.kind),
         },
-        from: Place {
+        from: Point {
             x: page.lane_x(mark.lane).saturating_sub(4),
             y: y + 10,
         },

@@ -23,7 +23,7 @@ pub struct Look {
 
 /// A place on a page.
 #[derive(Clone, Copy)]
-pub struct Place {
+pub struct Point {
     pub x: u64,
     pub y: u64,
 }
@@ -40,14 +40,14 @@ impl fmt::Display for Look {
     }
 }
 
-impl fmt::Display for Place {
+impl fmt::Display for Point {
     ghost use Rattle.std.specs.Prelude.{Some};
-    ghost use Rattle.rp_drawing.specs.Elements.{place_text};
+    ghost use Rattle.rp_drawing.specs.Elements.{point_text};
 
-    ghost output = { λ p. Some (place_text p) };
+    ghost output = { λ p. Some (point_text p) };
 
     fn fmt<W: fmt::Write>(&self, f: &mut fmt::Formatter<W>) -> fmt::Result {
-        let Place { x, y } = *self;
+        let Point { x, y } = *self;
         write!(f, "{x} {y}")
     }
 }
@@ -56,9 +56,9 @@ impl fmt::Display for Place {
 #[derive(Clone, Copy)]
 pub struct Curve {
     pub look: Look,
-    pub from: Place,
-    pub by: Place,
-    pub to: Place,
+    pub from: Point,
+    pub by: Point,
+    pub to: Point,
 }
 
 impl Curve {
@@ -78,7 +78,7 @@ impl Curve {
 #[derive(Clone, Copy)]
 pub struct Dash {
     pub look: Look,
-    pub from: Place,
+    pub from: Point,
     pub width: u64,
 }
 
@@ -96,7 +96,7 @@ impl Dash {
 #[derive(Clone, Copy)]
 pub struct Upright {
     pub look: Look,
-    pub from: Place,
+    pub from: Point,
     pub to_y: u64,
 }
 
@@ -114,12 +114,12 @@ impl Upright {
 pub fn words_at(
     alloc: Global,
     colour: u8,
-    place: Place,
+    place: Point,
     words: &Words,
 ) -> Result<String, AllocError>
     ensures { IfOk result (λ text. string_bytes text ≡ words_text colour place words.now) }
 {
-    let Place { x, y } = place;
+    let Point { x, y } = place;
     let text = words.as_str();
     format!(in alloc; "<text class='t{colour}' x='{x}' y='{y}'>{text}</text>")
 }

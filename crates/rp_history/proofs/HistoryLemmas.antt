@@ -39,9 +39,6 @@ module _ {S : Type 0} (s : Setting S) (stage : Stage) where
   lead_more w [] last step lead is = (subst (λ (x : World). IsStepFrom s stage x step) lead is, refl)
   lead_more w (first ∷ rest) last step lead is = (lead.0, lead_more first.after rest last step lead.1 is)
 
-  pub history_begins : IsHistory s stage [] (opening_world s.config.nodes)
-  history_begins = record { steps = []; moments_are = refl; leads = refl }
-
   history_more : (moments : List Moment) (last : World) (step : HistoryStep) → IsHistory s stage moments last → IsStepFrom s stage last step
       → IsHistory s stage (moments ++ step.moment ∷ []) step.after
   history_more moments last step history is = record {

@@ -11,15 +11,16 @@ use Rattle.rp_base.specs.Sets.{Has}
 use Rattle.rp_base.specs.Promises.{HeardVote}
 use Rattle.rp_base.proofs.Members.{has_passing, passes}
 use Rattle.rp_learner.specs.Casts.{CastVote}
-use Rattle.rp_learner.specs.declared.place.Place.{Place}
-use Rattle.rp_learner.specs.declared.place.Place.TheVariants.{Unheard, Settled}
-use Rattle.rp_learner.specs.Places.{window, is_marked, opened, heard_from, settled_from}
+use Rattle.rp_learner.specs.declared.position_state.PositionState.{PositionState}
+use Rattle.rp_learner.specs.declared.position_state.PositionState.TheVariants.{Unheard, Settled}
+use Rattle.rp_base.specs.Number.{window}
+use Rattle.rp_learner.specs.Places.{is_marked, opened, heard_from, settled_from}
 use Rattle.rp_learner.specs.Status.{is_settled, Advances}
 use Rattle.rp_learner.proofs.Placing.{votes_of, settled_of, cast_of, or_skip, heard_where, heard_there, settled_where}
 use Rattle.rp_learner.proofs.Writing.{learning_of}
 
 -- n places that open from an offset on
-abbrev pub opened_from : ℕ → ℕ → ℕ → List Place
+abbrev pub opened_from : ℕ → ℕ → ℕ → List PositionState
 opened_from bits offset zero = []
 opened_from bits offset (suc n) = opened bits offset ∷ opened_from bits (suc offset) n
 
@@ -30,7 +31,7 @@ length-opened bits offset (suc n) = ap suc (length-opened bits (suc offset) n)
 -- one more opens after them
 opened_more : (bits offset n to : ℕ) → to ≡ offset + n → opened_from bits offset n ++ opened bits to ∷ [] ≡ opened_from bits offset (suc n)
 opened_more bits offset zero to at = let same : to ≡ offset = omega (arith, at) in ap (λ (k : ℕ). opened bits k ∷ []) same
-opened_more bits offset (suc n) to at = ap (λ (rest : List Place). opened bits offset ∷ rest) (opened_more bits (suc offset) n to (omega (arith, at)))
+opened_more bits offset (suc n) to at = ap (λ (rest : List PositionState). opened bits offset ∷ rest) (opened_more bits (suc offset) n to (omega (arith, at)))
 
 opened_at : (bits offset n j : ℕ) → j < n → slice_get (opened_from bits offset n) j ≡ Some (opened bits (offset + j))
 opened_at bits offset zero j lt = absurd (omega (arith, lt))
@@ -40,10 +41,10 @@ opened_at bits offset (suc n) (suc j) lt =
     opened_at bits (suc offset) n j (omega (arith, lt)) ∙ ap (λ (k : ℕ). Some (opened bits k)) same
 
 -- The window moved on by some of the places that it is to move in all: the last of them open.
-abbrev pub moved_on : List Place → ℕ → ℕ → ℕ → List Place
+abbrev pub moved_on : List PositionState → ℕ → ℕ → ℕ → List PositionState
 moved_on old moved bits n = drop n old ++ opened_from bits (window - moved) n
 
-module _ (old : List Place) (long : length old ≡ window) (bits moved : ℕ) where
+module _ (old : List PositionState) (long : length old ≡ window) (bits moved : ℕ) where
   pub length-moved : (n : ℕ) → n ≤ window → length (moved_on old moved bits n) ≡ window
   length-moved n le =
       omega (arith, le, long, length-append (drop n old) (opened_from bits (window - moved) n), length-drop n old, length-opened bits (window - moved) n)
@@ -61,43 +62,43 @@ module _ (old : List Place) (long : length old ≡ window) (bits moved : ℕ) wh
       let one : length (moved_on old moved bits n ++ opened bits offset ∷ []) - window ≡ 1 =
       omega (arith, fits, length-append (moved_on old moved bits n) (opened bits offset ∷ []), length-moved n (omega (arith, fits))) in
       ap (λ (k : ℕ). drop k (moved_on old moved bits n ++ opened bits offset ∷ [])) one
-      ∙ ap (drop 1) (append_assoc left (opened_from bits o n) (opened bits offset ∷ []) ∙ ap (λ (rest : List Place). left ++ rest) (opened_more bits o n offset at))
+      ∙ ap (drop 1) (append_assoc left (opened_from bits o n) (opened bits offset ∷ []) ∙ ap (λ (rest : List PositionState). left ++ rest) (opened_more bits o n offset at))
       ∙ drop-append-le 1 left (opened_from bits o (suc n)) (omega (arith, fits, long, length-drop n old))
-      ∙ ap (λ (rest : List Place). rest ++ opened_from bits o (suc n)) (drop-drop 1 n old ∙ ap (λ (k : ℕ). drop k old) (let same : n + 1 ≡ suc n = omega arith in same))
+      ∙ ap (λ (rest : List PositionState). rest ++ opened_from bits o (suc n)) (drop-drop 1 n old ∙ ap (λ (k : ℕ). drop k old) (let same : n + 1 ≡ suc n = omega arith in same))
       ∙ ap (λ (k : ℕ). moved_on old moved bits k) (sym next)
 
 opened_votes : (bits j : ℕ) → votes_of (Some (opened bits j)) ≡ []
 opened_votes bits j =
     elim (cases_Bool (is_marked bits j)) [
-      | inl set ↦ ap (λ (p : Place). votes_of (Some p)) (cond-true (is_marked bits j) Settled Unheard set)
-      | inr clear ↦ ap (λ (p : Place). votes_of (Some p)) (cond-false (is_marked bits j) Settled Unheard clear)
+      | inl set ↦ ap (λ (p : PositionState). votes_of (Some p)) (cond-true (is_marked bits j) Settled Unheard set)
+      | inr clear ↦ ap (λ (p : PositionState). votes_of (Some p)) (cond-false (is_marked bits j) Settled Unheard clear)
     ]
 
 opened_mark : (bits j : ℕ) → settled_of (Some (opened bits j)) ≡ is_marked bits j
 opened_mark bits j =
     elim (cases_Bool (is_marked bits j)) [
-      | inl set ↦ ap (λ (p : Place). settled_of (Some p)) (cond-true (is_marked bits j) Settled Unheard set) ∙ sym set
-      | inr clear ↦ ap (λ (p : Place). settled_of (Some p)) (cond-false (is_marked bits j) Settled Unheard clear) ∙ sym clear
+      | inl set ↦ ap (λ (p : PositionState). settled_of (Some p)) (cond-true (is_marked bits j) Settled Unheard set) ∙ sym set
+      | inr clear ↦ ap (λ (p : PositionState). settled_of (Some p)) (cond-false (is_marked bits j) Settled Unheard clear) ∙ sym clear
     ]
 
 -- a place that holds a vote is one of the places
-has_place : (places : List Place) (k : ℕ) (c : CastVote) → Has c (votes_of (slice_get places k)) → k < length places
+has_place : (places : List PositionState) (k : ℕ) (c : CastVote) → Has c (votes_of (slice_get places k)) → k < length places
 has_place places k c has =
     elim (cases_Bool (nat_lt k (length places))) [
       | inl inside ↦ ltb-true k (length places) inside
       | inr past ↦
-          let none : Has c [] = subst (λ (o : Option Place). Has c (votes_of o)) (slice_get_past places k (ltb-false k (length places) past)) has in
+          let none : Has c [] = subst (λ (o : Option PositionState). Has c (votes_of o)) (slice_get_past places k (ltb-false k (length places) past)) has in
           absurd none
     ]
 
-module _ (nodes most first start bits : ℕ) (old : List Place) (long : length old ≡ window) (on : first ≤ start) where
+module _ (nodes most first start bits : ℕ) (old : List PositionState) (long : length old ≡ window) (on : first ≤ start) where
   abbrev moved : ℕ
   moved = min (start - first) window
 
   within : moved ≤ window
   within = omega arith
 
-  abbrev new : List Place
+  abbrev new : List PositionState
   new = moved_on old moved bits moved
 
   -- a place that stays, and one that opened
@@ -127,7 +128,7 @@ module _ (nodes most first start bits : ℕ) (old : List Place) (long : length o
               let lt : j < window - moved = ltb-true j (window - moved) below in
               let at : h.1 ≡ first + (moved + j) = omega (arith, lt, on, hit.1) in
               passes (λ (h : HeardVote). nat_le start h.1) h (heard_from first old)
-              (heard_there old first (moved + j) h at (subst (λ (o : Option Place). Has (cast_of h) (votes_of o)) (stays j lt) hit.2))
+              (heard_there old first (moved + j) h at (subst (λ (o : Option PositionState). Has (cast_of h) (votes_of o)) (stays j lt) hit.2))
               (le-leb start h.1 (omega (arith, hit.1)))
           | inr above ↦
               let ge : window - moved ≤ j = ltb-false j (window - moved) above in
@@ -145,7 +146,7 @@ module _ (nodes most first start bits : ℕ) (old : List Place) (long : length o
         let at : moved + j ≡ k = omega (arith, le, lt, on, hit.1) in
         let here : h.1 ≡ start + j = omega (arith, le, lt, on, hit.1) in
         heard_there new start j h here
-        (subst (λ (o : Option Place). Has (cast_of h) (votes_of o)) (ap (slice_get old) (sym at) ∙ sym (stays j (omega (arith, lt, at)))) hit.2),
+        (subst (λ (o : Option PositionState). Has (cast_of h) (votes_of o)) (ap (slice_get old) (sym at) ∙ sym (stays j (omega (arith, lt, at)))) hit.2),
   )
 
   mark_of : (i j : ℕ) → i ≡ start + j → is_settled (learning_of nodes most start new) i ≡ settled_of (slice_get new j)
@@ -169,8 +170,8 @@ module _ (nodes most first start bits : ℕ) (old : List Place) (long : length o
       let at : i ≡ start + j = omega (arith, le) in
       mark_of i j at ∙ ap settled_of (opens j (omega (arith, above, on, at)) (omega (arith, lt, at))) ∙ opened_mark bits j
 
-  pub advances : (places : List Place) (by : ℕ) → by ≡ min (start - first) window → places ≡ moved_on old by bits by → Advances (learning_of nodes most first old) start bits (learning_of nodes most start places)
+  pub advances : (places : List PositionState) (by : ℕ) → by ≡ min (start - first) window → places ≡ moved_on old by bits by → Advances (learning_of nodes most first old) start bits (learning_of nodes most start places)
   advances places by same is =
-      subst (λ (rest : List Place). Advances (learning_of nodes most first old) start bits (learning_of nodes most start rest))
+      subst (λ (rest : List PositionState). Advances (learning_of nodes most first old) start bits (learning_of nodes most start rest))
       (sym (is ∙ ap (λ (n : ℕ). moved_on old n bits n) same))
       (record { nodes = refl; positions = refl; begins = refl; heard = heard_on; stays = settled_still; opens = settled_by })

@@ -8,8 +8,8 @@ use Rattle.rp_base.specs.Majority.{majority_of, nodes_among}
 use Rattle.rp_base.specs.Sets.{Has, with_member}
 use Rattle.rp_base.specs.Promises.{voters_of, makes_majority}
 use Rattle.rp_learner.specs.Casts.{CastVote, voters_with}
-use Rattle.rp_learner.specs.declared.place.Place.{Place}
-use Rattle.rp_learner.specs.declared.place.Place.TheVariants.{Settled}
+use Rattle.rp_learner.specs.declared.position_state.PositionState.{PositionState}
+use Rattle.rp_learner.specs.declared.position_state.PositionState.TheVariants.{Settled}
 use Rattle.rp_learner.specs.declared.learner.VoteStatus.{VoteStatus}
 use Rattle.rp_learner.specs.declared.learner.VoteStatus.TheVariants.{Counting, Learned, Known, Beyond}
 use Rattle.rp_learner.specs.declared.learner.Decision.TheVariants as decisions
@@ -21,12 +21,12 @@ use Rattle.rp_learner.proofs.Voters.{voters_where, one_more_voter}
 use Rattle.rp_learner.proofs.Writing.{learning_of, hears, settles, same_learning}
 
 -- an element written where it is changes nothing
-pub kept : (places : List Place) (k : ℕ) (p : Place) → slice_get places k ≡ Some p → set places k p ≡ places
+pub kept : (places : List PositionState) (k : ℕ) (p : PositionState) → slice_get places k ≡ Some p → set places k p ≡ places
 kept [] k p at = refl
-kept (q ∷ places) zero p at = ap (λ (o : Option Place). unwrap_or o p ∷ places) (sym at)
-kept (q ∷ places) (suc k) p at = ap (λ (rest : List Place). q ∷ rest) (kept places k p at)
+kept (q ∷ places) zero p at = ap (λ (o : Option PositionState). unwrap_or o p ∷ places) (sym at)
+kept (q ∷ places) (suc k) p at = ap (λ (rest : List PositionState). q ∷ rest) (kept places k p at)
 
-module _ (nodes most first : ℕ) (places : List Place) (i k : ℕ) (p : Place) (at : i ≡ first + k) (long : length places ≡ 64) (here : slice_get places k ≡ Some p) where
+module _ (nodes most first : ℕ) (places : List PositionState) (i k : ℕ) (p : PositionState) (at : i ≡ first + k) (long : length places ≡ 64) (here : slice_get places k ≡ Some p) where
   abbrev pub l : Learning
   l = learning_of nodes most first places
 
@@ -66,7 +66,7 @@ module _ (nodes most first : ℕ) (places : List Place) (i k : ℕ) (p : Place) 
 
     voters : voters_at nodes p cast ≡ length (nodes_among nodes (voters_of i vote (heard_with l from i vote)))
     voters =
-        ap (λ (o : Option Place). length (nodes_among nodes (voters_with (votes_of o) from vote))) (sym here)
+        ap (λ (o : Option PositionState). length (nodes_among nodes (voters_with (votes_of o) from vote))) (sym here)
         ∙ ap (λ (list : List ℕ). length (nodes_among nodes (with_member nat_eq list from))) (voters_where places first i k vote at)
         ∙ ap (λ (list : List ℕ). length (nodes_among nodes list)) (one_more_voter i from vote (heard_from first places))
 
@@ -89,20 +89,20 @@ module _ (nodes most first : ℕ) (places : List Place) (i k : ℕ) (p : Place) 
     counting_here free few = sym (by_majority false free (lt-leb (majority_of nodes) (voters_at nodes p cast) few))
 
     -- once the vote is noted in the place, it is noted
-    pub notes_here : (q : Place) → NotesCast nodes p cast q → SameLearning (learning_of nodes most first (set places k q)) (with_vote l from i vote)
+    pub notes_here : (q : PositionState) → NotesCast nodes p cast q → SameLearning (learning_of nodes most first (set places k q)) (with_vote l from i vote)
     notes_here q noted =
-        let now : Place → Learning = λ r. learning_of nodes most first (set places k r) in
+        let now : PositionState → Learning = λ r. learning_of nodes most first (set places k r) in
         let goes : (s : VoteStatus) → s ≡ status_with l from i vote → (m : Learning) → SameLearning m (with_status l from i vote s) → SameLearning m (with_vote l from i vote) =
         λ s e m same. subst (λ (t : VoteStatus). SameLearning m (with_status l from i vote t)) e same in
         elim (cases_Bool (is_settled_in p)) [
           | inl settled ↦
-              subst (λ (r : Place). SameLearning (now r) (with_vote l from i vote)) (sym (noted.known settled))
-              (subst (λ (rs : List Place). SameLearning (learning_of nodes most first rs) (with_vote l from i vote)) (sym (kept places k p here))
+              subst (λ (r : PositionState). SameLearning (now r) (with_vote l from i vote)) (sym (noted.known settled))
+              (subst (λ (rs : List PositionState). SameLearning (learning_of nodes most first rs) (with_vote l from i vote)) (sym (kept places k p here))
               (goes Known (known_here settled) l (same_learning l)))
           | inr free ↦ elim (cases_Bool (nat_le (majority_of nodes) (voters_at nodes p cast))) [
             | inl enough ↦
                 let most_of : majority_of nodes ≤ voters_at nodes p cast = leb-true (majority_of nodes) (voters_at nodes p cast) enough in
-                subst (λ (r : Place). SameLearning (now r) (with_vote l from i vote)) (sym (noted.learned free most_of))
+                subst (λ (r : PositionState). SameLearning (now r) (with_vote l from i vote)) (sym (noted.learned free most_of))
                 (goes Learned (learned_here free most_of) (now Settled) (settles places first k i at within nodes most))
             | inr few ↦
                 let fewer : voters_at nodes p cast < majority_of nodes = leb-false (majority_of nodes) (voters_at nodes p cast) few in
@@ -116,7 +116,7 @@ module _ (nodes most first : ℕ) (places : List Place) (i k : ℕ) (p : Place) 
     one_more_here many free few none = record {
       counting = sym (counting_here free (omega (arith, few, many)));
       unheard = λ h.
-          none (subst (λ (o : Option Place). Has cast (votes_of o)) here ((heard_at places first k (from, i, vote) at).0 h));
+          none (subst (λ (o : Option PositionState). Has cast (votes_of o)) here ((heard_at places first k (from, i, vote) at).0 h));
     }
 
 -- a position's offset in the window is how far it is above the first

@@ -8,7 +8,8 @@ use Rattle.rp_base.specs.declared.record.Vote.{Vote}
 use Rattle.rp_base.specs.Sets.{Has, SameMembers, with_member}
 use Rattle.rp_base.specs.Promises.{HeardVote, same_heard, makes_majority, heard_elsewhere}
 use Rattle.rp_learner.specs.Learning.{Learning}
-use Rattle.rp_learner.specs.Places.{window, is_marked}
+use Rattle.rp_base.specs.Number.{window}
+use Rattle.rp_learner.specs.Places.{is_marked}
 use Rattle.rp_learner.specs.declared.learner.VoteStatus.{VoteStatus}
 use Rattle.rp_learner.specs.declared.learner.VoteStatus.TheVariants.{Counting, Learned, Known, Beyond}
 use Rattle.rp_learner.specs.declared.learner.Decision.{Decision}

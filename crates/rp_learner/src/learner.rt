@@ -4,19 +4,15 @@ ghost use Rattle.std.specs.Prelude.{◌≡◌, ◌≤◌, ◌-◌, ℕ, nat_lt, 
 ghost use Rattle.circular_buffer.specs.Buffer.{buffer};
 ghost use Rattle.rp_base.specs.declared.record.Vote.{Vote};
 ghost use Rattle.rp_learner.specs.Learning.{Learning};
-ghost use Rattle.rp_learner.specs.Places.{window};
-ghost use Rattle.rp_learner.specs.declared.place.Place.TheVariants.{Unheard};
+ghost use Rattle.rp_base.specs.Number.{window};
+ghost use Rattle.rp_learner.specs.declared.position_state.PositionState.TheVariants.{Unheard};
 ghost use Rattle.rp_learner.specs.Status.{SameLearning, SameSizes, fresh, vote_for, status_with, decision_at, with_settled, with_vote, NotesVote, Settles, IsOneMore, Advances};
 
-use crate::place::{Cast, Place};
+use crate::position_state::{Cast, PositionState};
 use circular_buffer::HeapCircularBuffer;
-use rp_base::{Action, Ballot, Fault, NodeId, Position, majority};
+use rp_base::{Action, Ballot, Fault, NodeId, Position, WINDOW, majority};
 use std::alloc::{AllocError, Global};
 use std::marker::Model;
-
-/// How many positions the window has: so far above the first unlearned one votes are counted, and a
-/// node may lead.
-pub const WINDOW: u32 = 64;
 
 /// What holds at a position once a vote is counted.
 #[derive(Clone, Copy, Debug, PartialEq, Eq)]
@@ -52,7 +48,7 @@ pub struct Learner {
     nodes: u8,
     max_positions: u16,
     first: u32,
-    places: HeapCircularBuffer<Place>,
+    places: HeapCircularBuffer<PositionState>,
 }
 
 impl Model for Learner {
@@ -61,7 +57,8 @@ impl Model for Learner {
 
     ghost Value = { Learning };
 
-    ghost use Rattle.rp_learner.specs.Places.{heard_from, settled_from, window};
+    ghost use Rattle.rp_base.specs.Number.{window};
+    ghost use Rattle.rp_learner.specs.Places.{heard_from, settled_from};
 
     ghost view = { λ l. record {
       nodes = l.nodes;
@@ -76,13 +73,13 @@ impl Model for Learner {
 }
 
 /// The places of a window in which nothing is heard or settled.
-fn unheard_places(alloc: Global) -> Result<HeapCircularBuffer<Place>, AllocError>
+fn unheard_places(alloc: Global) -> Result<HeapCircularBuffer<PositionState>, AllocError>
     ensures empty { IfOk result (λ places. places
         ≡ buffer (replicate window Unheard) window) }
 {
     let mut places = HeapCircularBuffer::with_capacity(alloc, WINDOW as usize)?;
     for _ in 0..WINDOW {
-        places.push_back(Place::Unheard);
+        places.push_back(PositionState::Unheard);
     }
     Ok(places)
 }
@@ -124,9 +121,9 @@ impl Learner {
         };
         match self.places.get(offset) {
             None => VoteStatus::Beyond,
-            Some(Place::Settled) => VoteStatus::Known,
-            Some(Place::Unheard) => VoteStatus::Counting,
-            Some(Place::Heard(vote_counts)) => {
+            Some(PositionState::Settled) => VoteStatus::Known,
+            Some(PositionState::Unheard) => VoteStatus::Counting,
+            Some(PositionState::Heard(vote_counts)) => {
                 let voters = vote_counts.count_with(self.nodes, from, ballot, action);
                 if voters >= usize::from(majority(self.nodes)) {
                     VoteStatus::Learned
@@ -214,7 +211,8 @@ impl Learner {
     {
         let moved = (first - self.first).min(WINDOW);
         for offset in WINDOW - moved..WINDOW {
-            self.places.push_back(Place::opened(settled, offset));
+            self.places
+                .push_back(PositionState::opened(settled, offset));
         }
         self.first = first;
     }

@@ -2,12 +2,12 @@
 //!
 //! In reading order:
 //! - `learner`: the learner of one node, over a window of 64 positions
-//! - `place`: what is known of one position of the window
+//! - `position_state`: what is known of one position of the window
 //! - `vote_counts`: the votes heard at one position
 #![tactic(auto)]
 
 mod learner;
-mod place;
+mod position_state;
 mod vote_counts;
 
-pub use learner::{Decision, Learner, VoteStatus, WINDOW, same_learners_answer_alike};
+pub use learner::{Decision, Learner, VoteStatus, same_learners_answer_alike};

@@ -148,13 +148,6 @@ ahead_written front reserved old new p place far written i = ⊎_elim
     ∙ sym (ap (λ b. cond b (Some place) (place_of front reserved old i)) (same_apart i p apart)))
     (cases_eq i p)
 
--- an action is put after the front, whose place after it was reserved
-pub next_learned : (front : List Action) (ahead : Ahead) (a : Action) (i : ℕ) → place_of (front ++ a ∷ []) false ahead i ≡ cond (same i (length front + 1)) (Some (Some a)) (place_of front true ahead i)
-next_learned front ahead a i =
-    ap (λ x. option_or x (place_ahead ahead i)) (push_place front a i)
-    ∙ elim (same i (length front + 1)) as (λ b. option_or (cond b (Some (Some a)) (front_place front i)) (place_ahead ahead i) ≡ cond b (Some (Some a)) (option_or (front_place front i) (option_or (cond b (Some None) None) (place_ahead ahead i))))
-    [ true ↦ refl | false ↦ refl ]
-
 -- or was ahead
 pub next_moved : (front : List Action) (old new : Ahead) (a : Action) → ((i : ℕ) → place_ahead new i ≡ cond (same (length front + 1) i) None (place_ahead old i))
     → (i : ℕ) → place_of (front ++ a ∷ []) false new i ≡ cond (same i (length front + 1)) (Some (Some a)) (place_of front false old i)

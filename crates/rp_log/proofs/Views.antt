@@ -170,26 +170,5 @@ module _ (front : List Action) (reserved : Bool) (ahead : Ahead) (taken : ℕ) w
       let there = front_within front k within in
       subst (λ (p : Option (Option Action)). IsSome p) (sym (shown front reserved ahead (suc k))) (front_room (slice_get front k) _ there)
 
-  pub room_ahead : (i : ℕ) → IsSome (place_ahead ahead i) → IsSome (get (places_of front reserved ahead) i)
-  room_ahead i there =
-      subst (λ (p : Option (Option Action)). IsSome p) (sym (shown front reserved ahead i)) (room_of (front_place front i) (place_ahead ahead i) _ there)
-
-  -- a position after the front has none, where none is ahead and it is not the next
-  pub no_room : (i : ℕ) → length front + 1 < i → place_ahead ahead i ≡ None → get (places_of front reserved ahead) i ≡ None
-  no_room i past none =
-      shown front reserved ahead i ∙ ap₂ option_or (front_past front i (omega arith)) (ap₂ option_or (next_none front reserved ahead taken i (λ e. omega arith)) none)
-
-pub no_next_room : (front : List Action) (ahead : Ahead) → place_ahead ahead (length front + 1) ≡ None → get (places_of front false ahead) (length front + 1) ≡ None
-no_next_room front ahead none = shown front false ahead (length front + 1) ∙ ap₂ option_or (front_past front (length front + 1) (omega arith)) none
-
-pub next_room : (front : List Action) (ahead : Ahead) → IsSome (get (places_of front true ahead) (length front + 1))
-next_room front ahead =
-    let here = shown front true ahead (length front + 1) ∙ ap₂ option_or (front_past front (length front + 1) (omega arith)) refl
-    ∙ ap (λ b. option_or (cond b (Some None) None) (place_ahead ahead (length front + 1))) (same_is (length front + 1) (length front + 1) refl) in
-    subst (λ (p : Option (Option Action)). IsSome p) (sym here) refl
-
-pub room_kept : (log : Contents) (i : ℕ) → IsSome (get log.places i) → log ≡ with_room log i
-room_kept log i there = rw there refl
-
 pub room_made : (log : Contents) (i : ℕ) (places : Places) → get log.places i ≡ None → places ≡ insert log.places i None → record { places = places; taken = log.taken } ≡ with_room log i
 room_made log i places none made = rw (none, made) refl

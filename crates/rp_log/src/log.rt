@@ -183,6 +183,19 @@ impl Log {
         self.taken += 1;
     }
 
+    /// Takes the action that is ready, and returns it with its position; `None` if none is ready.
+    pub fn take_ready(&mut self) -> Option<(Position, Action)>
+        ensures ready { option_map (λ ready. ready.1) result ≡ ready_of self.old }
+        ensures position { IfSome result (λ ready. ready.0 ≡ next_to_take self.old) }
+        ensures taken { IfSome result (λ ready. self.new.taken ≡ self.old.taken ++ ready.1 ∷ []) }
+        ensures none { IfNone result (self.new ≡ self.old) }
+        ensures places { self.new.places ≡ self.old.places }
+    {
+        let action = *self.ready()?;
+        self.take();
+        Some((Position::new(self.taken)?, action))
+    }
+
     /// How many actions were taken, at most 65,535: those learned at the positions up to that
     /// number.
     pub fn applied(&self) -> u32

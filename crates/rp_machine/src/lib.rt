@@ -4,19 +4,19 @@
 //! - `machine`: the obligations of a machine to the log that drives it
 //! - `replay`: what a log of actions leads to, at any machine
 //! - `places`: where a call is in a log, and what it was answered
-//! - `counting`: how many answers a log leads to
+//! - `few_answers`: how many answers a log leads to
 //! - `numbered`: a machine after a log: each call counts once
 //! - `tally`: the least machine: a sum for each object
 #![tactic(auto)]
 
-mod counting;
+mod few_answers;
 mod machine;
 mod numbered;
 mod places;
 mod replay;
 mod tally;
 
-pub use counting::answers_are_few;
+pub use few_answers::answers_are_few;
 pub use machine::Machine;
 pub use numbered::{Numbered, calls_count_once};
 pub use places::{a_call_has_one_answer, a_call_has_one_place, an_answered_call_has_one_place};

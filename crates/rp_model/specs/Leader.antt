@@ -12,6 +12,7 @@ use Rattle.rp_base.specs.declared.fault.Fault.TheVariants.{BallotsSpent, LogFull
 use Rattle.rp_base.specs.declared.record.Vote.{Vote}
 use Rattle.rp_base.specs.declared.record.Rec.{Rec}
 use Rattle.rp_base.specs.declared.record.Rec.TheVariants.{Started}
+use Rattle.rp_base.specs.Number.{window}
 use Rattle.rp_base.specs.Ballot.{number_of, greatest_with, next_ballot, round_of}
 use Rattle.rp_base.specs.Records.{started_of, learned_at, applied_of, first_unlearned}
 use Rattle.rp_base.specs.Promises.{Promise, offer_of}
@@ -26,10 +27,6 @@ use Rattle.rp_model.specs.Parts.{Running}
 use Rattle.rp_model.specs.Parts.{Turn}
 use Rattle.rp_model.specs.Says.{says_to_all, sends, notes, writes}
 use Rattle.rp_model.specs.Pending.{own_action}
-
--- how far above the first unlearned position a node may lead, and counts votes
-abbrev pub window : ℕ
-window = 64
 
 -- no proposal runs, or one that is prepared
 abbrev pub is_ready : ℕ → Option Proposal → Bool

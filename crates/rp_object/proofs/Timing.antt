@@ -72,9 +72,6 @@ sorted_first s (x ∷ xs) ys first second =
 
 -- ---- what is due
 
-abbrev due_one : ℕ → ℕ → ℤ → List Setting
-due_one clock number time = cond (int_le time (pos clock)) ((time, number) ∷ []) []
-
 due_append : (clock number : ℕ) (xs ys : List (Option ℤ)) → due_from clock number (xs ++ ys) ≡ due_from clock number xs ++ due_from clock (number + length xs) ys
 due_append clock number [] ys =
     let same : number ≡ number + 0 = omega arith in
@@ -219,16 +216,6 @@ best_first clock timers time number was =
     ap (λ (l : List Setting). map (λ (x : Setting). x.1) (sorted l)) all
     ∙ ap (map (λ (x : Setting). x.1)) (sorted_first s left right was.first was.second)
     ∙ ap (λ (l : List Setting). number ∷ map (λ (x : Setting). x.1) (sorted l)) (sym others)
-
--- where none is due, the list of those that are due is empty
-pub none_first : (clock : ℕ) (timers : List (Option ℤ)) → due_from clock 1 timers ≡ [] → due_events clock timers ≡ []
-none_first clock timers none = ap (λ (l : List Setting). map (λ (x : Setting). x.1) (sorted l)) none
-
--- it is there
-pub best_there : (clock : ℕ) (timers : List (Option ℤ)) (time : ℤ) (number : ℕ) → Best clock timers time number → (1 ≤ number) × (number ≤ length timers)
-best_there clock timers time number was =
-    let long = ap length was.split ∙ length-append was.before (Some time ∷ was.following) in
-    (omega (arith, was.place), omega (arith, was.place, long))
 
 -- ---- the loop's steps, at what the code compares
 

@@ -63,11 +63,6 @@ calls_more calls i call there before text new so_far printed =
     let more : take (i + 1) calls ≡ take i calls ++ call ∷ [] = take_more calls i call below ∙ ap (λ (c : Waiting). take i calls ++ c ∷ []) (get_or_from_slice_get calls i call call there) in
     printed ∙ ap (λ (l : List ℕ). l ++ call_text call) so_far ∙ flat_map_more call_text before (take i calls) call ∙ ap (λ (l : List Waiting). before ++ flat_map call_text l) (sym more)
 
--- all calls of a queue at which some wait
-pub all_calls_text : (calls : List Waiting) → calls ≢ [] → flat_map call_text calls ≡ queue_text calls
-all_calls_text [] some = absurd (some refl)
-all_calls_text (call ∷ rest) some = refl
-
 -- one queue with its name
 abbrev queue_part : Profile → String Global → List Waiting → List ℕ
 queue_part profile name queue = codes " queue" ++ (entry_text profile (string_bytes name) ++ queue_text queue)

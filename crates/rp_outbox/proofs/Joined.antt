@@ -153,11 +153,6 @@ from_start ms place n =
     let whole : texts_of ms ≡ front ++ texts_of (drop place ms) = ap texts_of (sym (take-append-drop place ms)) ∙ texts_append (take place ms) (drop place ms) in
     ap (drop (length front)) whole ∙ drop-append_seam front (texts_of (drop place ms)) ∙ ap texts_of n.rest
 
--- each packet has four bytes and more
-pub few_texts : (ms : List Message) → 4 * length ms ≤ length (texts_of ms)
-few_texts [] = omega arith
-few_texts (m ∷ ms) = omega (arith, few_texts ms, length-append (text_of m) (texts_of ms), length-append (head_text m) (body_text_at V2 m.body))
-
 -- a text lies within them all
 pub text_within : (ms : List Message) (place : ℕ) (n : Next ms place) → length (texts_of (take place ms)) + length (text_of n.m) ≤ length (texts_of ms)
 text_within ms place n =

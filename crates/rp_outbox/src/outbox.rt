@@ -5,7 +5,7 @@ ghost use Rattle.rp_base.specs.Action.{IsCount, IsRight};
 ghost use Rattle.rp_codec.specs.Decoding.{IsLongBody};
 ghost use Rattle.rp_codec.specs.Message.{Message, IsPacket, IsVoteBelow, MaySay};
 ghost use Rattle.rp_codec.specs.Text.{text_of};
-ghost use Rattle.rp_codec.specs.Usual.{IsPlace};
+ghost use Rattle.rp_codec.specs.Usual.{IsHeader};
 ghost use Rattle.rp_codec.specs.declared.packet.Party.TheVariants.{Node};
 ghost use Rattle.rp_codec.specs.declared.packet.Body.{Body};
 ghost use Rattle.rp_codec.specs.declared.packet.Body.TheVariants.{Prepare, Promise, Accept, Accepted, Decided, Reply as Answered};
@@ -14,15 +14,12 @@ ghost use Rattle.rp_outbox.specs.Packets.{IsTextOf, IsRun, packets_in, ends_of, 
 
 use rp_base::{Action, Answer, NodeId, Reply, Vote};
 use rp_codec::{
-    Body, Packet, Party, Place, RECEIVER, SentDecision, SentReply, accept_text, accepted_text,
-    decided_text, encode_onto, is_call, prepare_text, promise_text, text_of_packet,
+    Body, Header, LONGEST_TEXT, Packet, Party, RECEIVER, SentDecision, SentReply, accept_text,
+    accepted_text, decided_text, encode_onto, is_call, prepare_text, promise_text, text_of_packet,
     value_reply_text,
 };
 use std::alloc::{AllocError, Global};
 use std::marker::Model;
-
-/// How many bytes the text of a packet has at most, if it takes no memory.
-const LONGEST_TEXT: usize = 40;
 
 /// Packets that are sent: their texts in one run of bytes, with the place where each ends. What is put
 /// into the room that was made takes no memory.
@@ -269,24 +266,24 @@ impl Outbox {
 
     /// A promise, with the last vote, into the room.
     #[inline(always)]
-    pub fn promise(&mut self, place: Place, last: Option<Vote>)
-        requires below { IfSome last (IsVoteBelow place.ballot) }
+    pub fn promise(&mut self, header: Header, last: Option<Vote>)
+        requires below { IfSome last (IsVoteBelow header.ballot) }
         requires room { longest_text ≤ self.old.room }
         ensures sent { self.new.sent ≡ self.old.sent
-            ++ says place.from (Promise place.position place.ballot last) place.to ∷ [] }
+            ++ says header.from (Promise header.position header.ballot last) header.to ∷ [] }
         ensures room { self.old.room ≤ self.new.room + longest_text }
     {
         if last.is_none() {
-            place_in_range(&place);
-            self.put_short(&promise_text(place));
+            header_in_range(&header);
+            self.put_short(&promise_text(header));
             return;
         }
-        let Place {
+        let Header {
             from,
             to,
             position,
             ballot,
-        } = place;
+        } = header;
         self.say(
             from,
             to,
@@ -300,24 +297,24 @@ impl Outbox {
 
     /// A vote, into the room.
     #[inline(always)]
-    pub fn accepted(&mut self, place: Place, action: &Action)
+    pub fn accepted(&mut self, header: Header, action: &Action)
         requires right { IsRight action.now }
         requires room { longest_text ≤ self.old.room }
         ensures sent { self.new.sent ≡ self.old.sent
-            ++ says place.from (Accepted place.position place.ballot action.now) place.to ∷ [] }
+            ++ says header.from (Accepted header.position header.ballot action.now) header.to ∷ [] }
         ensures room { self.old.room ≤ self.new.room + longest_text }
     {
         if is_call(action) {
-            place_in_range(&place);
-            self.put_short(&accepted_text(place, action));
+            header_in_range(&header);
+            self.put_short(&accepted_text(header, action));
             return;
         }
-        let Place {
+        let Header {
             from,
             to,
             position,
             ballot,
-        } = place;
+        } = header;
         let action = *action;
         self.say(
             from,
@@ -330,42 +327,42 @@ impl Outbox {
         );
     }
 
-    /// A prepare to each node, from the node of the place, itself too, into the room.
+    /// A prepare to each node, from the node of the header, itself too, into the room.
     #[inline(always)]
-    pub fn prepare_all(&mut self, place: Place, nodes: u8)
-        requires itself { place.to ≡ place.from }
+    pub fn prepare_all(&mut self, header: Header, nodes: u8)
+        requires itself { header.to ≡ header.from }
         requires nodes { nodes ≤ 7 }
         requires room { longest_text * nodes ≤ self.old.room }
         ensures sent { self.new.sent ≡ self.old.sent
-            ++ says_to_all nodes place.from (Prepare place.position place.ballot) }
+            ++ says_to_all nodes header.from (Prepare header.position header.ballot) }
         ensures room { self.old.room ≤ self.new.room + longest_text * nodes }
     {
-        place_in_range(&place);
-        self.put_to_all(&prepare_text(place), nodes);
+        header_in_range(&header);
+        self.put_to_all(&prepare_text(header), nodes);
     }
 
-    /// An accept to each node, from the node of the place, itself too, into the room.
+    /// An accept to each node, from the node of the header, itself too, into the room.
     #[inline(always)]
-    pub fn accept_all(&mut self, place: Place, action: &Action, nodes: u8)
-        requires itself { place.to ≡ place.from }
+    pub fn accept_all(&mut self, header: Header, action: &Action, nodes: u8)
+        requires itself { header.to ≡ header.from }
         requires nodes { nodes ≤ 7 }
         requires right { IsRight action.now }
         requires room { longest_text * nodes ≤ self.old.room }
         ensures sent { self.new.sent ≡ self.old.sent
-            ++ says_to_all nodes place.from (Accept place.position place.ballot action.now) }
+            ++ says_to_all nodes header.from (Accept header.position header.ballot action.now) }
         ensures room { self.old.room ≤ self.new.room + longest_text * nodes }
     {
         if is_call(action) {
-            place_in_range(&place);
-            self.put_to_all(&accept_text(place, action), nodes);
+            header_in_range(&header);
+            self.put_to_all(&accept_text(header, action), nodes);
             return;
         }
-        let Place {
+        let Header {
             from,
             position,
             ballot,
             ..
-        } = place;
+        } = header;
         let action = *action;
         self.say_to_all(
             from,
@@ -432,21 +429,21 @@ impl Outbox {
     }
 }
 
-/// Shows that each number of a place is within its range.
+/// Shows that each number of a header is within its range.
 #[inline(always)]
-fn place_in_range(place: &Place)
-    ensures { IsPlace place.now }
+fn header_in_range(header: &Header)
+    ensures { IsHeader header.now }
 {
-    let Place {
+    let Header {
         from,
         to,
         position,
         ballot,
-    } = *place;
+    } = *header;
     let _numbers = (from.get(), to.get(), position.get(), ballot.get());
 }
 
-/// The node of the number that is one above `place`.
+/// The node of the number that is one above `header`.
 fn node_after(place: u8) -> NodeId
     requires { place < 7 }
     ensures { result ≡ place + 1 }

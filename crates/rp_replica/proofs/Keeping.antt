@@ -76,22 +76,6 @@ pub all_in_log : (most : ℕ) (all : List Rec) → AllInLog most (records_in_log
 all_in_log most [] = tt
 all_in_log most (rec ∷ rest) = in_log_more most rec (records_in_log most rest) (is_in_log most rec) refl (all_in_log most rest)
 
--- all records that the device holds, of which those within the log count
-pub disk_opened : (most : ℕ) (old disk : Disk) (all : List Rec) (cut_bytes : ℕ) (records : List Rec) → IsOpened old all cut_bytes disk → records ≡ records_in_log most all → IsOnDisk most disk false records
-disk_opened most old disk all cut_bytes records opened counted =
-    let stable : disk.stable ≡ length disk.contents = opened.stable in
-    record {
-      all = all;
-      front = disk.contents;
-      torn = [];
-      found = opened.kept;
-      contents = sym (append-nil disk.contents);
-      counted = counted;
-      kept = omega (arith, stable);
-      whole = λ e. refl;
-      stable = λ e. stable;
-    }
-
 -- ---- once a record is written, or was to be
 
 module _ {D : Type 0} (disk : D → Disk) (old new : Stored D) (rec : Rec) where
@@ -124,14 +108,3 @@ module _ {S D : Type 0} (disk : D → Disk) (before after : ServerState S) (old 
   disk_written (Err fault) put goes same err d may =
       subst (λ (k : ServerState S). IsOnDisk k.config.max_positions (disk new.device) new.failed k.records) (sym same)
       (disk_refused disk old new rec before.config.max_positions before.records (fault_of fault) d err)
-
-  -- the turn took effect
-  pub turn_taken : {T : Type 0} (r : Result T WriteFault) → OnOk r (IsPut disk (record_text rec) old new) → OnOk r (after ≡ server_after before turn)
-      → (h : ReplicaState S) → replica_of before (disk old.device) old.failed ≡ h → OnOk r (replica_of after (disk new.device) new.failed ≡ after_turn h turn)
-  turn_taken (Ok v) put goes h at =
-      let written : disk new.device ≡ with_text (disk old.device) turn.written = put.disk_is ∙ ap (with_text (disk old.device)) (sym is) in
-      let working : new.failed ≡ old.failed = put.working ∙ sym put.worked in
-      let done : replica_of after (disk new.device) new.failed ≡ after_turn (replica_of before (disk old.device) old.failed) turn =
-      λ i. replica_of (goes i) (written i) (working i) in
-      done ∙ ap (λ (k : ReplicaState S). after_turn k turn) at
-  turn_taken (Err fault) put goes h at = tt

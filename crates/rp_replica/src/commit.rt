@@ -22,7 +22,7 @@ ghost use Rattle.rp_replica.specs.Turning.{Stops};
 
 use crate::replica::Replica;
 use rp_base::{Action, Answer, NodeId, Rec, Reply, TaskId, Vote, WriteFault};
-use rp_codec::{Body, Place};
+use rp_codec::{Body, Header};
 use rp_machine::Machine;
 use rp_model::RightAction;
 use rp_outbox::Outbox;
@@ -51,8 +51,8 @@ impl<M: Machine, D: Device> Replica<M, D> {
     {
         match plan {
             Plan::Pass(_) => return Ok(()),
-            Plan::Promise(place, last) => return self.promise(out, place, last),
-            Plan::Vote(place, action) => return self.vote(out, place, action),
+            Plan::Promise(header, last) => return self.promise(out, header, last),
+            Plan::Vote(header, action) => return self.vote(out, header, action),
             Plan::PromiseRange(promise) => return self.promise_range(alloc, out, promise),
             Plan::Lead(position, ballot, own) => {
                 return self.begin(out, *position, *ballot, own);
@@ -66,10 +66,16 @@ impl<M: Machine, D: Device> Replica<M, D> {
                 return self.learn_by_decision(out, *from, *position, action);
             }
             Plan::Offer(promise, action) => return self.offer(out, promise, action),
-            Plan::Hear(from, position, vote) => return self.hear(alloc, *from, *position, vote),
-            Plan::Count(promise) => self.note_promise(promise),
-            Plan::CountRange(promise) => self.note_range(promise),
-            Plan::Yield(position, ballot, bound) => self.note_refusal(*position, *ballot, *bound),
+            Plan::CountVote(from, position, vote) => return self.hear(
+                alloc, *from, *position, vote,
+            ),
+            Plan::CountPromise(promise) => self.note_promise(promise),
+            Plan::CountRangePromise(promise) => self.note_range(promise),
+            Plan::Yield {
+                position,
+                ballot,
+                bound,
+            } => self.note_refusal(*position, *ballot, *bound),
             Plan::Await(item) => self.add(*item),
             _ => return self.send(alloc, out, plan),
         }
@@ -81,41 +87,41 @@ impl<M: Machine, D: Device> Replica<M, D> {
     fn promise(
         &mut self,
         out: &mut Outbox,
-        place: &Place,
+        header: &Header,
         last: &Option<Vote>,
     ) -> Result<(), WriteFault>
         requires working { self.old.failed ≡ false }
-        requires may { MayCommit (server_of self.old) (plans.Promise place.now last.now) }
+        requires may { MayCommit (server_of self.old) (plans.Promise header.now last.now) }
         ensures ok { OnOk result (Commits
-            (turn_of M.next M.answers (server_of self.old) (plans.Promise place.now last.now))
+            (turn_of M.next M.answers (server_of self.old) (plans.Promise header.now last.now))
             self.old self.new out.old.sent out.new.sent) }
         ensures err { IfErr result (λ fault.
-            Stops (written_by (plans.Promise place.now last.now))
+            Stops (written_by (plans.Promise header.now last.now))
             self.old self.new (fault_of fault)) }
         ensures unsent { OnErr result (out.new.sent ≡ out.old.sent) }
     {
         out.reserve(1)?;
-        self.keep(&Rec::Promised(place.position, place.ballot))?;
-        out.promise(*place, *last);
+        self.keep(&Rec::Promised(header.position, header.ballot))?;
+        out.promise(*header, *last);
         Ok(())
     }
 
     /// Writes a vote, and sends it.
     #[inline(never)]
-    fn vote(&mut self, out: &mut Outbox, place: &Place, action: &Action) -> Result<(), WriteFault>
+    fn vote(&mut self, out: &mut Outbox, header: &Header, action: &Action) -> Result<(), WriteFault>
         requires working { self.old.failed ≡ false }
-        requires may { MayCommit (server_of self.old) (plans.Vote place.now action.now) }
+        requires may { MayCommit (server_of self.old) (plans.Vote header.now action.now) }
         ensures ok { OnOk result (Commits
-            (turn_of M.next M.answers (server_of self.old) (plans.Vote place.now action.now))
+            (turn_of M.next M.answers (server_of self.old) (plans.Vote header.now action.now))
             self.old self.new out.old.sent out.new.sent) }
         ensures err { IfErr result (λ fault.
-            Stops (written_by (plans.Vote place.now action.now))
+            Stops (written_by (plans.Vote header.now action.now))
             self.old self.new (fault_of fault)) }
         ensures unsent { OnErr result (out.new.sent ≡ out.old.sent) }
     {
         out.reserve(1)?;
-        self.keep(&Rec::Voted(place.position, place.ballot, *action))?;
-        out.accepted(*place, action);
+        self.keep(&Rec::Voted(header.position, header.ballot, *action))?;
+        out.accepted(*header, action);
         Ok(())
     }
 
@@ -139,7 +145,12 @@ impl<M: Machine, D: Device> Replica<M, D> {
                 },
                 to,
             ),
-            Plan::Refuse(to, position, ballot, bound) => self.send_to(
+            Plan::Refuse {
+                to,
+                position,
+                ballot,
+                bound,
+            } => self.send_to(
                 out,
                 Body::Nack {
                     position,

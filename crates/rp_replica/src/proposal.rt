@@ -48,7 +48,7 @@ impl<M: Machine, D: Device> Replica<M, D> {
         out.reserve(usize::from(self.server.config().nodes))?;
         self.start(position, ballot, own)?;
         out.prepare_all(
-            self.server.place_to(self.server.me(), position, ballot),
+            self.server.header_to(self.server.me(), position, ballot),
             self.server.config().nodes,
         );
         Ok(())
@@ -101,8 +101,8 @@ impl<M: Machine, D: Device> Replica<M, D> {
     {
         out.reserve(usize::from(self.server.config().nodes))?;
         self.start_offer(position, action);
-        let place = self.server.place_to(self.server.me(), position, ballot);
-        out.accept_all(place, action, self.server.config().nodes);
+        let header = self.server.header_to(self.server.me(), position, ballot);
+        out.accept_all(header, action, self.server.config().nodes);
         Ok(())
     }
 
@@ -126,10 +126,10 @@ impl<M: Machine, D: Device> Replica<M, D> {
     {
         out.reserve(usize::from(self.server.config().nodes))?;
         self.note_promise(promise);
-        let place = self
+        let header = self
             .server
-            .place_to(self.server.me(), promise.position, promise.ballot);
-        out.accept_all(place, action, self.server.config().nodes);
+            .header_to(self.server.me(), promise.position, promise.ballot);
+        out.accept_all(header, action, self.server.config().nodes);
         Ok(())
     }
 

@@ -4,7 +4,7 @@ use Rattle.std.specs.Prelude.{Option, Some, None, IfSome, List, [], ◌∷◌, �
 use Rattle.std.specs.List.{AllByRecursion}
 use Rattle.rp_base.specs.Action.{IsRight, IsCount}
 use Rattle.rp_base.specs.Ballot.{IsAbove}
-use Rattle.rp_base.specs.Number.{IsPosition}
+use Rattle.rp_base.specs.Number.{IsPosition, window}
 use Rattle.rp_base.specs.Right.{IsRightVote}
 use Rattle.rp_base.specs.Sets.{with_member}
 use Rattle.rp_base.specs.Records.{learned_at, applied_of, first_unlearned}
@@ -23,7 +23,7 @@ use Rattle.rp_learner.specs.declared.learner.VoteStatus.TheVariants.{Counting}
 use Rattle.rp_model.specs.Parts.{Running}
 use Rattle.rp_model.specs.Parts.{Turn}
 use Rattle.rp_model.specs.Effect.{report_of}
-use Rattle.rp_model.specs.Leader.{window, starts_above, begins_range, on_promise_range, on_nack}
+use Rattle.rp_model.specs.Leader.{starts_above, begins_range, on_promise_range, on_nack}
 use Rattle.rp_model.specs.Learner.{learns, asks_for, missing_position}
 use Rattle.rp_model.specs.Pending.{most_pending}
 use Rattle.rp_model.specs.Says.{says, says_to_all, says_to_others, says_to_task, sends, notes, writes}
@@ -37,7 +37,7 @@ use Rattle.rp_rules.specs.declared.plan.RangePromise.{RangePromise}
 use Rattle.rp_rules.specs.declared.plan.Plan.{Plan}
 use Rattle.rp_rules.specs.declared.plan.Plan.TheVariants.{Pass, Promise, PromiseRange, Vote, Repeat, Refuse, Inform}
 use Rattle.rp_rules.specs.declared.plan.Plan.TheVariants.{Answer as Reply, Await, Lead, LeadRange, OfferPrepared}
-use Rattle.rp_rules.specs.declared.plan.Plan.TheVariants.{Count, CountRange, Offer, Yield, Hear, Learn, Follow}
+use Rattle.rp_rules.specs.declared.plan.Plan.TheVariants.{CountPromise, CountRangePromise, Offer, Yield, CountVote, Learn, Follow}
 use Rattle.rp_rules.specs.declared.plan.Plan.TheVariants.{Report}
 use Rattle.rp_server.specs.State.{ServerState}
 use Rattle.rp_server.specs.Proposed.{promised_running, started_running, offered_running}
@@ -45,9 +45,9 @@ use Rattle.rp_server.specs.Status.{status_of}
 
 -- the record that a plan writes, if it writes one
 abbrev pub written_by : Plan → Option Rec
-written_by (Promise place last) = Some (Promised place.position place.ballot)
+written_by (Promise header last) = Some (Promised header.position header.ballot)
 written_by (PromiseRange p) = Some (PromisedRange p.range p.ballot)
-written_by (Vote place v) = Some (Voted place.position place.ballot v)
+written_by (Vote header v) = Some (Voted header.position header.ballot v)
 written_by (Lead i b own) = Some (Started b)
 written_by (LeadRange range b) = Some (Started b)
 written_by (Learn i v) = Some (Learned i v)
@@ -70,13 +70,13 @@ module _ {S : Type 0} (next : S → Action → S) (answers : S → Action → Li
   -- the turn that a plan is
   abbrev pub turn_of : Plan → Turn
   turn_of (Pass dropped) = record { written = None; sent = []; running = server.running; dropped = dropped }
-  turn_of (Promise place last) = writes (Promised place.position place.ballot) server.running
-      (says server.me (bodies.Promise place.position place.ballot last) place.to ∷ [])
+  turn_of (Promise header last) = writes (Promised header.position header.ballot) server.running
+      (says server.me (bodies.Promise header.position header.ballot last) header.to ∷ [])
   turn_of (PromiseRange p) =
       writes (PromisedRange p.range p.ballot) server.running
       (says server.me (bodies.PromiseRange p.range p.ballot (last_votes server.records p.range)) p.to ∷ [])
-  turn_of (Vote place v) = writes (Voted place.position place.ballot v) server.running
-      (says server.me (bodies.Accepted place.position place.ballot v) place.to ∷ [])
+  turn_of (Vote header v) = writes (Voted header.position header.ballot v) server.running
+      (says server.me (bodies.Accepted header.position header.ballot v) header.to ∷ [])
   turn_of (Repeat to i b v) = sends server.running (says server.me (bodies.Accepted i b v) to ∷ [])
   turn_of (Refuse to i b bound) = sends server.running (says server.me (bodies.Nack i b bound) to ∷ [])
   turn_of (Inform to i v) = sends server.running (says server.me (bodies.Decided i v) to ∷ [])
@@ -90,13 +90,13 @@ module _ {S : Type 0} (next : S → Action → S) (answers : S → Action → Li
   turn_of (OfferPrepared i b v) =
       sends (offered_running server.config.nodes server.running v (proposal_at server.running.proposals i))
       (says_to_all server.config.nodes server.me (bodies.Accept i b v))
-  turn_of (Count promise) = notes (once_promised server promise)
-  turn_of (CountRange p) = on_promise_range server.config.nodes server.running p.from p.range p.ballot p.votes
+  turn_of (CountPromise promise) = notes (once_promised server promise)
+  turn_of (CountRangePromise p) = on_promise_range server.config.nodes server.running p.from p.range p.ballot p.votes
   turn_of (Offer promise v) =
       sends (once_promised server promise)
       (says_to_all server.config.nodes server.me (bodies.Accept promise.position promise.ballot v))
   turn_of (Yield i b bound) = on_nack server.config.nodes server.running i b bound
-  turn_of (Hear from i vote) = notes (once_heard server from i vote)
+  turn_of (CountVote from i vote) = notes (once_heard server from i vote)
   turn_of (Learn i v) =
       learns next answers server.begin server.me server.records server.running i v
       (says_to_others server.config.nodes server.me (bodies.Decided i v)) []
@@ -143,10 +143,10 @@ pub record MayHear {S : Type 0} (server : ServerState S) (from i : ℕ) (vote : 
   pub counting : status_of server.config.nodes server.records server.running.heard from i vote ≡ Counting
 
 abbrev pub MayCommit : {S : Type 0} → ServerState S → Plan → Type 0
-MayCommit server (Promise place last) = (place.from ≡ server.me) × (place.position ≤ server.config.max_positions)
-    × IfSome last (IsVoteBelow place.ballot)
+MayCommit server (Promise header last) = (header.from ≡ server.me) × (header.position ≤ server.config.max_positions)
+    × IfSome last (IsVoteBelow header.ballot)
 MayCommit server (PromiseRange p) = MayPromiseRange server p
-MayCommit server (Vote place v) = (place.from ≡ server.me) × MayLearn server place.position v
+MayCommit server (Vote header v) = (header.from ≡ server.me) × MayLearn server header.position v
 MayCommit server (Repeat to i b v) = IsRight v
 MayCommit server (Refuse to i b bound) = b < bound
 MayCommit server (Inform to i v) = IsRight v
@@ -155,10 +155,10 @@ MayCommit server (Await item) = length server.running.pending < most_pending
 MayCommit server (Lead i b own) = MayBegin server i b own
 MayCommit server (LeadRange range b) = MayBeginRange server range b
 MayCommit server (OfferPrepared i b v) = IsRight v
-MayCommit server (Count promise) = MayCount server promise
-MayCommit server (CountRange promise) = MayCountRange server promise
+MayCommit server (CountPromise promise) = MayCount server promise
+MayCommit server (CountRangePromise promise) = MayCountRange server promise
 MayCommit server (Offer promise v) = MayCount server promise × IsRight v
-MayCommit server (Hear from i vote) = MayHear server from i vote
+MayCommit server (CountVote from i vote) = MayHear server from i vote
 MayCommit server (Learn i v) = MayLearn server i v
 MayCommit server (Follow from i v) = MayLearn server i v
 MayCommit server _ = Unit {0}

@@ -34,9 +34,14 @@ pub(crate) fn on_prepare<M: Machine>(
     server.has_right_records();
     match server.prepare(position, ballot) {
         PrepareAnswer::Promise { last, rec: _ } => {
-            Plan::Promise(server.place_to(from, position, ballot), last)
+            Plan::Promise(server.header_to(from, position, ballot), last)
         }
-        PrepareAnswer::Nack(bound) => Plan::Refuse(from, position, ballot, bound),
+        PrepareAnswer::Nack(bound) => Plan::Refuse {
+            to: from,
+            position,
+            ballot,
+            bound,
+        },
         PrepareAnswer::Silent => Plan::Pass(Dropped::No),
     }
 }
@@ -62,7 +67,12 @@ pub(crate) fn on_prepare_range<M: Machine>(
             range,
             ballot,
         }),
-        Comparison::Below(position, bound) => Plan::Refuse(from, position, ballot, bound),
+        Comparison::Below(position, bound) => Plan::Refuse {
+            to: from,
+            position,
+            ballot,
+            bound,
+        },
         Comparison::Equal => Plan::Pass(Dropped::No),
     }
 }
@@ -85,10 +95,15 @@ pub(crate) fn on_accept<M: Machine>(
 {
     match server.accept(position, ballot, action) {
         AcceptAnswer::Vote { rec: _vote } => {
-            Plan::Vote(server.place_to(from, position, ballot), *action)
+            Plan::Vote(server.header_to(from, position, ballot), *action)
         }
         AcceptAnswer::Again => Plan::Repeat(from, position, ballot, *action),
-        AcceptAnswer::Nack(bound) => Plan::Refuse(from, position, ballot, bound),
+        AcceptAnswer::Nack(bound) => Plan::Refuse {
+            to: from,
+            position,
+            ballot,
+            bound,
+        },
         AcceptAnswer::Silent => Plan::Pass(Dropped::No),
     }
 }

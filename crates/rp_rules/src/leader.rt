@@ -102,7 +102,7 @@ pub(crate) fn on_promise<M: Machine>(server: &Server<M>, promise: CountedPromise
     } = promise;
     match server.promise(from, position, ballot, last) {
         Progress::Offer(action) => Plan::Offer(promise, action),
-        Progress::Waiting => Plan::Count(promise),
+        Progress::Waiting => Plan::CountPromise(promise),
         Progress::Stale => Plan::Pass(Dropped::No),
     }
 }

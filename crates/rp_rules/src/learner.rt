@@ -52,7 +52,7 @@ pub(crate) fn on_accepted<M: Machine>(
                 ballot,
                 action: *action,
             };
-            Plan::Hear(from, position, vote)
+            Plan::CountVote(from, position, vote)
         }
         VoteStatus::Learned => Plan::Learn(position, *action),
     }

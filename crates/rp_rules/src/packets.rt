@@ -64,71 +64,55 @@ fn on_node<M: Machine>(
     ensures memory { IfErr result (λ fault. (fault ≡ faults.OutOfMemory)
         × IsLongBody packet.now.body) }
 {
-    match packet.body() {
-        Body::Prepare { position, ballot } => {
-            *plan = on_prepare(server, from, *position, *ballot);
-        }
-        Body::PrepareRange { range, ballot } => {
-            *plan = on_prepare_range(server, from, *range, *ballot);
-        }
+    *plan = match packet.body() {
+        Body::Prepare { position, ballot } => on_prepare(server, from, *position, *ballot),
+        Body::PrepareRange { range, ballot } => on_prepare_range(server, from, *range, *ballot),
         Body::Promise {
             position,
             ballot,
             last,
-        } => {
-            *plan = on_promise(
-                server,
-                CountedPromise {
-                    from,
-                    position: *position,
-                    ballot: *ballot,
-                    last: *last,
-                },
-            );
-        }
+        } => on_promise(
+            server,
+            CountedPromise {
+                from,
+                position: *position,
+                ballot: *ballot,
+                last: *last,
+            },
+        ),
         Body::PromiseRange {
             range,
             ballot,
             votes,
-        } => {
-            *plan = Plan::CountRange(CountedRange {
-                from,
-                range: *range,
-                ballot: *ballot,
-                votes: votes.clone()?,
-            });
-        }
+        } => Plan::CountRangePromise(CountedRange {
+            from,
+            range: *range,
+            ballot: *ballot,
+            votes: votes.clone()?,
+        }),
         Body::Accept {
             position,
             ballot,
             action,
-        } => {
-            *plan = on_accept(server, from, *position, *ballot, action);
-        }
+        } => on_accept(server, from, *position, *ballot, action),
         Body::Accepted {
             position,
             ballot,
             action,
-        } => {
-            *plan = on_accepted(server, from, *position, *ballot, action);
-        }
-        Body::Decided { position, action } => {
-            *plan = on_decided(server, from, *position, action);
-        }
-        Body::Ask { position } => {
-            *plan = on_ask(server, from, *position);
-        }
+        } => on_accepted(server, from, *position, *ballot, action),
+        Body::Decided { position, action } => on_decided(server, from, *position, action),
+        Body::Ask { position } => on_ask(server, from, *position),
         Body::Nack {
             position,
             ballot,
             bound,
-        } => {
-            *plan = Plan::Yield(*position, *ballot, *bound);
-        }
-        Body::Call { .. } | Body::Reply { .. } | Body::Report { .. } => {
-            *plan = Plan::Pass(Dropped::No);
-        }
-    }
+        } => Plan::Yield {
+            position: *position,
+            ballot: *ballot,
+            bound: *bound,
+        },
+        Body::Call { .. } | Body::Reply { .. } | Body::Report { .. } => Plan::Pass(Dropped::No),
+    };
     Ok(())
 }
 

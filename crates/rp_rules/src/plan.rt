@@ -4,7 +4,7 @@ ghost use Rattle.std.specs.Prelude.{◌≡◌, IfSome};
 ghost use Rattle.rp_rules.specs.Plans.{dropped_by, written_by};
 
 use rp_base::{Action, Ballot, NodeId, Position, PositionRange, Rec, Reply, TaskId, Vote};
-use rp_codec::{Place, Votes};
+use rp_codec::{Header, Votes};
 use rp_model::{Dropped, RightAction};
 
 /// A promise that came from a node, in a ballot at a position, with the vote that it reports.
@@ -40,15 +40,20 @@ pub enum Plan {
     /// Nothing, and what is dropped.
     Pass(Dropped),
     /// A promise, which is sent to a node, with the last vote at its position.
-    Promise(Place, Option<Vote>),
+    Promise(Header, Option<Vote>),
     /// A promise for a range, with the last votes there.
     PromiseRange(RangePromise),
     /// A vote for an action, which is sent to a node.
-    Vote(Place, Action),
+    Vote(Header, Action),
     /// A vote that was cast before is sent to a node again.
     Repeat(NodeId, Position, Ballot, Action),
     /// A node gets the bound that its ballot lies below.
-    Refuse(NodeId, Position, Ballot, Ballot),
+    Refuse {
+        to: NodeId,
+        position: Position,
+        ballot: Ballot,
+        bound: Ballot,
+    },
     /// A node gets what is learned at a position.
     Inform(NodeId, Position, Action),
     /// A task gets the reply that is kept for its call.
@@ -63,15 +68,19 @@ pub enum Plan {
     /// report, or one of its own if they report none.
     OfferPrepared(Position, Ballot, Action),
     /// A promise counts, and makes no majority.
-    Count(CountedPromise),
+    CountPromise(CountedPromise),
     /// A promise for a range counts at each proposal that takes it.
-    CountRange(CountedRange),
+    CountRangePromise(CountedRange),
     /// A promise makes a majority, and the action is offered to all.
     Offer(CountedPromise, Action),
     /// A proposal is refused by a bound.
-    Yield(Position, Ballot, Ballot),
+    Yield {
+        position: Position,
+        ballot: Ballot,
+        bound: Ballot,
+    },
     /// A vote counts, and makes no majority.
-    Hear(NodeId, Position, Vote),
+    CountVote(NodeId, Position, Vote),
     /// A vote makes a majority: the action is learned, and the other nodes are informed.
     Learn(Position, Action),
     /// A node sent a decision: the action is learned, and the node is asked for what is missing.
@@ -97,11 +106,11 @@ impl Plan {
         ensures { result ≡ written_by self.now }
     {
         match *self {
-            Plan::Promise(place, _) => Some(Rec::Promised(place.position, place.ballot)),
+            Plan::Promise(header, _) => Some(Rec::Promised(header.position, header.ballot)),
             Plan::PromiseRange(promise) => {
                 Some(Rec::PromisedRange(promise.range, promise.ballot))
             }
-            Plan::Vote(place, action) => Some(Rec::Voted(place.position, place.ballot, action)),
+            Plan::Vote(header, action) => Some(Rec::Voted(header.position, header.ballot, action)),
             Plan::Lead(_, ballot, _) | Plan::LeadRange(_, ballot) => Some(Rec::Started(ballot)),
             Plan::Learn(position, action) | Plan::Follow(_, position, action) => {
                 Some(Rec::Learned(position, action))

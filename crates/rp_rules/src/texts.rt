@@ -22,7 +22,7 @@ use crate::packets::on_packet;
 use crate::plan::{CountedPromise, Plan};
 use rp_base::{Fault, NodeId, Position};
 use rp_codec::{
-    Kind, Place, decode, usual_accept, usual_accepted, usual_call, usual_decided, usual_prepare,
+    Header, Kind, decode, usual_accept, usual_accepted, usual_call, usual_decided, usual_prepare,
     usual_promise,
 };
 use rp_machine::Machine;
@@ -76,11 +76,11 @@ fn takes<M: Machine>(server: &Server<M>, from: NodeId, to: NodeId, position: Pos
 
 /// The same, for a packet in a ballot that its sender must own.
 #[inline(always)]
-fn takes_from_owner<M: Machine>(server: &Server<M>, place: &Place) -> bool
+fn takes_from_owner<M: Machine>(server: &Server<M>, header: &Header) -> bool
     ensures { result ≡ is_for_node server.now.config server.now.me
-        (says place.now.from (Prepare place.now.position place.now.ballot) place.now.to) }
+        (says header.now.from (Prepare header.now.position header.now.ballot) header.now.to) }
 {
-    takes(server, place.from, place.to, place.position) && place.ballot.owner() == place.from
+    takes(server, header.from, header.to, header.position) && header.ballot.owner() == header.from
 }
 
 /// A packet comes that no function of a usual kind reads.
@@ -126,13 +126,13 @@ fn on_call_text<M: Machine>(server: &Server<M>, bytes: &[u8], plan: &mut Plan) -
 fn on_prepare_text<M: Machine>(server: &Server<M>, bytes: &[u8], plan: &mut Plan) -> bool
     ensures { Decides M.next M.answers server.now bytes.now plan.old plan.new result }
 {
-    let Ok(place) = usual_prepare(bytes) else {
+    let Ok(header) = usual_prepare(bytes) else {
         return false;
     };
-    if !takes_from_owner(server, &place) {
+    if !takes_from_owner(server, &header) {
         return drop_foreign(plan);
     }
-    *plan = on_prepare(server, place.from, place.position, place.ballot);
+    *plan = on_prepare(server, header.from, header.position, header.ballot);
     true
 }
 
@@ -141,18 +141,18 @@ fn on_prepare_text<M: Machine>(server: &Server<M>, bytes: &[u8], plan: &mut Plan
 fn on_promise_text<M: Machine>(server: &Server<M>, bytes: &[u8], plan: &mut Plan) -> bool
     ensures { Decides M.next M.answers server.now bytes.now plan.old plan.new result }
 {
-    let Ok(place) = usual_promise(bytes) else {
+    let Ok(header) = usual_promise(bytes) else {
         return false;
     };
-    if !takes(server, place.from, place.to, place.position) {
+    if !takes(server, header.from, header.to, header.position) {
         return drop_foreign(plan);
     }
     *plan = on_promise(
         server,
         CountedPromise {
-            from: place.from,
-            position: place.position,
-            ballot: place.ballot,
+            from: header.from,
+            position: header.position,
+            ballot: header.ballot,
             last: None,
         },
     );
@@ -164,13 +164,13 @@ fn on_promise_text<M: Machine>(server: &Server<M>, bytes: &[u8], plan: &mut Plan
 fn on_accept_text<M: Machine>(server: &Server<M>, bytes: &[u8], plan: &mut Plan) -> bool
     ensures { Decides M.next M.answers server.now bytes.now plan.old plan.new result }
 {
-    let Ok((place, action)) = usual_accept(bytes) else {
+    let Ok((header, action)) = usual_accept(bytes) else {
         return false;
     };
-    if !takes_from_owner(server, &place) {
+    if !takes_from_owner(server, &header) {
         return drop_foreign(plan);
     }
-    *plan = on_accept(server, place.from, place.position, place.ballot, &action);
+    *plan = on_accept(server, header.from, header.position, header.ballot, &action);
     true
 }
 
@@ -179,13 +179,13 @@ fn on_accept_text<M: Machine>(server: &Server<M>, bytes: &[u8], plan: &mut Plan)
 fn on_accepted_text<M: Machine>(server: &Server<M>, bytes: &[u8], plan: &mut Plan) -> bool
     ensures { Decides M.next M.answers server.now bytes.now plan.old plan.new result }
 {
-    let Ok((place, action)) = usual_accepted(bytes) else {
+    let Ok((header, action)) = usual_accepted(bytes) else {
         return false;
     };
-    if !takes(server, place.from, place.to, place.position) {
+    if !takes(server, header.from, header.to, header.position) {
         return drop_foreign(plan);
     }
-    *plan = on_accepted(server, place.from, place.position, place.ballot, &action);
+    *plan = on_accepted(server, header.from, header.position, header.ballot, &action);
     true
 }
 

@@ -58,20 +58,6 @@ module _ {S : Type 0} (next : S → Action → S) (answers : S → Action → Li
 
 -- ---- what becomes of a call or an interrupt, by its number
 
--- an interrupt above the last one
-pub interrupt_ahead : (kept : List Action) (running : Running) (source occurrence last : ℕ) → last ≡ last_occurrence source kept → last < occurrence
-    → adds_pending running (Interrupt source occurrence) ≡ on_interrupt kept running source occurrence
-interrupt_ahead kept running source occurrence last is above =
-    let lt : last_occurrence source kept < occurrence = subst (λ (n : ℕ). n < occurrence) is above in
-    sym (ap (λ (b : Bool). cond b (adds_pending running (Interrupt source occurrence)) (notes running)) (lt-ltb (last_occurrence source kept) occurrence lt))
-
--- another one
-pub interrupt_past : (kept : List Action) (running : Running) (source occurrence last : ℕ) → last ≡ last_occurrence source kept → occurrence ≤ last
-    → notes running ≡ on_interrupt kept running source occurrence
-interrupt_past kept running source occurrence last is past =
-    let le : occurrence ≤ last_occurrence source kept = subst (λ (n : ℕ). occurrence ≤ n) is past in
-    sym (ap (λ (b : Bool). cond b (adds_pending running (Interrupt source occurrence)) (notes running)) (le-ltb (last_occurrence source kept) occurrence le))
-
 -- a call of which a reply is kept
 pub call_again : (me : ℕ) (kept : List Action) (running : Running) (task number : ℕ) (call : Action) (stated : Option Reply) (reply : Reply) → stated ≡ Some reply
     → sends running (says_to_task me (bodies.Reply number reply) task ∷ []) ≡ on_numbered me kept running task number call stated

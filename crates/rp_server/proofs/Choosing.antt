@@ -14,10 +14,6 @@ own_of : (item : Action) (ps : List Proposal) → list_any (λ p. is_equal_item 
 own_of item [] = refl
 own_of item (p ∷ ps) = ap (λ (b : Bool). b || list_any (λ (q : Proposal). is_equal_item item q.own) ps) (same_own item p.own) ∙ ap (λ (b : Bool). is_own item p.own || b) (own_of item ps)
 
--- it is no other proposal's own, and ahead
-pub free_is : (kept : List Action) (ps : List Proposal) (i : ℕ) (item : Action) → (not (is_own_elsewhere ps i item) && is_ahead kept item) ≡ is_free_item kept (without_proposal ps i) item
-free_is kept ps i item = ap (λ (b : Bool). not b && is_ahead kept item) (own_of item (without_proposal ps i))
-
 find_here : (test : Action → Bool) (x : Action) (xs ys : List Action) (b : Bool) → (find test xs ≡ None → find test (xs ++ ys) ≡ find test ys)
     → cond b (Some x) (find test xs) ≡ None → cond b (Some x) (find test (xs ++ ys)) ≡ find test ys
 find_here test x xs ys true later e = absurd (cc)

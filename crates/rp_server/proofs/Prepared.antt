@@ -89,16 +89,6 @@ module _ {S : Type 0} (next : S → Action → S) (answers : S → Action → Li
       → Ok (offered_turn i b v o) ≡ leads_at next answers begin nodes me records running i o
   leads_by i b reported v o at found is = ap (λ (a : Action). Ok (offered_turn i b a o)) is ∙ leads_prepared i b reported o at found
 
-  -- where no prepared proposal runs, one begins
-  pub leads_anew : (i : ℕ) (o : Option Proposal) → prepared_by nodes o ≡ None → begins_if next answers begin nodes me records running i ≡ leads_at next answers begin nodes me records running i o
-  leads_anew i None none = refl
-  leads_anew i (Some p) none = by (is_prepared nodes p) none
-    where
-      by : (t : Bool) → answer_if p t ≡ None
-          → begins_if next answers begin nodes me records running i ≡ cond t (Ok (offers next answers begin nodes me records running p)) (begins_if next answers begin nodes me records running i)
-      by true is = absurd cc
-      by false is = refl
-
 -- ---- what a proposer reports is right
 
 vote_right : (o : Option Vote) → IfSome o IsRightVote → IfSome (reported_of o) IsRight

@@ -144,15 +144,6 @@ module _ {S : Type 0} (next : S → Action → S) (answers : S → Action → Li
   }
 
   module _ (me : ℕ) (pending : List Action) where
-    pub replied_none : (log : Contents) (applied : Applied S) (out : Sending) → applied.actions ≡ log.taken → HasReplied next answers me pending log log applied applied out out
-    replied_none log applied out taken = record {
-      more = [];
-      applies = applies_none log applied taken;
-      sent = sym (append-nil out.sent);
-      few = omega arith;
-      room = omega arith;
-    }
-
     module _ (before after further : Contents) (old new newer : Applied S) (out said : Sending) (given : List Answer)
         (so_far : HasReplied next answers me pending before after old new out said) (one : AppliesMore next answers after further new newer given)
         (once : IsSet (map call_of (outcome next answers newer).given)) where

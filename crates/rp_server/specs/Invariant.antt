@@ -14,7 +14,7 @@ use Rattle.rp_base.specs.Promises.{Promise, HeardVote}
 use Rattle.rp_base.specs.Proposals.{Proposal}
 use Rattle.rp_proposer.specs.Proposing.{ProposerPart, AreInWindow}
 use Rattle.rp_learner.specs.Learning.{Learning}
-use Rattle.rp_learner.specs.Places.{window}
+use Rattle.rp_base.specs.Number.{window}
 use Rattle.rp_learner.specs.Status.{is_settled}
 use Rattle.rp_log.specs.Contents.{Contents, action_at, next_to_take, IsTakenInOrder}
 use Rattle.rp_log.specs.Recorded.{LearnedAlike}

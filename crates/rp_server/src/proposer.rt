@@ -13,7 +13,8 @@ ghost use Rattle.rp_base.specs.WriteFaults.{fault_of};
 ghost use Rattle.rp_base.specs.declared.action.Action.{Action};
 ghost use Rattle.rp_base.specs.declared.record.Rec.TheVariants.{Started};
 ghost use Rattle.rp_codec.specs.Record.{record_text};
-ghost use Rattle.rp_model.specs.Leader.{window, is_free_position, is_out_of_reach, least_free, starts_above, unlearned_in, begins_range, on_promise_range, on_nack};
+ghost use Rattle.rp_base.specs.Number.{window};
+ghost use Rattle.rp_model.specs.Leader.{is_free_position, is_out_of_reach, least_free, starts_above, unlearned_in, begins_range, on_promise_range, on_nack};
 ghost use Rattle.rp_model.specs.Says.{notes, writes};
 ghost use Rattle.rp_proposer.specs.Proposing.{prepared_by, progress_in, unskipped};
 ghost use Rattle.rp_proposer.specs.declared.proposal.Progress.TheVariants.{Offer};
@@ -24,8 +25,9 @@ ghost use Rattle.rp_server.specs.State.{server_after};
 use crate::acceptor::write;
 use crate::server::Server;
 use crate::window::{position_at, with_bit};
-use rp_base::{Action, Ballot, NodeId, PlacedVote, Position, PositionRange, Rec, Vote, WriteFault};
-use rp_learner::WINDOW;
+use rp_base::{
+    Action, Ballot, NodeId, PlacedVote, Position, PositionRange, Rec, Vote, WINDOW, WriteFault,
+};
 use rp_machine::Machine;
 use rp_proposer::Progress;
 use rp_store::{Device, Store};

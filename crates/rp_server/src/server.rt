@@ -15,7 +15,7 @@ use crate::heard::Heard;
 use crate::pending::Pending;
 use rp_acceptor::Acceptor;
 use rp_base::{Action, Ballot, Config, Fault, NodeId, Position, Reply, TaskId};
-use rp_codec::Place;
+use rp_codec::Header;
 use rp_learner::Learner;
 use rp_log::Log;
 use rp_machine::{Machine, Numbered};
@@ -151,13 +151,13 @@ impl<M: Machine> Server<M> {
         self.machine.kept(task, number)
     }
 
-    /// The place of a packet of this node to another.
+    /// The header of a packet of this node to another.
     #[inline(always)]
-    pub fn place_to(&self, to: NodeId, position: Position, ballot: Ballot) -> Place
+    pub fn header_to(&self, to: NodeId, position: Position, ballot: Ballot) -> Header
         ensures { result
             ≡ record { from = self.now.me; to = to; position = position; ballot = ballot } }
     {
-        Place {
+        Header {
             from: self.me,
             to,
             position,

@@ -1,12 +1,13 @@
 //! The learner's window, which begins at the first unlearned position of the log.
 
 ghost use Rattle.std.specs.Prelude.{◌≡◌, ◌≢◌, ℕ, ◌+◌, ◌<◌, ◌≤◌, ◌^◌, None, is_some, false};
-ghost use Rattle.rp_learner.specs.Places.{window, is_marked};
+ghost use Rattle.rp_base.specs.Number.{window};
+ghost use Rattle.rp_learner.specs.Places.{is_marked};
 ghost use Rattle.rp_log.specs.Contents.{action_at, next_to_take};
 ghost use Rattle.rp_server.specs.Invariant.{IsSettledAlike, Follows};
 
-use rp_base::Position;
-use rp_learner::{Learner, WINDOW};
+use rp_base::{Position, WINDOW};
+use rp_learner::Learner;
 use rp_log::Log;
 
 /// The bits, in which this one is clear, with it set or not.

@@ -57,9 +57,6 @@ text-append : (xs ys : List Rec) → records_text (xs ++ ys) ≡ records_text xs
 text-append [] ys = refl
 text-append (r ∷ xs) ys = ap (λ (l : List ℕ). record_text r ++ l) (text-append xs ys) ∙ sym (append_assoc (record_text r) (records_text xs) (records_text ys))
 
-pub text-end : (xs : List Rec) (r : Rec) → records_text (xs ++ r ∷ []) ≡ records_text xs ++ record_text r
-text-end xs r = text-append xs (r ∷ []) ∙ ap (λ (l : List ℕ). records_text xs ++ l) (append-nil (record_text r))
-
 pub all_end : (xs : List Rec) (r : Rec) → AllByRecursion IsRecord xs → IsRecord r → AllByRecursion IsRecord (xs ++ r ∷ [])
 all_end [] r all is = (is, tt)
 all_end (x ∷ xs) r all is = (all.0, all_end xs r all.1 is)

@@ -1,4 +1,4 @@
-//! A link that loses packets, doubles them and changes their order.
+//! A faulty link, which loses, duplicates and reorders packets.
 
 ghost use Rattle.std.specs.Prelude.{◌≡◌, ◌≢◌, ◌⊎◌, ℕ, ◌+◌, ◌-◌, List, [], ◌∷◌, ◌++◌, length, take, Some, option_map, IfOk, OnOk, OnErr, IsOkUnless};
 ghost use Rattle.rp_base.specs.Sets.{Has};
@@ -15,16 +15,16 @@ use std::snapshot::Snapshot;
 /// How many packets a link holds at most.
 const ROOM: usize = 16;
 
-/// Of n cases of a word a packet is lost in two, and doubled in two.
+/// A packet is lost or duplicated by its word modulo this: two values lose it, two duplicate it.
 const CASES: u32 = 16;
 
 /// How many buffers a link keeps for second copies.
 const MOST_SPARES: usize = 4;
 
-/// A faulty link over the texts of packets. It holds at most 16, and a word of 32 bits says what
-/// becomes of each that it is given, or which it gives on. The words come from a seed, so that
-/// the same faults can be had again. The next word is computed before it is used, so that memory for
-/// a second copy is asked for only where that word wants one.
+/// A faulty link over the texts of packets. It holds at most 16. A random word of 32 bits decides
+/// whether a packet that it takes is lost or duplicated, and another which packet it gives out. The
+/// words come from a seed, so the same faults can be produced again. The next word is computed
+/// before it is used, so memory for a second copy is asked for only if that word makes one.
 #[derive(Drop)]
 pub struct FaultLine {
     held: Vec<Vec<u8>>,

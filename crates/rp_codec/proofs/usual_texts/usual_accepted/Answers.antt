@@ -6,4 +6,4 @@ use Rattle.rp_codec.proofs.usual_texts.usual_accepted.Goals as goal
 pub returns : goal.returns
 returns c =
     let bytes : IsBytes c.args.bytes.now = λ i. omega (arith, c.type_inv.bytes i) in
-    head_decoded c.args.bytes.now _ _ _ _ _ bytes c.in_ok-place.ensures.1 (accepted_read _ _ _ c.in_ok-place.ensures.2)
+    head_decoded c.args.bytes.now _ _ _ _ _ bytes c.in_ok-header.ensures.1 (accepted_read _ _ _ c.in_ok-header.ensures.2)

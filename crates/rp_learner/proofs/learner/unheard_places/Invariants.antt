@@ -1,6 +1,6 @@
 use Rattle.std.proofs.Common.{◌≡◌, replicate}
-use Rattle.rp_learner.specs.Places.{window}
-use Rattle.rp_learner.specs.declared.place.Place.TheVariants.{Unheard}
+use Rattle.rp_base.specs.Number.{window}
+use Rattle.rp_learner.specs.declared.position_state.PositionState.TheVariants.{Unheard}
 use Rattle.rp_learner.proofs.learner.unheard_places.Given as goal
 
 -- as many places as were counted

@@ -2,7 +2,7 @@ use Rattle.std.proofs.Common.{◌≡◌, [], ◌∷◌, sym, ap, ◌∙◌}
 use Rattle.rp_base.specs.declared.record.Rec.{Rec}
 use Rattle.rp_base.specs.declared.record.Rec.TheVariants.{Voted}
 use Rattle.rp_codec.specs.declared.packet.Body.TheVariants as bodies
-use Rattle.rp_codec.specs.declared.usual_texts.Place.{Place}
+use Rattle.rp_codec.specs.declared.usual_texts.Header.{Header}
 use Rattle.rp_model.specs.Acceptor.{answers_accept}
 use Rattle.rp_model.specs.Says.{says, writes}
 use Rattle.rp_rules.proofs.Answering.{voted}
@@ -15,6 +15,6 @@ returns-in-Vote-clause-turn g c =
     let b = c.args.ballot in
     let v = c.args.action.now in
     let is : c.in-Vote._vote ≡ Voted i b v = voted h.records i b v c.in-Vote._vote c.in-Vote.ensures.answer in
-    ap (λ (p : Place). writes (Voted p.position p.ballot v) h.running (says h.me (bodies.Accepted p.position p.ballot v) p.to ∷ [])) c.place_to.ensures
+    ap (λ (p : Header). writes (Voted p.position p.ballot v) h.running (says h.me (bodies.Accepted p.position p.ballot v) p.to ∷ [])) c.header_to.ensures
     ∙ ap (λ (rec : Rec). writes rec h.running (says h.me (bodies.Accepted i b v) c.args.from ∷ [])) (sym is)
     ∙ ap (answers_accept h.me h.running c.args.from i b v) c.in-Vote.ensures.answer

@@ -5,7 +5,7 @@ use Rattle.std.specs.List.{list_any}
 use Rattle.std.proofs.lemmas.Bool.{cases_lt, or_left}
 use Rattle.rp_base.specs.Promises.{HeardVote}
 use Rattle.rp_base.specs.Sets.{SameMembers}
-use Rattle.rp_learner.specs.Places.{window}
+use Rattle.rp_base.specs.Number.{window}
 use Rattle.rp_log.specs.Contents.{action_at, next_to_take, ready_of}
 use Rattle.rp_server.specs.Invariant.{IsSettledAlike}
 use Rattle.rp_server.proofs.window.follow.Goals as goal

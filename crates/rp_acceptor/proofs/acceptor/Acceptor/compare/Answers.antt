@@ -6,7 +6,7 @@ use Rattle.rp_acceptor.specs.declared.comparison.Comparison.{Comparison}
 use Rattle.rp_acceptor.specs.Comparing.{compared, combined}
 use Rattle.rp_acceptor.specs.Noted.{Noted}
 use Rattle.rp_acceptor.specs.Slots.{bound_of, kept_at, AreBoundsOf}
-use Rattle.rp_acceptor.specs.Steps.{ballot_at}
+use Rattle.rp_acceptor.specs.Levels.{ballot_at}
 use Rattle.rp_acceptor.proofs.Comparing.{compared_same, combined_all}
 use Rattle.rp_acceptor.proofs.acceptor.Acceptor.compare.Goals as goal
 
@@ -15,14 +15,14 @@ returns c =
     let range = c.args.range in
     let b : ℕ = c.args.ballot in
     let records : List Rec = c.self.inside.records in
-    let steps = c.self.inside.steps in
+    let levels = c.self.inside.levels in
     let some : 0 < b = search rules in
     let are : AreBoundsOf c.places.result.bounds records range =
     subst (λ (n : Noted). AreBoundsOf c.places.result.bounds n.records range) (sym c.self.view_is) c.places.ensures.bounds in
     let single : c.compare-single.result ≡ compared (λ i. bound_of (kept_at records i)) b (positions_of range) = c.compare-single.ensures ∙ are b some in
     c.combined.ensures
     ∙ ap (λ (x : Comparison). combined x c.compare-single.result) c.compare.ensures
-    ∙ ap (combined (compared (ballot_at steps) b (positions_of range))) single
-    ∙ combined_all (ballot_at steps) (λ i. bound_of (kept_at records i)) b range.first range.count
-    ∙ compared_same (λ i. max (ballot_at steps i) (bound_of (kept_at records i))) (bound_at records) b range.first range.count (λ i from within. c.self.invariant.bounds i)
+    ∙ ap (combined (compared (ballot_at levels) b (positions_of range))) single
+    ∙ combined_all (ballot_at levels) (λ i. bound_of (kept_at records i)) b range.first range.count
+    ∙ compared_same (λ i. max (ballot_at levels i) (bound_of (kept_at records i))) (bound_at records) b range.first range.count (λ i from within. c.self.invariant.bounds i)
     ∙ ap (λ (n : Noted). compared (bound_at n.records) b (positions_of range)) c.self.view_is

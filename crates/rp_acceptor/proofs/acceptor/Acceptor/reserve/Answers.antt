@@ -15,7 +15,7 @@ returns-in_err-make-clause-full c =
 pub invariant_of-self-2 : goal.invariant_of-self-2
 invariant_of-self-2 c =
     let noted : Noted = record { records = c.self.inside.records; reserved = c.self.inside.reserved; votes = c.self.inside.votes; ranges = c.self.inside.ranges } in
-    subst (λ (l : List ℕ). AreKept c.self.inside.steps c.make.new.pages.items (record noted { reserved = l; votes = c.push-2.new.self })) (sym c.push.ensures)
-    (subst (λ (l : List ℕ). AreKept c.self.inside.steps c.make.new.pages.items (record noted { reserved = noted.reserved ++ c.args.position ∷ []; votes = l })) (sym c.push-2.ensures)
-    (kept_both c.self.inside.steps c.self.inside.pages.items c.make.new.pages.items noted c.index_of_position.result c.args.position c.index_of_position.ensures
+    subst (λ (l : List ℕ). AreKept c.self.inside.levels c.make.new.pages.items (record noted { reserved = l; votes = c.push-2.new.self })) (sym c.push.ensures)
+    (subst (λ (l : List ℕ). AreKept c.self.inside.levels c.make.new.pages.items (record noted { reserved = noted.reserved ++ c.args.position ∷ []; votes = l })) (sym c.push-2.ensures)
+    (kept_both c.self.inside.levels c.self.inside.pages.items c.make.new.pages.items noted c.index_of_position.result c.args.position c.index_of_position.ensures
     c.in_ok-make.ensures.more c.in_ok-make.ensures.made c.self.invariant))

@@ -1,8 +1,8 @@
 -- Each push moves the window on by one place.
 use Rattle.std.proofs.Common.{◌≡◌, ◌≤◌, ◌-◌, ◌∙◌, ℕ, List, [], ◌∷◌, ◌++◌, length, sym, ap, subst, arith}
 use Rattle.circular_buffer.specs.Buffer.{keep_last}
-use Rattle.rp_learner.specs.declared.place.Place.{Place}
-use Rattle.rp_learner.specs.Places.{window}
+use Rattle.rp_learner.specs.declared.position_state.PositionState.{PositionState}
+use Rattle.rp_base.specs.Number.{window}
 use Rattle.rp_learner.proofs.Advancing.{moved_on, length-moved, moves_on, advances}
 use Rattle.rp_learner.proofs.learner.Learner.advance.Goals as goal
 
@@ -19,8 +19,8 @@ loop-offset-preserved c =
       ap (λ b. b.capacity) c.push_back.ensures.items ∙ inv.3,
       ap (λ b. b.items) c.push_back.ensures.items
           ∙ ap (λ (k : ℕ). keep_last k (c.loop-offset.self-inside.places.items ++ c.opened.result ∷ [])) inv.3
-          ∙ ap (λ (xs : List Place). keep_last window (xs ++ c.opened.result ∷ [])) inv.4
-          ∙ ap (λ (p : Place). keep_last window (moved_on old moved bits n ++ p ∷ [])) c.opened.ensures
+          ∙ ap (λ (xs : List PositionState). keep_last window (xs ++ c.opened.result ∷ [])) inv.4
+          ∙ ap (λ (p : PositionState). keep_last window (moved_on old moved bits n ++ p ∷ [])) c.opened.ensures
           ∙ moves_on old c.self.invariant.2 bits moved c.loop-offset.offset (omega (arith, c.min-moved.ensures)) inv.0 c.loop-offset-test.true,
     )
 

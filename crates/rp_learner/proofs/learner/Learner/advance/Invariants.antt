@@ -1,5 +1,5 @@
 use Rattle.std.proofs.Common.{◌≡◌, ◌≤◌, ◌-◌}
-use Rattle.rp_learner.specs.Places.{window}
+use Rattle.rp_base.specs.Number.{window}
 use Rattle.rp_learner.proofs.Advancing.{moved_on}
 use Rattle.rp_learner.proofs.learner.Learner.advance.Given as goal
 

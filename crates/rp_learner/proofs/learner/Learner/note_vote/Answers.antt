@@ -1,6 +1,6 @@
 -- What the window represents once the vote is noted in its place.
 use Rattle.std.proofs.Common.{◌∙◌, sym, ap, set}
-use Rattle.rp_learner.specs.declared.place.Place.{Place}
+use Rattle.rp_learner.specs.declared.position_state.PositionState.{PositionState}
 use Rattle.rp_learner.specs.Status.{vote_for}
 use Rattle.rp_learner.proofs.Outcomes.{kept, notes_here, one_more_here, offset_at, after_err, after_errs, after_ok}
 use Rattle.rp_learner.proofs.Writing.{learning_of}
@@ -10,7 +10,7 @@ pub returns-clause-unchanged : goal.returns-clause-unchanged
 returns-clause-unchanged c =
     let l = c.self.inside in
     after_err c.hear.result
-    (λ same. ap (λ (p : Place). learning_of l.nodes l.max_positions l.first (set l.places.items c.in-Some.offset p)) same
+    (λ same. ap (λ (p : PositionState). learning_of l.nodes l.max_positions l.first (set l.places.items c.in-Some.offset p)) same
     ∙ ap (learning_of l.nodes l.max_positions l.first) (kept l.places.items c.in-Some.offset c.in-Some-get_mut.place.now (sym c.in-Some-get_mut.ensures.value))
     ∙ c.self.view_is)
     c.hear.ensures.err

@@ -1,7 +1,7 @@
 -- What holds at a position of the window goes by its place, and by those who cast this vote, this one included.
 use Rattle.std.proofs.Common.{◌≡◌, ◌∙◌, Some, refl, sym, ap, arith}
 use Rattle.std.specs.Prelude.{slice_get}
-use Rattle.rp_learner.specs.declared.place.Place.TheVariants.{Unheard, Heard, Settled}
+use Rattle.rp_learner.specs.declared.position_state.PositionState.TheVariants.{Unheard, Heard, Settled}
 use Rattle.rp_learner.specs.Status.{vote_for}
 use Rattle.rp_learner.proofs.Outcomes.{known_here, learned_here, counting_here, offset_at}
 use Rattle.rp_learner.proofs.VoteCounts.{alone}

@@ -7,12 +7,12 @@ use Rattle.rp_outbox.proofs.outbox.Outbox.prepare_all.Goals as goal
 
 pub put_to_all-requires-clause-packet : goal.put_to_all-requires-clause-packet
 put_to_all-requires-clause-packet c =
-    let place = c.args.place in
-    let body = Prepare place.position place.ballot in
-    (place.from, (body, subst (λ (to : ℕ). IsTextOf c.prepare_text.result (says place.from body to)) c.requires.itself (prepare_is_packet place c.place_in_range.ensures, c.prepare_text.ensures)))
+    let header = c.args.header in
+    let body = Prepare header.position header.ballot in
+    (header.from, (body, subst (λ (to : ℕ). IsTextOf c.prepare_text.result (says header.from body to)) c.requires.itself (prepare_is_packet header c.header_in_range.ensures, c.prepare_text.ensures)))
 
 pub returns-clause-sent : goal.returns-clause-sent
 returns-clause-sent c =
-    let place = c.args.place in
-    let body = Prepare place.position place.ballot in
-    c.put_to_all.ensures.sent place.from body (subst (λ (to : ℕ). IsTextOf c.prepare_text.result (says place.from body to)) c.requires.itself (prepare_is_packet place c.place_in_range.ensures, c.prepare_text.ensures))
+    let header = c.args.header in
+    let body = Prepare header.position header.ballot in
+    c.put_to_all.ensures.sent header.from body (subst (λ (to : ℕ). IsTextOf c.prepare_text.result (says header.from body to)) c.requires.itself (prepare_is_packet header c.header_in_range.ensures, c.prepare_text.ensures))

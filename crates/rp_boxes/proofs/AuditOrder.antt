@@ -13,7 +13,7 @@ use Rattle.rp_model.specs.Facts.{IsOrder}
 use Rattle.rp_model.specs.Parts.{NodePart}
 use Rattle.rp_base.specs.declared.reply.Answer.{Answer}
 use Rattle.rp_agreement.specs.Computed.{order_of}
-use Rattle.rp_agreement.specs.Order.{Begins}
+use Rattle.rp_agreement.specs.Order.{IsPrefix}
 use Rattle.rp_agreement.specs.Sound.{IsReported, IsSound}
 use Rattle.rp_agreement.specs.Asked.{Says}
 use Rattle.rp_boxes.specs.Audits.{ReportSays, AreAllReported, known_of, report}
@@ -33,7 +33,7 @@ ReportsFollow = (nodes : ℕ) (node : ℕ → NodePart) (sent : List Message) �
     → (x first applied : ℕ) (actions : List Action) → Says sent x (Report first applied actions) → IsReported order first applied actions
 
 -- each known list is a prefix of the list of what was reported
-pub begin_one : (part : Part) (known : List (List Action)) → AreAllReported part known → (one : ReportOneOrder part) → (node : ℕ) → Begins (known_of known node) one.order
+pub begin_one : (part : Part) (known : List (List Action)) → AreAllReported part known → (one : ReportOneOrder part) → (node : ℕ) → IsPrefix (known_of known node) one.order
 begin_one part known are one node = begins_by (known_of known node) one.order (λ k action is. one.describes node k action (are.stated node k action is))
 
 pub of_one_order : (part : Part) (known : List (List Action)) → AreAllReported part known → ReportOneOrder part → AreOfOneOrder known
@@ -63,7 +63,7 @@ module _ {S : Type 0} (s : Setting S) (view : View) (parts : ℕ → Part) (worl
 
   -- each known list begins the order
   pub known_begins : OrderExists → ReportsFollow → (part : Part) → Has (0, part) view → (known : List (List Action)) → AreAllReported part known
-      → (node : ℕ) → Begins (known_of known node) order
+      → (node : ℕ) → IsPrefix (known_of known node) order
   known_begins exists follow part here known are = begin_one part known are (record { order = order; describes = stated_at exists follow part here })
 
 -- once the audit got a packet, or none

@@ -10,7 +10,7 @@ use Rattle.atomic_table.proofs.Lists.{at_set, set_here, set_else}
 use Rattle.rp_base.specs.Sets.{Has, IsSet}
 use Rattle.rp_base.proofs.Members.{has_left, has_right, has_split, mapped_has, set_more}
 use Rattle.rp_model.specs.Effect.{Setting}
-use Rattle.rp_boxes.specs.Making.{first_in, others_in}
+use Rattle.rp_boxes.specs.FirstSeats.{first_in, others_in}
 use Rattle.rp_boxes.specs.Parts.{Part, View, actor_in, part_in}
 use Rattle.rp_boxes.specs.Plays.{Sight, alone}
 use Rattle.rp_boxes.specs.Rule.{IsSeating, Ruled}

@@ -10,7 +10,7 @@ use Rattle.rp_model.specs.Effect.{Setting}
 use Rattle.rp_model.specs.Facts.{IsOrder}
 use Rattle.rp_model.specs.Parts.{NodePart}
 use Rattle.rp_agreement.specs.Computed.{order_of}
-use Rattle.rp_agreement.specs.Order.{Begins}
+use Rattle.rp_agreement.specs.Order.{IsPrefix}
 use Rattle.rp_agreement.specs.Sound.{IsSound}
 use Rattle.rp_boxes.specs.Audits.{Audited, ReportSays, AreAllReported, known_of, report}
 use Rattle.rp_boxes.specs.Looks.{IsWorldOf}
@@ -48,7 +48,7 @@ all_members Q (x ∷ xs) each (suc k) d within = all_members Q xs (λ y has. eac
 -- the law of what nodes have applied
 abbrev pub AppliedBegin : Type 0
 AppliedBegin = (nodes : ℕ) (node : ℕ → NodePart) (sent : List Message) → IsSound nodes node sent → (order : List Action) → IsOrder nodes sent order
-    → (x : ℕ) → Begins (applied_of (node x).records) order
+    → (x : ℕ) → IsPrefix (applied_of (node x).records) order
 
 module _ {S P : Type 0} (next : S → Action → S) (answers : S → Action → List Answer) (begin : P → S) (audit : Audited P) (nodes tasks : List (SeatState P)) where
   abbrev s : Setting S
@@ -87,7 +87,7 @@ module _ {S P : Type 0} (next : S → Action → S) (answers : S → Action → 
       order = order;
       known = known_begins s view parts world exists follow audit.seat.part (inl refl) audit.known are;
       nodes_are = all_members (IsNodeOf order audit.known) nodes (λ seat has. record {
-        applied = subst (λ (p : Part). Begins (applied_of (node_of p.role).records) order) (world.knows seat.number seat.part (node_here seat has)).0
+        applied = subst (λ (p : Part). IsPrefix (applied_of (node_of p.role).records) order) (world.knows seat.number seat.part (node_here seat has)).0
             (applied s.config.nodes (node_among parts) (all_sent parts 16) world.is.good.kept.sound order (exists s.config.nodes (all_sent parts 16)) seat.number);
         reported = has_reported are seat has;
       });

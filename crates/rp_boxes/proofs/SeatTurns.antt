@@ -29,7 +29,7 @@ use Rattle.rp_boxes.specs.Rule.{HasOwnPackets}
 use Rattle.rp_boxes.specs.Plays.{Sight, IsNoted, alone}
 use Rattle.rp_boxes.specs.Seats.{SeatState, IsAtTable, IsNodePlace, HasInputRanges, IsGot, IsReason, IsTurn, IsCutTurn, IsNoTurn, setting_of}
 use Rattle.rp_boxes.specs.Steps.{IsEvent, HasEvent}
-use Rattle.rp_boxes.specs.Counting.{HasStepped, HasStopped}
+use Rattle.rp_boxes.specs.CountedTurns.{HasStepped, HasStopped}
 use Rattle.rp_boxes.specs.declared.board.Setup.{Setup}
 use Rattle.rp_boxes.specs.declared.node_seat.NodeSeat.TheInside.{Inside}
 use Rattle.rp_boxes.proofs.SeatBoxes.{Board, Place, at_after}
@@ -196,13 +196,15 @@ module _ {M D P : Type 0} {machine : Ghosts M P} (at : NodeStep machine D) where
             gives = is.gives;
             node = sits.node;
             was = sits.is;
-            whole = turn_done sits.node turn;
-            step = results_so turn resulted;
-            written = fails.rec;
-            writes = fails.is;
-            kept = kept;
             done = goes_on_as left;
-            results = cut;
+            cut = record {
+              whole = turn_done sits.node turn;
+              step = results_so turn resulted;
+              written = fails.rec;
+              writes = fails.is;
+              kept = kept;
+              results = cut;
+            };
             represents = represents_failed member new left (ap (λ (h : ReplicaState M). h.failed) fails.goes) (is_cut machine.next machine.answers member old sits.node runs kept turn.written new.disk fails.holds.1);
             is = refl;
           },
@@ -313,13 +315,8 @@ module _ {M D P : Type 0} {machine : Ghosts M P} (at : NodeStep machine D) where
         gives = cut.picked.gives;
         node = cut.picked.node;
         was = cut.picked.was;
-        whole = cut.picked.whole;
-        step = cut.picked.step;
-        written = cut.picked.written;
-        writes = cut.picked.writes;
-        kept = cut.picked.kept;
         done = cut.picked.done;
-        results = cut.picked.results;
+        cut = cut.picked.cut;
         after = new_state new.disk.failures new.disk.failures refl cut.part cut.is ∙ ap (seat_state inside.place.table_id new.disk.failures) cut.picked.is;
       }
 

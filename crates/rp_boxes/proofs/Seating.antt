@@ -12,7 +12,7 @@ use Rattle.rp_world.proofs.Represented.{represents}
 use Rattle.rp_boxes.specs.Parts.{Part, View, OfNode, OfTask, OfAudit, first_role, first_part, first_from, part_in}
 use Rattle.rp_boxes.specs.Plays.{Sight, IsSized, alone}
 use Rattle.rp_boxes.specs.Seats.{SeatState, IsAtTable, IsNodePlace}
-use Rattle.rp_boxes.specs.Making.{AreFirstSeats, AreSeats, IsRest, Unseated, after_seats, others_in, first_seat}
+use Rattle.rp_boxes.specs.FirstSeats.{AreFirstSeats, AreSeats, IsRest, Unseated, after_seats, others_in, first_seat}
 use Rattle.rp_boxes.proofs.SeatBoxes.{Board, Place}
 
 -- ---- the rest of the actors

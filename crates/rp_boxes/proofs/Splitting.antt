@@ -9,7 +9,7 @@ use Rattle.atomic_table.proofs.Lists.{at_set, set_here, set_else, at_longer, at_
 use Rattle.rp_base.specs.Sets.{Has}
 use Rattle.rp_base.proofs.Members.{has_mapped}
 use Rattle.rp_model.specs.Effect.{Setting}
-use Rattle.rp_boxes.specs.Making.{first_in, others_in}
+use Rattle.rp_boxes.specs.FirstSeats.{first_in, others_in}
 use Rattle.rp_boxes.specs.Parts.{Part, View}
 use Rattle.rp_boxes.specs.Rule.{IsSeating, Ruled}
 use Rattle.rp_boxes.proofs.Worlds.{AreKeys, with_value, value_here, value_else, at_each, at_below, reseated}

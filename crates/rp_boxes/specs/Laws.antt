@@ -16,20 +16,20 @@ use Rattle.rp_boxes.specs.Steps.{ResultsIn}
 -- an event of a node preserves the invariant, and the packets that it sends name it as the sender
 abbrev pub NodesKeep : {S : Type 0} → Setting S → Type 0
 NodesKeep s =
-    (x : ℕ) (input : NodeInput) (done : Done NodePart) (node after : ℕ → NodePart) (task : ℕ → TaskPart)
-    (sent later : List Message)
-    → IsRightConfig s.config → IsMember s.config.nodes x → IsGood s node task sent → IsInput sent input
-    → ResultsIn s x (node x) input done
+    (x : ℕ) (input : NodeInput) (done : Done NodePart) (node after : ℕ → NodePart)
+    (task : ℕ → TaskPart) (sent later : List Message)
+    → IsRightConfig s.config → IsMember s.config.nodes x → IsGood s node task sent
+    → IsInput sent input → ResultsIn s x (node x) input done
     → NodeMoves x done node sent after later
     → IsGood s after task later × ((m : Message) → Has m done.sends → m.from ≡ Node x)
 
 -- an event of a task preserves the invariant, and the packets that it sends name it as the sender
 abbrev pub TasksKeep : {S : Type 0} → Setting S → Type 0
 TasksKeep s =
-    (t : ℕ) (input : TaskInput) (done : Done TaskPart) (node : ℕ → NodePart) (task moved : ℕ → TaskPart)
-    (sent later : List Message)
-    → IsGood s node task sent → IsTaskInput sent t input → task_effect s.config t (task t) input ≡ Ok done
-    → TaskMoves t done task sent moved later
+    (t : ℕ) (input : TaskInput) (done : Done TaskPart) (node : ℕ → NodePart)
+    (task moved : ℕ → TaskPart) (sent later : List Message)
+    → IsGood s node task sent → IsTaskInput sent t input
+    → task_effect s.config t (task t) input ≡ Ok done → TaskMoves t done task sent moved later
     → IsGood s node moved later × ((m : Message) → Has m done.sends → m.from ≡ Task t)
 
 -- both

@@ -4,8 +4,8 @@ pub mod Steps
 pub mod Laws
 pub mod Plays
 pub mod Seats
-pub mod Counting
-pub mod Making
+pub mod CountedTurns
+pub mod FirstSeats
 pub mod Audits
 pub mod TaskSeats
 pub mod Looks

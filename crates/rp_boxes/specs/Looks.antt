@@ -23,8 +23,8 @@ HasWorld s view = (parts : ℕ → Part) × IsWorldOf s view parts
 
 -- There is a world that satisfies the rule, contains what the seat of one party knows, and in which
 -- the other party has sent the packet with this text.
-pub record WasSent {S P : Type 0} (next : S → Action → S) (answers : S → Action → List Answer) (begin : P → S)
-    (from to : Party) (bytes : List ℕ) (seat : SeatState P) : Type 0 where
+pub record WasSent {S P : Type 0} (next : S → Action → S) (answers : S → Action → List Answer)
+    (begin : P → S) (from to : Party) (bytes : List ℕ) (seat : SeatState P) : Type 0 where
   pub parts : ℕ → Part
   pub world : IsWorldOf (setting_at next answers begin seat) ((actor_of to, seat.part) ∷ []) parts
   pub packet : Message

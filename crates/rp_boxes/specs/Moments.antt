@@ -17,7 +17,8 @@ use Rattle.rp_boxes.specs.Rule.{Slot, Ruled}
 use Rattle.rp_boxes.specs.Seats.{SeatState, setting_at}
 
 -- The table at a moment: it satisfies the rule, and this view is that of one of its seats.
-pub record IsMoment {S : Type 0} (s : Setting S) (view : View) (table : State Slot View) : Type 0 where
+pub record IsMoment {S : Type 0} (s : Setting S) (view : View) (table : State Slot View)
+    : Type 0 where
   pub rule : Ruled s table
   pub seat : ℕ
   pub sees : get_elem? table.views seat ≡ some view
@@ -25,26 +26,26 @@ pub record IsMoment {S : Type 0} (s : Setting S) (view : View) (table : State Sl
 -- The seat of an actor may try to claim the box from one actor to another: it holds no box of this
 -- kind, and if the word of the box differs from this one, this fact holds of the part that it
 -- knows.
-pub record MayClaim {S : Type 0} (s : Setting S) (table mine : TableId) (actor from to : ℕ) (me : Sight)
-    (holds : Part → List ℕ)
-    (word : ℕ)
-    (says : Part → Type 0) : Type 0 where
+pub record MayClaim {S : Type 0} (s : Setting S) (table mine : TableId) (actor from to : ℕ)
+    (me : Sight) (holds : Part → List ℕ) (word : ℕ) (says : Part → Type 0) : Type 0 where
   pub same : mine ≡ table
   pub sized : IsSized table
   pub less : (from < 16) × (to < 16)
   pub place : me ≡ alone actor (part_in me.0)
   pub free : holds (part_in me.0) ≡ []
-  pub follows : (t : State Slot View) → IsMoment s me.0 t → slice_index t.words (box_of from to) ≢ word
-      → says (part_in me.0)
+  pub follows : (t : State Slot View) → IsMoment s me.0 t
+      → slice_index t.words (box_of from to) ≢ word → says (part_in me.0)
 
 -- At a moment when a seat had this view, the word of a box satisfied this.
-pub record WasWord {S : Type 0} (s : Setting S) (view : View) (b : ℕ) (is : ℕ → Type 0) : Type 0 where
+pub record WasWord {S : Type 0} (s : Setting S) (view : View) (b : ℕ) (is : ℕ → Type 0)
+    : Type 0 where
   pub table : State Slot View
   pub moment : IsMoment s view table
   pub word : is (slice_index table.words b)
 
 -- At a moment when a seat had this view, a box was full and held these bytes.
-pub record WasFull {S : Type 0} (s : Setting S) (view : View) (b : ℕ) (bytes : List ℕ) : Type 0 where
+pub record WasFull {S : Type 0} (s : Setting S) (view : View) (b : ℕ) (bytes : List ℕ)
+    : Type 0 where
   pub table : State Slot View
   pub moment : IsMoment s view table
   pub full : slice_index table.words b ≡ 2
@@ -52,7 +53,8 @@ pub record WasFull {S : Type 0} (s : Setting S) (view : View) (b : ℕ) (bytes :
   pub inside : get_elem? table.homes b ≡ some (some (Some text))
   pub is : text.items ≡ bytes
 
-module _ {S P : Type 0} (next : S → Action → S) (answers : S → Action → List Answer) (begin : P → S) where
+module _ {S P : Type 0} (next : S → Action → S) (answers : S → Action → List Answer)
+    (begin : P → S) where
   -- The packet with this text was in the box from the seat's party to its receiver.
   pub record WasPut (from : Party) (bytes : List ℕ) (seat : SeatState P) : Type 0 where
     pub packet : Message

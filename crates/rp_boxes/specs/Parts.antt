@@ -6,7 +6,8 @@
 -- | task t, 1 to 8 | 7 + t      | 263 + t  |
 --
 -- The box from actor x to actor y has the word and the slot 16 x + y.
-use Rattle.std.specs.Prelude.{ℕ, zero, suc, ◌+◌, ◌*◌, List, [], ◌∷◌, ◌++◌, filter, nat_eq, nat_lt, if◌then◌else◌}
+use Rattle.std.specs.Prelude.{ℕ, zero, suc, ◌+◌, ◌*◌, List, [], ◌∷◌, ◌++◌, filter, nat_eq, nat_lt}
+use Rattle.std.specs.Prelude.{if◌then◌else◌}
 use Rattle.rp_codec.specs.Message.{Message}
 use Rattle.rp_codec.specs.declared.packet.Party.{Party}
 use Rattle.rp_codec.specs.declared.packet.Party.TheVariants.{Node, Task, Audit}
@@ -58,11 +59,13 @@ task_of OfAudit = fresh_task
 
 -- an actor that did nothing
 abbrev pub fresh_part : Role → Part
-fresh_part role = record { role = role; events = 0; sent = []; put = []; got = []; fills = []; takes = [] }
+fresh_part role =
+    record { role = role; events = 0; sent = []; put = []; got = []; fills = []; takes = [] }
 
 -- the initial state of the actor with this number
 abbrev pub first_role : ℕ → Role
-first_role k = if nat_eq k 0 then OfAudit else if nat_lt k 8 then OfNode fresh_node else OfTask fresh_task
+first_role k =
+    if nat_eq k 0 then OfAudit else if nat_lt k 8 then OfNode fresh_node else OfTask fresh_task
 
 -- the part of an actor at first
 abbrev pub first_part : ℕ → Part
@@ -85,7 +88,8 @@ actor_in (known ∷ rest) = known.0
 
 -- the part after an event: the actor has this state, and sent these packets
 abbrev pub part_after : Part → Role → List Message → Part
-part_after part role sends = record part { role = role; events = part.events + 1; sent = part.sent ++ sends }
+part_after part role sends =
+    record part { role = role; events = part.events + 1; sent = part.sent ++ sends }
 
 -- the view with its first part changed
 abbrev pub on_first : (Part → Part) → View → View

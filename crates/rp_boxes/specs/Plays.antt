@@ -26,7 +26,8 @@ IsSized table = (table.words ≡ 272) × (table.slots ≡ 256)
 
 -- An empty box is claimed with its slot; any other box is left as it is.
 pub record Claimed (b : ℕ) (old : Sight) (found : ℕ) (new : Sight) : Type 0 where
-  pub hit : found ≡ 0 → (slot : Slot) × IsVacant slot × (new ≡ (on_first (filling b) old.0, (b, slot) ∷ old.1))
+  pub hit : found ≡ 0 → (slot : Slot) × IsVacant slot
+      × (new ≡ (on_first (filling b) old.0, (b, slot) ∷ old.1))
   pub miss : found ≢ 0 → new ≡ old
 
 -- The packet was in the box, from one actor to the other, and its text is taken out.

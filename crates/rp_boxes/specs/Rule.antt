@@ -15,7 +15,8 @@ use Rattle.rp_model.specs.Effect.{Setting}
 use Rattle.rp_model.specs.Parts.{NodePart, TaskPart}
 use Rattle.rp_agreement.specs.Answered.{IsKept}
 use Rattle.rp_agreement.specs.Ranges.{IsRangedPart}
-use Rattle.rp_boxes.specs.Parts.{Part, View, actor_of, box_of, from_actor, node_of, task_of, to_actor}
+use Rattle.rp_boxes.specs.Parts.{Part, View, actor_of, box_of, from_actor, node_of, task_of}
+use Rattle.rp_boxes.specs.Parts.{to_actor}
 
 -- what a box holds: a packet's text, an empty buffer, or nothing
 abbrev pub Slot : Type 0
@@ -37,9 +38,10 @@ abbrev pub all_sent : (ℕ → Part) → ℕ → List Message
 all_sent parts zero = []
 all_sent parts (suc k) = all_sent parts k ++ (parts k).sent
 
--- the invariant of a world: that of agreement with the replies to tasks, and numbers within their ranges
-pub record IsGood {S : Type 0} (s : Setting S) (node : ℕ → NodePart) (task : ℕ → TaskPart) (sent : List Message)
-    : Type 0 where
+-- the invariant of a world: that of agreement with the replies to tasks, and numbers within their
+-- ranges
+pub record IsGood {S : Type 0} (s : Setting S) (node : ℕ → NodePart) (task : ℕ → TaskPart)
+    (sent : List Message) : Type 0 where
   pub kept : IsKept s node task sent
   pub ranged : (x : ℕ) → IsRangedPart (node x)
   pub packets : (m : Message) → Has m sent → IsPacket m
@@ -57,9 +59,11 @@ pub record IsCarried (x y : ℕ) (bytes : List ℕ) (m : Message) : Type 0 where
 
 -- The packets that x put for y are those that y got from x, in order, followed by these.
 abbrev pub IsCarriedOver : ℕ → ℕ → Part → Part → List Message → Type 0
-IsCarriedOver x y sender receiver inside = to_actor y sender.put ≡ from_actor x receiver.got ++ inside
+IsCarriedOver x y sender receiver inside =
+    to_actor y sender.put ≡ from_actor x receiver.got ++ inside
 
--- The packets that y got from x are those that x put for y, in order: all of them, or all but the last.
+-- The packets that y got from x are those that x put for y, in order: all of them, or all but the
+-- last.
 pub record IsGotInOrder (x y : ℕ) (sender receiver : Part) : Type 0 where
   pub inside : List Message
   pub one : length inside ≤ 1
@@ -71,8 +75,8 @@ pub record IsGotInOrder (x y : ℕ) (sender receiver : Part) : Type 0 where
 pub record IsBox (parts : ℕ → Part) (x y word : ℕ) (home : Slot → Type 0) : Type 0 where
   pub empty : word ≡ 0 → (slot : Slot) × home slot × IsVacant slot
   pub filling : (word ≡ 1) ↔ Has (box_of x y) (parts x).fills
-  pub full : word ≡ 2 → (m : Message) × (text : Vec ℕ Global) × home (Some text) × IsCarried x y text.items m
-      × IsCarriedOver x y (parts x) (parts y) (m ∷ [])
+  pub full : word ≡ 2 → (m : Message) × (text : Vec ℕ Global) × home (Some text)
+      × IsCarried x y text.items m × IsCarriedOver x y (parts x) (parts y) (m ∷ [])
   pub not_full : word ≢ 2 → IsCarriedOver x y (parts x) (parts y) []
   pub emptying : (word ≡ 3) ↔ Has (box_of x y) (parts y).takes
 
@@ -81,7 +85,8 @@ pub record IsSeating (views : List View) (parts : ℕ → Part) (owner : ℕ →
   pub knows : (id : ℕ) (v : View) → get_elem? views id ≡ some v → (k : ℕ) (p : Part) → Has (k, p) v
       → (owner k ≡ id) × (parts k ≡ p) × (k < 16)
   pub apart : (id : ℕ) (v : View) → get_elem? views id ≡ some v → IsSet (map (λ known. known.0) v)
-  pub seated : (k : ℕ) → k < 16 → (v : View) × (get_elem? views (owner k) ≡ some v) × Has (k, parts k) v
+  pub seated : (k : ℕ) → k < 16 → (v : View) × (get_elem? views (owner k) ≡ some v)
+      × Has (k, parts k) v
 
 -- The parts of the actors, and all packets that they sent, are a world that satisfies the
 -- invariant. Each packet that an actor sent names it as the sender, each packet that it put into a
@@ -91,9 +96,11 @@ pub record IsWorld {S : Type 0} (s : Setting S) (parts : ℕ → Part) : Type 0 
   pub good : IsGoodAt s parts
   pub sends : (k : ℕ) → k < 16 → (m : Message) → Has m (parts k).sent → actor_of m.from ≡ k
   pub puts : (k : ℕ) → k < 16 → (m : Message) → Has m (parts k).put → Has m (parts k).sent
-  pub gets : (k : ℕ) → k < 16 → (m : Message) → Has m (parts k).got → (actor_of m.to ≡ k) × Has m (all_sent parts 16)
+  pub gets : (k : ℕ) → k < 16 → (m : Message) → Has m (parts k).got → (actor_of m.to ≡ k)
+      × Has m (all_sent parts 16)
 
--- The parts that the seats know are a world. An actor's word is the number of its events modulo 2^64.
+-- The parts that the seats know are a world. An actor's word is the number of its events modulo
+-- 2^64.
 pub record Ruled {S : Type 0} (s : Setting S) (t : State Slot View) : Type 0 where
   pub parts : ℕ → Part
   pub owner : ℕ → ℕ
@@ -102,7 +109,8 @@ pub record Ruled {S : Type 0} (s : Setting S) (t : State Slot View) : Type 0 whe
   pub seating : IsSeating t.views parts owner
   pub counted : (k : ℕ) → k < 16 → slice_index t.words (256 + k) ≡ (parts k).events % 2 ^ 64
   pub boxes : (x y : ℕ) → x < 16 → y < 16
-      → IsBox parts x y (slice_index t.words (box_of x y)) (λ slot. get_elem? t.homes (box_of x y) ≡ some (some slot))
+      → IsBox parts x y (slice_index t.words (box_of x y))
+      (λ slot. get_elem? t.homes (box_of x y) ≡ some (some slot))
 
 -- all packets that an actor sent or got are valid, with it as the sender or the receiver, and it
 -- sent what it put into boxes

@@ -1,5 +1,6 @@
 -- How contracts see a seat, and the results of its calls.
-use Rattle.std.specs.Prelude.{◌≡◌, ℕ, ◌<◌, ◌^◌, Option, Some, None, IfSome, IsSome, Result, Ok, Err, List, [], ◌∷◌}
+use Rattle.std.specs.Prelude.{◌≡◌, ℕ, ◌<◌, ◌^◌, Option, Some, None, IfSome, IsSome, Result, Ok, Err}
+use Rattle.std.specs.Prelude.{List, [], ◌∷◌}
 use Rattle.std.specs.Prelude.{length}
 use Rattle.atomic_table.specs.Seated.{TableId}
 use Rattle.rp_base.specs.Ranges.{IsRange}
@@ -10,12 +11,11 @@ use Rattle.rp_base.specs.declared.action.Action.{Action}
 use Rattle.rp_base.specs.declared.config.Config.{Config}
 use Rattle.rp_base.specs.declared.fault.Fault.{Fault}
 use Rattle.rp_base.specs.declared.fault.Fault.TheVariants.{OutOfMemory, Device, Failed}
-use Rattle.rp_base.specs.declared.record.Rec.{Rec}
 use Rattle.rp_base.specs.declared.reply.Answer.{Answer}
 use Rattle.rp_codec.specs.Message.{Message, IsPacket}
 use Rattle.rp_codec.specs.Text.{text_of}
 use Rattle.rp_codec.specs.declared.packet.Party.{Party}
-use Rattle.rp_model.specs.Effect.{Setting, Done, NodeInput, node_effect, cut_effect, report_of}
+use Rattle.rp_model.specs.Effect.{Setting, Done, NodeInput, node_effect, report_of}
 use Rattle.rp_model.specs.declared.effect.Dropped.TheVariants.{No}
 use Rattle.rp_machine.specs.declared.machine.Machine.{Ghosts}
 use Rattle.rp_model.specs.Parts.{NodePart, Running}
@@ -24,7 +24,8 @@ use Rattle.rp_agreement.specs.Sound.{IsMember}
 use Rattle.rp_replica.specs.State.{ReplicaState}
 use Rattle.rp_rules.specs.Inputs.{given_by}
 use Rattle.rp_rules.specs.declared.input.Input.{Input}
-use Rattle.rp_rules.specs.declared.input.Input.TheVariants.{Receive, Lead, LeadRange, Interrupt, Tick, Report}
+use Rattle.rp_rules.specs.declared.input.Input.TheVariants.{Receive, Lead, LeadRange, Interrupt}
+use Rattle.rp_rules.specs.declared.input.Input.TheVariants.{Tick, Report}
 use Rattle.rp_replica.specs.declared.sent.Sent.{Sent}
 use Rattle.rp_world.specs.Callers.{Caller}
 use Rattle.rp_world.specs.Nodes.{member_of, RepresentsWhile, DescribesSent}
@@ -32,6 +33,7 @@ use Rattle.rp_boxes.specs.declared.board.Setup.{Setup}
 use Rattle.rp_boxes.specs.Parts.{Part, OfNode, OfTask, part_in, part_after, with_put, with_got}
 use Rattle.rp_boxes.specs.Rule.{HasOwnPackets}
 use Rattle.rp_boxes.specs.Plays.{Sight, IsSized, alone}
+use Rattle.rp_boxes.specs.Steps.{IsCutStep}
 
 -- The seat's table, what all nodes of that table share, the number of the seat's node or task (0
 -- for the audit), how many calls of its device have failed (0 if it has none), and what the seat
@@ -50,9 +52,10 @@ setting_of machine setup =
     setting_for machine.next machine.answers machine.begin setup.config setup.program.value
 
 -- what the nodes at a seat's table share, from the seat's state
-abbrev pub setting_at : {S P : Type 0} → (S → Action → S) → (S → Action → List Answer) → (P → S) → SeatState P
-    → Setting S
-setting_at next answers begin seat_state = setting_for next answers begin seat_state.config seat_state.program
+abbrev pub setting_at : {S P : Type 0} → (S → Action → S) → (S → Action → List Answer) → (P → S)
+    → SeatState P → Setting S
+setting_at next answers begin seat_state =
+    setting_for next answers begin seat_state.config seat_state.program
 
 -- The place of a seat that knows one actor and holds no box.
 pub record IsAtTable (table mine : TableId) (actor : ℕ) (me : Sight) : Type 0 where
@@ -65,8 +68,8 @@ pub record IsAtTable (table mine : TableId) (actor : ℕ) (me : Sight) : Type 0 
   pub own : HasOwnPackets actor (part_in me.0)
 
 -- The replica is the node that the seat knows; if its device failed, that node is stopped.
-pub record IsNodePlace {S : Type 0} (config : Config) (begin : S) (number : ℕ) (replica : ReplicaState S) (part : Part)
-    : Type 0 where
+pub record IsNodePlace {S : Type 0} (config : Config) (begin : S) (number : ℕ)
+    (replica : ReplicaState S) (part : Part) : Type 0 where
   pub member : IsMember config.nodes number
   pub node : NodePart
   pub is : part.role ≡ OfNode node
@@ -109,9 +112,11 @@ IsReason None effect fault = fault ≡ Failed
 IsReason (Some running) (Ok done) fault = fault ≡ OutOfMemory
 IsReason (Some running) (Err refusal) fault = fault ≡ refusal
 
-module _ {S P : Type 0} (next : S → Action → S) (answers : S → Action → List Answer) (begin : P → S) where
+module _ {S P : Type 0} (next : S → Action → S) (answers : S → Action → List Answer)
+    (begin : P → S) where
   -- One event: the result of the input at the node, and its packets.
-  pub record IsTurn (old : SeatState P) (input : Input) (new : SeatState P) (sent : Sent) : Type 0 where
+  pub record IsTurn (old : SeatState P) (input : Input) (new : SeatState P) (sent : Sent)
+      : Type 0 where
     pub given : NodeInput
     pub gives : given_by input ≡ Ok given
     pub node : NodePart
@@ -121,34 +126,33 @@ module _ {S P : Type 0} (next : S → Action → S) (answers : S → Action → 
     pub after : new ≡ record old { part = part_after old.part (OfNode done.part) done.sends }
     pub describes : DescribesSent sent done
 
-  -- One event: the device failed while the step wrote its record, of which some bytes were kept, and the node stopped.
-  pub record IsCutTurn (old : SeatState P) (input : Input) (new : SeatState P) (fault : Fault) : Type 0 where
+  -- One event: the device failed while the step wrote its record, of which some bytes were kept,
+  -- and the node stopped.
+  pub record IsCutTurn (old : SeatState P) (input : Input) (new : SeatState P) (fault : Fault)
+      : Type 0 where
     pub device : fault ≡ Device
     pub failed : old.failures < new.failures
     pub given : NodeInput
     pub gives : given_by input ≡ Ok given
     pub node : NodePart
     pub was : old.part.role ≡ OfNode node
-    pub whole : Done NodePart
-    pub step : node_effect (setting_at next answers begin old) old.number node given ≡ Ok whole
-    pub written : Rec
-    pub writes : whole.written ≡ Some written
-    pub kept : ℕ
     pub done : Done NodePart
-    pub results : cut_effect (setting_at next answers begin old) old.number node given kept ≡ Ok done
+    pub cut : IsCutStep (setting_at next answers begin old) old.number node given done
     pub after : new ≡ record old {
       part = part_after old.part (OfNode done.part) done.sends;
       failures = new.failures;
     }
 
   -- No event: the node is stopped, memory ran out, or the step is refused.
-  pub record IsNoTurn (old : SeatState P) (input : Input) (new : SeatState P) (fault : Fault) : Type 0 where
+  pub record IsNoTurn (old : SeatState P) (input : Input) (new : SeatState P) (fault : Fault)
+      : Type 0 where
     pub unchanged : new ≡ old
     pub given : NodeInput
     pub gives : given_by input ≡ Ok given
     pub node : NodePart
     pub was : old.part.role ≡ OfNode node
-    pub why : IsReason node.running (node_effect (setting_at next answers begin old) old.number node given) fault
+    pub why : IsReason node.running
+        (node_effect (setting_at next answers begin old) old.number node given) fault
 
 -- ---- packets
 
@@ -165,7 +169,8 @@ pub record IsPut {P : Type 0} (bytes : List ℕ) (old new : SeatState P) : Type 
 
 -- A packet from one party to another was taken out of their box, and its receiver got it; these
 -- bytes are its text.
-pub record IsFetched {P : Type 0} (from to : Party) (bytes : List ℕ) (old new : SeatState P) : Type 0 where
+pub record IsFetched {P : Type 0} (from to : Party) (bytes : List ℕ) (old new : SeatState P)
+    : Type 0 where
   pub packet : Message
   pub right : IsPacket packet
   pub text : bytes ≡ text_of packet
@@ -189,11 +194,13 @@ pub record IsReport {P : Type 0} (first : ℕ) (old new : SeatState P) (sent : S
 -- n actions are applied, if the node runs
 abbrev pub HasApplied : Part → ℕ → Type 0
 HasApplied part count =
-    (node : NodePart) × (part.role ≡ OfNode node) × IsSome node.running × (count ≡ length (applied_of node.records))
+    (node : NodePart) × (part.role ≡ OfNode node) × IsSome node.running
+    × (count ≡ length (applied_of node.records))
 
 -- the node runs, and this is what it knows while it does
 abbrev pub IsRunning : Part → Running → Type 0
-IsRunning part running = (node : NodePart) × (part.role ≡ OfNode node) × (node.running ≡ Some running)
+IsRunning part running =
+    (node : NodePart) × (part.role ≡ OfNode node) × (node.running ≡ Some running)
 
 -- the node is stopped
 abbrev pub IsStopped : Part → Type 0

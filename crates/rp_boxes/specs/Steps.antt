@@ -1,6 +1,7 @@
 -- The result of a step of a seat.
-use Rattle.std.specs.Prelude.{◌≡◌, ◌⊎◌, ℕ, ◌+◌, Ok}
+use Rattle.std.specs.Prelude.{◌≡◌, ◌⊎◌, ℕ, ◌+◌, Some, Ok}
 use Rattle.rp_base.specs.Number.{IsTask}
+use Rattle.rp_base.specs.declared.record.Rec.{Rec}
 use Rattle.rp_model.specs.Effect.{Setting, Done, NodeInput, node_effect, cut_effect}
 use Rattle.rp_model.specs.Tasks.{TaskInput, task_effect}
 use Rattle.rp_model.specs.Parts.{NodePart, TaskPart}
@@ -11,7 +12,18 @@ use Rattle.rp_boxes.specs.Parts.{Part, OfNode, OfTask, part_after}
 -- an input results in this at the node, or the node stops within that step
 abbrev pub ResultsIn : {S : Type 0} → Setting S → ℕ → NodePart → NodeInput → Done NodePart → Type 0
 ResultsIn s x part input done =
-    (node_effect s x part input ≡ Ok done) ⊎ ((kept : ℕ) × (cut_effect s x part input kept ≡ Ok done))
+    (node_effect s x part input ≡ Ok done)
+    ⊎ ((kept : ℕ) × (cut_effect s x part input kept ≡ Ok done))
+
+-- The device failed while the step wrote its record, of which some bytes were kept.
+pub record IsCutStep {S : Type 0} (s : Setting S) (x : ℕ) (part : NodePart) (input : NodeInput)
+    (done : Done NodePart) : Type 0 where
+  pub whole : Done NodePart
+  pub step : node_effect s x part input ≡ Ok whole
+  pub written : Rec
+  pub writes : whole.written ≡ Some written
+  pub kept : ℕ
+  pub results : cut_effect s x part input kept ≡ Ok done
 
 -- One event of node x: the result of an input that it may be given, according to the packets that
 -- it got.

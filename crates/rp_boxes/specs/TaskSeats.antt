@@ -1,5 +1,6 @@
 -- The results of the calls of a task's seat.
-use Rattle.std.specs.Prelude.{◌≡◌, ◌⊎◌, ℕ, suc, Option, Some, None, Ok, Err, List, [], ◌∷◌, length, slice_get}
+use Rattle.std.specs.Prelude.{◌≡◌, ◌⊎◌, ℕ, suc, Option, Some, None, Ok, Err, List, [], ◌∷◌, length}
+use Rattle.std.specs.Prelude.{slice_get}
 use Rattle.rp_base.specs.Sets.{Has}
 use Rattle.rp_base.specs.declared.action.Action.{Action}
 use Rattle.rp_base.specs.declared.config.Config.{Config}
@@ -25,7 +26,8 @@ use Rattle.rp_boxes.specs.Seats.{SeatState, IsTaskPlace}
 
 -- The seat of the task with this number: it knows what all nodes share, and waits only for a valid
 -- call of its own.
-pub record IsTaskSeat (number : ℕ) (config mine : Config) (caller : Caller) (part : Part) : Type 0 where
+pub record IsTaskSeat (number : ℕ) (config mine : Config) (caller : Caller) (part : Part)
+    : Type 0 where
   pub place : IsTaskPlace caller part
   pub named : caller.task ≡ number
   pub shared : mine ≡ config
@@ -72,8 +74,8 @@ reply_effect task part (Some stated) = takes_reply task part stated.0 stated.1
 
 -- One event: the packet with this text, which the seat got, arrives at the task, and this answer is
 -- taken.
-pub record IsReplyTurn {P : Type 0} (old : SeatState P) (bytes : List ℕ) (new : SeatState P) (taken : Option Answer)
-    : Type 0 where
+pub record IsReplyTurn {P : Type 0} (old : SeatState P) (bytes : List ℕ) (new : SeatState P)
+    (taken : Option Answer) : Type 0 where
   pub packet : Message
   pub got : Has packet old.part.got
   pub text : bytes ≡ text_of packet
@@ -84,16 +86,17 @@ pub record IsReplyTurn {P : Type 0} (old : SeatState P) (bytes : List ℕ) (new 
   pub after : new ≡ record old { part = part_after old.part (OfTask done.part) done.sends }
   pub stated : taken ≡ done.taken
 
--- Each reply of the task is the order's answer to its call, which takes effect at one place; and the task's calls that
--- count in the order are those that it made, in order: all of them, or all but the one that it waits for.
-pub record IsOfOrder {S : Type 0} (next : S → Action → S) (answers : S → Action → List Answer) (begin : S)
-    (order : List Action) (number : ℕ) (part : Part) : Type 0 where
+-- Each reply of the task is the order's answer to its call, which takes effect at one place; and
+-- the task's calls that count in the order are those that it made, in order: all of them, or all
+-- but the one that it waits for.
+pub record IsOfOrder {S : Type 0} (next : S → Action → S) (answers : S → Action → List Answer)
+    (begin : S) (order : List Action) (number : ℕ) (part : Part) : Type 0 where
   pub replies : (k : ℕ) (answer : Answer) → slice_get (task_of part.role).replies k ≡ Some answer
       → HasReply next answers begin order (named number (suc k)) answer
   pub calls : AreItsCalls part.sent number (task_of part.role) (kept_of next answers begin order)
 
 -- there is such an order
-pub record HasOneOrder {S : Type 0} (next : S → Action → S) (answers : S → Action → List Answer) (begin : S)
-    (number : ℕ) (part : Part) : Type 0 where
+pub record HasOneOrder {S : Type 0} (next : S → Action → S) (answers : S → Action → List Answer)
+    (begin : S) (number : ℕ) (part : Part) : Type 0 where
   pub order : List Action
   pub task : IsOfOrder next answers begin order number part

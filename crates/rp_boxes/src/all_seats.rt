@@ -3,7 +3,7 @@
 ghost use Rattle.std.specs.Prelude.{◌≡◌, ◌+◌, ◌≤◌, ◌<◌, ◌⊎◌, ◌↔◌, ℕ, ◌∷◌, [], All, length, IfOk, IfErr, OnOk, IsErrOf};
 ghost use Rattle.rp_base.specs.Config.{IsRightConfig};
 ghost use Rattle.rp_base.specs.declared.fault.Fault.TheVariants as faults;
-ghost use Rattle.rp_boxes.specs.Making.{AreFirstSeats, AreSeats, CanFail, IsFirstPlace, IsRest, IsResourceFault, after_seats, failures_of, first_in, first_seat, others_in};
+ghost use Rattle.rp_boxes.specs.FirstSeats.{AreFirstSeats, AreSeats, CanFail, IsFirstPlace, IsRest, IsResourceFault, after_seats, failures_of, first_in, first_seat, others_in};
 ghost use Rattle.rp_boxes.specs.Parts.{Part, View};
 ghost use Rattle.rp_boxes.specs.Plays.{IsSized};
 
@@ -42,7 +42,7 @@ pub struct AllSeats<M: Machine, D: Device> {
 struct First;
 
 impl Split<Known> for First {
-    ghost use Rattle.rp_boxes.specs.Making.{first_in, others_in};
+    ghost use Rattle.rp_boxes.specs.FirstSeats.{first_in, others_in};
 
     ghost left = { others_in };
 
@@ -88,7 +88,7 @@ impl<M: Machine> Model for Unseated<M> {
     ghost use Rattle.std.specs.Prelude.{◌≡◌};
     ghost use Rattle.std.specs.Arc.{arc_value};
     ghost use Rattle.rp_base.specs.Config.{IsRightConfig};
-    ghost use Rattle.rp_boxes.specs.Making.{Unseated as Left, IsRest};
+    ghost use Rattle.rp_boxes.specs.FirstSeats.{Unseated as Left, IsRest};
 
     ghost Value = { Left M.Program };
 

@@ -202,7 +202,7 @@ impl<M: Machine> Audit<M> {
     /// The audit and a task of the same table look at it together: the actions known of each node
     /// are a prefix of one list, and in that list each reply of the task answers its call. Nothing
     /// changes.
-    pub fn look_with_task(self, task: TaskSeat<M>) -> (Self, TaskSeat<M>)
+    pub fn meet(self, task: TaskSeat<M>) -> (Self, TaskSeat<M>)
         requires { self.seat.table ≡ task.table }
         ensures same { (result.0 ≡ self) × (result.1 ≡ task) }
         ensures one { ShareOneOrder M.next M.answers M.begin result.0.known result.1 }

@@ -15,7 +15,7 @@ use crate::look::look;
 use crate::node_seat::NodeSeat;
 use crate::task_seat::TaskSeat;
 use rp_agreement::{
-    applied_lists_begin_the_order, calls_count_in_order, replies_answer_calls_that_count,
+    applied_lists_are_prefixes, calls_count_in_order, replies_answer_calls_that_count,
     reports_follow_the_order, the_order_exists,
 };
 use rp_machine::Machine;
@@ -143,7 +143,7 @@ impl<M: Machine> Audit<M> {
     {
         the_order_exists();
         reports_follow_the_order();
-        applied_lists_begin_the_order();
+        applied_lists_are_prefixes();
         replies_answer_calls_that_count::<M>();
         calls_count_in_order::<M>();
         let Audit {

@@ -10,7 +10,7 @@ use Rattle.rp_machine.proofs.Numbering.{length-one_to}
 use Rattle.rp_model.specs.Parts.{TaskPart}
 use Rattle.rp_model.specs.Tasks.{asks}
 use Rattle.rp_agreement.specs.Answered.{AreItsCalls, AreMade, calls_by, calls_so_far, named}
-use Rattle.rp_agreement.specs.Order.{Begins}
+use Rattle.rp_agreement.specs.Order.{IsPrefix}
 use Rattle.rp_agreement.proofs.Lists.{get_mapped, get_unmapped, get_one_to}
 use Rattle.rp_boxes.specs.Parts.{task_of}
 use Rattle.rp_boxes.specs.Seats.{SeatState}
@@ -41,7 +41,7 @@ first_number (call ∷ calls) = call.number
 same_call : (task node other : ℕ) (a b : Action) → asks task node a ≡ asks task other b → a ≡ b
 same_call task node other a b is = let e : bodies.Call a ≡ bodies.Call b = ap (λ (m : Message). m.body) is in cc
 
-begins_on : {A : Type 0} (xs ys zs : List A) → Begins xs ys → Begins ys zs → Begins xs zs
+begins_on : {A : Type 0} (xs ys zs : List A) → IsPrefix xs ys → IsPrefix ys zs → IsPrefix xs zs
 begins_on xs ys zs xy yz = (xy.0 ++ yz.0, yz.1 ∙ ap (λ (l : List _). l ++ yz.0) xy.1 ∙ append_assoc xs xy.0 yz.0)
 
 module _ {P : Type 0} (calls : List TaskCall) (seat : SeatState P) (made : ℕ) (waits : Bool) (h : HasMade calls seat made waits) where
@@ -85,11 +85,11 @@ module _ {P : Type 0} (calls : List TaskCall) (seat : SeatState P) (made : ℕ) 
 
   pub counts_calls : (actions : List Action) → AreItsCalls seat.part.sent seat.number (task_of seat.part.role) actions → CountsCalls seat.number calls made actions
   counts_calls actions are =
-      let begins : Begins are.made (calls_from seat.number 0 calls) = begins_by are.made (calls_from seat.number 0 calls) (at_place are.made are.are_made) in
+      let begins : IsPrefix are.made (calls_from seat.number 0 calls) = begins_by are.made (calls_from seat.number 0 calls) (at_place are.made are.are_made) in
       let many = as_many are.made are.are_made in
       elim are.all_but_last [
         | inl all ↦ record {
-          first = subst (λ (l : List Action). Begins l (calls_from seat.number 0 calls)) all begins;
+          first = subst (λ (l : List Action). IsPrefix l (calls_from seat.number 0 calls)) all begins;
           many = inl (ap length (sym all) ∙ many);
         }
         | inr last ↦ record {

@@ -6,3 +6,4 @@ pub mod Reading
 mod Reporting
 pub mod Counting
 pub mod WholeRun
+mod Sums

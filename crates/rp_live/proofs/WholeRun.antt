@@ -1,5 +1,5 @@
 -- A whole run, by its parts.
-use Rattle.std.proofs.Common.{◌≡◌, ◌+◌, ℕ, suc, Bool, List, [], All, length, map, filter_map, slice_get, sym, ap, subst, ◌∙◌, arith}
+use Rattle.std.proofs.Common.{◌≡◌, ◌+◌, ℕ, suc, Bool, List, [], All, length, map, slice_get, sym, ap, subst, ◌∙◌, arith}
 use Rattle.std.specs.Prelude.{IfSome, slice_index}
 use Rattle.std.specs.List.{AllZip}
 use Rattle.rp_base.specs.declared.action.Action.{Action}
@@ -10,8 +10,8 @@ use Rattle.rp_machine.specs.Replay.{kept_of}
 use Rattle.rp_model.specs.declared.event.Event.{Event}
 use Rattle.rp_store.specs.Disk.{Memory}
 use Rattle.rp_tasks.specs.Line.{Line}
-use Rattle.rp_boxes.specs.Making.{first_seat}
-use Rattle.rp_boxes.specs.Seats.{SeatState, HasApplied}
+use Rattle.rp_boxes.specs.FirstSeats.{first_seat}
+use Rattle.rp_boxes.specs.Seats.{SeatState}
 use Rattle.rp_boxes.specs.Together.{IsTaskOf}
 use Rattle.rp_threads.specs.Loops.{IsSameSeat}
 use Rattle.rp_threads.specs.Rounds.{IsNodeFault, Runs}
@@ -21,11 +21,11 @@ use Rattle.rp_threads.specs.declared.loops.NodeEnd.{NodeEnd}
 use Rattle.rp_threads.specs.declared.tasks.TaskEnd.{TaskEnd}
 use Rattle.rp_threads.specs.declared.tasks.TaskCall.{TaskCall}
 use Rattle.rp_live.specs.Calls.{CountsCalls}
-use Rattle.rp_live.specs.Events.{call_by}
+use Rattle.rp_live.specs.Events.{calls_at}
 use Rattle.rp_live.specs.Lines.{party_line}
-use Rattle.rp_live.specs.LiveOutcome.{HasRun, IsLiveRun, IsAudited}
+use Rattle.rp_live.specs.LiveOutcome.{HasRun, IsLiveRun, IsAudited, IsNodeEnd, IsTaskEnd}
 use Rattle.rp_live.specs.Pace.{paced, heard, heard_task}
-use Rattle.rp_live.specs.Seats.{AreNumbered, HasOnlyReported, IsEndOfRun, StillRuns}
+use Rattle.rp_live.specs.Seats.{AreNumbered, HasAppliedAt, HasReportedSince, IsEndOfRun, StillRuns}
 use Rattle.rp_live.specs.declared.run.LiveOutcome.{LiveOutcome}
 use Rattle.rp_live.proofs.Counting.{counts_calls}
 use Rattle.rp_threads.proofs.Chains.{all_turned}
@@ -36,31 +36,22 @@ use Rattle.rp_live.proofs.Zips.{all_both, zip_all, zip_kinds, zip_places}
 -- ---- the loops of a run
 
 module _ {S P : Type 0} (next : S → Action → S) (answers : S → Action → List Answer) (begin : P → S) (config : Config) (events : List Event) (seed turns : ℕ) where
-  abbrev IsNodeLoop : SeatState P → NodeEnd S Memory P → Type 0
-  IsNodeLoop seat end = IsLooped next answers begin paced heard config.nodes turns seat (party_line seed (Node seat.number)) end
-
-  abbrev calls_at : ℕ → List TaskCall
-  calls_at number = filter_map (call_by number) events
-
-  abbrev IsTaskLoop : SeatState P → TaskEnd S P → Type 0
-  IsTaskLoop seat end = IsTaskLooped next answers begin heard_task config.nodes turns (calls_at seat.number) seat (party_line seed (Task seat.number)) end
-
   -- the loops of what was ready to run
   pub node_loops_by : {A : Type 0} (noted : List (SeatState P)) (nodes : List (NodeEnd S Memory P)) (f : A → SeatState P) (g : A → Line) (starts : List A) (count : ℕ) → map f starts ≡ noted → All (λ s. g s ≡ party_line seed (Node (f s).number)) starts
-      → count ≡ config.nodes → AllZip (λ s end. IsLooped next answers begin paced heard count turns (f s) (g s) end) starts nodes → AllZip IsNodeLoop noted nodes
+      → count ≡ config.nodes → AllZip (λ s end. IsLooped next answers begin paced heard count turns (f s) (g s) end) starts nodes → AllZip (IsNodeEnd next answers begin config events seed turns) noted nodes
   node_loops_by noted nodes f g starts count is lines same zip =
-      subst (λ (l : List (SeatState P)). AllZip IsNodeLoop l nodes) is
+      subst (λ (l : List (SeatState P)). AllZip (IsNodeEnd next answers begin config events seed turns) l nodes) is
       (zip_kinds f g (λ seat. party_line seed (Node seat.number)) (λ seat line end. IsLooped next answers begin paced heard config.nodes turns seat line end) starts nodes lines
       (subst (λ (n : ℕ). AllZip (λ s end. IsLooped next answers begin paced heard n turns (f s) (g s) end) starts nodes) same zip))
 
   pub task_loops_by : {A : Type 0} (first_tasks : List (SeatState P)) (tasks : List (TaskEnd S P)) (f : A → SeatState P) (h : A → List TaskCall) (g : A → Line) (starts : List A) (count : ℕ) → map f starts ≡ first_tasks
-      → All (λ s. h s ≡ calls_at (f s).number) starts → All (λ s. g s ≡ party_line seed (Task (f s).number)) starts → count ≡ config.nodes
-      → AllZip (λ s end. IsTaskLooped next answers begin heard_task count turns (h s) (f s) (g s) end) starts tasks → AllZip IsTaskLoop first_tasks tasks
+      → All (λ s. h s ≡ calls_at events (f s).number) starts → All (λ s. g s ≡ party_line seed (Task (f s).number)) starts → count ≡ config.nodes
+      → AllZip (λ s end. IsTaskLooped next answers begin heard_task count turns (h s) (f s) (g s) end) starts tasks → AllZip (IsTaskEnd next answers begin config events seed turns) first_tasks tasks
   task_loops_by {A} first_tasks tasks f h g starts count is calls lines same zip =
       let kind : A → List TaskCall × Line = λ s. (h s, g s) in
-      let by : SeatState P → List TaskCall × Line = λ seat. (calls_at seat.number, party_line seed (Task seat.number)) in
-      let both = all_both (λ s. h s ≡ calls_at (f s).number) (λ s. g s ≡ party_line seed (Task (f s).number)) (λ s. kind s ≡ by (f s)) (λ s c l. λ i. (c i, l i)) starts calls lines in
-      subst (λ (l : List (SeatState P)). AllZip IsTaskLoop l tasks) is
+      let by : SeatState P → List TaskCall × Line = λ seat. (calls_at events seat.number, party_line seed (Task seat.number)) in
+      let both = all_both (λ s. h s ≡ calls_at events (f s).number) (λ s. g s ≡ party_line seed (Task (f s).number)) (λ s. kind s ≡ by (f s)) (λ s c l. λ i. (c i, l i)) starts calls lines in
+      subst (λ (l : List (SeatState P)). AllZip (IsTaskEnd next answers begin config events seed turns) l tasks) is
       (zip_kinds f kind by (λ seat k end. IsTaskLooped next answers begin heard_task config.nodes turns k.0 seat k.1 end) starts tasks both
       (subst (λ (n : ℕ). AllZip (λ s end. IsTaskLooped next answers begin heard_task n turns (h s) (f s) (g s) end) starts tasks) same zip))
 
@@ -81,11 +72,11 @@ module _ {S P : Type 0} {next : S → Action → S} {answers : S → Action → 
   nodes_here =
       let before = zip_all IsHere IsSameSeat IsHere (λ old new here same. same.table ∙ here) whole.0.first_nodes whole.0.noted (first_tables audit.table config program 1 whole.0.failures whole.0.first_nodes whole.0.seats.nodes_are)
       (all_noted next answers begin events (length events) whole.0.first_nodes whole.0.noted whole.0.notes) in
-      zip_all IsHere (IsNodeLoop next answers begin config events seed turns) (λ end. end.seat.table ≡ audit.table) (λ seat end here ran. ran.same.table ∙ here) whole.0.noted nodes before whole.0.node_loops
+      zip_all IsHere (IsNodeEnd next answers begin config events seed turns) (λ end. end.seat.table ≡ audit.table) (λ seat end here ran. ran.same.table ∙ here) whole.0.noted nodes before whole.0.node_loops
 
   pub tasks_here : All (λ end. end.seat.table ≡ audit.table) tasks
   tasks_here =
-      zip_all IsHere (IsTaskLoop next answers begin config events seed turns) (λ end. end.seat.table ≡ audit.table) (λ seat end here ran. ran.same.table ∙ here) whole.0.first_tasks tasks
+      zip_all IsHere (IsTaskEnd next answers begin config events seed turns) (λ end. end.seat.table ≡ audit.table) (λ seat end here ran. ran.same.table ∙ here) whole.0.first_tasks tasks
       (first_tables audit.table config program 8 [] whole.0.first_tasks whole.0.seats.tasks_are) whole.0.task_loops
 
   abbrev IsOfNumber : ℕ → SeatState P → Type 0
@@ -98,25 +89,25 @@ module _ {S P : Type 0} {next : S → Action → S} {answers : S → Action → 
       (λ seat is. let e : seat.number ≡ suc place = ap (λ (c : SeatState P). c.number) is in omega (arith, e)) (slice_get whole.0.first_nodes place) (whole.0.seats.nodes_are place) in
       let before = zip_places IsOfNumber IsSameSeat IsOfNumber (λ place old new here same. same.number ∙ here) whole.0.first_nodes whole.0.noted first
       (all_noted next answers begin events (length events) whole.0.first_nodes whole.0.noted whole.0.notes) in
-      zip_places IsOfNumber (IsNodeLoop next answers begin config events seed turns) (λ place end. IsOfNumber place end.seat) (λ place seat end here ran. ran.same.number ∙ here) whole.0.noted nodes before whole.0.node_loops
+      zip_places IsOfNumber (IsNodeEnd next answers begin config events seed turns) (λ place end. IsOfNumber place end.seat) (λ place seat end here ran. ran.same.number ∙ here) whole.0.noted nodes before whole.0.node_loops
 
   pub nodes_ended : All IsEndOfRun nodes
-  nodes_ended = zip_all (λ seat. Runs seat.part) (IsNodeLoop next answers begin config events seed turns) IsEndOfRun
-      (λ seat end run ran. (seat, (run, some_then _ (IsNodeFault seat end.seat) (λ fault ended. subst (λ (c : SeatState P). IsNodeFault seat c fault) (sym (ap (λ (e : NodeEnd S Memory P). e.seat) ended.1)) ended.2.cause) end.fault ran.fault))) whole.0.noted nodes whole.1 whole.0.node_loops
+  nodes_ended = zip_all (λ seat. Runs seat.part) (IsNodeEnd next answers begin config events seed turns) IsEndOfRun
+      (λ seat end run ran. (seat, (run, some_then _ (IsNodeFault seat end.seat) (λ fault until. subst (λ (c : SeatState P). IsNodeFault seat c fault) (sym (ap (λ (e : NodeEnd S Memory P). e.seat) until.is)) until.ended.cause) end.fault ran.fault))) whole.0.noted nodes whole.1 whole.0.node_loops
 
   pub nodes_still : All StillRuns nodes
-  nodes_still = zip_all (λ seat. Runs seat.part) (IsNodeLoop next answers begin config events seed turns) StillRuns
-      (λ seat end run ran none. let t = ran.turned none in
-      subst (λ (c : SeatState P). Runs c.part) (sym (ap (λ (e : NodeEnd S Memory P). e.seat) t.1))
-      ((all_turned next answers begin paced heard config.nodes seat (party_line seed (Node seat.number)) turns t.0 t.2).later.runs run)) whole.0.noted nodes whole.1 whole.0.node_loops
+  nodes_still = zip_all (λ seat. Runs seat.part) (IsNodeEnd next answers begin config events seed turns) StillRuns
+      (λ seat end run ran none. let t = ran.whole none in
+      subst (λ (c : SeatState P). Runs c.part) (sym (ap (λ (e : NodeEnd S Memory P). e.seat) t.is))
+      ((all_turned next answers begin paced heard config.nodes seat (party_line seed (Node seat.number)) turns t.last t.turned).later.runs run)) whole.0.noted nodes whole.1 whole.0.node_loops
 
   -- each task made calls among the events
   abbrev HasCalls : TaskEnd S P → Type 0
-  HasCalls end = (waits : Bool) × HasMade (calls_at next answers begin config events seed turns end.seat.number) end.seat end.made waits
+  HasCalls end = (waits : Bool) × HasMade (calls_at events end.seat.number) end.seat end.made waits
 
   tasks_made : All HasCalls tasks
-  tasks_made = zip_all IsHere (IsTaskLoop next answers begin config events seed turns) HasCalls
-      (λ seat end here ran. (ran.made.0, subst (λ (n : ℕ). HasMade (calls_at next answers begin config events seed turns n) end.seat end.made ran.made.0) (sym ran.same.number) ran.made.1)) whole.0.first_tasks tasks
+  tasks_made = zip_all IsHere (IsTaskEnd next answers begin config events seed turns) HasCalls
+      (λ seat end here ran. (ran.made.0, subst (λ (n : ℕ). HasMade (calls_at events n) end.seat end.made ran.made.0) (sym ran.same.number) ran.made.1)) whole.0.first_tasks tasks
       (first_tables audit.table config program 8 [] whole.0.first_tasks whole.0.seats.tasks_are) whole.0.task_loops
 
   pub outcome : (resulted : LiveOutcome) → IsAudited next answers begin audit nodes tasks resulted → IsLiveRun next answers begin config program events seed turns resulted
@@ -130,11 +121,11 @@ module _ {S P : Type 0} {next : S → Action → S} {answers : S → Action → 
         tasks = tasks;
         ran = whole.0;
         stated = stated;
-        size = zip_length (λ seat count. HasApplied seat.part count) stated.last resulted.applied.items stated.applied
-            ∙ zip_length (λ end seat. HasOnlyReported end.seat seat) nodes stated.last stated.reported ∙ zip_length (IsNodeLoop next answers begin config events seed turns) whole.0.noted nodes whole.0.node_loops
+        size = zip_length HasAppliedAt stated.last resulted.applied.items stated.applied
+            ∙ zip_length HasReportedSince nodes stated.last stated.reported ∙ zip_length (IsNodeEnd next answers begin config events seed turns) whole.0.noted nodes whole.0.node_loops
             ∙ zip_length IsSameSeat whole.0.first_nodes whole.0.noted (all_noted next answers begin events (length events) whole.0.first_nodes whole.0.noted whole.0.notes) ∙ whole.0.seats.size;
         calls = all_both HasCalls (λ end. IsTaskOf next answers (begin stated.known.seat.program) order end.seat)
-            (λ end. CountsCalls end.seat.number (calls_at next answers begin config events seed turns end.seat.number) end.made (kept_of next answers (begin program) order))
-            (λ end has is. subst (λ (p : P). CountsCalls end.seat.number (calls_at next answers begin config events seed turns end.seat.number) end.made (kept_of next answers (begin p) order)) same
-            (counts_calls (calls_at next answers begin config events seed turns end.seat.number) end.seat end.made has.0 has.1 (kept_of next answers (begin stated.known.seat.program) order) is.calls)) tasks tasks_made are;
+            (λ end. CountsCalls end.seat.number (calls_at events end.seat.number) end.made (kept_of next answers (begin program) order))
+            (λ end has is. subst (λ (p : P). CountsCalls end.seat.number (calls_at events end.seat.number) end.made (kept_of next answers (begin p) order)) same
+            (counts_calls (calls_at events end.seat.number) end.seat end.made has.0 has.1 (kept_of next answers (begin stated.known.seat.program) order) is.calls)) tasks tasks_made are;
       }

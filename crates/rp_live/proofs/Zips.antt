@@ -1,7 +1,8 @@
 -- What is so of two lists, place by place.
-use Rattle.std.proofs.Common.{◌≡◌, ℕ, zero, suc, slice_get, List, [], ◌∷◌, ◌++◌, map, sym, subst, arith}
+use Rattle.std.proofs.Common.{◌≡◌, ℕ, zero, suc, slice_get, List, [], ◌∷◌, ◌++◌, map, sym, ap, subst, ◌∙◌, arith}
+use Rattle.std.proofs.lemmas.List.{append_assoc}
 use Rattle.std.specs.List.{AllZip}
-use Rattle.std.specs.Prelude.{All, IfSome}
+use Rattle.std.specs.Prelude.{All, IfSome, flat_map}
 use Rattle.rp_threads.proofs.Places.{one_more}
 
 -- all but the first
@@ -12,7 +13,7 @@ all_one : {A : Type 0} (Q : A → Type 0) (x : A) (xs : List A) → Q x → All 
 all_one Q x xs is all zero d within = is
 all_one Q x xs is all (suc k) d within = all k d (omega (arith, within))
 
-all_none : {A : Type 0} (Q : A → Type 0) → All Q []
+pub all_none : {A : Type 0} (Q : A → Type 0) → All Q []
 all_none Q k d within = absurd (omega (arith, within))
 
 -- what is so of the first list is carried to the second
@@ -51,6 +52,21 @@ all_unmapped Q f (x ∷ xs) all = all_one Q (f x) (map f xs) (all 0 x (omega ari
 pub all_both : {A : Type 0} (Q R T : A → Type 0) → ((x : A) → Q x → R x → T x) → (xs : List A) → All Q xs → All R xs → All T xs
 all_both Q R T so [] q r = all_none T
 all_both Q R T so (x ∷ xs) q r = all_one T x xs (so x (q 0 x (omega arith)) (r 0 x (omega arith))) (all_both Q R T so xs (all_rest Q x xs q) (all_rest R x xs r))
+
+-- one more of the list was gone through
+pub one_ended : {A : Type 0} (Q : A → Type 0) (rest : List A) (x : A) (left : List A) → rest ≡ x ∷ left → Q x → All Q left → All Q rest
+one_ended Q rest x left steps is all = subst (All Q) (sym steps) (all_one Q x left is all)
+
+-- it is in the list of what was taken
+pub one_mapped : {A B : Type 0} (f : A → B) (rest left : List A) (x : A) (taken grown all : List B) (y : B) → grown ≡ taken ++ y ∷ [] → y ≡ f x → rest ≡ x ∷ left → taken ++ map f rest ≡ all
+    → grown ++ map f left ≡ all
+one_mapped f rest left x taken grown all y is same steps so_far =
+    ap (λ l. l ++ map f left) is ∙ append_assoc taken (y ∷ []) (map f left) ∙ ap (λ z. taken ++ z ∷ map f left) same ∙ ap (λ l. taken ++ map f l) (sym steps) ∙ so_far
+
+pub one_flat : {A B : Type 0} (f : A → List B) (rest left : List A) (x : A) (taken grown all ys : List B) → grown ≡ taken ++ ys → ys ≡ f x → rest ≡ x ∷ left → taken ++ flat_map f rest ≡ all
+    → grown ++ flat_map f left ≡ all
+one_flat f rest left x taken grown all ys is same steps so_far =
+    ap (λ l. l ++ flat_map f left) is ∙ append_assoc taken ys (flat_map f left) ∙ ap (λ l. taken ++ (l ++ flat_map f left)) same ∙ ap (λ l. taken ++ flat_map f l) (sym steps) ∙ so_far
 
 -- ---- two lists that grow together
 

@@ -15,8 +15,8 @@ abbrev pub greatest_from : ℕ → List ℕ → ℕ
 greatest_from greatest [] = greatest
 greatest_from greatest (n ∷ others) = greatest_from (max greatest n) others
 
--- Of these ends: how many calls the tasks made, how many of them have replies, in which turn the last reply came, how
--- many packets the loops count as lost, and in how many turns nodes led.
+-- Of these ends: how many calls the tasks made, how many of them have replies, in which turn the
+-- last reply came, how many packets the loops count as lost, and in how many turns nodes led.
 abbrev pub figures_of : {M D P : Type 0} → List (NodeEnd M D P) → List (TaskEnd M P) → Figures
 figures_of nodes tasks = record {
   asked = sum_from 0 (map (λ end. end.made) tasks);

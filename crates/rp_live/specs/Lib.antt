@@ -2,6 +2,7 @@ pub mod Lines
 pub mod Pace
 pub mod Events
 pub mod Faults
+pub mod Ends
 pub mod Seats
 pub mod Noted
 pub mod Calls

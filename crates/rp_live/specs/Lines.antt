@@ -5,8 +5,8 @@ use Rattle.rp_codec.specs.Text.{party_number}
 use Rattle.rp_codec.specs.declared.packet.Party.{Party}
 use Rattle.rp_tasks.specs.Line.{Line, line_of}
 
--- the seed of a link: that of the whole run in four bytes, the highest first, the number by which a packet names the
--- party, and zeros
+-- the seed of a link: that of the whole run in four bytes, the highest first, the number by which a
+-- packet names the party, and zeros
 abbrev pub line_seed : ℕ → Party → List ℕ
 line_seed seed party = to_be_bytes w32 seed ++ party_number party ∷ replicate 27 0
 

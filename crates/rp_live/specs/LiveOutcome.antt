@@ -1,5 +1,6 @@
 -- The result of a run in threads.
-use Rattle.std.specs.Prelude.{◌≡◌, ◌↔◌, ℕ, suc, true, All, IfSome, List, length, flat_map, filter_map, map, slice_get}
+use Rattle.std.specs.Prelude.{◌≡◌, ◌↔◌, ℕ, suc, true, All, IfSome, List, length, flat_map}
+use Rattle.std.specs.Prelude.{map, slice_get}
 use Rattle.std.specs.List.{AllZip}
 use Rattle.rp_base.specs.declared.action.Action.{Action}
 use Rattle.rp_base.specs.declared.config.Config.{Config}
@@ -9,21 +10,22 @@ use Rattle.rp_machine.specs.Replay.{kept_of}
 use Rattle.rp_model.specs.declared.event.Event.{Event}
 use Rattle.rp_store.specs.Disk.{Memory}
 use Rattle.rp_boxes.specs.Audits.{Audited, known_of}
-use Rattle.rp_boxes.specs.Making.{AreSeats}
+use Rattle.rp_boxes.specs.FirstSeats.{AreSeats}
 use Rattle.rp_boxes.specs.Parts.{task_of}
-use Rattle.rp_boxes.specs.Seats.{SeatState, HasApplied}
+use Rattle.rp_boxes.specs.Seats.{SeatState}
 use Rattle.rp_boxes.specs.Together.{AreTogether}
 use Rattle.rp_threads.specs.Loops.{IsSameSeat}
 use Rattle.rp_threads.specs.Threads.{IsLooped, IsTaskLooped}
 use Rattle.rp_threads.specs.declared.loops.NodeEnd.{NodeEnd}
 use Rattle.rp_threads.specs.declared.tasks.TaskEnd.{TaskEnd}
 use Rattle.rp_live.specs.Calls.{CountsCalls}
-use Rattle.rp_live.specs.Events.{call_by}
+use Rattle.rp_live.specs.Ends.{HadNoFault, HadMemory}
+use Rattle.rp_live.specs.Events.{calls_at}
 use Rattle.rp_live.specs.Figures.{figures_of}
 use Rattle.rp_live.specs.Lines.{party_line}
 use Rattle.rp_live.specs.Noted.{AreNoted}
 use Rattle.rp_live.specs.Pace.{paced, heard, heard_task}
-use Rattle.rp_live.specs.Seats.{HasOnlyReported, IsRead}
+use Rattle.rp_live.specs.Seats.{HasAppliedAt, HasReportedSince, IsReadFrom}
 use Rattle.rp_live.specs.declared.run.LiveOutcome.{LiveOutcome}
 
 -- the replies that a task has at its end
@@ -33,49 +35,65 @@ replies_at end = (task_of end.seat.part.role).replies
 -- of each node from 1 on as many actions are known as it has applied
 abbrev pub KnowsAll : List (List Action) → List ℕ → Type 0
 KnowsAll known applied =
-    (place : ℕ) → IfSome (slice_get applied place) (λ count. count ≡ length (known_of known (suc place)))
+    (place : ℕ) → IfSome (slice_get applied place)
+    (λ count. count ≡ length (known_of known (suc place)))
 
-module _ {S P : Type 0} (next : S → Action → S) (answers : S → Action → List Answer) (begin : P → S) where
-  -- How the nodes and the tasks of a program reached their ends: all had their seats at one table, the nodes noted
-  -- the interrupts and ticks among the events, and then each made its turns over the link of its party, and the tasks
-  -- the calls among the events.
+module _ {S P : Type 0} (next : S → Action → S) (answers : S → Action → List Answer)
+    (begin : P → S) (config : Config) (events : List Event) (seed turns : ℕ) where
+  -- the loop of the node at this seat, over the link of its party, had this end
+  abbrev pub IsNodeEnd : SeatState P → NodeEnd S Memory P → Type 0
+  IsNodeEnd seat end =
+      IsLooped next answers begin paced heard config.nodes turns seat
+      (party_line seed (Node seat.number)) end
+
+  -- the loop of the task at this seat, with its calls and over the link of its party, had this end
+  abbrev pub IsTaskEnd : SeatState P → TaskEnd S P → Type 0
+  IsTaskEnd seat end =
+      IsTaskLooped next answers begin heard_task config.nodes turns (calls_at events seat.number) seat
+      (party_line seed (Task seat.number)) end
+
+module _ {S P : Type 0} (next : S → Action → S) (answers : S → Action → List Answer)
+    (begin : P → S) where
+  -- How the nodes and the tasks of a program reached their ends: all had their seats at one table,
+  -- the nodes noted the interrupts and ticks among the events, and then each made its turns over
+  -- the link of its party, and the tasks the calls among the events.
   pub record HasRun (config : Config) (program : P) (events : List Event) (seed turns : ℕ)
-      (audit : SeatState P) (nodes : List (NodeEnd S Memory P)) (tasks : List (TaskEnd S P)) : Type 0 where
+      (audit : SeatState P) (nodes : List (NodeEnd S Memory P)) (tasks : List (TaskEnd S P))
+      : Type 0 where
     pub first_nodes : List (SeatState P)
     pub first_tasks : List (SeatState P)
     pub failures : List ℕ
     pub seats : AreSeats config program failures first_nodes first_tasks audit
     pub noted : List (SeatState P)
     pub notes : AreNoted next answers begin events (length events) first_nodes noted
-    pub node_loops : AllZip (λ seat end.
-        IsLooped next answers begin paced heard config.nodes turns seat
-        (party_line seed (Node seat.number)) end) noted nodes
-    pub task_loops : AllZip (λ seat end.
-        IsTaskLooped next answers begin heard_task config.nodes turns (filter_map (call_by seat.number) events) seat
-        (party_line seed (Task seat.number)) end) first_tasks tasks
+    pub node_loops : AllZip (IsNodeEnd next answers begin config events seed turns) noted nodes
+    pub task_loops : AllZip (IsTaskEnd next answers begin config events seed turns)
+        first_tasks tasks
 
-  -- What was reported of the nodes and tasks of these ends: the audit, which knew nothing of a node at first, read
-  -- its log by reports that the node sent to it; then all looked at the table as one. How many actions each node has
-  -- applied, and the replies of all tasks. The nodes agree where of each all is known that it has applied. The
-  -- figures are theirs.
-  pub record IsAudited {D : Type 0} (audit : SeatState P) (nodes : List (NodeEnd S D P)) (tasks : List (TaskEnd S P))
-      (outcome : LiveOutcome) : Type 0 where
+  -- What was reported of the nodes and tasks of these ends: no node's loop ended by a fault, and no
+  -- task's because memory ran out. The audit, which knew nothing of a node at first, read its log
+  -- by reports that the node sent to it; then all looked at the table as one. How many actions each
+  -- node has applied, and the replies of all tasks. The nodes agree where of each all is known that
+  -- it has applied. The figures are theirs.
+  pub record IsAudited {D : Type 0} (audit : SeatState P) (nodes : List (NodeEnd S D P))
+      (tasks : List (TaskEnd S P)) (outcome : LiveOutcome) : Type 0 where
+    pub nodes_ended : All HadNoFault nodes
+    pub tasks_ended : All HadMemory tasks
     pub last : List (SeatState P)
-    pub reported : AllZip (λ end seat. HasOnlyReported end.seat seat) nodes last
-    pub applied : AllZip (λ seat count. HasApplied seat.part count) last outcome.applied.items
+    pub reported : AllZip HasReportedSince nodes last
+    pub applied : AllZip HasAppliedAt last outcome.applied.items
     pub known : Audited P
     pub same : IsSameSeat audit known.seat
-    pub read : AllZip (λ end seat.
-        IsRead next answers begin 0 end.seat seat (length (known_of known.known seat.number))) nodes last
+    pub read : AllZip (IsReadFrom next answers begin known.known) nodes last
     pub together : AreTogether next answers begin known last (map (λ end. end.seat) tasks)
     pub replies : outcome.replies.items ≡ flat_map replies_at tasks
     pub agree : (outcome.agree ≡ true) ↔ KnowsAll known.known outcome.applied.items
     pub figures : outcome.figures ≡ figures_of nodes tasks
 
-  -- A whole run. In the one order the counted calls of each task are the calls among the events, in order, that it
-  -- made.
-  pub record IsLiveRun (config : Config) (program : P) (events : List Event) (seed turns : ℕ) (outcome : LiveOutcome)
-      : Type 0 where
+  -- A whole run. In the one order the counted calls of each task are the calls among the events, in
+  -- order, that it made.
+  pub record IsLiveRun (config : Config) (program : P) (events : List Event) (seed turns : ℕ)
+      (outcome : LiveOutcome) : Type 0 where
     pub audit : SeatState P
     pub nodes : List (NodeEnd S Memory P)
     pub tasks : List (TaskEnd S P)
@@ -83,5 +101,5 @@ module _ {S P : Type 0} (next : S → Action → S) (answers : S → Action → 
     pub stated : IsAudited audit nodes tasks outcome
     pub size : length outcome.applied.items ≡ config.nodes
     pub calls : All (λ end.
-        CountsCalls end.seat.number (filter_map (call_by end.seat.number) events) end.made
+        CountsCalls end.seat.number (calls_at events end.seat.number) end.made
         (kept_of next answers (begin program) stated.together.order)) tasks

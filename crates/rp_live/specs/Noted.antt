@@ -5,7 +5,8 @@ use Rattle.rp_base.specs.declared.reply.Answer.{Answer}
 use Rattle.rp_model.specs.declared.event.Event.{Event}
 use Rattle.rp_model.specs.declared.event.Event.TheVariants.{Submit, Again, Node, Cut, Stop, Restart}
 use Rattle.rp_model.specs.declared.event.Step.{Step}
-use Rattle.rp_model.specs.declared.event.Step.TheVariants.{Deliver, Lead, LeadRange, Interrupt, Tick, Report}
+use Rattle.rp_model.specs.declared.event.Step.TheVariants.{Deliver, Lead, LeadRange, Interrupt}
+use Rattle.rp_model.specs.declared.event.Step.TheVariants.{Tick, Report}
 use Rattle.rp_rules.specs.declared.input.Input.{Input}
 use Rattle.rp_rules.specs.declared.input.Input.TheVariants as inputs
 use Rattle.rp_boxes.specs.Seats.{SeatState}
@@ -17,7 +18,8 @@ abbrev pub noted_in : Step → Option (ℕ × Input)
 noted_in (Deliver number) = None
 noted_in (Lead node position) = None
 noted_in (LeadRange node first count) = None
-noted_in (Interrupt node interrupt) = Some (node, inputs.Interrupt interrupt.source interrupt.occurrence)
+noted_in (Interrupt node interrupt) =
+    Some (node, inputs.Interrupt interrupt.source interrupt.occurrence)
 noted_in (Tick node now) = Some (node, inputs.Tick now)
 noted_in (Report node first) = None
 
@@ -30,9 +32,10 @@ noted_by (Cut step kept) = None
 noted_by (Stop node) = None
 noted_by (Restart node) = None
 
-module _ {S P : Type 0} (next : S → Action → S) (answers : S → Action → List Answer) (begin : P → S) where
-  -- One event of the node of this number, by this input, whose packets were offered to their boxes; the other nodes
-  -- stay as they are.
+module _ {S P : Type 0} (next : S → Action → S) (answers : S → Action → List Answer)
+    (begin : P → S) where
+  -- One event of the node of this number, by this input, whose packets were offered to their boxes;
+  -- the other nodes stay as they are.
   pub record IsTakenAt (node : ℕ) (input : Input) (olds news : List (SeatState P)) : Type 0 where
     pub old : SeatState P
     pub new : SeatState P

@@ -9,7 +9,8 @@ use Rattle.rp_codec.specs.declared.packet.Party.TheVariants.{Node}
 use Rattle.rp_boxes.specs.Audits.{known_of}
 use Rattle.rp_boxes.specs.Seats.{SeatState, HasApplied, IsReport}
 use Rattle.rp_rules.specs.declared.input.Input.{Input}
-use Rattle.rp_rules.specs.declared.input.Input.TheVariants.{Receive, Lead, LeadRange, Interrupt, Tick, Report}
+use Rattle.rp_rules.specs.declared.input.Input.TheVariants.{Receive, Lead, LeadRange, Interrupt}
+use Rattle.rp_rules.specs.declared.input.Input.TheVariants.{Tick, Report}
 use Rattle.rp_replica.specs.declared.sent.Sent.{Sent}
 use Rattle.rp_threads.specs.Loops.{IsSameSeat}
 use Rattle.rp_threads.specs.Rounds.{IsNodeFault, Runs}
@@ -41,34 +42,50 @@ pub record HasOnlyReported {P : Type 0} (old new : SeatState P) : Type 0 where
   pub same : IsSameSeat old new
   pub role : new.part.role ≡ old.part.role
 
+-- the same of the seat at the end of a loop
+abbrev pub HasReportedSince : {M D P : Type 0} → NodeEnd M D P → SeatState P → Type 0
+HasReportedSince end seat = HasOnlyReported end.seat seat
+
+-- the node at this seat has applied n actions
+abbrev pub HasAppliedAt : {P : Type 0} → SeatState P → ℕ → Type 0
+HasAppliedAt seat count = HasApplied seat.part count
+
 -- ---- how the log of a node is read
 
-module _ {S P : Type 0} (next : S → Action → S) (answers : S → Action → List Answer) (begin : P → S) where
-  -- The node makes one report, of what it has applied from a position on; this goes into its box, or is lost since that
-  -- is in use.
+module _ {S P : Type 0} (next : S → Action → S) (answers : S → Action → List Answer)
+    (begin : P → S) where
+  -- The node makes one report, of what it has applied from a position on; this goes into its box,
+  -- or is lost since that is in use.
   pub record Reports (first : ℕ) (old new : SeatState P) : Type 0 where
     pub stepped : SeatState P
     pub sent : Sent
     pub report : IsReport first old stepped sent
     pub is_lost : Bool
-    pub offered : IsOffered next answers begin (Node stepped.number) sent.bytes.items stepped new is_lost
+    pub offered : IsOffered next answers begin (Node stepped.number) sent.bytes.items
+        stepped new is_lost
 
-  -- a node of which `start` actions were known made n reports, and now more are known: each report was from the
-  -- position after those that were known before it, and after it more were known
+  -- a node of which `start` actions were known made n reports, and now more are known: each report
+  -- was from the position after those that were known before it, and after it more were known
   abbrev pub AreReports : ℕ → SeatState P → ℕ → ℕ → SeatState P → Type 0
   AreReports start first zero known now = (known ≡ start) × (now ≡ first)
   AreReports start first (suc n) known now =
       (before : ℕ) × (between : SeatState P) × AreReports start first n before between
       × Reports (before + 1) between now × (before < known)
 
-  -- The log of a node of which `start` actions were known was read by such reports, until all that it has applied was
-  -- known (or 65,535 actions of that), or until one report more, asked for in the same way, made nothing more known.
+  -- The log of a node of which `start` actions were known was read by such reports, until all that
+  -- it has applied was known (or 65,535 actions of that), or until one report more, asked for in
+  -- the same way, made nothing more known.
   pub record IsRead (start : ℕ) (first now : SeatState P) (known : ℕ) : Type 0 where
     pub applied : ℕ
     pub has : HasApplied now.part applied
     pub reports : ℕ
     pub read : (AreReports start first reports known now × (min applied 65535 ≤ known))
-        ⊎ ((between : SeatState P) × AreReports start first reports known between × Reports (known + 1) between now)
+        ⊎ ((between : SeatState P) × AreReports start first reports known between
+        × Reports (known + 1) between now)
+
+  -- the log of the node of which nothing was known at this end of its loop was read
+  abbrev pub IsReadFrom : {M D : Type 0} → List (List Action) → NodeEnd M D P → SeatState P → Type 0
+  IsReadFrom known end seat = IsRead 0 end.seat seat (length (known_of known seat.number))
 
 -- of each node as many actions are known as before, or more
 abbrev pub KnowsMore : List (List Action) → List (List Action) → Type 0
@@ -84,4 +101,5 @@ KnowsNothingAbove number known = (node : ℕ) → number < node → known_of kno
 
 -- the ends are those of the nodes after this number, in order
 abbrev pub AreNumbered : {M D P : Type 0} → ℕ → List (NodeEnd M D P) → Type 0
-AreNumbered number ends = (place : ℕ) → IfSome (slice_get ends place) (λ end. end.seat.number ≡ number + place + 1)
+AreNumbered number ends =
+    (place : ℕ) → IfSome (slice_get ends place) (λ end. end.seat.number ≡ number + place + 1)

@@ -1,6 +1,7 @@
 //! How a thread ended.
 
-ghost use Rattle.std.specs.Prelude.{◌≡◌, Some, None, IfOk, OnOk, IsOkUnless};
+ghost use Rattle.std.specs.Prelude.{◌≡◌, IfOk, OnOk, IsOkUnless};
+ghost use Rattle.rp_live.specs.Ends.{HadNoFault, HadMemory};
 ghost use Rattle.rp_live.specs.Seats.{IsEndOfRun};
 
 use rp_base::Fault;
@@ -16,7 +17,7 @@ pub(crate) fn node_ended<M: Machine, D: InfallibleDevice>(
 ) -> Result<NodeSeat<M, D>, Fault>
     requires { IsEndOfRun end }
     ensures ok { IfOk result (λ seat. seat ≡ end.seat) }
-    ensures none { OnOk result (end.fault ≡ None) }
+    ensures none { OnOk result (HadNoFault end) }
     ensures only { IsOkUnless result Fault.OutOfMemory }
 {
     end.seat.never_failed();
@@ -30,6 +31,7 @@ pub(crate) fn node_ended<M: Machine, D: InfallibleDevice>(
 /// ended at a call that it may not make keeps the replies to the calls before.
 pub(crate) fn task_ended<M: Machine>(end: TaskEnd<M>) -> Result<TaskSeat<M>, Fault>
     ensures ok { IfOk result (λ seat. seat ≡ end.seat) }
+    ensures memory { OnOk result (HadMemory end) }
     ensures only { IsOkUnless result Fault.OutOfMemory }
 {
     match end.fault {

@@ -35,7 +35,7 @@ impl Figures {
             asked: calls_made(tasks),
             answered: calls_answered(tasks),
             last_reply: last_reply(tasks),
-            lost: lost_by_tasks(lost_by_nodes(nodes), tasks),
+            lost: lost_by_nodes(nodes).saturating_add(lost_by_tasks(tasks)),
             led: turns_led(nodes),
         }
     }
@@ -45,11 +45,9 @@ impl Figures {
 fn calls_made<M: Machine>(tasks: &[TaskEnd<M>]) -> u64
     ensures { result ≡ sum_from 0 (map (λ end. end.made) tasks.now) }
 {
-    let mut sum: u64 = 0;
-    for end in tasks {
-        sum = sum.saturating_add(end.made as u64);
-    }
-    sum
+    tasks
+        .iter()
+        .fold(0, |sum: u64, end| sum.saturating_add(end.made as u64))
 }
 
 /// How many of these calls got their replies.
@@ -57,53 +55,43 @@ fn calls_answered<M: Machine>(tasks: &[TaskEnd<M>]) -> u64
     ensures { result ≡ sum_from 0
         (map (λ end. length (task_of end.seat.part.role).replies) tasks.now) }
 {
-    let mut sum: u64 = 0;
-    for end in tasks {
-        sum = sum.saturating_add(end.seat.replies().len() as u64);
-    }
-    sum
+    tasks.iter().fold(0, |sum: u64, end| {
+        sum.saturating_add(end.seat.replies().len() as u64)
+    })
 }
 
 /// The turn in which the last reply arrived, or 0.
 fn last_reply<M: Machine>(tasks: &[TaskEnd<M>]) -> u64
     ensures { result ≡ greatest_from 0 (map (λ end. end.last_reply) tasks.now) }
 {
-    let mut last: u64 = 0;
-    for end in tasks {
-        last = last.max(end.last_reply);
-    }
-    last
+    tasks
+        .iter()
+        .fold(0, |last: u64, end| last.max(end.last_reply))
 }
 
 /// How many packets the loops of nodes count as lost.
 fn lost_by_nodes<M: Machine, D: Device>(nodes: &[NodeEnd<M, D>]) -> u64
     ensures { result ≡ sum_from 0 (map (λ end. end.counts.lost) nodes.now) }
 {
-    let mut sum: u64 = 0;
-    for end in nodes {
-        sum = sum.saturating_add(end.counts.lost);
-    }
-    sum
+    nodes
+        .iter()
+        .fold(0, |sum: u64, end| sum.saturating_add(end.counts.lost))
 }
 
-/// How many packets the loops of tasks count as lost, plus n that were lost before.
-fn lost_by_tasks<M: Machine>(before: u64, tasks: &[TaskEnd<M>]) -> u64
-    ensures { result ≡ sum_from before (map (λ end. end.lost) tasks.now) }
+/// How many packets the loops of tasks count as lost.
+fn lost_by_tasks<M: Machine>(tasks: &[TaskEnd<M>]) -> u64
+    ensures { result ≡ sum_from 0 (map (λ end. end.lost) tasks.now) }
 {
-    let mut sum = before;
-    for end in tasks {
-        sum = sum.saturating_add(end.lost);
-    }
-    sum
+    tasks
+        .iter()
+        .fold(0, |sum: u64, end| sum.saturating_add(end.lost))
 }
 
 /// In how many turns nodes led.
 fn turns_led<M: Machine, D: Device>(nodes: &[NodeEnd<M, D>]) -> u64
     ensures { result ≡ sum_from 0 (map (λ end. end.counts.led) nodes.now) }
 {
-    let mut sum: u64 = 0;
-    for end in nodes {
-        sum = sum.saturating_add(end.counts.led);
-    }
-    sum
+    nodes
+        .iter()
+        .fold(0, |sum: u64, end| sum.saturating_add(end.counts.led))
 }

@@ -1,6 +1,7 @@
 //! The replies of the tasks.
 
-ghost use Rattle.std.specs.Prelude.{◌≡◌, map, flat_map, IfOk, IsOkUnless};
+ghost use Rattle.std.specs.Prelude.{◌≡◌, map, flat_map, All, IfOk, OnOk, IsOkUnless};
+ghost use Rattle.rp_live.specs.Ends.{HadMemory};
 ghost use Rattle.rp_live.specs.LiveOutcome.{replies_at};
 
 use crate::ends::task_ended;
@@ -17,6 +18,7 @@ pub(crate) fn replies_of<M: Machine>(
 ) -> Result<(Vec<TaskSeat<M>>, Vec<Answer>), Fault>
     ensures seats { IfOk result (λ found. found.0.items ≡ map (λ end. end.seat) tasks.items) }
     ensures replies { IfOk result (λ found. found.1.items ≡ flat_map replies_at tasks.items) }
+    ensures memory { OnOk result (All HadMemory tasks.items) }
     ensures only { IsOkUnless result Fault.OutOfMemory }
 {
     let mut seats = Vec::new(alloc);

@@ -7,8 +7,9 @@ ghost use Rattle.rp_boxes.specs.Seats.{HasApplied, IsReport, IsSentText};
 ghost use Rattle.rp_codec.specs.declared.packet.Party.TheVariants.{Node};
 ghost use Rattle.rp_threads.specs.Loops.{IsSameSeat};
 ghost use Rattle.rp_threads.specs.Turns.{IsOffered};
+ghost use Rattle.rp_live.specs.Ends.{HadNoFault};
 ghost use Rattle.rp_live.specs.LiveOutcome.{KnowsAll};
-ghost use Rattle.rp_live.specs.Seats.{AreNumbered, HasOnlyReported, IsEndOfRun, IsRead, KnowsMore, KnowsNothingAbove, KnowsSameBut, Reports, StillRuns};
+ghost use Rattle.rp_live.specs.Seats.{AreNumbered, HasAppliedAt, HasOnlyReported, HasReportedSince, IsEndOfRun, IsRead, IsReadFrom, KnowsMore, KnowsNothingAbove, KnowsSameBut, Reports, StillRuns};
 ghost use Rattle.rp_threads.specs.Rounds.{Runs};
 
 use crate::ends::node_ended;
@@ -139,6 +140,7 @@ fn read_end<M: Machine, D: InfallibleDevice>(
 ) -> Result<(NodeSeat<M, D>, u32), Fault>
     requires ended { IsEndOfRun end }
     requires still { StillRuns end }
+    ensures none { OnOk result (HadNoFault end) }
     ensures same { OnOk result (IsSameSeat audit.old.seat audit.new.seat) }
     ensures reported { IfOk result (λ read. HasOnlyReported end.seat read.0) }
     ensures others { OnOk result (KnowsSameBut end.seat.number
@@ -165,14 +167,12 @@ pub(crate) fn read_logs<M: Machine, D: InfallibleDevice>(
     requires still { All StillRuns nodes.items }
     requires numbers { AreNumbered 0 nodes.items }
     requires unread { KnowsNothingAbove 0 audit.old.known }
+    ensures none { OnOk result (All HadNoFault nodes.items) }
     ensures same { OnOk result (IsSameSeat audit.old.seat audit.new.seat) }
-    ensures reported { IfOk result (λ read. AllZip (λ end seat. HasOnlyReported end.seat seat)
-        nodes.items read.0.items) }
-    ensures applied { IfOk result (λ read. AllZip (λ seat count. HasApplied seat.part count)
-        read.0.items read.1.items) }
-    ensures read { IfOk result (λ read. AllZip (λ end seat. IsRead M.next M.answers M.begin
-        0 end.seat seat (length (known_of audit.new.known seat.number)))
-        nodes.items read.0.items) }
+    ensures reported { IfOk result (λ read. AllZip HasReportedSince nodes.items read.0.items) }
+    ensures applied { IfOk result (λ read. AllZip HasAppliedAt read.0.items read.1.items) }
+    ensures read { IfOk result (λ read. AllZip (IsReadFrom M.next M.answers M.begin
+        audit.new.known) nodes.items read.0.items) }
     ensures only { IsOkUnless result Fault.OutOfMemory }
 {
     let mut seats = Vec::new(alloc);

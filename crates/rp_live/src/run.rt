@@ -103,6 +103,8 @@ where
     // claim (outcome): The figures of a run in threads are sums over the ends of the loops: calls
     //   made, replies, packets counted as lost and turns in which nodes led; and the greatest turn
     //   of a last reply
+    // claim (outcome): A run in threads has a result only if each node's loop made all its turns and
+    //   no task's loop ran out of memory
     // claim (only): The only fault that ends a run in threads is `OutOfMemory`
     ensures outcome { IfOk result (IsLiveRun M.next M.answers M.begin
         options.config program.now events.now options.seed options.turns) }

@@ -2,7 +2,7 @@
 
 ghost use Rattle.std.specs.Prelude.{◌≡◌, ℕ, List, map, filter_map, All, IfOk, IsOkUnless};
 ghost use Rattle.rp_base.specs.Config.{IsRightConfig};
-ghost use Rattle.rp_boxes.specs.Making.{AreSeats};
+ghost use Rattle.rp_boxes.specs.FirstSeats.{AreSeats};
 ghost use Rattle.rp_codec.specs.declared.packet.Party.TheVariants as parties;
 ghost use Rattle.rp_live.specs.Events.{call_by};
 ghost use Rattle.rp_live.specs.Lines.{party_line};

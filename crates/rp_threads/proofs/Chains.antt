@@ -7,7 +7,7 @@ use Rattle.rp_base.specs.declared.reply.Answer.{Answer}
 use Rattle.rp_tasks.specs.Line.{Line}
 use Rattle.rp_boxes.specs.Seats.{SeatState}
 use Rattle.rp_threads.specs.Loops.{events_made, is_refusal, is_to_lead, lead_period, sender_at, total_of, turns_off}
-use Rattle.rp_threads.specs.Rounds.{NodeAt, AreTurns, IsNextTurn, IsNodeFault, IsUnmade, before_turns}
+use Rattle.rp_threads.specs.Rounds.{NodeAt, WorkerAt, AreTurns, IsNextTurn, IsNodeFault, IsTurnUnmade, before_turns}
 use Rattle.rp_threads.specs.Threads.{IsLooped, end_of}
 use Rattle.rp_threads.specs.declared.loops.Counts.{Counts}
 use Rattle.rp_threads.specs.declared.loops.NodeEnd.{NodeEnd}
@@ -17,7 +17,7 @@ use Rattle.rp_threads.proofs.Steps.{same_on}
 
 -- What n turns leave of a seat, and what they count.
 pub record HasMadeTurns {P : Type 0} (first : SeatState P) (n : ℕ) (now : NodeAt P) : Type 0 where
-  pub later : IsLater first now.seat (now.counts.received + now.counts.led)
+  pub later : IsLater first now.worker.seat (now.counts.received + now.counts.led)
   pub total : total_of now.counts ≡ n
   pub idle : now.counts.idle ≤ turns_off (lead_period first.number) n
 
@@ -40,7 +40,7 @@ module _ {S P : Type 0} (next : S → Action → S) (answers : S → Action → 
   one_turned : (first : SeatState P) (before now : NodeAt P) (n : ℕ) → HasMadeTurns first n before → IsNextTurn next answers begin lets heard nodes (suc n) before now → HasMadeTurns first (suc n) now
   one_turned first before now n has t =
       let from = sender_at nodes (suc n) in
-      let number = before.seat.number in
+      let number = before.worker.seat.number in
       let lead = is_to_lead number (suc n) in
       let passes = lets number (suc n) in
       let hears = heard number (suc n) in
@@ -48,11 +48,11 @@ module _ {S P : Type 0} (next : S → Action → S) (answers : S → Action → 
       let count : now.counts.received + now.counts.led ≡ before.counts.received + before.counts.led + events_made t.made = ap (λ (c : Counts). c.received + c.led) t.counts ∙ one.1 in
       let off : IsIdle t.made → is_to_lead first.number (suc n) ≡ false =
       λ idle. subst (λ (k : ℕ). is_to_lead k (suc n) ≡ false) has.later.same.number
-      (turned_idle next answers begin from lead before.seat now.seat before.line now.line hears passes t.made t.turns idle) in
+      (turned_idle next answers begin from lead before.worker now.worker hears passes t.made t.turns idle) in
       record {
-        later = subst (IsLater first now.seat) (sym count)
-            (later_on first before.seat now.seat (before.counts.received + before.counts.led) (events_made t.made) has.later
-            (turned_later next answers begin from lead before.seat now.seat before.line now.line hears passes t.made t.turns));
+        later = subst (IsLater first now.worker.seat) (sym count)
+            (later_on first before.worker.seat now.worker.seat (before.counts.received + before.counts.led) (events_made t.made) has.later
+            (turned_later next answers begin from lead before.worker now.worker hears passes t.made t.turns));
         total = let total = ap total_of t.counts ∙ one.0 in let totals = has.total in omega (arith, total, totals);
         idle = subst (λ (c : Counts). c.idle ≤ turns_off (lead_period first.number) (suc n)) (sym t.counts)
             (counted_idle t.made before.counts (lead_period first.number) n off has.idle);
@@ -75,43 +75,42 @@ module _ {S P : Type 0} (next : S → Action → S) (answers : S → Action → 
         let events = has.later.events in
         record {
           same = has.later.same;
-          turned = λ none. (now, refl, are);
-          counted = λ none. has.total;
-          events = λ none. omega (arith, events);
-          idle = λ none. has.idle;
           failures = λ other. has.later.failures;
+          whole = λ none. record {
+            last = now;
+            is = refl;
+            turned = are;
+            counted = has.total;
+            events = omega (arith, events);
+            idle = has.idle;
+          };
           fault = tt;
         }
 
-    pub ended : (done : ℕ) (before : NodeAt P) (last : SeatState P) (after : Line) (fault : Fault) → AreTurns next answers begin lets heard nodes (before_turns seat line) done before → done < turns
-        → is_refusal fault ≡ false → lets before.seat.number (suc done) ≡ true
-        → IsUnmade next answers begin (sender_at nodes (suc done)) (is_to_lead before.seat.number (suc done)) before.seat last before.line after fault
-        → IsEnd (end_of (record { seat = last; line = after; counts = before.counts }) (Some fault))
-    ended done before last after fault are within ends passes unmade =
+    pub ended : (done : ℕ) (before : NodeAt P) (last : WorkerAt P) (fault : Fault) → AreTurns next answers begin lets heard nodes (before_turns seat line) done before → done < turns
+        → is_refusal fault ≡ false → IsTurnUnmade next answers begin lets heard nodes (suc done) before.worker last fault → IsEnd (end_of (record { worker = last; counts = before.counts }) (Some fault))
+    ended done before last fault are within ends unmade =
+        let now = before.worker.seat in
         let later = (all_turned seat line done before are).later in
-        let left = unmade_left next answers begin (sender_at nodes (suc done)) (is_to_lead before.seat.number (suc done)) before.seat last before.line after fault unmade in
+        let left = unmade_left next answers begin (sender_at nodes (suc done)) (is_to_lead now.number (suc done)) before.worker last fault unmade.1 in
         let count = before.counts.received + before.counts.led in
         record {
-          same = same_on seat before.seat last later.same left.same;
-          turned = λ none. absurd (some_fault fault none);
-          counted = λ none. absurd (some_fault fault none);
-          events = λ none. absurd (some_fault fault none);
-          idle = λ none. absurd (some_fault fault none);
-          failures = λ other. kept_failures seat before.seat last count fault later left.cause (λ device. other (ap (λ (f : Fault). Some f) device));
-          fault = (
-            record { seat = last; line = after; counts = before.counts },
-            refl,
-            record {
-              cause = cause_of seat before.seat last count fault later ends left.cause;
+          same = same_on seat now last.seat later.same left.same;
+          failures = λ other. kept_failures seat now last.seat count fault later left.cause (λ device. other (ap (λ (f : Fault). Some f) device));
+          whole = λ none. absurd (some_fault fault none);
+          fault = record {
+            last = record { worker = last; counts = before.counts };
+            is = refl;
+            ended = record {
+              cause = cause_of seat now last.seat count fault later ends left.cause;
               done = done;
               within = within;
               before = before;
               made = are;
-              passes = passes;
               unmade = unmade;
               counts = refl;
-            },
-          );
+            };
+          };
         }
       where
         some_fault : (f : Fault) → Some f ≡ None → ⊥

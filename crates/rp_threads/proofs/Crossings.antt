@@ -29,7 +29,7 @@ use Rattle.rp_base.specs.contracts.history.History as History
 use Rattle.rp_base.specs.contracts.history.History.TheKnot as knot
 use Rattle.rp_base.specs.declared.history.History.TheDeep as deep
 use Rattle.rp_learner.specs.contracts.learner.Learner as Learner
-use Rattle.rp_learner.specs.contracts.place.Place as Place
+use Rattle.rp_learner.specs.contracts.position_state.PositionState as PositionState
 use Rattle.rp_learner.specs.contracts.vote_counts.VoteCounts as VoteCounts
 use Rattle.rp_machine.specs.declared.machine.Machine as machine
 use Rattle.rp_machine.specs.contracts.numbered.Numbered as Numbered
@@ -77,7 +77,7 @@ history_send T s = tied_send (knot.frame T) (knot.step T) (knot.sizes T) (keeps 
 counts_send : IsSend VoteCounts.the_row
 counts_send = search (crosses, sendable) depth 40 fits 20000
 
-learned_place_send : IsSend Place.the_row
+learned_place_send : IsSend PositionState.the_row
 learned_place_send = search (crosses, sendable, counts_send) depth 20 fits 20000
 
 learner_send : IsSend Learner.the_row

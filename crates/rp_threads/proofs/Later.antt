@@ -13,7 +13,7 @@ use Rattle.rp_boxes.specs.Parts.{Part, OfNode, with_got}
 use Rattle.rp_boxes.specs.Seats.{SeatState, IsStopped, IsTurn, IsCutTurn, IsNoTurn, setting_at}
 use Rattle.rp_threads.specs.Lines.{given_on}
 use Rattle.rp_threads.specs.Loops.{IsSameSeat, events_made, events_of, is_refusal}
-use Rattle.rp_threads.specs.Rounds.{IsLeadAnew, IsMade, IsUnmade, IsMadeOrSkipped, Runs}
+use Rattle.rp_threads.specs.Rounds.{WorkerAt, IsIdleTurn, IsLeadAnew, IsMade, IsOwnUnmade, IsUnmade, IsMadeOrSkipped, Runs}
 use Rattle.rp_threads.specs.Turns.{MayFetch, IsReceipt, IsEventBy, IsUnsent, IsStopBy, Works, Fails, IsLead, IsNodeTurn, turn_of}
 use Rattle.rp_threads.specs.declared.turns.PacketCounts.{PacketCounts}
 use Rattle.rp_threads.specs.declared.turns.Turn.{Turn}
@@ -161,44 +161,51 @@ module _ {S P : Type 0} (next : S → Action → S) (answers : S → Action → 
 
   -- ---- a turn
 
-  module _ (from : Party) (lead : Bool) (old new : SeatState P) (line after : Line) where
-    turn_later : (between : SeatState P) (turned : TurnResult) → IsNodeTurn next answers begin from lead old between line after turned → IsLater old between (events_of turned.turn)
-    turn_later between turned t =
+  module _ (from : Party) (lead : Bool) (old between : SeatState P) (line after : Line) (turned : TurnResult) (t : IsNodeTurn next answers begin from lead old between line after turned) where
+    turn_later : IsLater old between (events_of turned.turn)
+    turn_later =
         subst (λ (u : Turn). IsLater old between (events_of u)) (sym t.turn)
         (then_later old t.between between (events_of (turn_of (given_on t.full) lead)) (fetch_later t.brought.fetched from (Node old.number) old t.between t.brought.fetch)
         (works_later (given_on t.full) lead t.between between turned.packets t.works))
 
-    idle_later : (between : SeatState P) (turned : TurnResult) → IsNodeTurn next answers begin from lead old between line after turned → turned.turn ≡ Idle → IsLater old between 0
-    idle_later between turned t idle = subst (λ (u : Turn). IsLater old between (events_of u)) idle (turn_later between turned t)
+    idle_later : turned.turn ≡ Idle → IsLater old between 0
+    idle_later idle = subst (λ (u : Turn). IsLater old between (events_of u)) idle turn_later
 
-    made_later : (turned : TurnResult) → IsMade next answers begin from lead old new line after turned → IsLater old new (events_of turned.turn)
-    made_later turned (inl own) = turn_later new turned own
+  module _ (from : Party) (lead : Bool) (old new : WorkerAt P) where
+    first_later : (between : SeatState P) → IsIdleTurn next answers begin from lead old new between → IsLater old.seat between 0
+    first_later between t = idle_later from lead old.seat between old.line new.line t.turned t.turn t.idle
+
+    made_later : (turned : TurnResult) → IsMade next answers begin from lead old new turned → IsLater old.seat new.seat (events_of turned.turn)
+    made_later turned (inl own) = turn_later from lead old.seat new.seat old.line new.line turned own.turn
     made_later turned (inr anew) =
         let led = anew.1 in
-        subst (λ (u : Turn). IsLater old new (events_of u)) (sym anew.0)
-        (then_later old led.between new 1 (idle_later led.between led.turned led.first led.idle) (event_later (IsLeadAnew led.between.part) led.between new turned.packets led.leads))
+        subst (λ (u : Turn). IsLater old.seat new.seat (events_of u)) (sym anew.0)
+        (then_later old.seat led.between new.seat 1 (first_later led.between led.first) (event_later (IsLeadAnew led.between.part) led.between new.seat turned.packets led.leads))
 
-    pub unmade_left : (fault : Fault) → IsUnmade next answers begin from lead old new line after fault → IsLeft old new fault
-    unmade_left fault (inl lost) =
-        let later = fetch_later (Some lost.packet) from (Node old.number) old new lost.fetch in
+    own_left : (fault : Fault) → IsOwnUnmade next answers begin from lead old new fault → IsLeft old.seat new.seat fault
+    own_left fault (inl lost) =
+        let later = fetch_later (Some lost.packet) from (Node old.seat.number) old.seat new.seat lost.fetch in
         record { same = later.same; cause = inr (inr (inl (lost.memory, later.failures))) }
-    unmade_left fault (inr (inl stopped)) =
-        left_on old stopped.between new fault (fetch_later stopped.brought.fetched from (Node old.number) old stopped.between stopped.brought.fetch)
-        (fails_left (given_on stopped.full) lead stopped.between new fault stopped.fails)
-    unmade_left fault (inr (inr anew)) =
-        left_on old anew.between new fault (idle_later anew.between anew.turned anew.first anew.idle)
-        (stop_left (IsLeadAnew anew.between.part) anew.between new fault (λ input is. lead_no_range (Some is.0) input is.2) anew.stops)
+    own_left fault (inr stopped) =
+        left_on old.seat stopped.between new.seat fault (fetch_later stopped.brought.fetched from (Node old.seat.number) old.seat stopped.between stopped.brought.fetch)
+        (fails_left (given_on stopped.full) lead stopped.between new.seat fault stopped.fails)
+
+    pub unmade_left : (fault : Fault) → IsUnmade next answers begin from lead old new fault → IsLeft old.seat new.seat fault
+    unmade_left fault (inl own) = own_left fault own.0
+    unmade_left fault (inr anew) =
+        left_on old.seat anew.between new.seat fault (first_later anew.between anew.first)
+        (stop_left (IsLeadAnew anew.between.part) anew.between new.seat fault (λ input is. lead_no_range (Some is.0) input is.2) anew.stops)
 
     -- a turn that is made or skipped
-    pub turned_later : (heard : ℕ → Type 0) (passes : Bool) (made : Option TurnResult) → IsMadeOrSkipped next answers begin from lead old new line after heard passes made → IsLater old new (events_made made)
+    pub turned_later : (heard : ℕ → Type 0) (passes : Bool) (made : Option TurnResult) → IsMadeOrSkipped next answers begin from lead old new heard passes made → IsLater old.seat new.seat (events_made made)
     turned_later heard passes (Some turned) made = made_later turned made.1
-    turned_later heard passes None (inl skipped) = later_same old new skipped.1
-    turned_later heard passes None (inr refused) = refused_later old new refused.1 refused.2 (unmade_left refused.1 refused.3).cause
+    turned_later heard passes None (inl skipped) = later_same old.seat new.seat (ap (λ (w : WorkerAt P). w.seat) skipped.1)
+    turned_later heard passes None (inr refused) = refused_later old.seat new.seat refused.1 refused.2 (unmade_left refused.1 refused.3).cause
 
-    made_idle : (turned : TurnResult) → IsMade next answers begin from lead old new line after turned → turned.turn ≡ Idle → lead ≡ false
-    made_idle turned (inl own) idle = not_led (given_on own.full) lead turned.turn own.turn idle
+    made_idle : (turned : TurnResult) → IsMade next answers begin from lead old new turned → turned.turn ≡ Idle → lead ≡ false
+    made_idle turned (inl own) idle = not_led (given_on own.turn.full) lead turned.turn own.turn.turn idle
     made_idle turned (inr anew) idle = let clash : Led ≡ Idle = sym anew.0 ∙ idle in absurd (cc)
 
-    pub turned_idle : (heard : ℕ → Type 0) (passes : Bool) (made : Option TurnResult) → IsMadeOrSkipped next answers begin from lead old new line after heard passes made → IsIdle made → lead ≡ false
+    pub turned_idle : (heard : ℕ → Type 0) (passes : Bool) (made : Option TurnResult) → IsMadeOrSkipped next answers begin from lead old new heard passes made → IsIdle made → lead ≡ false
     turned_idle heard passes (Some turned) made is = made_idle turned made.1 is
     turned_idle heard passes None skipped is = absurd is

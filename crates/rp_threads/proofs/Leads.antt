@@ -1,54 +1,134 @@
--- A node leads anew after an idle turn.
-use Rattle.std.proofs.Common.{◌≡◌, ℕ, ◌+◌, ◌<◌, nat_lt, length, Bool, true, false, Option, Some, None, Result, Ok, Err, List, inr, refl, sym, ◌∙◌, arith}
+-- A node leads anew after an idle turn, or need not.
+use Rattle.std.proofs.Common.{◌≡◌, ◌⊎◌, ℕ, ◌+◌, ◌<◌, ◌≤◌, nat_lt, length, Bool, true, false, Option, Some, None, Result, Ok, Err, List, inl, inr, refl, sym, ap, subst, ◌∙◌, arith}
 use Rattle.std.proofs.lemmas.Grind.{common_steps}
-use Rattle.std.specs.Prelude.{IfOk, IfErr, IfSome, IsSome}
+use Rattle.std.specs.Prelude.{IfOk, IfErr, IfNone, IfSome, IsSome, OnSome}
+use Rattle.rp_base.specs.Records.{applied_of}
 use Rattle.rp_base.specs.declared.action.Action.{Action}
 use Rattle.rp_base.specs.declared.fault.Fault.{Fault}
 use Rattle.rp_base.specs.declared.reply.Answer.{Answer}
 use Rattle.rp_codec.specs.declared.packet.Party.{Party}
-use Rattle.rp_model.specs.Parts.{Running}
-use Rattle.rp_tasks.specs.Line.{Line}
+use Rattle.rp_codec.specs.declared.packet.Party.TheVariants.{Node}
+use Rattle.rp_model.specs.Parts.{NodePart, Running}
 use Rattle.rp_boxes.specs.Parts.{Part}
-use Rattle.rp_boxes.specs.Seats.{SeatState, HasApplied, IsRunning}
-use Rattle.rp_threads.specs.Loops.{is_idle}
-use Rattle.rp_threads.specs.Rounds.{HasPending, IsToLeadAt, IsLeadAnew, IsMade, IsUnmade}
-use Rattle.rp_threads.specs.Turns.{IsEventBy, IsStopBy, IsNodeTurn}
+use Rattle.rp_boxes.specs.Seats.{SeatState, HasApplied, IsRunning, IsStopped}
+use Rattle.rp_threads.specs.Loops.{is_idle, is_to_lead, sender_at}
+use Rattle.rp_threads.specs.Patience.{waits, is_over, after_quiet}
+use Rattle.rp_threads.specs.Rounds.{HasPending, HasWaited, IsToLeadAt, NeedNotLead, still_waits, no_position_left, CountsQuiet, IsLeadAnew, WorkerAt, IsMade, IsUnmade}
+use Rattle.rp_threads.specs.Turns.{IsEventBy, IsLost, IsStopBy, IsNodeTurn, IsStoppedTurn}
+use Rattle.rp_threads.specs.declared.patience.Patience.{Patience}
 use Rattle.rp_threads.specs.declared.turns.Turn.{Turn}
 use Rattle.rp_threads.specs.declared.turns.Turn.TheVariants.{Received, Led, Idle}
 use Rattle.rp_threads.specs.declared.turns.TurnResult.{TurnResult}
+use Rattle.rp_threads.proofs.Running.{not_stopped, same_node}
 
 pub idle_of : (turn : Turn) → is_idle turn ≡ true → turn ≡ Idle
 idle_of Received is = absurd (cc)
 idle_of Led is = absurd (cc)
 idle_of Idle is = refl
 
-module _ (part : Part) (waits : Bool) (stated : (running : Running) → IsRunning part running → waits ≡ nat_lt 0 (length running.pending)) (yes : waits ≡ true) where
-  some_wait : (n : ℕ) → nat_lt 0 n ≡ true → 0 < n
-  some_wait n is = grind (arith, common_steps)
+pub busy_of : (turn : Turn) → is_idle turn ≡ false → turn ≡ Idle → ⊥
+busy_of turn busy idle = let clash : true ≡ false = sym (ap is_idle idle) ∙ busy in absurd (cc)
 
-  pub has_pending : (applied : ℕ) → HasApplied part applied → HasPending part
-  has_pending applied has =
+-- ---- what is pending, and what is applied
+
+some_wait : (n : ℕ) → nat_lt 0 n ≡ true → 0 < n
+some_wait n is = grind (arith, common_steps)
+
+none_wait : (n : ℕ) → nat_lt 0 n ≡ false → 0 < n → ⊥
+none_wait n is less = let some : nat_lt 0 n ≡ true = grind (arith, common_steps) in let clash : true ≡ false = sym some ∙ is in absurd (cc)
+
+module _ (part : Part) (answer : Bool) (stated : (running : Running) → IsRunning part running → answer ≡ nat_lt 0 (length running.pending)) where
+  pub has_pending : answer ≡ true → (applied : ℕ) → HasApplied part applied → HasPending part
+  has_pending holds applied has =
       let waiting : (running : Option Running) → has.0.running ≡ running → IsSome running → HasPending part =
       λ running is some. elim running as (λ (o : Option Running). has.0.running ≡ o → IsSome o → HasPending part) [
         | None ↦ λ is some. let clash : false ≡ true = some in absurd (cc)
-        | Some r ↦ λ is some. let runs : IsRunning part r = (has.0, has.1, is) in (r, runs, some_wait (length r.pending) (sym (stated r runs) ∙ yes))
+        | Some r ↦ λ is some. let runs : IsRunning part r = (has.0, has.1, is) in (r, runs, some_wait (length r.pending) (sym (stated r runs) ∙ holds))
       ] is some in
       waiting has.0.running refl has.2
 
-  pub to_lead : (applied : ℕ) (result : Option ℕ) → HasApplied part applied → IfSome result (λ position. position ≡ applied + 1) → IfSome result (IsToLeadAt part)
-  to_lead applied None has at = tt
-  to_lead applied (Some position) has at = record { applied = applied; has = has; next = at; pending = has_pending applied has }
+  pub not_pending : answer ≡ false → ¬ HasPending part
+  not_pending fails pending = none_wait (length pending.0.pending) (sym (stated pending.0 pending.1) ∙ fails) pending.2
 
-module _ {S P : Type 0} (next : S → Action → S) (answers : S → Action → List Answer) (begin : P → S) (from : Party) (lead : Bool) (old new between : SeatState P) (line after : Line) (turned : TurnResult)
-    (first : IsNodeTurn next answers begin from lead old between line after turned) (idle : turned.turn ≡ Idle) where
-  pub led_anew : (result : Result TurnResult Fault)
-      → IfOk result (λ made. (made.turn ≡ Led) × IsEventBy next answers begin (IsLeadAnew between.part) between new made.packets)
-      → IfOk result (IsMade next answers begin from lead old new line after)
-  led_anew (Ok made) ok = inr (ok.0, record { between = between; turned = turned; first = first; idle = idle; leads = ok.1 })
-  led_anew (Err fault) ok = tt
+pub stopped_idles : (part : Part) → IsStopped part → ¬ HasPending part
+stopped_idles part stopped pending =
+    let is = pending.1 in
+    not_stopped part (is.0, is.1, subst (λ (o : Option Running). IsSome o) (sym is.2) refl) stopped
 
-  pub not_led_anew : (result : Result TurnResult Fault)
-      → IfErr result (λ fault. IsStopBy next answers begin (IsLeadAnew between.part) between new fault)
-      → IfErr result (λ fault. IsUnmade next answers begin from lead old new line after fault)
-  not_led_anew (Ok made) err = tt
-  not_led_anew (Err fault) err = inr (inr (record { between = between; turned = turned; first = first; idle = idle; stops = err }))
+one_applied : (part : Part) (a b : ℕ) → HasApplied part a → HasApplied part b → a ≡ b
+one_applied part a b has also =
+    has.3 ∙ ap (λ (n : NodePart). length (applied_of n.records)) (same_node part.role has.0 also.0 has.1 also.1) ∙ sym also.3
+
+-- ---- after an idle turn
+
+module _ {P : Type 0} (seat : SeatState P) (old : Patience) where
+  pub uncounted : (new : Patience) → new ≡ old → ¬ HasPending seat.part → CountsQuiet seat old new
+  uncounted new same none = record { quiet = λ applied has pending. absurd (none pending); other = λ fails. same }
+
+  module _ (number applied : ℕ) (is : number ≡ seat.number) (has : HasApplied seat.part applied) where
+    pub quiet_counted : (new : Patience) → HasPending seat.part → new ≡ after_quiet number applied old → CountsQuiet seat old new
+    quiet_counted new pending after = record {
+      quiet = λ n also some. after ∙ ap (λ k. after_quiet k applied old) is ∙ ap (λ k. after_quiet seat.number k old) (one_applied seat.part applied n has also);
+      other = λ none. absurd (none pending);
+    }
+
+    module _ (over : Bool) (answer : over ≡ is_over number (waits applied old)) where
+      at_seat : over ≡ is_over seat.number (waits applied old)
+      at_seat = answer ∙ ap (λ k. is_over k (waits applied old)) is
+
+      pub has_waited : over ≡ true → (result : Option ℕ) → OnSome result (HasWaited seat old)
+      has_waited holds None = tt
+      has_waited holds (Some position) = (applied, has, sym at_seat ∙ holds)
+
+      pub waits_still : over ≡ false → NeedNotLead seat old
+      waits_still fails = still_waits applied has (sym at_seat ∙ fails)
+
+    pub none_left : (result : Option ℕ) → (result ≡ None → 65535 ≤ applied) → IfNone result (NeedNotLead seat old)
+    none_left None full = no_position_left applied has (full refl)
+    none_left (Some position) full = tt
+
+pub to_lead : (part : Part) (applied : ℕ) (result : Option ℕ) → HasApplied part applied → HasPending part → IfSome result (λ position. position ≡ applied + 1) → IfSome result (IsToLeadAt part)
+to_lead part applied None has pending at = tt
+to_lead part applied (Some position) has pending at = record { applied = applied; has = has; next = at; pending = pending }
+
+-- ---- the turn of a worker
+
+module _ {S P : Type 0} (next : S → Action → S) (answers : S → Action → List Answer) (begin : P → S) (from : Party) (lead : Bool) (old new : WorkerAt P) where
+  pub unmade : new.patience ≡ old.patience → (fault : Fault)
+      → IsLost from (Node old.seat.number) old.seat new.seat old.line new.line fault ⊎ IsStoppedTurn next answers begin from lead old.seat new.seat old.line new.line fault
+      → IsUnmade next answers begin from lead old new fault
+  unmade same fault why = inl (why, same)
+
+  module _ (turned : TurnResult) where
+    pub busy_turn : IsNodeTurn next answers begin from lead old.seat new.seat old.line new.line turned → is_idle turned.turn ≡ false → new.patience ≡ old.patience → IsMade next answers begin from lead old new turned
+    busy_turn turn busy same = inl (record { turn = turn; busy = λ other. same; idle = λ idle. absurd (busy_of turned.turn busy idle) })
+
+    pub idle_turn : IsNodeTurn next answers begin from lead old.seat new.seat old.line new.line turned → turned.turn ≡ Idle → NeedNotLead new.seat old.patience → CountsQuiet new.seat old.patience new.patience
+        → IsMade next answers begin from lead old new turned
+    idle_turn turn idle need counts = inl (record { turn = turn; busy = λ busy. absurd (busy idle); idle = λ is. (need, counts) })
+
+    module _ (between : SeatState P) (turn : IsNodeTurn next answers begin from lead old.seat between old.line new.line turned) (idle : turned.turn ≡ Idle) (waited : HasWaited between old.patience)
+        (counts : CountsQuiet between old.patience new.patience) where
+      pub led_anew : (result : Result TurnResult Fault)
+          → IfOk result (λ made. (made.turn ≡ Led) × IsEventBy next answers begin (IsLeadAnew between.part) between new.seat made.packets)
+          → IfOk result (IsMade next answers begin from lead old new)
+      led_anew (Ok made) ok = inr (ok.0, record { between = between; first = record { turned = turned; turn = turn; idle = idle; waited = waited; counts = counts }; leads = ok.1 })
+      led_anew (Err fault) ok = tt
+
+      pub not_led_anew : (result : Result TurnResult Fault)
+          → IfErr result (λ fault. IsStopBy next answers begin (IsLeadAnew between.part) between new.seat fault)
+          → IfErr result (IsUnmade next answers begin from lead old new)
+      not_led_anew (Ok made) err = tt
+      not_led_anew (Err fault) err = inr (record { between = between; first = record { turned = turned; turn = turn; idle = idle; waited = waited; counts = counts }; stops = err })
+
+-- ---- the turn of a worker with its number
+
+module _ {S P : Type 0} (next : S → Action → S) (answers : S → Action → List Answer) (begin : P → S) (lets : ℕ → ℕ → Bool) (nodes turn number : ℕ) (old new : WorkerAt P) (is : number ≡ old.seat.number) where
+  pub turn_passes : (passes : Bool) → passes ≡ lets number turn → passes ≡ true → lets old.seat.number turn ≡ true
+  turn_passes passes answer holds = sym (answer ∙ ap (λ (n : ℕ). lets n turn) is) ∙ holds
+
+  pub unmade_at : (from : Party) (lead : Bool) (fault : Fault) → from ≡ sender_at nodes turn → lead ≡ is_to_lead number turn → IsUnmade next answers begin from lead old new fault
+      → IsUnmade next answers begin (sender_at nodes turn) (is_to_lead old.seat.number turn) old new fault
+  unmade_at from lead fault sent leads why =
+      subst (λ (l : Bool). IsUnmade next answers begin (sender_at nodes turn) l old new fault) (leads ∙ ap (λ (n : ℕ). is_to_lead n turn) is)
+      (subst (λ (p : Party). IsUnmade next answers begin p lead old new fault) sent why)

@@ -19,7 +19,7 @@ use Rattle.rp_boxes.specs.Seats.{SeatState}
 use Rattle.rp_threads.specs.Lines.{given_on, line_after}
 use Rattle.rp_threads.specs.Loops.{IsSameSeat, node_at}
 use Rattle.rp_threads.specs.Tasks.{HasMade, TaskAt, before_calls, call_after}
-use Rattle.rp_threads.specs.TaskRounds.{AreTaskTurns, Asks, Hears, IsHeard, IsRefused, IsTaskFault, IsTaskTurnOf, IsUnmadeTurn, asked_by, asked_for, asked_in, heard_by, made_by, submitted, with_call, with_lost}
+use Rattle.rp_threads.specs.TaskRounds.{AreTaskTurns, Asks, Hears, IsHeard, IsRefused, IsTaskFault, IsTaskTurnOf, IsUnmadeTurn, untaken, unheard, unasked, asked_by, asked_for, asked_in, heard_by, made_by, submitted, with_call, with_lost}
 use Rattle.rp_threads.specs.Threads.{IsTaskLooped, task_end_of}
 use Rattle.rp_threads.specs.Turns.{IsBrought, IsLost, MayFetch}
 use Rattle.rp_threads.specs.declared.tasks.Calls.{Calls}
@@ -214,9 +214,9 @@ module _ {S P : Type 0} (next : S → Action → S) (answers : S → Action → 
           )
 
       pub unmade_on : 1 ≤ nodes → IsUnmadeTurn nodes calls turn old new fault → IsUnmadeOn first new fault
-      unmade_on some (inl lost) = fetched_on (Some lost.0.packet) lost.0.fetch lost.1 lost.0.memory
-      unmade_on some (inr (inl u)) = fetched_on u.brought.fetched u.brought.fetch u.counts u.memory
-      unmade_on some (inr (inr u)) =
+      unmade_on some (untaken lost counts) = fetched_on (Some lost.packet) lost.fetch counts lost.memory
+      unmade_on some (unheard u) = fetched_on u.brought.fetched u.brought.fetch u.counts u.memory
+      unmade_on some (unasked u) =
           let on = hears_on turn old u.heard new.line new.so_far u.hears in
           let stays = stays_on u.heard new.seat new.so_far (refused_same (asked_in nodes calls turn new.so_far) u.heard new.seat fault u.refused) in
           let now = same_on first old.seat u.heard same on.0 in (
@@ -252,9 +252,13 @@ module _ {S P : Type 0} (next : S → Action → S) (answers : S → Action → 
           let none = none_made calls seat fresh in
           record {
             same = on.0;
-            turned = λ ended. (now, refl, are);
             made = (now.so_far.waits, on.1 none);
-            first = λ ended some more. first_made gate_heard (before_calls seat line) turns now none are some more;
+            whole = λ ended. record {
+              last = now;
+              is = refl;
+              turned = are;
+              first = λ some more. first_made gate_heard (before_calls seat line) turns now none are some more;
+            };
             fault = tt;
           }
 
@@ -265,10 +269,13 @@ module _ {S P : Type 0} (next : S → Action → S) (answers : S → Action → 
           let left = unmade_on (suc done) seat before last fault on.0 (on.1 (none_made calls seat fresh)) some unmade in
           record {
             same = left.0;
-            turned = λ none. absurd (some_fault fault none);
             made = (last.so_far.waits, left.1);
-            first = λ none. absurd (some_fault fault none);
-            fault = (last, refl, record { cause = left.2; done = done; within = within; before = before; made = are; heard = heard; unmade = unmade });
+            whole = λ none. absurd (some_fault fault none);
+            fault = record {
+              last = last;
+              is = refl;
+              ended = record { cause = left.2; done = done; within = within; before = before; made = are; heard = heard; unmade = unmade };
+            };
           }
         where
           some_fault : (f : Fault) → Some f ≡ None → ⊥
@@ -295,16 +302,16 @@ module _ {S P : Type 0} (next : S → Action → S) (answers : S → Action → 
     turn_made lost asks made = record { heard = heard; so_far = so_far; hears = is_heard; lost = lost; asks = asks; counts = made }
 
     pub turn_unmade : (fault : Fault) → new.so_far ≡ so_far → IsRefused (asked_in nodes calls turn so_far) heard new.seat fault → IsUnmadeTurn nodes calls turn old new fault
-    turn_unmade fault stays refused = inr (inr (record {
+    turn_unmade fault stays refused = unasked (record {
       heard = heard;
       hears = subst (λ (c : Calls). IsHeard nodes calls turn old heard new.line c) (sym stays) is_heard;
       refused = subst (λ (c : Calls). IsRefused (asked_in nodes calls turn c) heard new.seat fault) (sym stays) refused;
-    }))
+    })
 
   -- the packet that was fetched is lost
   pub turn_lost : (node : ℕ) (fault : Fault) → node ≡ node_at nodes turn → IsLost (Node node) (Task old.seat.number) old.seat new.seat old.line new.line fault → new.so_far ≡ old.so_far
       → IsUnmadeTurn nodes calls turn old new fault
-  turn_lost node fault is lost stays = inl (subst (λ (n : ℕ). IsLost (Node n) (Task old.seat.number) old.seat new.seat old.line new.line fault) is lost, stays)
+  turn_lost node fault is lost stays = untaken (subst (λ (n : ℕ). IsLost (Node n) (Task old.seat.number) old.seat new.seat old.line new.line fault) is lost) stays
 
 -- ---- what is asked, once a task waits for none
 

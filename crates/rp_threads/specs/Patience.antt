@@ -1,5 +1,6 @@
 -- When a node leads with a new ballot.
-use Rattle.std.specs.Prelude.{ℕ, ◌+◌, ◌-◌, ◌*◌, ◌^◌, Bool, ◌&&◌, ◌||◌, nat_eq, nat_le, min, if◌then◌else◌}
+use Rattle.std.specs.Prelude.{ℕ, ◌+◌, ◌-◌, ◌*◌, ◌^◌, Bool, ◌&&◌, ◌||◌, nat_eq, nat_le, min}
+use Rattle.std.specs.Prelude.{if◌then◌else◌}
 use Rattle.rp_threads.specs.declared.patience.Patience.{Patience}
 
 -- a wait that begins
@@ -27,5 +28,7 @@ is_over node p = (nat_eq node 1 && nat_eq p.tries 0) || nat_le (wait_of node p) 
 abbrev pub tried : Patience → Patience
 tried p = record p { quiet = 0; tries = min (p.tries + 1) (2 ^ 32 - 1) }
 
-abbrev pub heard : ℕ → ℕ → Patience → Patience
-heard node applied p = if is_over node (waits applied p) then tried (waits applied p) else waits applied p
+-- the patience of the node with this number, which has applied n actions, after one more quiet turn
+abbrev pub after_quiet : ℕ → ℕ → Patience → Patience
+after_quiet node applied p =
+    if is_over node (waits applied p) then tried (waits applied p) else waits applied p

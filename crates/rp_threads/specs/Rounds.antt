@@ -1,7 +1,7 @@
 -- The turns of a node's loop: each is the turn of its node, and if that is idle the node may lead
 -- with a new ballot.
-use Rattle.std.specs.Prelude.{◌≡◌, ◌⊎◌, ℕ, zero, suc, ◌+◌, ◌<◌, Bool, true, false, Option, Some, None}
-use Rattle.std.specs.Prelude.{IsSome, List, length}
+use Rattle.std.specs.Prelude.{◌≡◌, ◌≢◌, ◌⊎◌, ℕ, zero, suc, ◌+◌, ◌<◌, ◌≤◌, Bool, true, false}
+use Rattle.std.specs.Prelude.{Option, Some, None, IsSome, List, length}
 use Rattle.rp_base.specs.declared.action.Action.{Action}
 use Rattle.rp_base.specs.declared.fault.Fault.{Fault}
 use Rattle.rp_base.specs.declared.fault.Fault.TheVariants.{OutOfMemory, Device, Failed}
@@ -15,8 +15,11 @@ use Rattle.rp_tasks.specs.Line.{Line}
 use Rattle.rp_boxes.specs.Parts.{Part, OfNode}
 use Rattle.rp_boxes.specs.Seats.{SeatState, HasApplied, IsRunning, IsStopped}
 use Rattle.rp_threads.specs.Loops.{sender_at, is_to_lead, is_refusal, no_turns, counted}
+use Rattle.rp_threads.specs.Patience.{fresh_wait, waits, is_over, after_quiet}
 use Rattle.rp_threads.specs.Turns.{IsLost, IsEventBy, IsStopBy, IsNodeTurn, IsStoppedTurn}
 use Rattle.rp_threads.specs.declared.loops.Counts.{Counts}
+use Rattle.rp_threads.specs.declared.loops.Worker.{Worker}
+use Rattle.rp_threads.specs.declared.patience.Patience.{Patience}
 use Rattle.rp_threads.specs.declared.turns.PacketCounts.{PacketCounts}
 use Rattle.rp_threads.specs.declared.turns.Turn.TheVariants.{Led, Idle}
 use Rattle.rp_threads.specs.declared.turns.TurnResult.{TurnResult}
@@ -36,57 +39,107 @@ pub record IsToLeadAt (part : Part) (position : ℕ) : Type 0 where
   pub next : position ≡ applied + 1
   pub pending : HasPending part
 
+-- by its patience the node is to lead now
+abbrev pub HasWaited : {P : Type 0} → SeatState P → Patience → Type 0
+HasWaited seat patience =
+    (applied : ℕ) × HasApplied seat.part applied
+    × (is_over seat.number (waits applied patience) ≡ true)
+
+-- Why a node does not lead after an idle turn: nothing is pending, as at a stopped node; by its
+-- patience it is not to lead yet; or it has applied an action at the last position.
+pub data NeedNotLead {P : Type 0} (seat : SeatState P) (patience : Patience) : Type 0 where
+  nothing_pending : ¬ HasPending seat.part → NeedNotLead seat patience
+  still_waits : (applied : ℕ) → HasApplied seat.part applied
+      → is_over seat.number (waits applied patience) ≡ false → NeedNotLead seat patience
+  no_position_left : (applied : ℕ) → HasApplied seat.part applied → 65535 ≤ applied
+      → NeedNotLead seat patience
+
+-- An idle turn is counted by the node's patience if something is pending, and only then.
+pub record CountsQuiet {P : Type 0} (seat : SeatState P) (old new : Patience) : Type 0 where
+  pub quiet : (applied : ℕ) → HasApplied seat.part applied → HasPending seat.part
+      → new ≡ after_quiet seat.number applied old
+  pub other : ¬ HasPending seat.part → new ≡ old
+
 -- the command to lead there
 abbrev pub IsLeadAnew : Part → Input → Type 0
 IsLeadAnew part input = (position : ℕ) × IsToLeadAt part position × (input ≡ Lead (Some position))
 
-module _ {S P : Type 0} (next : S → Action → S) (answers : S → Action → List Answer) (begin : P → S) where
-  module _ (from : Party) (lead : Bool) (old new : SeatState P) (line after : Line) where
-    -- The turn of the node was idle; then it led with a new ballot, and sent and lost these
-    -- packets.
+-- the state of a node in its loop: its seat, its link and its patience
+pub record WorkerAt (P : Type 0) : Type 0 where
+  pub seat : SeatState P
+  pub line : Line
+  pub patience : Patience
+
+abbrev pub worker_at : {M D P : Type 0} → Worker M D P → WorkerAt P
+worker_at worker = record { seat = worker.seat; line = worker.link; patience = worker.patience }
+
+module _ {S P : Type 0} (next : S → Action → S) (answers : S → Action → List Answer)
+    (begin : P → S) where
+  module _ (from : Party) (lead : Bool) (old new : WorkerAt P) where
+    -- The turn of the node; it did not lead with a new ballot, since it was not idle or need not.
+    pub record IsOwnTurn (turned : TurnResult) : Type 0 where
+      pub turn : IsNodeTurn next answers begin from lead old.seat new.seat old.line new.line turned
+      pub busy : turned.turn ≢ Idle → new.patience ≡ old.patience
+      pub idle : turned.turn ≡ Idle → NeedNotLead new.seat old.patience
+          × CountsQuiet new.seat old.patience new.patience
+
+    -- The turn of the node was idle, after which it was at this seat, and by its patience it was to
+    -- lead with a new ballot.
+    pub record IsIdleTurn (between : SeatState P) : Type 0 where
+      pub turned : TurnResult
+      pub turn : IsNodeTurn next answers begin from lead old.seat between old.line new.line turned
+      pub idle : turned.turn ≡ Idle
+      pub waited : HasWaited between old.patience
+      pub counts : CountsQuiet between old.patience new.patience
+
+    -- It then led with a new ballot, and sent and lost these packets.
     pub record IsLedAnew (packets : PacketCounts) : Type 0 where
       pub between : SeatState P
-      pub turned : TurnResult
-      pub first : IsNodeTurn next answers begin from lead old between line after turned
-      pub idle : turned.turn ≡ Idle
-      pub leads : IsEventBy next answers begin (IsLeadAnew between.part) between new packets
+      pub first : IsIdleTurn between
+      pub leads : IsEventBy next answers begin (IsLeadAnew between.part) between new.seat packets
 
-    -- The turn of the node was idle; then the step in which it was to lead with a new ballot was
-    -- cut, or was no event, or not all of its packets were offered.
+    -- The step in which it was then to lead was cut, or was no event, or not all of its packets
+    -- were offered.
     pub record IsStoppedAnew (fault : Fault) : Type 0 where
       pub between : SeatState P
-      pub turned : TurnResult
-      pub first : IsNodeTurn next answers begin from lead old between line after turned
-      pub idle : turned.turn ≡ Idle
-      pub stops : IsStopBy next answers begin (IsLeadAnew between.part) between new fault
+      pub first : IsIdleTurn between
+      pub stops : IsStopBy next answers begin (IsLeadAnew between.part) between new.seat fault
 
     -- the turn that was made: the node's own, or one in which it led with a new ballot
     abbrev pub IsMade : TurnResult → Type 0
-    IsMade turned = IsNodeTurn next answers begin from lead old new line after turned
-        ⊎ ((turned.turn ≡ Led) × IsLedAnew turned.packets)
+    IsMade turned = IsOwnTurn turned ⊎ ((turned.turn ≡ Led) × IsLedAnew turned.packets)
+
+    -- the turn of the node was not made, because of a fault
+    abbrev pub IsOwnUnmade : Fault → Type 0
+    IsOwnUnmade fault =
+        IsLost from (Node old.seat.number) old.seat new.seat old.line new.line fault
+        ⊎ IsStoppedTurn next answers begin from lead old.seat new.seat old.line new.line fault
 
     -- a fault because of which no turn was made
     abbrev pub IsUnmade : Fault → Type 0
-    IsUnmade fault = IsLost from (Node old.number) old new line after fault
-        ⊎ (IsStoppedTurn next answers begin from lead old new line after fault ⊎ IsStoppedAnew fault)
+    IsUnmade fault =
+        (IsOwnUnmade fault × (new.patience ≡ old.patience)) ⊎ IsStoppedAnew fault
 
     -- a turn that was made, or skipped: by the gate, or because the node was refused to lead.
     -- Unless the gate skips the turn, the gate is notified how many packets were sent in it
     abbrev pub IsMadeOrSkipped : (ℕ → Type 0) → Bool → Option TurnResult → Type 0
-    IsMadeOrSkipped heard passes (Some turned) = (passes ≡ true) × IsMade turned × heard turned.packets.sent
-    IsMadeOrSkipped heard passes None = ((passes ≡ false) × (new ≡ old) × (after ≡ line))
+    IsMadeOrSkipped heard passes (Some turned) =
+        (passes ≡ true) × IsMade turned × heard turned.packets.sent
+    IsMadeOrSkipped heard passes None = ((passes ≡ false) × (new ≡ old))
         ⊎ ((passes ≡ true) × (fault : Fault) × (is_refusal fault ≡ true) × IsUnmade fault × heard 0)
 
--- the state of a node's loop: its seat, its link, how many turns of each kind it made, and how many
+-- the state of a node's loop: of its worker, how many turns of each kind it made, and how many
 -- packets these lost at boxes
 pub record NodeAt (P : Type 0) : Type 0 where
-  pub seat : SeatState P
-  pub line : Line
+  pub worker : WorkerAt P
   pub counts : Counts
 
 -- before its first turn
 abbrev pub before_turns : {P : Type 0} → SeatState P → Line → NodeAt P
-before_turns seat line = record { seat = seat; line = line; counts = no_turns }
+before_turns seat line = record {
+  worker = record { seat = seat; line = line; patience = fresh_wait 0 };
+  counts = no_turns;
+}
 
 -- Why a node's loop may end before its last turn: out of memory; its device failed in that turn; or
 -- the node was stopped from the start, because its device had failed.
@@ -96,35 +149,43 @@ IsNodeFault first last Device = first.failures < last.failures
 IsNodeFault first last Failed = IsStopped first.part
 IsNodeFault first last _ = ⊥
 
-module _ {S P : Type 0} (next : S → Action → S) (answers : S → Action → List Answer) (begin : P → S)
-    (lets : ℕ → ℕ → Bool) (heard : ℕ → ℕ → ℕ → Type 0) (nodes : ℕ) where
+module _ {S P : Type 0} (next : S → Action → S) (answers : S → Action → List Answer)
+    (begin : P → S) (lets : ℕ → ℕ → Bool) (heard : ℕ → ℕ → ℕ → Type 0) (nodes : ℕ) where
   -- the turn with this number, of a node among n: the gate decides on it and is notified of it, and
   -- the box of its sender is emptied
-  abbrev pub IsTurnOf : ℕ → SeatState P → SeatState P → Line → Line → Option TurnResult → Type 0
-  IsTurnOf turn old new line after made =
-      IsMadeOrSkipped next answers begin (sender_at nodes turn) (is_to_lead old.number turn) old new line after
-      (heard old.number turn) (lets old.number turn) made
+  abbrev pub IsTurnOf : ℕ → WorkerAt P → WorkerAt P → Option TurnResult → Type 0
+  IsTurnOf turn old new made =
+      IsMadeOrSkipped next answers begin (sender_at nodes turn)
+      (is_to_lead old.seat.number turn) old new
+      (heard old.seat.number turn) (lets old.seat.number turn) made
+
+  -- the gate lets the turn with this number pass, and it was not made because of a fault
+  abbrev pub IsTurnUnmade : ℕ → WorkerAt P → WorkerAt P → Fault → Type 0
+  IsTurnUnmade turn old new fault =
+      (lets old.seat.number turn ≡ true)
+      × IsUnmade next answers begin (sender_at nodes turn)
+      (is_to_lead old.seat.number turn) old new fault
 
   -- One more turn, which is counted.
   pub record IsNextTurn (turn : ℕ) (old new : NodeAt P) : Type 0 where
     pub made : Option TurnResult
-    pub turns : IsTurnOf turn old.seat new.seat old.line new.line made
+    pub turns : IsTurnOf turn old.worker new.worker made
     pub counts : new.counts ≡ counted made old.counts
 
   -- the turns 1 to n, one after the other
   abbrev pub AreTurns : NodeAt P → ℕ → NodeAt P → Type 0
   AreTurns first zero now = now ≡ first
-  AreTurns first (suc n) now = (before : NodeAt P) × AreTurns first n before × IsNextTurn (suc n) before now
+  AreTurns first (suc n) now =
+      (before : NodeAt P) × AreTurns first n before × IsNextTurn (suc n) before now
 
   -- After some turns the next one, of at most n, was not made, because of a fault other than a
   -- refusal to lead. No packet of it counts as lost at a box.
-  pub record IsEndedBy (first : NodeAt P) (turns : ℕ) (last : NodeAt P) (fault : Fault) : Type 0 where
-    pub cause : IsNodeFault first.seat last.seat fault
+  pub record IsEndedBy (first : NodeAt P) (turns : ℕ) (last : NodeAt P) (fault : Fault)
+      : Type 0 where
+    pub cause : IsNodeFault first.worker.seat last.worker.seat fault
     pub done : ℕ
     pub within : done < turns
     pub before : NodeAt P
     pub made : AreTurns first done before
-    pub passes : lets before.seat.number (suc done) ≡ true
-    pub unmade : IsUnmade next answers begin (sender_at nodes (suc done))
-        (is_to_lead before.seat.number (suc done)) before.seat last.seat before.line last.line fault
+    pub unmade : IsTurnUnmade (suc done) before.worker last.worker fault
     pub counts : last.counts ≡ before.counts

@@ -1,4 +1,4 @@
--- What the threads of nodes and tasks require, and what they ensure (no public clause names it).
+-- What the threads of nodes and tasks require, and what they ensure.
 use Rattle.std.specs.Prelude.{◌≡◌, ℕ, ◌≤◌, Bool, List, [], All, length}
 use Rattle.std.specs.List.{AllZip}
 use Rattle.rp_base.specs.declared.action.Action.{Action}
@@ -12,19 +12,32 @@ use Rattle.rp_threads.specs.declared.starts.TaskStart.{TaskStart}
 use Rattle.rp_threads.specs.declared.tasks.TaskEnd.{TaskEnd}
 
 -- One to seven nodes, and tasks for which nothing has happened; and all links are empty.
-pub record MayRun {M D P : Type 0} (nodes : List (NodeStart M D P)) (tasks : List (TaskStart M P)) : Type 0 where
+pub record MayRun {M D P : Type 0} (nodes : List (NodeStart M D P)) (tasks : List (TaskStart M P))
+    : Type 0 where
   pub count : (1 ≤ length nodes) × (length nodes ≤ 7)
   pub node_lines : All (λ start. start.line.held ≡ []) nodes
   pub task_lines : All (λ start. start.line.held ≡ []) tasks
   pub fresh : All (λ start. start.seat.part ≡ fresh_part (OfTask fresh_task)) tasks
 
+module _ {S M D P : Type 0} (next : S → Action → S) (answers : S → Action → List Answer)
+    (begin : P → S) (lets : ℕ → ℕ → Bool) (heard : ℕ → ℕ → ℕ → Type 0) (nodes turns : ℕ) where
+  -- the end is that of n turns of the loop of this start
+  abbrev pub IsNodeEnd : NodeStart M D P → NodeEnd M D P → Type 0
+  IsNodeEnd start end =
+      IsLooped next answers begin lets heard nodes turns start.seat start.line end
+
+module _ {S M P : Type 0} (next : S → Action → S) (answers : S → Action → List Answer)
+    (begin : P → S) (heard : ℕ → ℕ → Type 0) (nodes turns : ℕ) where
+  abbrev pub IsTaskEnd : TaskStart M P → TaskEnd M P → Type 0
+  IsTaskEnd start end =
+      IsTaskLooped next answers begin heard nodes turns start.calls.items start.seat start.line end
+
 -- Each end is that of n turns of the loop of the start at its place.
-pub record HaveRun {M D P : Type 0} (next : M → Action → M) (answers : M → Action → List Answer) (begin : P → M)
-    (lets : ℕ → ℕ → Bool) (heard : ℕ → ℕ → ℕ → Type 0) (heard_task : ℕ → ℕ → Type 0) (turns : ℕ)
-    (nodes : List (NodeStart M D P)) (tasks : List (TaskStart M P))
+pub record HaveRun {M D P : Type 0} (next : M → Action → M) (answers : M → Action → List Answer)
+    (begin : P → M) (lets : ℕ → ℕ → Bool) (heard : ℕ → ℕ → ℕ → Type 0) (heard_task : ℕ → ℕ → Type 0)
+    (turns : ℕ) (nodes : List (NodeStart M D P)) (tasks : List (TaskStart M P))
     (node_ends : List (NodeEnd M D P)) (task_ends : List (TaskEnd M P)) : Type 0 where
-  pub nodes_are : AllZip (λ start end.
-      IsLooped next answers begin lets heard (length nodes) turns start.seat start.line end) nodes node_ends
-  pub tasks_are : AllZip (λ start end.
-      IsTaskLooped next answers begin heard_task (length nodes) turns start.calls.items start.seat start.line end)
+  pub nodes_are : AllZip (IsNodeEnd next answers begin lets heard (length nodes) turns)
+      nodes node_ends
+  pub tasks_are : AllZip (IsTaskEnd next answers begin heard_task (length nodes) turns)
       tasks task_ends

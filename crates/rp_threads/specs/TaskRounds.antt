@@ -1,6 +1,7 @@
 -- The turns of a task's loop: it fetches from one node, takes what its link passes on, and asks.
-use Rattle.std.specs.Prelude.{◌≡◌, ◌⊎◌, ℕ, zero, suc, ◌+◌, ◌%◌, ◌/◌, ◌<◌, ◌||◌, not, nat_eq, nat_lt, Bool, true, false}
-use Rattle.std.specs.Prelude.{is_some, Option, Some, None, List, slice_get, if◌then◌else◌}
+use Rattle.std.specs.Prelude.{◌≡◌, ◌⊎◌, ℕ, zero, suc, ◌+◌, ◌%◌, ◌/◌, ◌<◌, nat_eq, nat_lt}
+use Rattle.std.specs.Prelude.{Bool, true, false, ◌||◌, not, is_some, Option, Some, None, List}
+use Rattle.std.specs.Prelude.{slice_get, if◌then◌else◌}
 use Rattle.rp_base.specs.Action.{is_right}
 use Rattle.rp_base.specs.declared.action.Action.{Action}
 use Rattle.rp_base.specs.Calls.{are_exhausted}
@@ -31,7 +32,8 @@ Hears (Some text) old new answered =
 
 -- if a call got its reply in this turn, the task no longer waits
 abbrev pub heard_by : Bool → ℕ → Calls → Calls
-heard_by answered turn so_far = if answered then record so_far { waits = false; last_reply = turn } else so_far
+heard_by answered turn so_far =
+    if answered then record so_far { waits = false; last_reply = turn } else so_far
 
 -- ---- what is asked
 
@@ -43,20 +45,23 @@ submitted (Some call) = Some (Submit call.node call.object call.operation call.a
 -- what a task asks in a turn: while it waits, in each 16th turn the next of n nodes again;
 -- otherwise its next call, if there is one
 abbrev pub asked_by : Bool → ℕ → List TaskCall → ℕ → ℕ → Option TaskInput
-asked_by true nodes calls made turn = if nat_eq (turn % 16) 0 then Some (Again (node_at nodes (turn / 16))) else None
+asked_by true nodes calls made turn =
+    if nat_eq (turn % 16) 0 then Some (Again (node_at nodes (turn / 16))) else None
 asked_by false nodes calls made turn = submitted (slice_get calls made)
 
 abbrev pub asked_in : ℕ → List TaskCall → ℕ → Calls → Option TaskInput
 asked_in nodes calls turn so_far = asked_by so_far.waits nodes calls so_far.made turn
 
-module _ {S P : Type 0} (next : S → Action → S) (answers : S → Action → List Answer) (begin : P → S) where
+module _ {S P : Type 0} (next : S → Action → S) (answers : S → Action → List Answer)
+    (begin : P → S) where
   -- One event, with this input; then its packet, if it sent one, was offered to its box, and n
   -- packets are lost.
   pub record IsAskedBy (input : TaskInput) (old new : SeatState P) (lost : ℕ) : Type 0 where
     pub stepped : SeatState P
     pub sent : Sent
     pub turn : IsTaskTurn old input stepped sent
-    pub offered : AreOffered next answers begin (Task stepped.number) turn.done.sends stepped new lost
+    pub offered : AreOffered next answers begin (Task stepped.number) turn.done.sends
+        stepped new lost
 
   -- the seat after that is asked, and how many packets are lost
   abbrev pub Asks : Option TaskInput → SeatState P → SeatState P → ℕ → Type 0
@@ -97,15 +102,18 @@ IsBadCall config task calls made =
 abbrev pub IsTaskFault : {P : Type 0} → ℕ → List TaskCall → SeatState P → ℕ → Fault → Type 0
 IsTaskFault nodes calls seat made OutOfMemory = Unit {0}
 IsTaskFault nodes calls seat made NumbersSpent = are_exhausted made ≡ true
-IsTaskFault nodes calls seat made BadConfig = (seat.config.nodes < nodes) ⊎ IsBadCall seat.config seat.number calls made
+IsTaskFault nodes calls seat made BadConfig =
+    (seat.config.nodes < nodes) ⊎ IsBadCall seat.config seat.number calls made
 IsTaskFault nodes calls seat made _ = ⊥
 
 module _ {P : Type 0} (nodes : ℕ) (calls : List TaskCall) where
   -- What a task fetches and takes in a turn: it fetches from the next node in rotation.
-  pub record IsHeard (turn : ℕ) (old : TaskAt P) (new : SeatState P) (line : Line) (so_far : Calls) : Type 0 where
+  pub record IsHeard (turn : ℕ) (old : TaskAt P) (new : SeatState P) (line : Line)
+      (so_far : Calls) : Type 0 where
     pub between : SeatState P
     pub full : Line
-    pub brought : IsBrought (Node (node_at nodes turn)) (Task old.seat.number) old.seat between old.line full
+    pub brought : IsBrought (Node (node_at nodes turn)) (Task old.seat.number)
+        old.seat between old.line full
     pub answered : Bool
     pub hears : Hears (given_on full) between new answered
     pub gives : line ≡ line_after full
@@ -114,7 +122,8 @@ module _ {P : Type 0} (nodes : ℕ) (calls : List TaskCall) where
   -- The turn was not made: the packet that the link passed on is lost, because memory ran out.
   pub record IsUnheard (turn : ℕ) (old new : TaskAt P) (fault : Fault) : Type 0 where
     pub full : Line
-    pub brought : IsBrought (Node (node_at nodes turn)) (Task old.seat.number) old.seat new.seat old.line full
+    pub brought : IsBrought (Node (node_at nodes turn)) (Task old.seat.number)
+        old.seat new.seat old.line full
     pub gives : new.line ≡ line_after full
     pub memory : fault ≡ OutOfMemory
     pub counts : new.so_far ≡ old.so_far
@@ -125,15 +134,18 @@ module _ {P : Type 0} (nodes : ℕ) (calls : List TaskCall) where
     pub hears : IsHeard turn old heard new.line new.so_far
     pub refused : IsRefused (asked_in nodes calls turn new.so_far) heard new.seat fault
 
-  -- a fault because of which the turn was not made
-  abbrev pub IsUnmadeTurn : ℕ → TaskAt P → TaskAt P → Fault → Type 0
-  IsUnmadeTurn turn old new fault =
-      (IsLost (Node (node_at nodes turn)) (Task old.seat.number) old.seat new.seat old.line new.line fault
-      × (new.so_far ≡ old.so_far))
-      ⊎ (IsUnheard turn old new fault ⊎ IsUnasked turn old new fault)
+-- Why the turn with this number was not made: memory ran out for the packet that was fetched, or for
+-- the one that the link passed on; or what the task asks is refused.
+pub data IsUnmadeTurn {P : Type 0} (nodes : ℕ) (calls : List TaskCall) (turn : ℕ)
+    (old new : TaskAt P) (fault : Fault) : Type 0 where
+  untaken : IsLost (Node (node_at nodes turn)) (Task old.seat.number)
+      old.seat new.seat old.line new.line fault
+      → new.so_far ≡ old.so_far → IsUnmadeTurn nodes calls turn old new fault
+  unheard : IsUnheard nodes calls turn old new fault → IsUnmadeTurn nodes calls turn old new fault
+  unasked : IsUnasked nodes calls turn old new fault → IsUnmadeTurn nodes calls turn old new fault
 
-module _ {S P : Type 0} (next : S → Action → S) (answers : S → Action → List Answer) (begin : P → S) (nodes : ℕ)
-    (calls : List TaskCall) where
+module _ {S P : Type 0} (next : S → Action → S) (answers : S → Action → List Answer)
+    (begin : P → S) (nodes : ℕ) (calls : List TaskCall) where
   -- The turn with this number.
   pub record IsTaskTurnOf (turn : ℕ) (old new : TaskAt P) : Type 0 where
     pub heard : SeatState P
@@ -143,17 +155,19 @@ module _ {S P : Type 0} (next : S → Action → S) (answers : S → Action → 
     pub asks : Asks next answers begin (asked_in nodes calls turn so_far) heard new.seat lost
     pub counts : new.so_far ≡ with_lost lost (asked_for calls so_far)
 
-module _ {S P : Type 0} (next : S → Action → S) (answers : S → Action → List Answer) (begin : P → S)
-    (gate_heard : ℕ → ℕ → Type 0) (nodes : ℕ) (calls : List TaskCall) where
+module _ {S P : Type 0} (next : S → Action → S) (answers : S → Action → List Answer)
+    (begin : P → S) (gate_heard : ℕ → ℕ → Type 0) (nodes : ℕ) (calls : List TaskCall) where
   -- the turns 1 to n, one after the other; the gate is notified of each
   abbrev pub AreTaskTurns : TaskAt P → ℕ → TaskAt P → Type 0
   AreTaskTurns first zero now = now ≡ first
   AreTaskTurns first (suc n) now =
-      (before : TaskAt P) × AreTaskTurns first n before × IsTaskTurnOf next answers begin nodes calls (suc n) before now
+      (before : TaskAt P) × AreTaskTurns first n before
+      × IsTaskTurnOf next answers begin nodes calls (suc n) before now
       × gate_heard before.seat.number (suc n)
 
   -- After some turns the next one, of at most n, was not made. The gate was notified of it too.
-  pub record IsTaskEndedBy (first : TaskAt P) (turns : ℕ) (last : TaskAt P) (fault : Fault) : Type 0 where
+  pub record IsTaskEndedBy (first : TaskAt P) (turns : ℕ) (last : TaskAt P) (fault : Fault)
+      : Type 0 where
     pub cause : IsTaskFault nodes calls first.seat last.so_far.made fault
     pub done : ℕ
     pub within : done < turns

@@ -1,6 +1,6 @@
 -- The calls that a task's loop made.
-use Rattle.std.specs.Prelude.{◌≡◌, ℕ, suc, ◌+◌, ◌<◌, ◌≤◌, Bool, true, false, Option, Some, None, List, length}
-use Rattle.std.specs.Prelude.{slice_get, if◌then◌else◌}
+use Rattle.std.specs.Prelude.{◌≡◌, ℕ, suc, ◌+◌, ◌<◌, ◌≤◌, Bool, true, false, Option, Some, None}
+use Rattle.std.specs.Prelude.{List, length, slice_get, if◌then◌else◌}
 use Rattle.rp_base.specs.Sets.{Has}
 use Rattle.rp_base.specs.declared.action.Action.{Action}
 use Rattle.rp_base.specs.Calls.{next_call}
@@ -10,6 +10,7 @@ use Rattle.rp_model.specs.Tasks.{asks}
 use Rattle.rp_tasks.specs.Line.{Line}
 use Rattle.rp_boxes.specs.Parts.{OfTask}
 use Rattle.rp_boxes.specs.Seats.{SeatState}
+use Rattle.rp_threads.specs.declared.tasks.Caller.{Caller}
 use Rattle.rp_threads.specs.declared.tasks.Calls.{Calls}
 use Rattle.rp_threads.specs.declared.tasks.TaskCall.{TaskCall}
 
@@ -37,13 +38,15 @@ AsksForOne task calls made packet =
 -- The task of this seat made the first n calls of this list, each asked of its node, and each
 -- packet that it sent asks for one of them. It waits for the reply to the last of them, or has all
 -- replies.
-pub record HasMade {P : Type 0} (calls : List TaskCall) (seat : SeatState P) (made : ℕ) (waits : Bool) : Type 0 where
+pub record HasMade {P : Type 0} (calls : List TaskCall) (seat : SeatState P) (made : ℕ)
+    (waits : Bool) : Type 0 where
   pub task : TaskPart
   pub is : seat.part.role ≡ OfTask task
   pub some : made ≤ length calls
   pub each : (k : ℕ) (call : TaskCall) → k < made → slice_get calls k ≡ Some call
       → Has (first_asked seat.number k call) seat.part.sent
-  pub only : (packet : Message) → Has packet seat.part.sent → AsksForOne seat.number calls made packet
+  pub only : (packet : Message) → Has packet seat.part.sent
+      → AsksForOne seat.number calls made packet
   pub count : length task.replies + (if waits then 1 else 0) ≡ made
   pub waiting : Waits seat.number calls made waits task.outstanding
 
@@ -54,7 +57,13 @@ pub record TaskAt (P : Type 0) : Type 0 where
   pub line : Line
   pub so_far : Calls
 
+abbrev pub caller_at : {M P : Type 0} → Caller M P → TaskAt P
+caller_at caller = record { seat = caller.seat; line = caller.link; so_far = caller.so_far }
+
 -- before its first turn
 abbrev pub before_calls : {P : Type 0} → SeatState P → Line → TaskAt P
-before_calls seat line =
-    record { seat = seat; line = line; so_far = record { made = 0; waits = false; last_reply = 0; lost = 0 } }
+before_calls seat line = record {
+  seat = seat;
+  line = line;
+  so_far = record { made = 0; waits = false; last_reply = 0; lost = 0 };
+}

@@ -1,5 +1,6 @@
 -- The ends of the loops of a node and of a task, whether they run in a thread or not.
-use Rattle.std.specs.Prelude.{◌≡◌, ◌≢◌, ℕ, ◌+◌, ◌<◌, ◌≤◌, Bool, Option, Some, None, IfSome, List, length}
+use Rattle.std.specs.Prelude.{◌≡◌, ◌≢◌, ℕ, ◌+◌, ◌<◌, ◌≤◌, Bool, Option, Some, None, IfSome, List}
+use Rattle.std.specs.Prelude.{length}
 use Rattle.rp_base.specs.declared.action.Action.{Action}
 use Rattle.rp_base.specs.declared.fault.Fault.{Fault}
 use Rattle.rp_base.specs.declared.fault.Fault.TheVariants.{Device}
@@ -14,29 +15,43 @@ use Rattle.rp_threads.specs.declared.loops.NodeEnd.{NodeEnd}
 use Rattle.rp_threads.specs.declared.tasks.TaskCall.{TaskCall}
 use Rattle.rp_threads.specs.declared.tasks.TaskEnd.{TaskEnd}
 
+-- ---- nodes
+
 -- the end of a node's loop in this state: its lost packets are those at boxes and those on its link
 abbrev pub end_of : {M D P : Type 0} → NodeAt P → Option Fault → NodeEnd M D P
 end_of last fault = record {
-  seat = last.seat;
-  counts = record last.counts { lost = saturating_sum last.counts.lost last.line.lost };
+  seat = last.worker.seat;
+  counts = record last.counts { lost = saturating_sum last.counts.lost last.worker.line.lost };
   fault = fault;
 }
 
--- A loop of n turns, of the node of this seat among n and over this link, had this end. Without a
--- fault all turns from 1 on were made or skipped, one after the other; otherwise one of them was
--- not made, because of that fault.
-pub record IsLooped {S M D P : Type 0} (next : S → Action → S) (answers : S → Action → List Answer) (begin : P → S)
-    (lets : ℕ → ℕ → Bool) (heard : ℕ → ℕ → ℕ → Type 0) (nodes turns : ℕ) (seat : SeatState P) (line : Line)
-    (end : NodeEnd M D P) : Type 0 where
-  pub same : IsSameSeat seat end.seat
-  pub turned : end.fault ≡ None → (last : NodeAt P) × (end ≡ end_of last None)
-      × AreTurns next answers begin lets heard nodes (before_turns seat line) turns last
-  pub counted : end.fault ≡ None → total_of end.counts ≡ turns
-  pub events : end.fault ≡ None → end.seat.part.events ≡ seat.part.events + end.counts.received + end.counts.led
-  pub idle : end.fault ≡ None → end.counts.idle ≤ turns_off (lead_period seat.number) turns
-  pub failures : end.fault ≢ Some Device → end.seat.failures ≡ seat.failures
-  pub fault : IfSome end.fault (λ fault. (last : NodeAt P) × (end ≡ end_of last (Some fault))
-      × IsEndedBy next answers begin lets heard nodes (before_turns seat line) turns last fault)
+module _ {S M D P : Type 0} (next : S → Action → S) (answers : S → Action → List Answer)
+    (begin : P → S) (lets : ℕ → ℕ → Bool) (heard : ℕ → ℕ → ℕ → Type 0) (nodes turns : ℕ)
+    (seat : SeatState P) (line : Line) (end : NodeEnd M D P) where
+  -- Without a fault: all turns from 1 on were made or skipped, one after the other.
+  pub record HasLooped : Type 0 where
+    pub last : NodeAt P
+    pub is : end ≡ end_of last None
+    pub turned : AreTurns next answers begin lets heard nodes (before_turns seat line) turns last
+    pub counted : total_of end.counts ≡ turns
+    pub events : end.seat.part.events ≡ seat.part.events + end.counts.received + end.counts.led
+    pub idle : end.counts.idle ≤ turns_off (lead_period seat.number) turns
+
+  -- With this fault: one of the turns was not made, because of it.
+  pub record HasLoopedUntil (fault : Fault) : Type 0 where
+    pub last : NodeAt P
+    pub is : end ≡ end_of last (Some fault)
+    pub ended : IsEndedBy next answers begin lets heard nodes (before_turns seat line) turns last
+        fault
+
+  -- A loop of n turns, of the node of this seat among n nodes and over this link, had this end.
+  pub record IsLooped : Type 0 where
+    pub same : IsSameSeat seat end.seat
+    pub failures : end.fault ≢ Some Device → end.seat.failures ≡ seat.failures
+    pub whole : end.fault ≡ None → HasLooped
+    pub fault : IfSome end.fault HasLoopedUntil
+
+-- ---- tasks
 
 -- the end of a task's loop in this state: its lost packets are those at boxes and those on its link
 abbrev pub task_end_of : {M P : Type 0} → TaskAt P → Option Fault → TaskEnd M P
@@ -48,16 +63,28 @@ task_end_of last fault = record {
   fault = fault;
 }
 
--- A loop of n turns, of the task of this seat with these calls among n nodes and over this link,
--- had this end. Without a fault all turns from 1 on were made, one after the other; otherwise one
--- was not made, because of that fault.
-pub record IsTaskLooped {S M P : Type 0} (next : S → Action → S) (answers : S → Action → List Answer) (begin : P → S)
-    (gate_heard : ℕ → ℕ → Type 0) (nodes turns : ℕ) (calls : List TaskCall) (seat : SeatState P) (line : Line)
-    (end : TaskEnd M P) : Type 0 where
-  pub same : IsSameSeat seat end.seat
-  pub turned : end.fault ≡ None → (last : TaskAt P) × (end ≡ task_end_of last None)
-      × AreTaskTurns next answers begin gate_heard nodes calls (before_calls seat line) turns last
-  pub made : (waits : Bool) × HasMade calls end.seat end.made waits
-  pub first : end.fault ≡ None → 0 < length calls → 0 < turns → 0 < end.made
-  pub fault : IfSome end.fault (λ fault. (last : TaskAt P) × (end ≡ task_end_of last (Some fault))
-      × IsTaskEndedBy next answers begin gate_heard nodes calls (before_calls seat line) turns last fault)
+module _ {S M P : Type 0} (next : S → Action → S) (answers : S → Action → List Answer)
+    (begin : P → S) (gate_heard : ℕ → ℕ → Type 0) (nodes turns : ℕ) (calls : List TaskCall)
+    (seat : SeatState P) (line : Line) (end : TaskEnd M P) where
+  -- Without a fault: all turns from 1 on were made, one after the other.
+  pub record HasTaskLooped : Type 0 where
+    pub last : TaskAt P
+    pub is : end ≡ task_end_of last None
+    pub turned : AreTaskTurns next answers begin gate_heard nodes calls (before_calls seat line)
+        turns last
+    pub first : 0 < length calls → 0 < turns → 0 < end.made
+
+  -- With this fault: one of the turns was not made, because of it.
+  pub record HasTaskLoopedUntil (fault : Fault) : Type 0 where
+    pub last : TaskAt P
+    pub is : end ≡ task_end_of last (Some fault)
+    pub ended : IsTaskEndedBy next answers begin gate_heard nodes calls (before_calls seat line)
+        turns last fault
+
+  -- A loop of n turns, of the task of this seat with these calls among n nodes and over this link,
+  -- had this end.
+  pub record IsTaskLooped : Type 0 where
+    pub same : IsSameSeat seat end.seat
+    pub made : (waits : Bool) × HasMade calls end.seat end.made waits
+    pub whole : end.fault ≡ None → HasTaskLooped
+    pub fault : IfSome end.fault HasTaskLoopedUntil

@@ -1,6 +1,6 @@
 -- The result of a turn of a node.
-use Rattle.std.specs.Prelude.{◌≡◌, ◌⊎◌, ℕ, ◌+◌, Bool, true, false, Option, Some, None, List, [], ◌∷◌, ◌++◌, length}
-use Rattle.std.specs.Prelude.{if◌then◌else◌}
+use Rattle.std.specs.Prelude.{◌≡◌, ◌⊎◌, ℕ, ◌+◌, Bool, true, false, Option, Some, None, List, []}
+use Rattle.std.specs.Prelude.{◌∷◌, ◌++◌, length, if◌then◌else◌}
 use Rattle.rp_base.specs.declared.action.Action.{Action}
 use Rattle.rp_base.specs.declared.fault.Fault.{Fault}
 use Rattle.rp_base.specs.declared.fault.Fault.TheVariants.{OutOfMemory}
@@ -12,7 +12,8 @@ use Rattle.rp_codec.specs.declared.packet.Party.{Party}
 use Rattle.rp_codec.specs.declared.packet.Party.TheVariants.{Node}
 use Rattle.rp_outbox.specs.Packets.{texts_of}
 use Rattle.rp_rules.specs.declared.input.Input.{Input}
-use Rattle.rp_rules.specs.declared.input.Input.TheVariants.{Receive, Lead, LeadRange, Interrupt, Tick, Report}
+use Rattle.rp_rules.specs.declared.input.Input.TheVariants.{Receive, Lead, LeadRange, Interrupt}
+use Rattle.rp_rules.specs.declared.input.Input.TheVariants.{Tick, Report}
 use Rattle.rp_replica.specs.declared.sent.Sent.{Sent}
 use Rattle.rp_tasks.specs.Line.{Line}
 use Rattle.rp_boxes.specs.Moments.{WasPut, WasInUse}
@@ -27,12 +28,14 @@ use Rattle.rp_threads.specs.declared.turns.TurnResult.{TurnResult}
 -- ---- what arrives
 
 -- a packet with this text was fetched, or none was
-abbrev pub MayFetch : {P : Type 0} → Option (List ℕ) → Party → Party → SeatState P → SeatState P → Type 0
+abbrev pub MayFetch : {P : Type 0} → Option (List ℕ) → Party → Party → SeatState P → SeatState P
+    → Type 0
 MayFetch None from to old new = new ≡ old
 MayFetch (Some text) from to old new = IsFetched from to text old new
 
 -- The link took the packet that was fetched, if one was.
-pub record IsBrought {P : Type 0} (from to : Party) (old new : SeatState P) (line after : Line) : Type 0 where
+pub record IsBrought {P : Type 0} (from to : Party) (old new : SeatState P) (line after : Line)
+    : Type 0 where
   pub fetched : Option (List ℕ)
   pub fetch : MayFetch fetched from to old new
   pub takes : after ≡ line_with fetched line
@@ -87,7 +90,8 @@ pub record AreGivenOut (part : Part) (sent : Sent) (packets : List Message) : Ty
 abbrev pub AreSent : Part → Sent → Type 0
 AreSent part sent = (packets : List Message) × AreGivenOut part sent packets
 
-module _ {S P : Type 0} (next : S → Action → S) (answers : S → Action → List Answer) (begin : P → S) where
+module _ {S P : Type 0} (next : S → Action → S) (answers : S → Action → List Answer)
+    (begin : P → S) where
   -- the packet with this text went from the seat of a party into its box; or that box was in use,
   -- and the packet is lost, which changes nothing at the seat
   abbrev pub IsOffered : Party → List ℕ → SeatState P → SeatState P → Bool → Type 0
@@ -98,11 +102,14 @@ module _ {S P : Type 0} (next : S → Action → S) (answers : S → Action → 
   abbrev pub AreOffered : Party → List Message → SeatState P → SeatState P → ℕ → Type 0
   AreOffered from [] old new lost = (new ≡ old) × (lost ≡ 0)
   AreOffered from (m ∷ others) old new lost =
-      (is_lost : Bool) × (more : ℕ) × (between : SeatState P) × IsOffered from (text_of m) old between is_lost
-      × AreOffered from others between new more × (lost ≡ (if is_lost then 1 else 0) + more)
+      (is_lost : Bool) × (more : ℕ) × (between : SeatState P)
+      × IsOffered from (text_of m) old between is_lost × AreOffered from others between new more
+      × (lost ≡ (if is_lost then 1 else 0) + more)
 
-  -- The first of these packets were offered to their boxes, one after the other, but not all of them.
-  pub record AreOfferedInPart (from : Party) (packets : List Message) (old new : SeatState P) : Type 0 where
+  -- The first of these packets were offered to their boxes, one after the other, but not all of
+  -- them.
+  pub record AreOfferedInPart (from : Party) (packets : List Message) (old new : SeatState P)
+      : Type 0 where
     pub offered : List Message
     pub unsent : Message
     pub others : List Message
@@ -110,29 +117,36 @@ module _ {S P : Type 0} (next : S → Action → S) (answers : S → Action → 
     pub lost : ℕ
     pub are : AreOffered from offered old new lost
 
-  -- The bytes are the texts of packets that the party sent; each of these was offered to its box, and n are lost.
-  pub record AreTextsOffered (from : Party) (bytes : List ℕ) (old new : SeatState P) (lost : ℕ) : Type 0 where
+  -- The bytes are the texts of packets that the party sent; each of these was offered to its box,
+  -- and n are lost.
+  pub record AreTextsOffered (from : Party) (bytes : List ℕ) (old new : SeatState P) (lost : ℕ)
+      : Type 0 where
     pub are : AreSentTexts old.part bytes
     pub offered : AreOffered from are.packets old new lost
 
-  -- The bytes are the texts of packets that the party sent; not all of these were offered to their boxes.
-  pub record AreTextsOfferedInPart (from : Party) (bytes : List ℕ) (old new : SeatState P) : Type 0 where
+  -- The bytes are the texts of packets that the party sent; not all of these were offered to their
+  -- boxes.
+  pub record AreTextsOfferedInPart (from : Party) (bytes : List ℕ) (old new : SeatState P)
+      : Type 0 where
     pub are : AreSentTexts old.part bytes
     pub offered : AreOfferedInPart from are.packets old new
 
   -- each packet that a step returned was offered to its box, and n of them are lost
   abbrev pub IsAllOffered : Party → Sent → SeatState P → SeatState P → ℕ → Type 0
   IsAllOffered from sent old new lost =
-      (packets : List Message) → AreGivenOut old.part sent packets → AreOffered from packets old new lost
+      (packets : List Message) → AreGivenOut old.part sent packets
+      → AreOffered from packets old new lost
 
   -- not all of them were offered
   abbrev pub IsOfferedInPart : Party → Sent → SeatState P → SeatState P → Type 0
   IsOfferedInPart from sent old new =
-      (packets : List Message) → AreGivenOut old.part sent packets → AreOfferedInPart from packets old new
+      (packets : List Message) → AreGivenOut old.part sent packets
+      → AreOfferedInPart from packets old new
 
   -- One event, with such an input; then each of its packets was offered to its box, and the counts
   -- say how many were sent and how many of these are lost.
-  pub record IsEventBy (Is : Input → Type 0) (old new : SeatState P) (packets : PacketCounts) : Type 0 where
+  pub record IsEventBy (Is : Input → Type 0) (old new : SeatState P) (packets : PacketCounts)
+      : Type 0 where
     pub input : Input
     pub is : Is input
     pub stepped : SeatState P
@@ -142,7 +156,8 @@ module _ {S P : Type 0} (next : S → Action → S) (answers : S → Action → 
     pub offered : AreOffered (Node stepped.number) turn.done.sends stepped new packets.lost
 
   -- One event, after which memory ran out before each of its packets was offered to its box.
-  pub record IsUnsent (old : SeatState P) (input : Input) (new : SeatState P) (fault : Fault) : Type 0 where
+  pub record IsUnsent (old : SeatState P) (input : Input) (new : SeatState P) (fault : Fault)
+      : Type 0 where
     pub memory : fault ≡ OutOfMemory
     pub stepped : SeatState P
     pub sent : Sent
@@ -170,8 +185,8 @@ module _ {S P : Type 0} (next : S → Action → S) (answers : S → Action → 
 
   -- One event or none: the link takes what is fetched, and the node receives what the link then
   -- passes on. If the link is empty, the node leads if it is to, and idles otherwise.
-  pub record IsNodeTurn (from : Party) (lead : Bool) (old new : SeatState P) (line after : Line) (turned : TurnResult)
-      : Type 0 where
+  pub record IsNodeTurn (from : Party) (lead : Bool) (old new : SeatState P) (line after : Line)
+      (turned : TurnResult) : Type 0 where
     pub between : SeatState P
     pub full : Line
     pub brought : IsBrought from (Node old.number) old between line full
@@ -181,8 +196,8 @@ module _ {S P : Type 0} (next : S → Action → S) (answers : S → Action → 
 
   -- The step after that was cut, or was no event, or not all of its packets were offered; the
   -- packet that the link passed on is lost.
-  pub record IsStoppedTurn (from : Party) (lead : Bool) (old new : SeatState P) (line after : Line) (fault : Fault)
-      : Type 0 where
+  pub record IsStoppedTurn (from : Party) (lead : Bool) (old new : SeatState P)
+      (line after : Line) (fault : Fault) : Type 0 where
     pub between : SeatState P
     pub full : Line
     pub brought : IsBrought from (Node old.number) old between line full

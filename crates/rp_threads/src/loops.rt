@@ -1,9 +1,9 @@
 //! A node's turns, one after the other.
 
-ghost use Rattle.std.specs.Prelude.{◌≡◌, ◌+◌, ◌^◌, ◌<◌, ◌≤◌, false, true, [], IfOk, IfErr, IfSome};
+ghost use Rattle.std.specs.Prelude.{◌≡◌, ◌+◌, ◌^◌, ◌<◌, ◌≤◌, false, true, [], None, IfOk, IfErr, IfSome, IfNone, OnSome};
 ghost use Rattle.rp_threads.specs.Lines.{HoldsTextsOf};
-ghost use Rattle.rp_threads.specs.Loops.{is_refusal, is_idle, is_to_lead, sender_at, counted, total_of, with_turn};
-ghost use Rattle.rp_threads.specs.Rounds.{IsToLeadAt, IsLeadAnew, IsMade, IsUnmade, IsTurnOf};
+ghost use Rattle.rp_threads.specs.Loops.{is_refusal, is_idle, counted, total_of, with_turn};
+ghost use Rattle.rp_threads.specs.Rounds.{IsToLeadAt, HasWaited, NeedNotLead, CountsQuiet, IsLeadAnew, IsMade, IsUnmade, IsTurnOf, IsTurnUnmade, worker_at};
 ghost use Rattle.rp_threads.specs.Threads.{IsLooped, end_of};
 ghost use Rattle.rp_threads.specs.Turns.{IsEventBy, IsStopBy};
 
@@ -77,18 +77,14 @@ impl Counts {
 fn refuses_to_lead(fault: Fault) -> bool
     ensures { result ≡ is_refusal fault }
 {
-    match fault {
-        Fault::BallotsSpent => true,
-        Fault::LogFull => true,
-        _ => false,
-    }
+    matches!(fault, Fault::BallotsSpent | Fault::LogFull)
 }
 
 /// A node in its loop: its seat, the link that delivers its packets, and its patience.
 #[derive(Drop)]
 struct Worker<M: Machine, D: Device> {
     seat: NodeSeat<M, D>,
-    line: FaultLine,
+    link: FaultLine,
     patience: Patience,
 }
 
@@ -96,31 +92,36 @@ struct Worker<M: Machine, D: Device> {
 fn is_idle(turn: Turn) -> bool
     ensures { result ≡ is_idle turn }
 {
-    match turn {
-        Turn::Idle => true,
-        _ => false,
-    }
+    matches!(turn, Turn::Idle)
 }
 
 /// The position after n, if there is one.
 fn position_after(applied: u32) -> Option<Position>
-    ensures { IfSome result (λ position. position ≡ applied + 1) }
+    ensures some { IfSome result (λ position. position ≡ applied + 1) }
+    ensures none { result ≡ None → 65535 ≤ applied }
 {
     Position::new(u16::try_from(applied).ok()?.checked_add(1)?)
 }
 
 /// The position at which a node leads with a new ballot after an idle turn: the first position that
-/// it has not applied, if something is pending at the node and its patience is over.
+/// it has not applied, if something is pending at the node and its patience is over. The patience
+/// counts the turn if something is pending.
 fn position_to_lead<M: Machine, D: Device>(
     seat: &NodeSeat<M, D>,
     patience: &mut Patience,
 ) -> Option<Position>
-    ensures { IfSome result (IsToLeadAt seat.now.part) }
+    ensures some { IfSome result (IsToLeadAt seat.now.part) }
+    ensures waited { OnSome result (HasWaited seat.now patience.old) }
+    ensures none { IfNone result (NeedNotLead seat.now patience.old) }
+    ensures counts { CountsQuiet seat.now patience.old patience.new }
 {
     let Ok(applied) = seat.applied() else {
         return None;
     };
-    if !seat.has_pending() || !patience.is_over(seat.number(), applied) {
+    if !seat.has_pending() {
+        return None;
+    }
+    if !patience.is_over(seat.number(), applied) {
         return None;
     }
     position_after(applied)
@@ -151,14 +152,14 @@ impl<M: Machine, D: Device> Worker<M, D> {
     /// A turn of the node. If it was idle and the node's patience is over, the node leads with a
     /// new ballot.
     fn work(&mut self, alloc: Global, from: Party, lead: bool) -> Result<TurnResult, Fault>
-        requires held { HoldsTextsOf self.old.seat.part.got self.old.line }
-        ensures held { HoldsTextsOf self.new.seat.part.got self.new.line }
+        requires held { HoldsTextsOf self.old.seat.part.got self.old.link }
+        ensures held { HoldsTextsOf self.new.seat.part.got self.new.link }
         ensures ok { IfOk result (IsMade M.next M.answers M.begin from lead
-            self.old.seat self.new.seat self.old.line self.new.line) }
-        ensures err { IfErr result (λ fault. IsUnmade M.next M.answers M.begin from lead
-            self.old.seat self.new.seat self.old.line self.new.line fault) }
+            (worker_at self.old) (worker_at self.new)) }
+        ensures err { IfErr result (IsUnmade M.next M.answers M.begin from lead
+            (worker_at self.old) (worker_at self.new)) }
     {
-        let turned = node_turn(&mut self.seat, &mut self.line, alloc, from, lead)?;
+        let turned = node_turn(&mut self.seat, &mut self.link, alloc, from, lead)?;
         if !is_idle(turned.turn) {
             return Ok(turned);
         }
@@ -171,9 +172,9 @@ impl<M: Machine, D: Device> Worker<M, D> {
     /// The end of a loop with these counts.
     fn ended(self, counts: Counts, fault: Option<Fault>) -> NodeEnd<M, D>
         ensures { result
-            ≡ end_of (record { seat = self.seat; line = self.line; counts = counts }) fault }
+            ≡ end_of (record { worker = worker_at self; counts = counts }) fault }
     {
-        let lost = counts.lost.saturating_add(self.line.lost());
+        let lost = counts.lost.saturating_add(self.link.lost());
         NodeEnd {
             seat: self.seat,
             counts: Counts { lost, ..counts },
@@ -190,15 +191,13 @@ impl<M: Machine, D: Device> Worker<M, D> {
         turn: u64,
     ) -> Result<Option<TurnResult>, Fault>
         requires nodes { nodes ≤ 7 }
-        requires held { HoldsTextsOf self.old.seat.part.got self.old.line }
-        ensures held { HoldsTextsOf self.new.seat.part.got self.new.line }
+        requires held { HoldsTextsOf self.old.seat.part.got self.old.link }
+        ensures held { HoldsTextsOf self.new.seat.part.got self.new.link }
         ensures ok { IfOk result (IsTurnOf M.next M.answers M.begin G.lets G.heard nodes turn
-            self.old.seat self.new.seat self.old.line self.new.line) }
+            (worker_at self.old) (worker_at self.new)) }
         ensures err { IfErr result (λ fault. (is_refusal fault ≡ false)
-            × (G.lets self.old.seat.number turn ≡ true)
-            × IsUnmade M.next M.answers M.begin (sender_at nodes turn)
-            (is_to_lead self.old.seat.number turn)
-            self.old.seat self.new.seat self.old.line self.new.line fault) }
+            × IsTurnUnmade M.next M.answers M.begin G.lets G.heard nodes turn
+            (worker_at self.old) (worker_at self.new) fault) }
     {
         let node = self.seat.number();
         if !gate.before(node, turn) {
@@ -238,6 +237,9 @@ pub fn node_loop<M: Machine, D: Device, G: Gate>(
     //   the box of that turn's sender and is the turn of the node, or one in which it leads with a
     //   new ballot at the first position that it has not applied; a turn is skipped if the gate
     //   says so, or if the node is refused to lead
+    // claim (result): After an idle turn a node leads with a new ballot exactly if something is
+    //   pending, it has waited as many quiet turns as its patience says, and a position is left. A
+    //   turn is quiet if it is idle and something is pending
     // claim (result): The gate is called after each turn of a node that it lets pass, with that
     //   node, that turn and the number of packets sent in it, 0 if the node was refused to lead
     // claim (result): Without a fault a node's loop counts all turns, its seat had one event for
@@ -253,7 +255,7 @@ pub fn node_loop<M: Machine, D: Device, G: Gate>(
 {
     let mut worker = Worker {
         seat,
-        line,
+        link: line,
         patience: Patience::new(),
     };
     let mut counts = Counts {

@@ -1,7 +1,7 @@
 //! When a node leads with a new ballot.
 
 ghost use Rattle.std.specs.Prelude.{◌≡◌};
-ghost use Rattle.rp_threads.specs.Patience.{fresh_wait, waits, heard, is_over};
+ghost use Rattle.rp_threads.specs.Patience.{fresh_wait, waits, after_quiet, is_over};
 
 use rp_base::NodeId;
 
@@ -40,7 +40,7 @@ impl Patience {
     /// the node is to lead now; if so, its wait starts again.
     pub(crate) fn is_over(&mut self, node: NodeId, applied: u32) -> bool
         ensures answer { result ≡ is_over node (waits applied self.old) }
-        ensures after { self.new ≡ heard node applied self.old }
+        ensures after { self.new ≡ after_quiet node applied self.old }
     {
         if applied != self.applied {
             *self = Patience {

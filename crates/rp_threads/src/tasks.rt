@@ -9,6 +9,7 @@ ghost use Rattle.rp_model.specs.Parts.{fresh_task};
 ghost use Rattle.rp_model.specs.Tasks.{Again};
 ghost use Rattle.rp_threads.specs.Lines.{HoldsTextsOf, given_on, line_after};
 ghost use Rattle.rp_threads.specs.TaskRounds.{Hears, Asks, IsRefused, IsTaskTurnOf, IsUnmadeTurn, asked_in, asked_for, heard_by, submitted, with_lost};
+ghost use Rattle.rp_threads.specs.Tasks.{caller_at};
 ghost use Rattle.rp_threads.specs.Threads.{IsTaskLooped, task_end_of};
 ghost use Rattle.rp_threads.specs.Turns.{AreSent, IsAllOffered, IsOffered};
 
@@ -84,7 +85,7 @@ impl Calls {
 #[derive(Drop)]
 struct Caller<M: Machine> {
     seat: TaskSeat<M>,
-    line: FaultLine,
+    link: FaultLine,
     so_far: Calls,
 }
 
@@ -169,10 +170,9 @@ fn ask_again<M: Machine>(
 impl<M: Machine> Caller<M> {
     /// The end of a loop.
     fn ended(self, fault: Option<Fault>) -> TaskEnd<M>
-        ensures { result ≡ task_end_of
-            (record { seat = self.seat; line = self.line; so_far = self.so_far }) fault }
+        ensures { result ≡ task_end_of (caller_at self) fault }
     {
-        let lost = self.so_far.lost.saturating_add(self.line.lost());
+        let lost = self.so_far.lost.saturating_add(self.link.lost());
         TaskEnd {
             seat: self.seat,
             made: self.so_far.made,
@@ -193,7 +193,7 @@ impl<M: Machine> Caller<M> {
     ) -> Result<usize, Fault>
         requires nodes { (1 ≤ nodes) × (nodes ≤ 7) }
         ensures got { self.new.seat.part.got ≡ self.old.seat.part.got }
-        ensures line { self.new.line ≡ self.old.line }
+        ensures link { self.new.link ≡ self.old.link }
         ensures ok { IfOk result (Asks M.next M.answers M.begin
             (asked_in nodes calls.now turn self.old.so_far) self.old.seat self.new.seat) }
         ensures made { OnOk result (self.new.so_far ≡ asked_for calls.now self.old.so_far) }
@@ -220,19 +220,17 @@ impl<M: Machine> Caller<M> {
     /// passes on, and then asks.
     fn turn(&mut self, alloc: Global, nodes: u8, calls: &[TaskCall], turn: u64) -> Result<(), Fault>
         requires nodes { (1 ≤ nodes) × (nodes ≤ 7) }
-        requires held { HoldsTextsOf self.old.seat.part.got self.old.line }
-        ensures held { HoldsTextsOf self.new.seat.part.got self.new.line }
+        requires held { HoldsTextsOf self.old.seat.part.got self.old.link }
+        ensures held { HoldsTextsOf self.new.seat.part.got self.new.link }
         ensures ok { OnOk result (IsTaskTurnOf M.next M.answers M.begin nodes calls.now turn
-            (record { seat = self.old.seat; line = self.old.line; so_far = self.old.so_far })
-            (record { seat = self.new.seat; line = self.new.line; so_far = self.new.so_far })) }
+            (caller_at self.old) (caller_at self.new)) }
         ensures err { IfErr result (IsUnmadeTurn nodes calls.now turn
-            (record { seat = self.old.seat; line = self.old.line; so_far = self.old.so_far })
-            (record { seat = self.new.seat; line = self.new.line; so_far = self.new.so_far })) }
+            (caller_at self.old) (caller_at self.new)) }
     {
         gives_what_it_took();
         let fetched = self.seat.fetch(Party::Node(node_in_turn(nodes, turn)));
-        take_fetched(&mut self.line, alloc, fetched)?;
-        let answered = hear(&mut self.seat, &mut self.line, alloc)?;
+        take_fetched(&mut self.link, alloc, fetched)?;
+        let answered = hear(&mut self.seat, &mut self.link, alloc)?;
         self.so_far.hear(answered, turn);
         let lost = self.ask(alloc, nodes, calls, turn)?;
         self.so_far.lose(lost);
@@ -274,7 +272,7 @@ pub fn task_loop<M: Machine, G: Gate>(
 {
     let mut caller = Caller {
         seat,
-        line,
+        link: line,
         so_far: Calls {
             made: 0,
             waits: false,

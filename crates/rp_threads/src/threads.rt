@@ -4,7 +4,7 @@ ghost use Rattle.std.specs.Prelude.{◌≡◌, ◌≤◌, [], All, IfOk, length}
 ghost use Rattle.std.specs.List.{AllZip};
 ghost use Rattle.rp_boxes.specs.Parts.{fresh_part, OfTask};
 ghost use Rattle.rp_model.specs.Parts.{fresh_task};
-ghost use Rattle.rp_threads.specs.Runs.{MayRun, HaveRun};
+ghost use Rattle.rp_threads.specs.Runs.{MayRun, HaveRun, IsNodeEnd, IsTaskEnd};
 ghost use Rattle.rp_threads.specs.Threads.{IsLooped, IsTaskLooped};
 
 use crate::gate::Gate;
@@ -134,12 +134,10 @@ where
     requires fresh { All (λ start. start.seat.part ≡ fresh_part (OfTask fresh_task)) tasks.items }
     // claim: The results of the nodes and tasks that were to run are, in the order given, each what
     //   its loop ensures
-    ensures nodes { IfOk result (λ ends. AllZip (λ start end.
-        IsLooped M.next M.answers M.begin G.lets G.heard (length nodes.items) options.entry.turns
-        start.seat start.line end) nodes.items ends.0.items) }
-    ensures tasks { IfOk result (λ ends. AllZip (λ start end.
-        IsTaskLooped M.next M.answers M.begin G.heard_task (length nodes.items) options.entry.turns
-        start.calls.items start.seat start.line end) tasks.items ends.1.items) }
+    ensures nodes { IfOk result (λ ends. AllZip (IsNodeEnd M.next M.answers M.begin G.lets G.heard
+        (length nodes.items) options.entry.turns) nodes.items ends.0.items) }
+    ensures tasks { IfOk result (λ ends. AllZip (IsTaskEnd M.next M.answers M.begin G.heard_task
+        (length nodes.items) options.entry.turns) tasks.items ends.1.items) }
 {
     thread::scope(
         thread::scope_env(),

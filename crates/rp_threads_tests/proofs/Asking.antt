@@ -17,7 +17,7 @@ use Rattle.rp_model.specs.Parts.{TaskPart, fresh_task}
 use Rattle.rp_model.specs.Tasks.{Submit, asks, calls_if, may_call, next_call}
 use Rattle.rp_outbox.specs.Packets.{texts_of}
 use Rattle.rp_replica.specs.declared.sent.Sent.{Sent}
-use Rattle.rp_boxes.specs.Making.{AreFirstSeats}
+use Rattle.rp_boxes.specs.FirstSeats.{AreFirstSeats}
 use Rattle.rp_boxes.specs.Parts.{OfTask, fresh_part}
 use Rattle.rp_boxes.specs.Seats.{SeatState, IsSentText, IsFetched, IsReport}
 use Rattle.rp_boxes.specs.TaskSeats.{IsTaskTurn}

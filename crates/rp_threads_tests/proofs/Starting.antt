@@ -5,7 +5,7 @@ use Rattle.std.proofs.lemmas.List.Elements.{All-push}
 use Rattle.atomic_table.specs.Seated.{TableId}
 use Rattle.rp_base.specs.declared.config.Config.{Config}
 use Rattle.rp_model.specs.Parts.{fresh_task}
-use Rattle.rp_boxes.specs.Making.{AreFirstSeats}
+use Rattle.rp_boxes.specs.FirstSeats.{AreFirstSeats}
 use Rattle.rp_boxes.specs.Parts.{fresh_part, OfTask}
 use Rattle.rp_boxes.specs.Seats.{SeatState}
 

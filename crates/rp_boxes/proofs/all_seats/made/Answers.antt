@@ -1,5 +1,5 @@
 -- All seats are at the one table.
-use Rattle.rp_boxes.specs.Making.{failures_of}
+use Rattle.rp_boxes.specs.FirstSeats.{failures_of}
 use Rattle.rp_boxes.proofs.Seating.{all_seats}
 use Rattle.rp_boxes.proofs.all_seats.made.Goals as goal
 

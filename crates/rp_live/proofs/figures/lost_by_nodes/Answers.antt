@@ -1,14 +1,13 @@
-use Rattle.std.proofs.Common.{◌+◌, ◌<◌, drop, length, map, min, sym, ap, ◌∙◌, arith}
-use Rattle.std.proofs.lemmas.List.{at_drop_more}
-use Rattle.rp_live.specs.Figures.{sum_from}
+-- The run of the fold goes over all ends.
+use Rattle.std.proofs.Common.{◌+◌, min, ap, ◌∙◌, rules}
+use Rattle.std.specs.List.{fold}
+use Rattle.rp_live.proofs.Sums.{sum_folded}
 use Rattle.rp_live.proofs.figures.lost_by_nodes.Goals as goal
 
-pub loop-end-preserved : goal.loop-end-preserved
-loop-end-preserved g c =
-    let nodes = c.args.nodes.now in
-    let index = c.loop-end.end-index in
-    let within : index < length nodes = omega (arith, c.loop-end-test.true) in
-    ap (λ sum. sum_from sum (map (λ end. end.counts.lost) (drop (index + 1) nodes))) c.saturating_add-sum.ensures
-    ∙ ap (λ end. sum_from (min (c.loop-end.sum + end.counts.lost) 18446744073709551615) (map (λ e. e.counts.lost) (drop (index + 1) nodes))) c.end-item.is
-    ∙ sym (at_drop_more (λ rest. sum_from c.loop-end.sum (map (λ end. end.counts.lost) rest)) nodes index c.end-item.result within)
-    ∙ c.loop-end.invariant
+pub returns : goal.returns
+returns g c =
+    let p = c.fold.ensures.runs in
+    let q = c.iter.ensures.runs p.0 p.0.seen in
+    p.3 (λ sum end. min (sum + end.now.counts.lost) 18446744073709551615) (search rules) ∙ (q.5 (λ sum end. min (sum + end.counts.lost) 18446744073709551615) 0 p.2
+    ∙ ap (λ s. fold (λ sum end. min (sum + end.counts.lost) 18446744073709551615) 0 s.rest.now) p.1
+    ∙ ap (fold (λ sum end. min (sum + end.counts.lost) 18446744073709551615) 0) c.iter.ensures.rest ∙ sum_folded (λ end. end.counts.lost) 0 c.args.nodes.now)

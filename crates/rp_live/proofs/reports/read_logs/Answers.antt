@@ -5,9 +5,10 @@ use Rattle.rp_boxes.specs.Seats.{HasApplied}
 use Rattle.rp_world.proofs.Fresh.{rest_of}
 use Rattle.rp_threads.proofs.Places.{none_left, none_zipped, one_more_zipped, all_zipped}
 use Rattle.rp_threads.proofs.Steps.{same_on, same_seat}
+use Rattle.rp_live.specs.Ends.{HadNoFault}
 use Rattle.rp_live.specs.Seats.{AreNumbered, IsEndOfRun, IsRead, KnowsNothingAbove, StillRuns}
 use Rattle.rp_live.proofs.Reading.{IsReadBelow, left_numbered, next_number, one_longer, one_read, read_still, so_far_weaker, still_unread, zip_weaker}
-use Rattle.rp_live.proofs.Zips.{grown_zip, none_zip}
+use Rattle.rp_live.proofs.Zips.{all_none, grown_zip, none_zip, one_ended}
 use Rattle.rp_live.proofs.reports.read_logs.Goals as goal
 
 pub loop-end-init : goal.loop-end-init
@@ -16,6 +17,7 @@ loop-end-init g c =
     let same = c.into_iter-end-iterator.ensures.into_iter_gives.0 in
     let none : length c.new-seats.result.items ≡ 0 = ap length c.new-seats.ensures.items in
     record {
+      none = λ all. subst (All HadNoFault) same all;
       same = same_seat c.args.audit.now.seat c.args.audit.now.seat refl;
       left = subst (All IsEndOfRun) (sym same) c.requires.ended;
       still = subst (All StillRuns) (sym same) c.requires.still;
@@ -47,6 +49,7 @@ loop-end-preserved g c =
     let longer = one_longer c.loop-end.seats.items c.push.new.self.items c.in_ok-seat.seat c.in_ok-push.ensures.items in
     let at = next_number number rest left c.in-Some.end steps was.numbers in
     record {
+      none = λ all. was.none (one_ended HadNoFault rest c.in-Some.end left steps stated.none all);
       same = same_on c.args.audit.now.seat c.loop-end.audit.seat c.read_end.new.audit.seat was.same stated.same;
       left = rest_of IsEndOfRun rest c.in-Some.end left steps was.left;
       still = rest_of StillRuns rest c.in-Some.end left steps was.still;
@@ -60,6 +63,11 @@ loop-end-preserved g c =
           (λ end seat. read_still m.next m.answers m.begin number more c.in-Some.end.seat.number old new longer at stated.others end.seat seat) c.args.nodes.items rest c.loop-end.seats.items was.read)
           steps c.in_ok-push.ensures.items (one_read m.next m.answers m.begin number more old new c.in-Some.end.seat c.in_ok-seat.seat longer at stated.reported.same.number was.unread stated.read);
     }
+
+pub returns-clause-none : goal.returns-clause-none
+returns-clause-none g c =
+    let rest = c.loop-end.end-iterator.rest in
+    c.loop-end.invariant.none (subst (All HadNoFault) (sym (none_left rest.items rest.len rest.ok.0 c.in-None.ensures.steps.0)) (all_none HadNoFault))
 
 pub returns-clause-reported : goal.returns-clause-reported
 returns-clause-reported g c =

@@ -39,6 +39,8 @@ returns-clause-stated g c =
     let audit = c.read_logs.new.audit in
     let stated = c.in_ok-nodes.ensures in
     record {
+      nodes_ended = stated.none;
+      tasks_ended = c.in_ok-tasks.ensures.memory;
       last = c.in_ok-nodes.nodes.items;
       reported = stated.reported;
       applied = stated.applied;

@@ -2,13 +2,13 @@
 use Rattle.std.proofs.Common.{◌≡◌}
 use Rattle.rp_threads.specs.Lines.{HoldsTextsOf}
 use Rattle.rp_threads.specs.Loops.{total_of}
-use Rattle.rp_threads.specs.Rounds.{AreTurns, before_turns}
+use Rattle.rp_threads.specs.Rounds.{AreTurns, before_turns, worker_at}
 use Rattle.rp_threads.proofs.loops.node_loop.Given as goal
 
 abbrev pub invariant-loop-done : goal.invariant-loop-done
 invariant-loop-done g l = record {
-  held : HoldsTextsOf l.worker.seat.part.got l.worker.line;
+  held : HoldsTextsOf l.worker.seat.part.got l.worker.link;
   turns : AreTurns g.M.Machine.next g.M.Machine.answers g.M.Machine.begin g.G.Gate.lets g.G.Gate.heard l.nodes (before_turns l.fn.seat l.fn.line) l.done
-      (record { seat = l.worker.seat; line = l.worker.line; counts = l.counts });
+      (record { worker = worker_at l.worker; counts = l.counts });
   few : total_of l.counts ≡ l.done;
 }

@@ -1,6 +1,6 @@
 -- The line is empty and the task fresh at first, and each turn is one more.
 use Rattle.std.proofs.Common.{◌≡◌, ℕ, ◌+◌, refl, sym, subst, arith, add-one}
-use Rattle.rp_threads.specs.Tasks.{TaskAt, before_calls}
+use Rattle.rp_threads.specs.Tasks.{TaskAt, before_calls, caller_at}
 use Rattle.rp_threads.specs.TaskRounds.{AreTaskTurns, IsTaskTurnOf, IsUnmadeTurn}
 use Rattle.rp_threads.specs.Threads.{IsTaskLooped}
 use Rattle.rp_threads.proofs.TaskChains.{task_looped, task_ended}
@@ -18,8 +18,8 @@ loop-done-preserved g c =
     let done = c.loop-done.done in
     let caller = c.loop-done.caller in
     let after = c.turn.new.self in
-    let before : TaskAt g.row.M-Program.Denot = record { seat = caller.seat; line = caller.line; so_far = caller.so_far } in
-    let now : TaskAt g.row.M-Program.Denot = record { seat = after.seat; line = after.line; so_far = after.so_far } in
+    let before : TaskAt g.row.M-Program.Denot = caller_at caller in
+    let now : TaskAt g.row.M-Program.Denot = caller_at after in
     let one = add-one done in
     record {
       held = c.turn.ensures.held;
@@ -39,8 +39,8 @@ returns-in-Err g c =
     let done = c.loop-done.done in
     let caller = c.loop-done.caller in
     let after = c.turn.new.self in
-    let before : TaskAt g.row.M-Program.Denot = record { seat = caller.seat; line = caller.line; so_far = caller.so_far } in
-    let last : TaskAt g.row.M-Program.Denot = record { seat = after.seat; line = after.line; so_far = after.so_far } in
+    let before : TaskAt g.row.M-Program.Denot = caller_at caller in
+    let last : TaskAt g.row.M-Program.Denot = caller_at after in
     let unmade = subst (λ (n : ℕ). IsUnmadeTurn a.nodes a.calls.now n before last c.in-Err.fault) (add-one done) c.in-Err.ensures.err in
     subst (IsTaskLooped m.next m.answers m.begin heard a.nodes a.options.turns a.calls.now a.seat a.line) (sym c.ended.ensures)
     (task_ended m.next m.answers m.begin a.calls.now a.nodes heard a.options.turns a.seat a.line c.requires.fresh done before last c.in-Err.fault c.requires.nodes.0 c.loop-done.invariant.turns
@@ -52,7 +52,7 @@ returns g c =
     let heard = g.G.Gate.heard_task in
     let a = c.args in
     let caller = c.loop-done.caller in
-    let now : TaskAt g.row.M-Program.Denot = record { seat = caller.seat; line = caller.line; so_far = caller.so_far } in
+    let now : TaskAt g.row.M-Program.Denot = caller_at caller in
     let all : c.loop-done.done ≡ a.options.turns = omega (arith, c.loop-done-test.false, c.loop-done.auto.done-end) in
     let turns = subst (λ (n : ℕ). AreTaskTurns m.next m.answers m.begin heard a.nodes a.calls.now (before_calls a.seat a.line) n now) all c.loop-done.invariant.turns in
     subst (IsTaskLooped m.next m.answers m.begin heard a.nodes a.options.turns a.calls.now a.seat a.line) (sym c.ended-2.ensures)

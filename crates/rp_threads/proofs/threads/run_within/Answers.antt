@@ -1,5 +1,6 @@
 -- Each end is that of the seat at its place.
 use Rattle.std.proofs.Common.{◌≡◌, ◌∙◌, ℕ, length, subst, arith}
+use Rattle.rp_threads.specs.Runs.{IsNodeEnd, IsTaskEnd}
 use Rattle.rp_threads.specs.Threads.{IsLooped, IsTaskLooped}
 use Rattle.rp_threads.proofs.Places.{zip_on}
 use Rattle.rp_threads.proofs.threads.run_within.Goals as goal
@@ -16,7 +17,7 @@ returns g c =
     record {
       nodes_are = zip_on (λ start handle. (handle.promise.seat.value ≡ start.seat) × (handle.promise.line.value ≡ start.line) × (handle.promise.nodes ≡ c.len-count.result) × (handle.promise.turns ≡ turns))
           (λ handle end. IsLooped m.next m.answers m.begin lets heard handle.promise.nodes handle.promise.turns handle.promise.seat.value handle.promise.line.value end)
-          (λ start end. IsLooped m.next m.answers m.begin lets heard (length starts) turns start.seat start.line end)
+          (IsNodeEnd m.next m.answers m.begin lets heard (length starts) turns)
           (λ start handle end owed kept.
           subst (λ (n : ℕ). IsLooped m.next m.answers m.begin lets heard n turns start.seat start.line end) (owed.2 ∙ count)
           (subst (λ (n : ℕ). IsLooped m.next m.answers m.begin lets heard handle.promise.nodes n start.seat start.line end) owed.3
@@ -25,7 +26,7 @@ returns g c =
           starts _ _ c.in_ok-nodes.ensures c.in_ok-nodes-2.ensures;
       tasks_are = zip_on (λ start handle. (handle.promise.seat.value ≡ start.seat) × (handle.promise.calls.value ≡ start.calls) × (handle.promise.line.value ≡ start.line) × (handle.promise.nodes ≡ c.len-count.result) × (handle.promise.turns ≡ turns))
           (λ handle end. IsTaskLooped m.next m.answers m.begin heard_task handle.promise.nodes handle.promise.turns handle.promise.calls.value.items handle.promise.seat.value handle.promise.line.value end)
-          (λ start end. IsTaskLooped m.next m.answers m.begin heard_task (length starts) turns start.calls.items start.seat start.line end)
+          (IsTaskEnd m.next m.answers m.begin heard_task (length starts) turns)
           (λ start handle end owed kept.
           subst (λ (n : ℕ). IsTaskLooped m.next m.answers m.begin heard_task n turns start.calls.items start.seat start.line end) (owed.3 ∙ count)
           (subst (λ (n : ℕ). IsTaskLooped m.next m.answers m.begin heard_task handle.promise.nodes n start.calls.items start.seat start.line end) owed.4

@@ -1,6 +1,6 @@
 -- The seats so far, and the devices that are left.
 use Rattle.std.proofs.Common.{◌≡◌, ◌+◌, length, drop, All, []}
-use Rattle.rp_boxes.specs.Making.{AreFirstSeats, after_seats, failures_of}
+use Rattle.rp_boxes.specs.FirstSeats.{AreFirstSeats, after_seats, failures_of}
 use Rattle.rp_boxes.proofs.all_seats.Unseated.nodes.Given as goal
 
 abbrev pub invariant-loop-device : goal.invariant-loop-device

@@ -1,6 +1,6 @@
 -- The seats so far.
 use Rattle.std.proofs.Common.{◌≡◌, ◌+◌, [], length}
-use Rattle.rp_boxes.specs.Making.{AreFirstSeats, after_seats}
+use Rattle.rp_boxes.specs.FirstSeats.{AreFirstSeats, after_seats}
 use Rattle.rp_boxes.proofs.all_seats.Unseated.tasks.Given as goal
 
 abbrev pub invariant-loop-number : goal.invariant-loop-number

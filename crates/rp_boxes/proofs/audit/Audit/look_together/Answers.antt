@@ -20,5 +20,5 @@ returns g c =
     let seen = c.look_with.ensures in
     subst (λ (a : Audited g.row.M-Program.Denot). AreTogether m.next m.answers m.begin a c.args.nodes.items c.args.tasks.items) c.self.view_is
     (together m.next m.answers m.begin audit c.args.nodes.items c.args.tasks.items seen.0 seen.1 c.the_order_exists.ensures c.reports_follow_the_order.ensures
-    c.applied_lists_begin_the_order.ensures (c.replies_answer_calls_that_count.ensures seat.config seat.program) (c.calls_count_in_order.ensures seat.config seat.program)
+    c.applied_lists_are_prefixes.ensures (c.replies_answer_calls_that_count.ensures seat.config seat.program) (c.calls_count_in_order.ensures seat.config seat.program)
     c.self.invariant.0)

@@ -1,5 +1,5 @@
 -- What is said of the node's part once its turn is counted.
-use Rattle.rp_boxes.specs.Counting.{HasStepped, HasStopped}
+use Rattle.rp_boxes.specs.CountedTurns.{HasStepped, HasStopped}
 use Rattle.rp_boxes.specs.Parts.{part_in}
 use Rattle.rp_boxes.specs.Seats.{setting_of}
 use Rattle.rp_boxes.proofs.node_seat.NodeSeat.turn.Given as goal

@@ -1,5 +1,6 @@
 -- How the seats are made: actors get seats one after another, in the order of their numbers.
-use Rattle.std.specs.Prelude.{◌≡◌, ◌⊎◌, ℕ, suc, ◌+◌, ◌<◌, IfSome, List, [], ◌∷◌, length, map, slice_get, slice_index}
+use Rattle.std.specs.Prelude.{◌≡◌, ◌⊎◌, ℕ, suc, ◌+◌, ◌<◌, IfSome, List, [], ◌∷◌, length, map}
+use Rattle.std.specs.Prelude.{slice_get, slice_index}
 use Rattle.atomic_table.specs.Seated.{TableId}
 use Rattle.rp_base.specs.declared.config.Config.{Config}
 use Rattle.rp_base.specs.declared.fault.Fault.{Fault}
@@ -57,7 +58,8 @@ pub record IsFirstPlace (table mine : TableId) (actor : ℕ) (me : Sight) : Type
 -- These are the seats of the actors from this one on, which did nothing. Their numbers count from
 -- 1. The list says how many calls of the device of each have failed; after its end that number is
 -- 0.
-abbrev pub AreFirstSeats : {P : Type 0} → TableId → Config → P → ℕ → List ℕ → List (SeatState P) → Type 0
+abbrev pub AreFirstSeats : {P : Type 0} → TableId → Config → P → ℕ → List ℕ → List (SeatState P)
+    → Type 0
 AreFirstSeats table config program actor failures seats =
     (place : ℕ) → IfSome (slice_get seats place) (λ seat.
     seat ≡ first_seat table config program (suc place) (actor + place) (slice_index failures place))

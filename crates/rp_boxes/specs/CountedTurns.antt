@@ -1,7 +1,6 @@
 -- What holds of a node's part once a turn of its replica is counted (no public clause names it).
-use Rattle.std.specs.Prelude.{◌≡◌, ℕ, Some, Ok}
-use Rattle.rp_base.specs.declared.record.Rec.{Rec}
-use Rattle.rp_model.specs.Effect.{Setting, Done, NodeInput, node_effect, cut_effect}
+use Rattle.std.specs.Prelude.{◌≡◌, ℕ, Ok}
+use Rattle.rp_model.specs.Effect.{Setting, Done, NodeInput, node_effect}
 use Rattle.rp_model.specs.Parts.{NodePart}
 use Rattle.rp_replica.specs.State.{ReplicaState}
 use Rattle.rp_rules.specs.Inputs.{given_by}
@@ -9,8 +8,10 @@ use Rattle.rp_rules.specs.declared.input.Input.{Input}
 use Rattle.rp_replica.specs.declared.sent.Sent.{Sent}
 use Rattle.rp_world.specs.Nodes.{member_of, RepresentsWhile, DescribesSent}
 use Rattle.rp_boxes.specs.Parts.{Part, OfNode, part_after}
+use Rattle.rp_boxes.specs.Steps.{IsCutStep}
 
-module _ {S : Type 0} (s : Setting S) (number : ℕ) (before : Part) (input : Input) (replica : ReplicaState S) where
+module _ {S : Type 0} (s : Setting S) (number : ℕ) (before : Part) (input : Input)
+    (replica : ReplicaState S) where
   -- the result of the input, for the replica after the step and the packets that it returned
   pub record HasStepped (sent : Sent) (after : Part) : Type 0 where
     pub given : NodeInput
@@ -19,7 +20,8 @@ module _ {S : Type 0} (s : Setting S) (number : ℕ) (before : Part) (input : In
     pub was : before.role ≡ OfNode node
     pub done : Done NodePart
     pub results : node_effect s number node given ≡ Ok done
-    pub represents : RepresentsWhile (member_of number s.config s.begin) replica done.part replica.failed
+    pub represents : RepresentsWhile (member_of number s.config s.begin) replica done.part
+        replica.failed
     pub describes : DescribesSent sent done
     pub is : after ≡ part_after before (OfNode done.part) done.sends
 
@@ -29,12 +31,8 @@ module _ {S : Type 0} (s : Setting S) (number : ℕ) (before : Part) (input : In
     pub gives : given_by input ≡ Ok given
     pub node : NodePart
     pub was : before.role ≡ OfNode node
-    pub whole : Done NodePart
-    pub step : node_effect s number node given ≡ Ok whole
-    pub written : Rec
-    pub writes : whole.written ≡ Some written
-    pub kept : ℕ
     pub done : Done NodePart
-    pub results : cut_effect s number node given kept ≡ Ok done
-    pub represents : RepresentsWhile (member_of number s.config s.begin) replica done.part replica.failed
+    pub cut : IsCutStep s number node given done
+    pub represents : RepresentsWhile (member_of number s.config s.begin) replica done.part
+        replica.failed
     pub is : after ≡ part_after before (OfNode done.part) done.sends

@@ -7,7 +7,7 @@ use Rattle.rp_boxes.specs.Seats.{SeatState, setting_at}
 use Rattle.rp_boxes.proofs.Auditing.{lists}
 use Rattle.rp_boxes.proofs.AuditOrder.{known_begins}
 use Rattle.rp_boxes.proofs.TaskOrder.{of_order}
-use Rattle.rp_boxes.proofs.audit.Audit.look_with_task.Goals as goal
+use Rattle.rp_boxes.proofs.audit.Audit.meet.Goals as goal
 
 pub returns-clause-one : goal.returns-clause-one
 returns-clause-one g c =

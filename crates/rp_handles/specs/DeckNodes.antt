@@ -23,13 +23,14 @@ pub record MeansDeck (bytes : List ℕ) (deck : Deck) : Type 0 where
 
 -- The bytes mean a deck of protected objects, and the node runs its program with the whole records
 -- at the front of the device's bytes.
-pub record OpensNode (text : List ℕ) (number : ℕ) (bytes : List ℕ) (node : NodeState Running) (records kept : ℕ)
-    : Type 0 where
+pub record OpensNode (text : List ℕ) (number : ℕ) (bytes : List ℕ) (node : NodeState Running)
+    (records kept : ℕ) : Type 0 where
   pub deck : Deck
   pub means : MeansDeck text deck
   pub program : Program
   pub objects : deck.program ≡ Objects program
-  pub opens : IsOpenedNode number deck.config (first_state (arc_value program.declarations)) bytes node records kept
+  pub opens : IsOpenedNode number deck.config (first_state (arc_value program.declarations)) bytes
+      node records kept
 
 -- Why bytes mean no deck: the first bad line and its first reason; or memory ran out.
 abbrev pub IsNoDeck : List ℕ → Refusal → Type 0

@@ -1,17 +1,18 @@
 -- What a handle keeps after it is opened, and the answer to a call by it.
-use Rattle.std.specs.Prelude.{◌≡◌, ◌⊎◌, ◌==◌, if◌then◌else◌, ℕ, Option, Some, None, Result, List}
+use Rattle.std.specs.Prelude.{◌≡◌, ◌==◌, if◌then◌else◌, ℕ, Option, Some, None, Result, List}
 use Rattle.rp_base.specs.declared.fault.Fault.TheVariants as faults
 use Rattle.rp_base.specs.Number.{IsTask}
+use Rattle.rp_object.specs.State.{Running}
 use Rattle.rp_object.specs.Step.{objects_next, objects_answers}
 use Rattle.rp_object.specs.Image.{objects_image}
 use Rattle.rp_requests.specs.declared.buffer.Lengths.{Lengths}
 use Rattle.rp_requests.specs.declared.refusal.Refusal.{Refusal}
 use Rattle.rp_requests.specs.declared.refusal.Refusal.TheVariants as refusals
-use Rattle.rp_requests.specs.Nodes.{Answers}
+use Rattle.rp_requests.specs.Nodes.{Answers, NodeState}
 use Rattle.rp_requests.specs.Requests.{asked_of}
 use Rattle.rp_requests.specs.TaskRequests.{task_asked_of}
-use Rattle.rp_requests.specs.Tasks.{IsShort, TaskDoes}
-use Rattle.rp_tasks.specs.Calls.{no_calls}
+use Rattle.rp_requests.specs.Tasks.{TaskAnswers}
+use Rattle.rp_tasks.specs.Calls.{Calls, no_calls}
 use Rattle.rp_handles.specs.DeckNodes.{OpensNode}
 use Rattle.rp_handles.specs.declared.actor.Actor.{Actor}
 use Rattle.rp_handles.specs.declared.actor.Actor.TheVariants.{Node, Task}
@@ -25,29 +26,54 @@ kind_of number =
     if number == 2 then Some kinds.Task else
     None
 
+-- A request, and the caller's buffer before and after the answer.
+pub record Exchange : Type 0 where
+  pub request : List ℕ
+  pub before : List ℕ
+  pub after : List ℕ
+
+abbrev pub exchange_of : List ℕ → List ℕ → List ℕ → Exchange
+exchange_of request before after = record { request = request; before = before; after = after }
+
+-- Nothing changed.
+abbrev pub ChangesNothing : {S : Type 0} → Exchange → S → S → Type 0
+ChangesNothing exchange old new = (new ≡ old) × (exchange.after ≡ exchange.before)
+
+-- The answer of a node of protected objects.
+abbrev pub AnswersAsNode : Exchange → NodeState Running → NodeState Running → Result Lengths Refusal
+    → Type 0
+AnswersAsNode exchange old new result =
+    Answers objects_next objects_answers objects_image (asked_of exchange.request) old new
+    exchange.before exchange.after result
+
+-- The answer of a task.
+abbrev pub AnswersAsTask : Exchange → Calls → Calls → Result Lengths Refusal → Type 0
+AnswersAsTask exchange old new result =
+    TaskAnswers (task_asked_of exchange.request) old new exchange.before exchange.after result
+
 -- The answer of an actor to a request to this kind; none from an actor of the other kind, and then
 -- nothing changed.
-abbrev pub ActorAnswers : ActorKind → List ℕ → Actor → Actor → List ℕ → List ℕ → Option (Result Lengths Refusal)
+abbrev pub ActorAnswers : ActorKind → Exchange → Actor → Actor → Option (Result Lengths Refusal)
     → Type 0
-ActorAnswers kinds.Node request (Node old) (Node new) before after (Some result) =
-    Answers objects_next objects_answers objects_image (asked_of request) old new before after result
-ActorAnswers kinds.Task request (Task old) (Task new) before after (Some result) =
-    IsShort old new before after result ⊎ TaskDoes (task_asked_of request) old new before after result
-ActorAnswers kinds.Node request (Task old) new before after None = (new ≡ Task old) × (after ≡ before)
-ActorAnswers kinds.Task request (Node old) new before after None = (new ≡ Node old) × (after ≡ before)
-ActorAnswers kind request old new before after result = ⊥
+ActorAnswers kinds.Node exchange (Node old) (Node new) (Some result) =
+    AnswersAsNode exchange old new result
+ActorAnswers kinds.Task exchange (Task old) (Task new) (Some result) =
+    AnswersAsTask exchange old new result
+ActorAnswers kinds.Node exchange (Task old) new None = ChangesNothing exchange (Task old) new
+ActorAnswers kinds.Task exchange (Node old) new None = ChangesNothing exchange (Node old) new
+ActorAnswers kind exchange old new result = ⊥
 
 -- The answer of the actor that a handle keeps; none if the handle is closed, and it stays closed.
-abbrev pub HandleAnswers : ActorKind → List ℕ → Option Actor → Option Actor → List ℕ → List ℕ
+abbrev pub HandleAnswers : ActorKind → Exchange → Option Actor → Option Actor
     → Option (Result Lengths Refusal) → Type 0
-HandleAnswers kind request (Some old) (Some new) before after result =
-    ActorAnswers kind request old new before after result
-HandleAnswers kind request None new before after None = (new ≡ None) × (after ≡ before)
-HandleAnswers kind request old new before after result = ⊥
+HandleAnswers kind exchange (Some old) (Some new) result = ActorAnswers kind exchange old new result
+HandleAnswers kind exchange None new None = ChangesNothing exchange None new
+HandleAnswers kind exchange old new result = ⊥
 
 -- It keeps the node of this number of the deck that the text means, opened over these bytes.
 abbrev pub KeepsNode : List ℕ → ℕ → List ℕ → Option Actor → ℕ → ℕ → Type 0
-KeepsNode text number bytes (Some (Node node)) records kept = OpensNode text number bytes node records kept
+KeepsNode text number bytes (Some (Node node)) records kept =
+    OpensNode text number bytes node records kept
 KeepsNode text number bytes (Some (Task task)) records kept = ⊥
 KeepsNode text number bytes None records kept = ⊥
 

@@ -1,7 +1,7 @@
 //! A node or a task, which answers requests.
 
 ghost use Rattle.std.specs.Prelude.{◌≡◌};
-ghost use Rattle.rp_handles.specs.Handles.{ActorAnswers, kind_of};
+ghost use Rattle.rp_handles.specs.Handles.{ActorAnswers, exchange_of, kind_of};
 
 use rp_object::Objects;
 use rp_requests::{Lengths, Node, Refusal, Task};
@@ -44,7 +44,8 @@ impl Actor {
         request: &[u8],
         answer: &mut [u8],
     ) -> Option<Result<Lengths, Refusal>>
-        ensures { ActorAnswers kind request.now self.old self.new answer.old answer.new result }
+        ensures { ActorAnswers kind (exchange_of request.now answer.old answer.new)
+            self.old self.new result }
     {
         match self {
             Actor::Node(node) => match kind {

@@ -4,7 +4,7 @@ ghost use Rattle.std.specs.Prelude.{◌≡◌, ◌<◌, ◌+◌, ◌^◌, length
 ghost use Rattle.rp_base.specs.declared.fault.Fault.TheVariants as faults;
 ghost use Rattle.rp_requests.specs.declared.refusal.Refusal.TheVariants as refusals;
 ghost use Rattle.rp_handles.specs.DeckNodes.{OpensNoNode};
-ghost use Rattle.rp_handles.specs.Handles.{HandleAnswers, IsNoTask, KeepsNode, KeepsTask};
+ghost use Rattle.rp_handles.specs.Handles.{HandleAnswers, IsNoTask, KeepsNode, KeepsTask, exchange_of};
 
 use crate::actor::{Actor, ActorKind};
 use crate::deck_nodes::node_of_deck;
@@ -83,8 +83,8 @@ pub fn call(
 ) -> Option<Result<Lengths, Refusal>>
     // claim: A request by a node's handle is answered by its node, one by a task's handle by its task,
     //   and by nothing else; a handle that keeps none has no answer, and nothing has changed
-    ensures { HandleAnswers kind request.now handle.old.kept handle.new.kept
-        answer.old answer.new result }
+    ensures { HandleAnswers kind (exchange_of request.now answer.old answer.new)
+        handle.old.kept handle.new.kept result }
 {
     let taken = replace(handle, closed());
     let mut actor = into_box(alloc, taken)?;

@@ -11,7 +11,7 @@ use Rattle.rp_replica.specs.State.{ReplicaState, after_turn, with_text}
 use Rattle.rp_replica.specs.Turning.{TurnsIf}
 use Rattle.rp_requests.specs.declared.buffer.Lengths.{Lengths}
 use Rattle.rp_requests.specs.Buffers.{IsPut, IsTooLong}
-use Rattle.rp_requests.specs.Nodes.{NodeState, StepPut, StepTooLong, after_step, stored_by}
+use Rattle.rp_requests.specs.Nodes.{NodeState, StepPut, StepTooLong, after_step, step_bytes, stored_by}
 
 -- what a record puts on a device is after what it held
 added : (disk : Disk) (written : Option Rec) → drop (length disk.contents) (with_text disk written).contents ≡ stored_by written
@@ -41,16 +41,18 @@ module _ {S : Type 0} (old : NodeState S) (replica : ReplicaState S) where
       subst (λ (n : ℕ). Took effect old (record { replica = replica; stored = drop n replica.disk.contents; packets = sent.bytes.items })) (sym begins) (took effect sent turns)
 
 module _ {S : Type 0} (effect : Result Turn Fault) (old new : NodeState S) (before after : List ℕ) where
-  pub step_put : (lengths : Lengths) → Took effect old new → IsPut new.stored new.packets before after lengths → StepPut effect old new before after lengths
-  step_put lengths done put = record {
+  pub step_put : (lengths : Lengths) → step_bytes ≤ length before → Took effect old new → IsPut new.stored new.packets before after lengths → StepPut effect old new before after lengths
+  step_put lengths room done put = record {
+    room = room;
     turn = done.turn;
     takes = done.takes;
     goes = done.goes;
     put = subst (λ (n : NodeState S). IsPut n.stored n.packets before after lengths) done.goes put;
   }
 
-  pub step_too_long : (needed : ℕ) → Took effect old new → IsTooLong new.stored new.packets before after needed → StepTooLong effect old new before after needed
-  step_too_long needed done long = record {
+  pub step_too_long : (needed : ℕ) → step_bytes ≤ length before → Took effect old new → IsTooLong new.stored new.packets before after needed → StepTooLong effect old new before after needed
+  step_too_long needed room done long = record {
+    room = room;
     turn = done.turn;
     takes = done.takes;
     goes = done.goes;

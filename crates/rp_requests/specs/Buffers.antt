@@ -2,7 +2,8 @@
 use Rattle.std.specs.Prelude.{◌≡◌, ◌<◌, ℕ, Result, Ok, Err, List, ◌++◌, length, drop}
 use Rattle.rp_requests.specs.declared.buffer.Lengths.{Lengths}
 use Rattle.rp_requests.specs.declared.refusal.Refusal.{Refusal}
-use Rattle.rp_requests.specs.declared.refusal.Refusal.TheVariants.{Fault, ShortAnswer, BadRequest, NoObjects}
+use Rattle.rp_requests.specs.declared.refusal.Refusal.TheVariants.{Fault, ShortAnswer, BadRequest}
+use Rattle.rp_requests.specs.declared.refusal.Refusal.TheVariants.{NoObjects}
 use Rattle.rp_requests.specs.declared.refusal.Refusal.TheVariants.{LongAnswer}
 
 -- The bytes to be stored, and the other bytes after them, are at the front of the buffer, whose
@@ -26,7 +27,8 @@ Puts stored others before after (Err needed) = IsTooLong stored others before af
 -- As `Puts`, but if they are too long only their length is given out.
 abbrev pub PutsOr : List ℕ → List ℕ → List ℕ → List ℕ → Result Lengths Refusal → Type 0
 PutsOr stored others before after (Ok lengths) = IsPut stored others before after lengths
-PutsOr stored others before after (Err (ShortAnswer needed)) = IsTooLong stored others before after needed
+PutsOr stored others before after (Err (ShortAnswer needed)) =
+    IsTooLong stored others before after needed
 PutsOr stored others before after (Err (Fault fault)) = ⊥
 PutsOr stored others before after (Err BadRequest) = ⊥
 PutsOr stored others before after (Err NoObjects) = ⊥

@@ -1,5 +1,6 @@
 -- The answer of a node (ours).
-use Rattle.std.specs.Prelude.{◌≡◌, ◌<◌, ℕ, Option, Some, None, Result, Ok, Err, List, [], length}
+use Rattle.std.specs.Prelude.{◌≡◌, ◌<◌, ◌≤◌, ℕ, Option, Some, None, Result, Ok, Err, List, []}
+use Rattle.std.specs.Prelude.{length}
 use Rattle.std.specs.Int.{w32, to_be_bytes}
 use Rattle.rp_base.specs.Records.{applied_of}
 use Rattle.rp_base.specs.declared.action.Action.{Action}
@@ -34,24 +35,29 @@ stored_by (Some rec) = record_text rec
 
 -- a node after a step took effect
 abbrev pub after_step : {S : Type 0} → NodeState S → Turn → NodeState S
-after_step node turn =
-    record { replica = after_turn node.replica turn; stored = stored_by turn.written; packets = texts_of turn.sent }
+after_step node turn = record {
+  replica = after_turn node.replica turn;
+  stored = stored_by turn.written;
+  packets = texts_of turn.sent;
+}
 
 -- the fewest bytes of a buffer for the answer of a step
 abbrev pub step_bytes : ℕ
 step_bytes = 8192
 
 -- The step took effect, and its record and its packets are in the buffer.
-pub record StepPut {S : Type 0} (effect : Result Turn Fault) (old new : NodeState S) (before after : List ℕ)
-    (lengths : Lengths) : Type 0 where
+pub record StepPut {S : Type 0} (effect : Result Turn Fault) (old new : NodeState S)
+    (before after : List ℕ) (lengths : Lengths) : Type 0 where
+  pub room : step_bytes ≤ length before
   pub turn : Turn
   pub takes : effect ≡ Ok turn
   pub goes : new ≡ after_step old turn
   pub put : IsPut (stored_by turn.written) (texts_of turn.sent) before after lengths
 
 -- The step took effect, and its record and its packets are more bytes than the buffer has.
-pub record StepTooLong {S : Type 0} (effect : Result Turn Fault) (old new : NodeState S) (before after : List ℕ)
-    (needed : ℕ) : Type 0 where
+pub record StepTooLong {S : Type 0} (effect : Result Turn Fault) (old new : NodeState S)
+    (before after : List ℕ) (needed : ℕ) : Type 0 where
+  pub room : step_bytes ≤ length before
   pub turn : Turn
   pub takes : effect ≡ Ok turn
   pub goes : new ≡ after_step old turn
@@ -63,11 +69,12 @@ pub record IsSame {S : Type 0} (old new : NodeState S) (before after : List ℕ)
   pub buffer : after ≡ before
 
 -- The answer of a step: it took effect, or nothing changed, for this reason.
-abbrev pub StepAnswers : {S : Type 0} → Result Turn Fault → NodeState S → NodeState S → List ℕ → List ℕ
-    → Result Lengths Refusal → Type 0
+abbrev pub StepAnswers : {S : Type 0} → Result Turn Fault → NodeState S → NodeState S → List ℕ
+    → List ℕ → Result Lengths Refusal → Type 0
 StepAnswers effect old new before after (Ok lengths) = StepPut effect old new before after lengths
 StepAnswers effect old new before after (Err (refusals.Fault fault)) =
-    IsSame old new before after × StopsIf effect old.replica old.replica fault
+    IsSame old new before after × (step_bytes ≤ length before)
+    × StopsIf effect old.replica old.replica fault
 StepAnswers effect old new before after (Err (refusals.ShortAnswer needed)) =
     IsSame old new before after × (length before < step_bytes) × (needed ≡ step_bytes)
 StepAnswers effect old new before after (Err refusals.BadRequest) = ⊥
@@ -77,21 +84,27 @@ StepAnswers effect old new before after (Err (refusals.LongAnswer needed)) =
 
 -- The answer that shows the objects, unless there is no memory for it.
 abbrev pub ImageAnswers : List ℕ → List ℕ → List ℕ → Result Lengths Refusal → Type 0
-ImageAnswers image before after (Err (refusals.Fault fault)) = (fault ≡ faults.OutOfMemory) × (after ≡ before)
+ImageAnswers image before after (Err (refusals.Fault fault)) =
+    (fault ≡ faults.OutOfMemory) × (after ≡ before)
 ImageAnswers image before after result = PutsOr [] image before after result
 
-module _ {S : Type 0} (next : S → Action → S) (answers : S → Action → List Answer) (image : S → List ℕ) where
+module _ {S : Type 0} (next : S → Action → S) (answers : S → Action → List Answer)
+    (image : S → List ℕ) where
   -- the lines that show the objects of a node
   abbrev pub image_of : NodeState S → List ℕ
-  image_of node = image (replay_state next answers node.replica.begin (applied_of node.replica.records))
+  image_of node =
+      image (replay_state next answers node.replica.begin (applied_of node.replica.records))
 
   -- The answer to a request.
-  abbrev pub Answers : Option Asked → NodeState S → NodeState S → List ℕ → List ℕ → Result Lengths Refusal → Type 0
-  Answers None old new before after result = IsSame old new before after × (result ≡ Err refusals.BadRequest)
+  abbrev pub Answers : Option Asked → NodeState S → NodeState S → List ℕ → List ℕ
+      → Result Lengths Refusal → Type 0
+  Answers None old new before after result =
+      IsSame old new before after × (result ≡ Err refusals.BadRequest)
   Answers (Some (Step input)) old new before after result =
       StepAnswers (effect_if_given next answers old.replica input) old new before after result
   Answers (Some Applied) old new before after result =
-      (new ≡ old) × PutsOr [] (to_be_bytes w32 (length (applied_of old.replica.records))) before after result
+      (new ≡ old)
+      × PutsOr [] (to_be_bytes w32 (length (applied_of old.replica.records))) before after result
   Answers (Some Image) old new before after result =
       (new ≡ old) × ImageAnswers (image_of old) before after result
   Answers (Some LastAnswer) old new before after result =

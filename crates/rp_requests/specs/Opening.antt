@@ -7,8 +7,8 @@ use Rattle.rp_requests.specs.Nodes.{NodeState}
 
 -- The node runs with the whole records at the front of the device's bytes; there are n of them,
 -- with this many bytes together. It has made no step.
-pub record IsOpenedNode {S : Type 0} (me : ℕ) (config : Config) (begin : S) (bytes : List ℕ) (node : NodeState S)
-    (records kept : ℕ) : Type 0 where
+pub record IsOpenedNode {S : Type 0} (me : ℕ) (config : Config) (begin : S) (bytes : List ℕ)
+    (node : NodeState S) (records kept : ℕ) : Type 0 where
   pub disk : Disk
   pub holds : disk.contents ≡ bytes
   pub cut_bytes : ℕ

@@ -2,7 +2,8 @@
 use Rattle.std.specs.Prelude.{ℕ}
 use Rattle.rp_base.specs.Fault.{code_of}
 use Rattle.rp_requests.specs.declared.refusal.Refusal.{Refusal}
-use Rattle.rp_requests.specs.declared.refusal.Refusal.TheVariants.{Fault, ShortAnswer, BadRequest, NoObjects}
+use Rattle.rp_requests.specs.declared.refusal.Refusal.TheVariants.{Fault, ShortAnswer, BadRequest}
+use Rattle.rp_requests.specs.declared.refusal.Refusal.TheVariants.{NoObjects}
 use Rattle.rp_requests.specs.declared.refusal.Refusal.TheVariants.{LongAnswer}
 
 -- the number of the fault, or one from 64 on for a refusal of the request itself

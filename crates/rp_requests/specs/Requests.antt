@@ -1,5 +1,6 @@
 -- What the bytes of a request to a node ask for (the texts are ours).
-use Rattle.std.specs.Prelude.{ℕ, ◌&&◌, nat_le, ◌==◌, Option, Some, None, Result, Ok, Err, List, [], ◌∷◌, if◌then◌else◌}
+use Rattle.std.specs.Prelude.{ℕ, ◌&&◌, nat_le, ◌==◌, Option, Some, None, Result, Ok, Err, List, []}
+use Rattle.std.specs.Prelude.{◌∷◌, if◌then◌else◌}
 use Rattle.std.specs.Int.{w16, w32, from_be_bytes}
 use Rattle.rp_base.specs.declared.fault.Fault.{Fault}
 use Rattle.rp_base.specs.Ranges.{Range, range_of}
@@ -48,11 +49,13 @@ interrupt_at source occurrence =
     then given (inputs.NodeInput.Interrupt source occurrence) else None
 
 abbrev pub interrupt_asked : List ℕ → Option Asked
-interrupt_asked (source ∷ a ∷ b ∷ c ∷ d ∷ []) = interrupt_at source (from_be_bytes w32 (a ∷ b ∷ c ∷ d ∷ []))
+interrupt_asked (source ∷ a ∷ b ∷ c ∷ d ∷ []) =
+    interrupt_at source (from_be_bytes w32 (a ∷ b ∷ c ∷ d ∷ []))
 interrupt_asked _ = None
 
 abbrev pub tick_asked : List ℕ → Option Asked
-tick_asked (a ∷ b ∷ c ∷ d ∷ []) = given (inputs.NodeInput.Tick (from_be_bytes w32 (a ∷ b ∷ c ∷ d ∷ [])))
+tick_asked (a ∷ b ∷ c ∷ d ∷ []) =
+    given (inputs.NodeInput.Tick (from_be_bytes w32 (a ∷ b ∷ c ∷ d ∷ [])))
 tick_asked _ = None
 
 abbrev pub report_from : ℕ → Option Asked
@@ -75,7 +78,10 @@ range_asked _ = None
 
 abbrev pub question_asked : ℕ → List ℕ → Option Asked
 question_asked kind [] =
-    if kind == 16 then Some Applied else if kind == 17 then Some Image else if kind == 18 then Some LastAnswer else None
+    if kind == 16 then Some Applied
+    else if kind == 17 then Some Image
+    else if kind == 18 then Some LastAnswer
+    else None
 question_asked kind _ = None
 
 -- what is asked for, if anything, by the byte of the request's kind and its operands

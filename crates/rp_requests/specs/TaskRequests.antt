@@ -1,9 +1,11 @@
 -- What the bytes of a request to a task ask for (the texts are ours).
-use Rattle.std.specs.Prelude.{ℕ, ℤ, Bool, ◌&&◌, nat_le, ◌==◌, Option, Some, None, List, [], ◌∷◌, length, if◌then◌else◌}
+use Rattle.std.specs.Prelude.{ℕ, ℤ, Bool, ◌&&◌, nat_le, ◌==◌, Option, Some, None, List, [], ◌∷◌}
+use Rattle.std.specs.Prelude.{length, if◌then◌else◌}
 use Rattle.std.specs.Int.{w64, from_be_bytes, cast_signed}
 use Rattle.rp_base.specs.Action.{IsIndex, IsRightOperation, is_right_operation}
 use Rattle.rp_base.specs.declared.action.Operation.{Operation}
-use Rattle.rp_base.specs.declared.action.Operation.TheVariants.{Function, Procedure, Entry, SetTimer, CancelTimer}
+use Rattle.rp_base.specs.declared.action.Operation.TheVariants.{Function, Procedure, Entry}
+use Rattle.rp_base.specs.declared.action.Operation.TheVariants.{SetTimer, CancelTimer}
 use Rattle.rp_requests.specs.declared.task_request.TaskRequest.{TaskRequest}
 use Rattle.rp_requests.specs.declared.task_request.TaskRequest.TheVariants as requests
 
@@ -21,7 +23,8 @@ task_asked (requests.Again node) = SendAgain node
 task_asked (requests.Receive packet) = TakePacket packet.now
 
 abbrev pub IsRightTaskRequest : TaskRequest → Type 0
-IsRightTaskRequest (requests.Call node object operation arg) = IsIndex object × IsRightOperation operation
+IsRightTaskRequest (requests.Call node object operation arg) =
+    IsIndex object × IsRightOperation operation
 IsRightTaskRequest (requests.Again node) = Unit {0}
 IsRightTaskRequest (requests.Receive packet) = Unit {0}
 

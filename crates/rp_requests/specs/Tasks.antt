@@ -1,5 +1,6 @@
 -- The answer of a task (ours).
-use Rattle.std.specs.Prelude.{◌≡◌, ◌<◌, ℕ, nat_eq, Bool, false, Option, Some, None, Result, Ok, Err, List, [], length}
+use Rattle.std.specs.Prelude.{◌≡◌, ◌⊎◌, ◌<◌, ◌≤◌, ℕ, nat_eq, Bool, false, Option, Some, None}
+use Rattle.std.specs.Prelude.{Result, Ok, Err, List, [], length}
 use Rattle.std.specs.Prelude.{if◌then◌else◌}
 use Rattle.rp_base.specs.Calls.{next_call, is_reply_to}
 use Rattle.rp_base.specs.declared.action.Action.{Action}
@@ -47,7 +48,8 @@ is_task task Audit = false
 
 -- the reply to the outstanding call in a body, if it has one
 abbrev pub reply_in : Calls → Body → Option Reply
-reply_in calls (bodies.Reply number reply) = if is_reply_to number calls.outstanding then Some reply else None
+reply_in calls (bodies.Reply number reply) =
+    if is_reply_to number calls.outstanding then Some reply else None
 reply_in calls _ = None
 
 -- the reply to the task's outstanding call in a packet, if it has one
@@ -63,15 +65,15 @@ taken_text None = []
 taken_text (Some reply) = reply_text reply
 
 -- The next call was made, and its packet is in the buffer.
-pub record CallPut (call : Action) (node : ℕ) (old new : Calls) (before after : List ℕ) (lengths : Lengths)
-    : Type 0 where
+pub record CallPut (call : Action) (node : ℕ) (old new : Calls) (before after : List ℕ)
+    (lengths : Lengths) : Type 0 where
   pub may : refusal_of old ≡ None
   pub goes : new ≡ with_call old call
   pub put : IsPut [] (text_of (call_packet old.task node call)) before after lengths
 
 -- The reply in the packet, if it is one to the outstanding call, is taken, and is in the buffer.
-pub record ReplyPut (read : Result Message PacketReason) (old new : Calls) (before after : List ℕ) (lengths : Lengths)
-    : Type 0 where
+pub record ReplyPut (read : Result Message PacketReason) (old new : Calls) (before after : List ℕ)
+    (lengths : Lengths) : Type 0 where
   pub packet : Message
   pub is : read ≡ Ok packet
   pub goes : new ≡ once_taken old (reply_taken old packet)
@@ -83,25 +85,54 @@ NotTaken read (faults.BadPacket reason) = read ≡ Err reason
 NotTaken read faults.OutOfMemory = Unit {0}
 NotTaken read _ = ⊥
 
--- The answer to a request that was read.
-abbrev pub TaskDoes : Option TaskAsked → Calls → Calls → List ℕ → List ℕ → Result Lengths Refusal → Type 0
-TaskDoes None old new before after result = IsSameTask old new before after × (result ≡ Err refusals.BadRequest)
-TaskDoes (Some (MakeCall node object operation arg)) old new before after (Ok lengths) =
-    CallPut (next_call old.task old.made object operation arg) node old new before after lengths
-TaskDoes (Some (MakeCall node object operation arg)) old new before after (Err refusal) =
+-- Nothing changed, and the answer is a fault, for a reason that holds.
+abbrev pub IsRefusedBy : (Fault → Type 0) → Calls → Calls → List ℕ → List ℕ → Refusal → Type 0
+IsRefusedBy IsReason old new before after refusal =
     IsSameTask old new before after
-    × ((fault : Fault) × (refusal ≡ refusals.Fault fault) × (refusal_of old ≡ Some fault))
-TaskDoes (Some (SendAgain node)) old new before after (Ok lengths) =
+    × ((fault : Fault) × (refusal ≡ refusals.Fault fault) × IsReason fault)
+
+-- The answer to a request for this call through a node.
+abbrev pub CallDoes : Action → ℕ → Calls → Calls → List ℕ → List ℕ → Result Lengths Refusal → Type 0
+CallDoes call node old new before after (Ok lengths) =
+    CallPut call node old new before after lengths
+CallDoes call node old new before after (Err refusal) =
+    IsRefusedBy (λ fault. refusal_of old ≡ Some fault) old new before after refusal
+
+-- The answer to a request for the packet of the outstanding call again.
+abbrev pub AgainDoes : ℕ → Calls → Calls → List ℕ → List ℕ → Result Lengths Refusal → Type 0
+AgainDoes node old new before after (Ok lengths) =
     (new ≡ old) × IsPut [] (again_text old.task node old.outstanding) before after lengths
-TaskDoes (Some (SendAgain node)) old new before after (Err refusal) = ⊥
-TaskDoes (Some (TakePacket bytes)) old new before after (Ok lengths) =
+AgainDoes node old new before after (Err refusal) = ⊥
+
+-- The answer to a packet.
+abbrev pub TakeDoes : List ℕ → Calls → Calls → List ℕ → List ℕ → Result Lengths Refusal → Type 0
+TakeDoes bytes old new before after (Ok lengths) =
     ReplyPut (all_of bytes) old new before after lengths
-TaskDoes (Some (TakePacket bytes)) old new before after (Err refusal) =
-    IsSameTask old new before after
-    × ((fault : Fault) × (refusal ≡ refusals.Fault fault) × NotTaken (all_of bytes) fault)
+TakeDoes bytes old new before after (Err refusal) =
+    IsRefusedBy (NotTaken (all_of bytes)) old new before after refusal
+
+-- The answer to a request, if it is one.
+abbrev pub TaskDoes : Option TaskAsked → Calls → Calls → List ℕ → List ℕ → Result Lengths Refusal
+    → Type 0
+TaskDoes None old new before after result =
+    IsSameTask old new before after × (result ≡ Err refusals.BadRequest)
+TaskDoes (Some (MakeCall node object operation arg)) old new before after result =
+    CallDoes (next_call old.task old.made object operation arg) node old new before after result
+TaskDoes (Some (SendAgain node)) old new before after result =
+    AgainDoes node old new before after result
+TaskDoes (Some (TakePacket bytes)) old new before after result =
+    TakeDoes bytes old new before after result
 
 -- The buffer has too few bytes for any answer, and nothing changed.
-pub record IsShort (old new : Calls) (before after : List ℕ) (result : Result Lengths Refusal) : Type 0 where
+pub record IsShort (old new : Calls) (before after : List ℕ) (result : Result Lengths Refusal)
+    : Type 0 where
   pub same : IsSameTask old new before after
   pub short : length before < task_bytes
   pub is : result ≡ Err (refusals.ShortAnswer task_bytes)
+
+-- The buffer is too short for any answer, or has room, and the task does what is asked.
+abbrev pub TaskAnswers : Option TaskAsked → Calls → Calls → List ℕ → List ℕ → Result Lengths Refusal
+    → Type 0
+TaskAnswers asked old new before after result =
+    IsShort old new before after result
+    ⊎ ((task_bytes ≤ length before) × TaskDoes asked old new before after result)

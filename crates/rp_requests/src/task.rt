@@ -1,6 +1,6 @@
 //! A task that answers requests.
 
-ghost use Rattle.std.specs.Prelude.{◌≡◌, ◌⊎◌, ◌≤◌, [], ◌∷◌, length, Some, None, IfOk, IfErr};
+ghost use Rattle.std.specs.Prelude.{◌≡◌, ◌≤◌, [], ◌∷◌, length, Some, None, IfOk, IfErr};
 ghost use Rattle.rp_base.specs.Action.{IsRight};
 ghost use Rattle.rp_base.specs.Calls.{next_call};
 ghost use Rattle.rp_base.specs.declared.fault.Fault.TheVariants as faults;
@@ -11,7 +11,7 @@ ghost use Rattle.rp_codec.specs.declared.packet.Party.TheVariants.{Task as TaskP
 ghost use Rattle.rp_tasks.specs.Calls.{no_calls};
 ghost use Rattle.rp_requests.specs.Buffers.{IsPut};
 ghost use Rattle.rp_requests.specs.TaskRequests.{task_asked, task_asked_of, IsRightTaskRequest, TakePacket};
-ghost use Rattle.rp_requests.specs.Tasks.{IsShort, TaskDoes, again_text, call_packet, is_task, once_taken, reply_taken, taken_text};
+ghost use Rattle.rp_requests.specs.Tasks.{TaskAnswers, TaskDoes, again_text, call_packet, is_task, once_taken, reply_taken, taken_text};
 ghost use Rattle.rp_requests.specs.declared.refusal.Refusal.TheVariants as refusals;
 
 use crate::buffer::{Lengths, put_short};
@@ -75,8 +75,8 @@ impl Task {
         // claim: A task by handle makes of each request what its bytes ask for, as its stub does: a
         //   call's packet, the outstanding call's packet again, or the reply to it; what is refused
         //   changes nothing
-        ensures { IsShort self.old self.new answer.old answer.new result
-            ⊎ TaskDoes (task_asked_of request.now) self.old self.new answer.old answer.new result }
+        ensures { TaskAnswers (task_asked_of request.now) self.old self.new
+            answer.old answer.new result }
     {
         if answer.len() < TASK_BYTES {
             return Err(Refusal::ShortAnswer(TASK_BYTES));

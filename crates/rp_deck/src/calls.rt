@@ -23,7 +23,7 @@ use rp_base::{DeckReason, Operation};
 use rp_deck_declarations::Declared;
 use rp_deck_objects::{Index, OperationName, OperationNames};
 use rp_model::{Event, Interrupt, Step};
-use rp_words::{Words, place_among, place_in, read_dotted};
+use rp_words::{Words, map_index_of, read_dotted, set_index_of};
 
 /// Reads the rest of `call TASK NODE OBJECT.OPERATION [ARG]`.
 #[tactic(auto, unfolding(crate::specs::ScriptLines::call_at))]
@@ -67,7 +67,7 @@ fn read_operation(words: &mut Words<'_>, declared: &Declared) -> Result<Called, 
         IsOffered declared.now.program called.object called.operation) }
 {
     let (object, operation) = read_dotted(words.take()?)?;
-    let place = place_among(&declared.objects, object).ok_or(DeckReason::UnknownName)?;
+    let place = set_index_of(&declared.objects, object).ok_or(DeckReason::UnknownName)?;
     let names = declared
         .operations_at(place)
         .ok_or(DeckReason::UnknownName)?;
@@ -160,7 +160,7 @@ fn read_timer(words: &mut Words<'_>, declared: &Declared) -> Result<Timer, DeckR
         IsOffered declared.now.program timer.object (SetTimer timer.index.number)) }
 {
     let name = words.take_name()?;
-    let place = place_in(&declared.timers, name).ok_or(DeckReason::UnknownName)?;
+    let place = map_index_of(&declared.timers, name).ok_or(DeckReason::UnknownName)?;
     let handler = declared
         .program
         .timer(place)
@@ -185,7 +185,7 @@ pub fn read_interrupt(words: &mut Words<'_>, declared: &Declared) -> Result<Step
 {
     let node = read_node(words, declared.nodes)?;
     let name = words.take_name()?;
-    let place = place_in(&declared.interrupts, name).ok_or(DeckReason::UnknownName)?;
+    let place = map_index_of(&declared.interrupts, name).ok_or(DeckReason::UnknownName)?;
     let occurrence = words.take_number(1, u64::from(u32::MAX))? as u32;
     Ok(Step::Interrupt {
         node,

@@ -1,7 +1,7 @@
 //! Decks: what a deck declares and asks for, and how its text is read.
 //!
 //! In reading order:
-//! - `reading`: reads a deck
+//! - `reader`: reads a deck
 //! - `script`: reads the script of a deck
 //! - `verbs`: the first words of a script's lines
 //! - `calls`: reads the lines of a script by which tasks call and interrupts occur
@@ -12,10 +12,10 @@
 mod calls;
 mod deck;
 mod operands;
-mod reading;
+mod reader;
 mod script;
 mod verbs;
 
 pub use deck::{Command, Deck, Line, Mode};
-pub use reading::read_deck;
+pub use reader::read_deck;
 pub use rp_deck_declarations::{DeckProgram, Task};

@@ -10,7 +10,7 @@ ghost use Rattle.rp_words.specs.Words.{unread};
 
 use rp_base::{DeckReason, NodeId, Position, TaskId};
 use rp_deck_declarations::{Declared, MOST_POSITIONS};
-use rp_words::{Words, place_in};
+use rp_words::{Words, map_index_of};
 
 /// Reads the number of a node.
 pub fn read_node(words: &mut Words<'_>, nodes: u8) -> Result<NodeId, DeckReason>
@@ -32,7 +32,7 @@ pub fn read_task(words: &mut Words<'_>, declared: &Declared) -> Result<TaskId, D
     ensures within { IfOk result (λ task. (1 ≤ task) × (task ≤ index_map_len declared.now.tasks)) }
 {
     let name = words.take_name()?;
-    let place = place_in(&declared.tasks, name).ok_or(DeckReason::UnknownName)?;
+    let place = map_index_of(&declared.tasks, name).ok_or(DeckReason::UnknownName)?;
     Ok(TaskId::new(place as u8 + 1).unwrap())
 }
 

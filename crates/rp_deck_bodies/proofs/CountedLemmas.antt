@@ -1,7 +1,6 @@
 -- What names denote is counted where all that is declared is.
-use Rattle.std.proofs.Common.{◌≡◌, ℕ, zero, ◌≤◌, ◌&&◌, List, [], ◌∷◌, ◌++◌, Bool, true, false, Option, Some, None, nat_le, arith, refl, subst}
+use Rattle.std.proofs.Common.{◌≡◌, ℕ, zero, ◌&&◌, List, [], ◌∷◌, ◌++◌, Bool, true, false, Option, Some, None, arith, refl, subst}
 use Rattle.std.specs.Prelude.{All, IsTrue, slice_get}
-use Rattle.std.proofs.lemmas.Bool.{le-leb}
 use Rattle.std.proofs.lemmas.Option.{get_or_from_slice_get, slice_get_within}
 use Rattle.rp_words.specs.Tables.{value_at, find, place_of}
 use Rattle.rp_deck_bodies.proofs.ListLemmas.{all_cons, all_tail}
@@ -20,9 +19,6 @@ pub both_true : (a b : Bool) → IsTrue a → IsTrue b → IsTrue (a && b)
 both_true true true h k = refl
 both_true true false h k = absurd (cc)
 both_true false b h k = absurd (cc)
-
-pub few_and : (nodes : ℕ) (names : Bool) → nodes ≤ 32 → IsTrue names → IsTrue (nat_le nodes 32 && names)
-few_and nodes names few h = both_true (nat_le nodes 32) names (le-leb nodes 32 few) h
 
 -- what is so of a longer list is so of its front
 pub all_front : {X : Type 0} (P : X → Type 0) (xs : List X) (x : X) → All P (xs ++ x ∷ []) → All P xs

@@ -81,8 +81,3 @@ offered (Objects program) names place own name named even here among =
     let object = there declarations.objects.items place (omega (arith, below, even)) in
     object_offers declarations place object.0 name object.1
     (of_among (λ (n : OperationName). has_operation (operation_of n) (operations_of object.0) ≡ true) (values own) name (named place object.0 own object.1 here) among)
-
--- a timing event that may be set may be cancelled
-pub may_cancel : (program : DeckProgram) (object number : ℕ) → IsOffered program object (operations.SetTimer number) → IsOffered program object (operations.CancelTimer number)
-may_cancel (Tally program) object number offered = absurd (cc)
-may_cancel (Objects program) object number offered = offered

@@ -22,8 +22,8 @@ use rp_base::{DeckReason, MOST_OBJECTS, MOST_SOURCES, MOST_TASKS, Position};
 use rp_deck_objects::{Index, ObjectDraft, OperationName};
 use rp_object::{Handler, MOST_PRIORITY, MOST_TIMERS, Profile};
 use rp_words::{
-    LineError, TextLine, Words, add_name, declare, is_word, named, read_dotted, take_name_not_in,
-    take_new_name,
+    LineError, TextLine, Words, insert_in_map, insert_in_set, is_word, named, read_dotted,
+    take_name_new_to_map, take_name_new_to_set,
 };
 use std::alloc::Global;
 
@@ -201,13 +201,13 @@ impl Draft {
             // The rest of `interrupt NAME OBJECT.PROCEDURE`.
             Kind::Interrupt => {
                 let (name, handler) = self.take_handled(words, &self.interrupts)?;
-                declare(alloc, &mut self.interrupts, name, handler)?;
+                insert_in_map(alloc, &mut self.interrupts, name, handler)?;
                 Ok(())
             }
             // The rest of `timer NAME OBJECT.PROCEDURE`.
             Kind::Timer => {
                 let (name, handler) = self.take_handled(words, &self.timers)?;
-                declare(alloc, &mut self.timers, name, handler)?;
+                insert_in_map(alloc, &mut self.timers, name, handler)?;
                 Ok(())
             }
         }
@@ -252,10 +252,10 @@ impl Draft {
         if self.tasks.len() >= usize::from(MOST_TASKS) {
             return Err(LineError::Bad(DeckReason::TooMany));
         }
-        let name = take_new_name(&mut words, &self.tasks)?;
+        let name = take_name_new_to_map(&mut words, &self.tasks)?;
         let priority = words.take_number(1, u64::from(MOST_PRIORITY))? as u8;
         words.end()?;
-        declare(alloc, &mut self.tasks, name, Task { priority })?;
+        insert_in_map(alloc, &mut self.tasks, name, Task { priority })?;
         Ok(())
     }
 
@@ -293,10 +293,10 @@ impl Draft {
         if self.objects.len() >= usize::from(MOST_OBJECTS) {
             return Err(LineError::Bad(DeckReason::TooMany));
         }
-        let name = take_name_not_in(&mut words, &self.objects)?;
+        let name = take_name_new_to_set(&mut words, &self.objects)?;
         let ceiling = words.take_number(1, u64::from(MOST_PRIORITY))? as u8;
         words.end()?;
-        add_name(alloc, &mut self.objects, name)?;
+        insert_in_set(alloc, &mut self.objects, name)?;
         let name = String::from_str(alloc, name)?;
         self.drafts.push(ObjectDraft::new(alloc, name, ceiling))?;
         Ok(())
@@ -338,7 +338,7 @@ impl Draft {
         if table.len() >= MOST_HANDLERS {
             return Err(DeckReason::TooMany);
         }
-        let name = take_new_name(&mut words, table)?;
+        let name = take_name_new_to_map(&mut words, table)?;
         let handler = self.take_handler(&mut words)?;
         words.end()?;
         Ok((name, handler))
@@ -439,7 +439,7 @@ fn tally_objects(alloc: Global, count: u8) -> Result<IndexSet<String>, LineError
 {
     let mut objects = IndexSet::new(alloc);
     for number in 0..count {
-        add_name(alloc, &mut objects, tally_name(number + 1))?;
+        insert_in_set(alloc, &mut objects, tally_name(number + 1))?;
     }
     Ok(objects)
 }

@@ -23,8 +23,8 @@ use rp_deck_bodies::{
 use rp_entry::{Entry, Function, LONGEST_QUEUE, Operations};
 use rp_object::{ObjectDeclaration, Profile};
 use rp_words::{
-    LineError, TextLine, Words, declare, has_name, insert_new, is_word, named, take_new_name,
-    truth_named,
+    LineError, TextLine, Words, insert_in_map, insert_string_in_map, is_word, map_has_name, named,
+    take_name_new_to_map, truth_named,
 };
 use std::alloc::{AllocError, Global};
 use std::sync::Arc;
@@ -258,7 +258,7 @@ impl ObjectDraft {
         if is_of_expressions(name) {
             return Err(DeckReason::BadName);
         }
-        if has_name(&self.component_names, name) {
+        if map_has_name(&self.component_names, name) {
             return Err(DeckReason::DuplicateName);
         }
         Ok(name)
@@ -308,7 +308,7 @@ impl ObjectDraft {
         ensures object { KeepsObject self.old self.new result }
     {
         let named = Component::Int(self.components.limits().ints);
-        declare(alloc, &mut self.component_names, name, named)?;
+        insert_in_map(alloc, &mut self.component_names, name, named)?;
         self.int_names.push(String::from_str(alloc, name)?)?;
         self.components.add_int(component);
         Ok(())
@@ -325,7 +325,7 @@ impl ObjectDraft {
         ensures object { KeepsObject self.old self.new result }
     {
         let named = Component::Bool(self.components.limits().bools);
-        declare(alloc, &mut self.component_names, name, named)?;
+        insert_in_map(alloc, &mut self.component_names, name, named)?;
         self.bool_names.push(String::from_str(alloc, name)?)?;
         self.components.add_bool(value);
         Ok(())
@@ -341,7 +341,7 @@ impl ObjectDraft {
         if self.operations.functions.len() >= usize::from(MOST_OPERATIONS) {
             return Err(LineError::Bad(DeckReason::TooMany));
         }
-        let name = take_new_name(&mut words, &self.operation_names)?;
+        let name = take_name_new_to_map(&mut words, &self.operation_names)?;
         let kind = FunctionKind::named(words.take()?);
         let function = self.take_function(alloc, kind, words)?;
         self.add_function(alloc, name, function)
@@ -366,7 +366,7 @@ impl ObjectDraft {
     {
         let index = Index::after(self.operations.functions.len()).unwrap();
         let named = OperationName::Function(index);
-        declare(alloc, &mut self.operation_names, name, named)?;
+        insert_in_map(alloc, &mut self.operation_names, name, named)?;
         self.operations.functions.push(function)?;
         Ok(())
     }
@@ -406,7 +406,7 @@ impl ObjectDraft {
         if self.operations.procedures.len() >= usize::from(MOST_OPERATIONS) {
             return Err(LineError::Bad(DeckReason::TooMany));
         }
-        let name = take_new_name(&mut words, &self.operation_names)?;
+        let name = take_name_new_to_map(&mut words, &self.operation_names)?;
         self.begin(alloc, words, name, Head::Procedure)
     }
 
@@ -427,7 +427,7 @@ impl ObjectDraft {
         if self.operations.entries.len() >= most_entries(profile) {
             return Err(LineError::Bad(DeckReason::TooMany));
         }
-        let name = take_new_name(&mut words, &self.operation_names)?;
+        let name = take_name_new_to_map(&mut words, &self.operation_names)?;
         if !is_word(words.take()?, b"when") {
             return Err(LineError::Bad(DeckReason::UnknownWord));
         }
@@ -475,7 +475,7 @@ impl ObjectDraft {
                 let index = Index::after(self.operations.procedures.len()).unwrap();
                 self.operations.procedures.push(body)?;
                 let named = OperationName::Procedure(index);
-                insert_new(&mut self.operation_names, operation.name, named)
+                insert_string_in_map(&mut self.operation_names, operation.name, named)
             }
             Head::Entry { barrier, longest } => {
                 let index = EntryIndex::after(self.operations.entries.len()).unwrap();
@@ -486,7 +486,7 @@ impl ObjectDraft {
                     body,
                 })?;
                 let named = OperationName::Entry(index);
-                insert_new(&mut self.operation_names, operation.name, named)
+                insert_string_in_map(&mut self.operation_names, operation.name, named)
             }
         }
     }

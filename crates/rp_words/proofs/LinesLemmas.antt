@@ -1,10 +1,10 @@
 -- The lines of a text: the first one, and the others.
-use Rattle.std.proofs.Common.{◌≡◌, ℕ, suc, ◌+◌, ◌-◌, ◌<◌, ◌==◌, ◌&&◌, not, List, [], ◌∷◌, Bool, true, false, cond, length, take, drop, ◌++◌, arith, ap, refl, sym, subst, ◌∙◌}
-use Rattle.std.specs.Prelude.{nat_eq, option_to_list}
+use Rattle.std.proofs.Common.{◌≡◌, ℕ, suc, ◌+◌, ◌-◌, ◌<◌, ◌==◌, ◌&&◌, not, List, [], ◌∷◌, Bool, true, false, cond, length, take, drop, arith, ap, refl, sym, subst, ◌∙◌}
+use Rattle.std.specs.Prelude.{nat_eq}
 use lib.Pointwise.{pointwise}
 use Rattle.std.proofs.lemmas.Bool.Decides.{nat_tests}
 use Rattle.rp_words.specs.Words.{begins_with}
-use Rattle.rp_words.specs.Lines.{is_line_feed, in_front, lines_of, text_at, texts_from}
+use Rattle.rp_words.specs.Lines.{is_line_feed, in_front, lines_of}
 use Rattle.rp_words.specs.LineEnds.{line_end, without_return}
 
 -- ---- a return at the end of a line
@@ -115,10 +115,3 @@ in_front_of_last b (c ∷ cs) false false is tested whole so_far = ap (in_front 
 pub split_last : (bytes : List ℕ) → 0 < length bytes → line_end bytes ≡ length bytes → lines_of bytes ≡ bytes ∷ []
 split_last [] some whole = absurd (omega arith)
 split_last (b ∷ rest) some whole = in_front_of_last b rest (is_line_feed b) (b == 13 && begins_with is_line_feed rest) refl refl whole (split_last rest)
-
--- ---- the lines with words, the first line apart
-
-pub next_text : (old new : List (List ℕ)) (line : List ℕ) (before after : ℕ) → old ≡ line ∷ new → after ≡ before + 1
-    → texts_from (before + 1) old ≡ option_to_list (text_at after line) ++ texts_from (after + 1) new
-next_text old new line before after is count =
-    ap (texts_from (before + 1)) is ∙ ap (λ k. option_to_list (text_at k line) ++ texts_from (k + 1) new) (sym count)

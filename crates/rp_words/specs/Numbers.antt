@@ -1,4 +1,4 @@
--- Numbers as the standard library reads them.
+-- Numbers as the standard library reads them (no public clause names it).
 use Rattle.std.specs.Prelude.{◌≢◌, ℕ, ℤ, Some, List, slice_get, FitsSigned}
 use Rattle.std.specs.Int.{w64}
 use Rattle.std.specs.Str.Parse.{IsNumeral, without_leading_sign, signed_digits_value}

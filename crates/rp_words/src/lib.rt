@@ -16,6 +16,7 @@ mod words;
 pub use line_error::LineError;
 pub use lines::{Lines, TextLine};
 pub use names::{
-    add_name, declare, has_name, insert_new, place_among, place_in, take_name_not_in, take_new_name,
+    insert_in_map, insert_in_set, insert_string_in_map, map_has_name, map_index_of, set_index_of,
+    take_name_new_to_map, take_name_new_to_set,
 };
 pub use words::{Words, is_word, named, read_dotted, read_name, read_number, truth_named};

@@ -16,14 +16,14 @@ use rp_base::DeckReason;
 use std::alloc::Global;
 
 /// Whether the table has the name.
-pub fn has_name<V>(table: &IndexMap<String, V>, name: &str) -> bool
+pub fn map_has_name<V>(table: &IndexMap<String, V>, name: &str) -> bool
     ensures { result ≡ is_declared name.now (key_names table.now) }
 {
     table.contains_key(name)
 }
 
 /// The place of the name in the table.
-pub fn place_in<V>(table: &IndexMap<String, V>, name: &str) -> Option<usize>
+pub fn map_index_of<V>(table: &IndexMap<String, V>, name: &str) -> Option<usize>
     ensures place { result ≡ place_of name.now (key_names table.now) }
     ensures within { IfSome result (λ place. place < index_map_len table.now) }
 {
@@ -32,7 +32,7 @@ pub fn place_in<V>(table: &IndexMap<String, V>, name: &str) -> Option<usize>
 
 /// The next word, a name that the table does not have.
 #[tactic(auto, unfolding(crate::specs::Reading::new_name_at))]
-pub fn take_new_name<'w, V>(
+pub fn take_name_new_to_map<'w, V>(
     words: &mut Words<'w>,
     table: &IndexMap<String, V>,
 ) -> Result<&'w str, DeckReason>
@@ -42,14 +42,14 @@ pub fn take_new_name<'w, V>(
     ensures new { IfOk result (λ name. is_declared name.now (key_names table.now) ≡ false) }
 {
     let name = words.take_name()?;
-    if has_name(table, name) {
+    if map_has_name(table, name) {
         return Err(DeckReason::DuplicateName);
     }
     Ok(name)
 }
 
-/// Adds a name that the table does not have.
-pub fn declare<V: Drop>(
+/// Adds a copy of a name that the table does not have.
+pub fn insert_in_map<V: Drop>(
     alloc: Global,
     table: &mut IndexMap<String, V>,
     name: &str,
@@ -62,11 +62,11 @@ pub fn declare<V: Drop>(
     ensures unique { OnOk result (IsUnique string_eq table.new) }
     ensures memory { IfErr result (λ error. error ≡ LineError.OutOfMemory) }
 {
-    insert_new(table, String::from_str(alloc, name)?, value)
+    insert_string_in_map(table, String::from_str(alloc, name)?, value)
 }
 
-/// Adds a name that the table does not have.
-pub fn insert_new<V: Drop>(
+/// Adds a name that the table does not have, without a copy.
+pub fn insert_string_in_map<V: Drop>(
     table: &mut IndexMap<String, V>,
     name: String,
     value: V,
@@ -91,7 +91,7 @@ fn set_has_name(names: &IndexSet<String>, name: &str) -> bool
 }
 
 /// The place of the name in the set.
-pub fn place_among(names: &IndexSet<String>, name: &str) -> Option<usize>
+pub fn set_index_of(names: &IndexSet<String>, name: &str) -> Option<usize>
     ensures place { result ≡ place_of name.now (set_names names.now) }
     ensures within { IfSome result (λ place. place < index_set_len names.now) }
 {
@@ -100,7 +100,7 @@ pub fn place_among(names: &IndexSet<String>, name: &str) -> Option<usize>
 
 /// The next word, a name that the set does not have.
 #[tactic(auto, unfolding(crate::specs::Reading::new_name_at))]
-pub fn take_name_not_in<'w>(
+pub fn take_name_new_to_set<'w>(
     words: &mut Words<'w>,
     names: &IndexSet<String>,
 ) -> Result<&'w str, DeckReason>
@@ -115,8 +115,12 @@ pub fn take_name_not_in<'w>(
     Ok(name)
 }
 
-/// Adds a name that the set does not have.
-pub fn add_name(alloc: Global, names: &mut IndexSet<String>, name: &str) -> Result<(), LineError>
+/// Adds a copy of a name that the set does not have.
+pub fn insert_in_set(
+    alloc: Global,
+    names: &mut IndexSet<String>,
+    name: &str,
+) -> Result<(), LineError>
     requires { is_declared name.now (set_names names.old) ≡ false }
     ensures names { OnOk result (set_names names.new ≡ set_names names.old ++ name.now ∷ []) }
     ensures len { OnOk result (index_set_len names.new ≡ index_set_len names.old + 1) }

@@ -1,11 +1,10 @@
 //! The words of a line, and the readers of them.
 
-ghost use Rattle.std.specs.Prelude.{◌≡◌, ◌≤◌, ◌<◌, ◌==◌, length, map, not, option_map, position, SomeIff, IfOk, IfSome};
+ghost use Rattle.std.specs.Prelude.{◌≡◌, ◌≤◌, ◌<◌, ◌==◌, length, map, not, option_map, position, IfOk, IfSome};
 ghost use Rattle.std.specs.Char.{is_ascii_alphabetic};
 ghost use Rattle.std.specs.List.{find, prefix_len, list_all};
 ghost use Rattle.std.specs.Str.{bytes_eq};
 ghost use Rattle.rp_words.specs.Words.{truth_named, first_named, begins_with, is_blank, is_of_name, is_name, IsName, number_of, without_blanks, is_at_end};
-ghost use Rattle.rp_words.specs.Numbers.{IsNumber, number_read};
 ghost use Rattle.rp_words.specs.Reading.{Gives, word_at, end_at, name_at, integer_at, number_at, name_of, dotted_of};
 
 use rp_base::DeckReason;
@@ -101,21 +100,15 @@ pub fn read_dotted(word: &[u8]) -> Result<(&str, &str), DeckReason>
     Ok((first, second))
 }
 
-/// What the standard library reads as a number, but for a plus in front.
-fn parse_number(word: &[u8]) -> Option<i64>
-    ensures { SomeIff result (IsNumber word.now) (number_read word.now) }
+/// The number that the word is: an optional `-` and decimal digits, within 64 signed bits. The
+/// standard library takes a plus as well.
+pub fn read_number(word: &[u8]) -> Option<i64>
+    ensures { result ≡ number_of word.now }
 {
     if word.first() == Some(&b'+') {
         return None;
     }
     str::from_utf8(word).ok()?.parse().ok()
-}
-
-/// The number that the word is: an optional `-` and decimal digits, within 64 signed bits.
-pub fn read_number(word: &[u8]) -> Option<i64>
-    ensures { result ≡ number_of word.now }
-{
-    parse_number(word)
 }
 
 /// Whether the word is this one.

@@ -25,7 +25,7 @@ returns-clause-object c = (
         entries = was.entries;
         fit = λ limits counted. function_fits self.operations after limits function c.requires.room c.in_ok-push.ensures.items refl refl (was.fit limits counted) (c.requires.fits limits counted);
         keeps = same_entries profile self.operations after refl was.keeps;
-        named = named_after self.operations after self.operation_names c.declare.new.table (Function index) c.in_ok-declare.ensures.values
+        named = named_after self.operations after self.operation_names c.insert_in_map.new.table (Function index) c.in_ok-insert_in_map.ensures.values
             (function_more self.operations after function c.in_ok-push.ensures.items refl refl) has was.named;
         operation = search rules;
       }),

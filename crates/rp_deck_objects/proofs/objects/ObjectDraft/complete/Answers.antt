@@ -30,7 +30,7 @@ returns-in_ok-push-in-Entry-2-clause-object c =
     let has : is_some (of_index after.entries.items index.number) ≡ true =
     subst (λ l. is_some (of_index l index.number) ≡ true) (sym c.in_ok-push-in-Entry-2.ensures.items) (last_numbered self.operations.entries.items entry index.number number) in
     let even : length c.push-in-Entry.new.self.items ≡ length after.entries.items = omega (arith, was.entries, c.in_ok-push-in-Entry.ensures.len, c.in_ok-push-in-Entry-2.ensures.len) in
-    on_ok_weaker c.insert_new-in-Entry.result (λ more. record {
+    on_ok_weaker c.insert_string_in_map-in-Entry.result (λ more. record {
       ceiling = was.ceiling;
       components = was.components;
       entries = even;
@@ -39,10 +39,10 @@ returns-in_ok-push-in-Entry-2-clause-object c =
           entry_fits self.operations after limits entry (few_entries c.args.profile self.operations c.in-Entry.barrier c.in-Entry.longest room) c.in_ok-push-in-Entry-2.ensures.items refl refl (was.fit limits counted)
           (record { barrier = fits.0; some_room = fits.1; room = fits.2; body = c.into_statements-body.ensures.limits (values self.component_names) c.requires.operation.body limits counted });
       keeps = entry_keeps c.args.profile self.operations after entry c.in_ok-push-in-Entry-2.ensures.items room (subst (λ h. HeadKeeps c.args.profile h) is begun.keeps) was.keeps;
-      named = named_after self.operations after self.operation_names c.insert_new-in-Entry.new.table (Entry index) more
+      named = named_after self.operations after self.operation_names c.insert_string_in_map-in-Entry.new.table (Entry index) more
           (entry_more self.operations after entry c.in_ok-push-in-Entry-2.ensures.items refl refl) has was.named;
       operation = search rules;
-    }) c.insert_new-in-Entry.ensures.values
+    }) c.insert_string_in_map-in-Entry.ensures.values
 
 pub returns-in_ok-push-in-Procedure-clause-object : goal.returns-in_ok-push-in-Procedure-clause-object
 returns-in_ok-push-in-Procedure-clause-object c =
@@ -55,14 +55,14 @@ returns-in_ok-push-in-Procedure-clause-object c =
     let room = subst (λ h. HasRoom c.args.profile self.operations h) c.in-Procedure.is c.requires.operation.begun.room in
     let has : is_some (of_index after.procedures.items index.number) ≡ true =
     subst (λ l. is_some (of_index l index.number) ≡ true) (sym c.in_ok-push-in-Procedure.ensures.items) (last_numbered self.operations.procedures.items body index.number number) in
-    on_ok_weaker c.insert_new.result (λ more. record {
+    on_ok_weaker c.insert_string_in_map.result (λ more. record {
       ceiling = was.ceiling;
       components = was.components;
       entries = was.entries;
       fit = λ limits counted. procedure_fits self.operations after limits body room c.in_ok-push-in-Procedure.ensures.items refl refl (was.fit limits counted)
           (c.into_statements-body.ensures.limits (values self.component_names) c.requires.operation.body limits counted);
       keeps = same_entries c.args.profile self.operations after refl was.keeps;
-      named = named_after self.operations after self.operation_names c.insert_new.new.table (Procedure index) more
+      named = named_after self.operations after self.operation_names c.insert_string_in_map.new.table (Procedure index) more
           (procedure_more self.operations after body c.in_ok-push-in-Procedure.ensures.items refl refl) has was.named;
       operation = search rules;
-    }) c.insert_new.ensures.values
+    }) c.insert_string_in_map.ensures.values

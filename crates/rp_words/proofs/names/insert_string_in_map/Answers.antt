@@ -1,7 +1,7 @@
 use Rattle.std.proofs.Common.{◌∷◌, [], ◌∙◌, arith, ap, refl, length-append, length}
 use Rattle.std.specs.Prelude.{string_bytes}
 use Rattle.rp_words.proofs.TablesLemmas.{inserted_last, names_last, values_last}
-use Rattle.rp_words.proofs.names.insert_new.Goals as goal
+use Rattle.rp_words.proofs.names.insert_string_in_map.Goals as goal
 
 pub returns-clause-names : goal.returns-clause-names
 returns-clause-names g c =

@@ -12,7 +12,7 @@ use Rattle.rp_deck_declarations.specs.DeclaredTexts.{known}
 use Rattle.rp_words.specs.Reading.{◌>>=◌}
 use Rattle.rp_deck.specs.ScriptLines.{LineCommand, script_of}
 use Rattle.rp_deck.proofs.DeckLemmas.{with_script, and_known, meaning_from, refused_before, refused_in_script}
-use Rattle.rp_deck.proofs.reading.read_deck.Goals as goal
+use Rattle.rp_deck.proofs.reader.read_deck.Goals as goal
 
 pub returns-in_err-declared-clause-meaning : goal.returns-in_err-declared-clause-meaning
 returns-in_err-declared-clause-meaning c =

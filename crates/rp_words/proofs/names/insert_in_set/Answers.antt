@@ -1,7 +1,7 @@
 use Rattle.std.proofs.Common.{◌≡◌, ◌∷◌, [], ◌∙◌, false, length, arith, ap, sym, subst, length-append}
 use Rattle.rp_words.specs.Tables.{is_declared, set_names}
 use Rattle.rp_words.proofs.TablesLemmas.{key_inserted, set_names_last}
-use Rattle.rp_words.proofs.names.add_name.Goals as goal
+use Rattle.rp_words.proofs.names.insert_in_set.Goals as goal
 
 pub returns-clause-names : goal.returns-clause-names
 returns-clause-names c =

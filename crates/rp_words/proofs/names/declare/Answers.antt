@@ -1,6 +1,0 @@
-use Rattle.std.proofs.Common.{◌≡◌, false, sym, subst}
-use Rattle.rp_words.specs.Tables.{is_declared, key_names}
-use Rattle.rp_words.proofs.names.declare.Goals as goal
-
-pub insert_new-requires : goal.insert_new-requires
-insert_new-requires g c = subst (λ bytes. is_declared bytes (key_names c.args.table.now) ≡ false) (sym c.in_ok-from_str.ensures.ok) c.requires

@@ -1,7 +1,7 @@
 #compdef rp_console
 # Made by tools/words. Copy it to a folder of $fpath as _rp_console.
 _rp_console() {
-    local -a commands=('script:Runs the script of the deck that standard input holds, and prints what happens' 'live:Runs the deck that standard input holds in threads, and prints the result')
+    local -a commands=('script:Reads a deck from standard input and runs its script' 'live:Reads a deck from standard input and runs its nodes and tasks as threads')
     local state line
     _arguments -C '-h[Print help]' \
                 '--help[Print help]' \
@@ -14,7 +14,7 @@ _rp_console() {
             script) _arguments '--trace[Prints each packet that is sent]' \
                 '-h[Print help]' \
                 '--help[Print help]' ;;
-            live) _arguments '--seed[Picks which packets are lost, repeated and reordered (default: 0)]:S:' \
+            live) _arguments '--seed[Seed that determines which packets are lost, duplicated and reordered, 0 to 4294967295 (default: 0)]:S:' \
                 '--turns[How many turns each node and each task makes, 1 to 1000000 (default: 10000)]:T:' \
                 '-h[Print help]' \
                 '--help[Print help]' ;;

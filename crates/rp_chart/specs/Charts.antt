@@ -1,5 +1,5 @@
 -- The drawing of a deck's run.
-use Rattle.std.specs.Prelude.{ℕ, ◌+◌, false, Option, List}
+use Rattle.std.specs.Prelude.{◌≡◌, ◌⊎◌, ℕ, ◌+◌, false, Option, List}
 use Rattle.std.specs.Io.KnownBytes.{Appends}
 use Rattle.indexmap.specs.IndexMap.{index_map_len}
 use Rattle.rp_deck.specs.declared.deck.Deck.{Deck}
@@ -9,6 +9,7 @@ use Rattle.rp_deck_declarations.specs.declared.deck_program.DeckProgram.TheVaria
 use Rattle.rp_history.specs.Histories.{IsDrawingOf}
 use Rattle.rp_history.specs.declared.stage.Stage.{Stage}
 use Rattle.rp_history.specs.declared.view.View.{View}
+use Rattle.rp_output.specs.Stream.{Begins}
 use Rattle.rp_script.specs.Given.{MeansDeck}
 use Rattle.rp_run.specs.Output.{RunSetting, run_said}
 use Rattle.rp_script.specs.Output.{drain_limit, tally_run, objects_run}
@@ -31,7 +32,8 @@ IsChartAt deck view text s =
 
 abbrev pub IsChartBy : Deck → View → List ℕ → DeckProgram → Type 0
 IsChartBy deck view text (Tally objects) = IsChartAt deck view text (tally_run false deck objects)
-IsChartBy deck view text (Objects program) = IsChartAt deck view text (objects_run false deck program)
+IsChartBy deck view text (Objects program) =
+    IsChartAt deck view text (objects_run false deck program)
 
 abbrev pub IsChartOf : Deck → View → List ℕ → Type 0
 IsChartOf deck view text = IsChartBy deck view text deck.program
@@ -41,3 +43,9 @@ abbrev pub DrawsScript : View → Option (List ℕ) → Option (List ℕ) → Op
 DrawsScript view given old new =
     (deck : Deck) × MeansDeck Script given deck
     × (text : List ℕ) × Appends old new text × IsChartOf deck view text
+
+-- what is written if a fault ends it: nothing, or a prefix of such a chart
+abbrev pub DrawingBegins : View → Option (List ℕ) → Option (List ℕ) → Option (List ℕ) → Type 0
+DrawingBegins view given old new =
+    (new ≡ old) ⊎ ((deck : Deck) × MeansDeck Script given deck
+    × (text : List ℕ) × IsChartOf deck view text × Begins old new text)

@@ -1,1 +1,3 @@
 pub mod Charts
+pub mod CommandLine
+pub mod Console

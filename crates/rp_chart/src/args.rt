@@ -1,18 +1,20 @@
 //! What the words of the command line ask for.
 
-use clap::error::ErrorKind;
-use clap::{Arg, ArgAction, Command, Error, value_parser};
+ghost use Rattle.std.specs.Prelude.{◌≡◌, ℕ, None, Some, true, false, codes, IfOk, map};
+ghost use Rattle.clap.specs.Words.{app_of, fault_of, found_of, one_text, FailsBy};
+ghost use Rattle.rp_chart.specs.CommandLine.{chart, hide_self_of, position_of, ReadsAs};
+
+use clap::{Arg, ArgAction, ArgMatches, Command, Error, value_parser};
 use rp_base::Position;
 use rp_history::View;
-use rp_output::NoRun;
+use rp_output::VERSION;
 use std::alloc::{AllocError, Global};
 use std::convert::AsStr;
 
-/// The program's version.
-const VERSION: &str = "1.0.0";
-
 /// The program's command line.
-fn command<'a>(alloc: Global) -> Result<Command<'a>, AllocError> {
+pub fn command<'a>(alloc: Global) -> Result<Command<'a>, AllocError>
+    ensures { IfOk result (λ command. app_of command ≡ chart) }
+{
     let position = Arg::new(alloc, "position")
         .long("position")
         .value_name("P")
@@ -24,7 +26,7 @@ fn command<'a>(alloc: Global) -> Result<Command<'a>, AllocError> {
         .action(ArgAction::SetTrue);
     Command::new(alloc, "rp_chart")
         .about(
-            "Runs the script of the deck that standard input holds, and prints a drawing of what happens",
+            "Reads a deck from standard input, runs its script and prints a drawing of what happens",
         )
         .version(VERSION)
         .arg(position)?
@@ -33,34 +35,31 @@ fn command<'a>(alloc: Global) -> Result<Command<'a>, AllocError> {
 
 /// Reads the words, of which the first is the program's name. An error carries the text for the
 /// user.
-pub fn read_args<S: AsStr>(alloc: Global, words: &[S]) -> Result<View, Error> {
+pub fn read_args<S: AsStr>(alloc: Global, words: &[S]) -> Result<View, Error>
+    // claim: The words of the command line choose a position and whether packets from a node to
+    //   itself are drawn, or are refused as clap's rules say
+    ensures hides { IfOk result (λ view. hide_self_of (map S.text words.now) ≡ Some (codes "true")
+        → view.hides_self ≡ true) }
+    ensures shows { IfOk result (λ view. hide_self_of (map S.text words.now) ≡ Some (codes "false")
+        → view.hides_self ≡ false) }
+    ensures whole { IfOk result (λ view. position_of (map S.text words.now) ≡ None
+        → view.position ≡ None) }
+    ensures position { IfOk result (λ view. (number : ℕ)
+        → ReadsAs (position_of (map S.text words.now)) number → view.position ≡ Some number) }
+    ensures refused { FailsBy (fault_of chart (map S.text words.now)) result }
+{
     let matches = command(alloc)?.try_get_matches_from(words)?;
-    let position = matches.get_one::<u16>("position").unwrap_or(0);
-    let hides_self = matches.get_flag("hide-self");
     Ok(View {
-        position: Position::new(position),
-        hides_self,
+        position: Position::new(number_of(&matches, "position")),
+        hides_self: matches.get_flag("hide-self"),
     })
 }
 
-/// The refusal of words of which one is not UTF-8, or `OutOfMemory` if there is no memory for it.
-pub fn unread_words(alloc: Global) -> Error {
-    match not_utf8(alloc) {
-        Ok(error) => error,
-        Err(error) => Error::from(error),
-    }
-}
-
-/// The error that a word is not UTF-8.
-fn not_utf8(alloc: Global) -> Result<Error, AllocError> {
-    command(alloc)?.error(ErrorKind::InvalidValue, "a word is not UTF-8")
-}
-
-/// Why words that could not be read ask for no run.
-pub fn no_run(error: &Error) -> NoRun {
-    match error.kind() {
-        ErrorKind::OutOfMemory => NoRun::OutOfMemory,
-        ErrorKind::DisplayHelp | ErrorKind::DisplayVersion => NoRun::Help,
-        _ => NoRun::Mistake,
-    }
+/// The value of an option that takes a number, 0 if it has none.
+fn number_of(matches: &ArgMatches<'_>, id: &str) -> u16
+    ensures none { one_text (found_of matches.now) id.now ≡ None → result ≡ 0 }
+    ensures number { (number : ℕ) → ReadsAs (one_text (found_of matches.now) id.now) number
+        → result ≡ number }
+{
+    matches.get_one::<u16>(id).unwrap_or(0)
 }

@@ -1,8 +1,8 @@
 //! Draws the run of a deck.
 
-ghost use Rattle.std.specs.Prelude.{◌≡◌, ◌+◌, ◌≤◌, IfErr, IfOk, OnOk, length, string_bytes};
+ghost use Rattle.std.specs.Prelude.{◌≡◌, ◌+◌, ◌≤◌, IfErr, IfOk, OnErr, OnOk, length, string_bytes};
 ghost use Rattle.indexmap.specs.IndexMap.{index_map_len};
-ghost use Rattle.rp_chart.specs.Charts.{DrawsScript, IsChartOf};
+ghost use Rattle.rp_chart.specs.Charts.{DrawingBegins, DrawsScript, IsChartOf};
 ghost use Rattle.rp_deck.specs.Deck.{IsRightDeck};
 ghost use Rattle.rp_script.specs.Faults.{IsBadDeck, IsProgramFault};
 ghost use Rattle.rp_script.specs.Given.{IsMeant};
@@ -32,8 +32,11 @@ pub fn draw_script<R: Read, W: Write>(
     // claim: From bytes to a drawing: what is written is the drawing of the run of the deck that all
     //   bytes of the reader mean. Its arrows are the messages of that run, each from where it was
     //   sent down to where it was settled, and it has no other arrow. If the bytes mean none, nothing
-    //   is written, and the fault has the first bad line and the first reason on it
+    //   is written, and the fault has the first bad line and the first reason on it. After every
+    //   other fault nothing was written, or a prefix of that drawing
     ensures drawing { OnOk result (DrawsScript view (R.remaining reader.old)
+        (W.contents writer.old) (W.contents writer.new)) }
+    ensures begun { OnErr result (DrawingBegins view (R.remaining reader.old)
         (W.contents writer.old) (W.contents writer.new)) }
     ensures meant { IfErr result (IsMeant Mode.Script (R.remaining reader.old)) }
     ensures bad { IfErr result (λ fault. IsBadDeck fault
@@ -128,13 +131,8 @@ fn name_at(tasks: &IndexMap<String, Task>, place: usize) -> &str {
 /// The lines of a text, without their ends.
 fn lines_of<'a>(alloc: Global, text: &'a [u8]) -> Result<Vec<&'a [u8]>, AllocError> {
     let mut lines = Vec::new(alloc);
-    let mut start = 0;
-    for (place, byte) in text.iter().enumerate() {
-        if *byte == b'\n' {
-            lines.push(&text[start..place])?;
-            start = place + 1;
-        }
+    for line in text.split(|byte| *byte == b'\n') {
+        lines.push(line)?;
     }
-    lines.push(&text[start..])?;
     Ok(lines)
 }

@@ -1,8 +1,14 @@
 //! Does what the words of the command line ask for, and reports its faults.
 
-use crate::args::{no_run, read_args, unread_words};
+ghost use Rattle.std.specs.Prelude.{◌≡◌, OnOk, map};
+ghost use Rattle.std.specs.Io.KnownBytes.{Appends};
+ghost use Rattle.rp_chart.specs.Console.{FollowsWords, report_of};
+ghost use Rattle.rp_output.specs.Endings.{status_after};
+
+use crate::args::read_args;
 use crate::chart::draw_script;
-use rp_output::{Ending, Streams, fail, refuse};
+use rp_base::Fault;
+use rp_output::{Ending, Streams, fail, refuse_words};
 use std::alloc::Global;
 use std::convert::AsStr;
 use std::io::{Read, Write};
@@ -13,24 +19,36 @@ pub fn obey<S: AsStr, R: Read + Drop, W: Write + Drop, E: Write + Drop>(
     alloc: Global,
     words: &[S],
     streams: &mut Streams<R, W, E>,
-) -> Ending {
+) -> Ending
+    // claim: The program draws the run of the deck that it reads, and nothing if its words are
+    //   wrong. The status is 0 exactly if the drawing was written or the words ask for help or the
+    //   version, 3 at a bad deck, 2 at wrong words, and 4 at every other fault. A fault is reported
+    //   on standard error by its line, that of a bad deck with the first bad line that the deck's
+    //   bytes mean and the first reason on it
+    ensures obeyed { FollowsWords (map S.text words.now) (R.remaining streams.old.reader)
+        (W.contents streams.old.writer) (W.contents streams.new.writer)
+        (E.contents streams.old.errors) (E.contents streams.new.errors) result }
+{
     match read_args(alloc, words) {
-        Ok(view) => match draw_script(alloc, &mut streams.reader, view, &mut streams.writer) {
-            Ok(()) => Ending {
-                status: 0,
-                reported: Ok(()),
-            },
-            Err(fault) => fail(&mut streams.errors, fault),
-        },
-        Err(error) => refuse(no_run(&error), &error, streams),
+        Ok(view) => {
+            let drawn = draw_script(alloc, &mut streams.reader, view, &mut streams.writer);
+            end(&mut streams.errors, drawn)
+        }
+        Err(error) => refuse_words(&error, streams),
     }
 }
 
-/// Reports that one of the words is not UTF-8.
-pub fn refuse_unread<R: Read + Drop, W: Write + Drop, E: Write + Drop>(
-    alloc: Global,
-    streams: &mut Streams<R, W, E>,
-) -> Ending {
-    let error = unread_words(alloc);
-    refuse(no_run(&error), &error, streams)
+/// Reports the fault of a drawing, if it has any.
+fn end<E: Write>(errors: &mut E, drawn: Result<(), Fault>) -> Ending
+    ensures status { result.status ≡ status_after drawn }
+    ensures reported { OnOk result.reported
+        (Appends (E.contents errors.old) (E.contents errors.new) (report_of drawn)) }
+{
+    match drawn {
+        Ok(()) => Ending {
+            status: 0,
+            reported: Ok(()),
+        },
+        Err(fault) => fail(errors, fault),
+    }
 }

@@ -10,12 +10,12 @@ mod args;
 mod chart;
 mod console;
 
-use console::{obey, refuse_unread};
+use args::command;
+use console::obey;
 use rp_base::Fault;
-use rp_output::{Streams, fail};
+use rp_output::{Streams, fail, given_words, refuse_unread};
 use std::io::BufWriter;
 use std::process::ExitCode;
-use std::{env, io};
 
 fn main(rt: HostRuntime) -> ExitCode {
     let mut errors = rt.stderr();
@@ -29,16 +29,7 @@ fn main(rt: HostRuntime) -> ExitCode {
     };
     let ending = match given_words(&rt) {
         Ok(words) => obey(rt.alloc(), words.as_slice(), &mut streams),
-        Err(error) if error.kind() == io::ErrorKind::OutOfMemory => {
-            fail(&mut streams.errors, Fault::OutOfMemory)
-        }
-        Err(_) => refuse_unread(rt.alloc(), &mut streams),
+        Err(error) => refuse_unread(&error, command(rt.alloc()), &mut streams),
     };
     ExitCode::from(ending.status)
-}
-
-/// The words of the command line.
-fn given_words(rt: &HostRuntime) -> io::Result<Vec<String>> {
-    let words = env::args(rt)?;
-    Ok(words.collect(rt.alloc())?)
 }

@@ -1,23 +1,20 @@
 -- The command line.
-use Rattle.std.specs.Prelude.{◌≡◌, ℕ, ◌^◌, ◌<◌, true, Option, Some, None, List, [], ◌∷◌, pos, codes, option_and_then}
-use Rattle.std.specs.Prelude.{if◌then◌else◌}
+use Rattle.std.specs.Prelude.{◌≡◌, ℕ, ◌^◌, ◌<◌, true, Option, Some, None, List, [], ◌∷◌, pos, codes}
+use Rattle.std.specs.Prelude.{option_and_then, if◌then◌else◌}
 use Rattle.std.specs.Str.{bytes_eq}
 use Rattle.std.specs.Str.Parse.{IsNumeral, digits_value, without_leading_plus}
-use Rattle.clap.specs.Words.{App, Rule, Shape, Text, new_app, new_rule, one_of, subcommand_of, with_rule}
-use Rattle.clap.specs.Words.{with_subcommand}
+use Rattle.clap.specs.Words.{App, Rule, Shape, Text, new_app, new_rule, one_of, subcommand_of}
+use Rattle.clap.specs.Words.{with_rule, with_subcommand}
 use Rattle.clap.specs.Simple.{on_top}
 use Rattle.clap.specs.declared.builder.action.ArgAction.TheVariants.{SetTrue}
-use Rattle.clap.specs.declared.error.kind.ErrorKind.{ErrorKind}
-use Rattle.clap.specs.declared.error.kind.ErrorKind.TheVariants.{DisplayHelp, DisplayVersion, OutOfMemory}
 use Rattle.clap.specs.declared.builder.value_parser.ValueParser.TheVariants.{Signed}
-use Rattle.rp_output.specs.declared.ending.NoRun.{NoRun}
-use Rattle.rp_output.specs.declared.ending.NoRun.TheVariants as no_runs
 use Rattle.rp_console.specs.declared.args.Args.{Args}
 use Rattle.rp_console.specs.declared.args.Args.TheVariants.{Script, Live}
 
 -- a command that has a version and requires one of its subcommands, not counting `help`
 abbrev pub with_choice : Shape → Shape
-with_choice s = record s { subcommand_required = true; disable_help_subcommand = true; has_version = true }
+with_choice s =
+    record s { subcommand_required = true; disable_help_subcommand = true; has_version = true }
 
 -- the option `--trace`
 abbrev pub trace : Rule
@@ -50,12 +47,18 @@ live = with_rule (with_rule (new_app (codes "live")) seed) turns
 
 -- the program's command line: the subcommands `script` and `live`
 abbrev pub console : App
-console = with_subcommand (with_subcommand (on_top with_choice (new_app (codes "rp_console"))) script.top) live.top
+console =
+    with_subcommand (with_subcommand (on_top with_choice (new_app (codes "rp_console"))) script.top)
+    live.top
 
 -- the subcommand that asks for this
 abbrev pub name_of : Args → Text
 name_of (Script traced) = codes "script"
-name_of (Live s t) = codes "live"
+name_of (Live request) = codes "live"
+
+-- `live` with this seed and this many turns
+abbrev pub live_args : ℕ → ℕ → Args
+live_args seed turns = Live (record { seed = seed; turns = turns })
 
 -- the value that the words give to an option of this subcommand, if they name that subcommand
 abbrev pub option_of : Text → Text → List Text → Option Text
@@ -85,10 +88,3 @@ pub record IsNumberText (text : Text) (number : ℕ) : Type 0 where
 abbrev pub ReadsAs : Option Text → ℕ → Type 0
 ReadsAs None number = ⊥
 ReadsAs (Some text) number = IsNumberText text number
-
--- why words that could not be read ask for no run
-abbrev pub no_run_of : ErrorKind → NoRun
-no_run_of OutOfMemory = no_runs.OutOfMemory
-no_run_of DisplayHelp = no_runs.Help
-no_run_of DisplayVersion = no_runs.Help
-no_run_of _ = no_runs.Mistake

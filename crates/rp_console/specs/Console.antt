@@ -1,22 +1,22 @@
 -- What the program does with the words of the command line, and how it ends.
-use Rattle.std.specs.Prelude.{◌≡◌, ◌⊎◌, ℕ, true, false, Option, Some, None, Result, Ok, Err}
-use Rattle.std.specs.Prelude.{List, [], codes, option_map, IfOk, OnOk, IfErr, OnErr}
+use Rattle.std.specs.Prelude.{◌≡◌, ◌⊎◌, ℕ, true, false, Option, Some, None, Result, Ok, Err, List}
+use Rattle.std.specs.Prelude.{[], codes, option_map, IfOk, OnOk, IfErr, OnErr}
 use Rattle.std.specs.Io.KnownBytes.{Appends}
 use Rattle.clap.specs.Kinds.{IsAmong}
 use Rattle.clap.specs.Words.{Text, fault_of, subcommand_of}
 use Rattle.clap.specs.declared.error.kind.ErrorKind.{ErrorKind}
-use Rattle.clap.specs.declared.error.kind.ErrorKind.TheVariants.{InvalidValue, OutOfMemory}
+use Rattle.clap.specs.declared.error.kind.ErrorKind.TheVariants.{OutOfMemory}
 use Rattle.rp_base.specs.declared.fault.Fault.{Fault}
 use Rattle.rp_deck.specs.declared.deck.Mode.{Mode}
 use Rattle.rp_deck.specs.declared.deck.Mode.TheVariants as modes
 use Rattle.rp_script.specs.Agreeing.{ScriptBegins, ScriptPrints}
-use Rattle.rp_console.specs.CommandLine.{console, name_of, seed_of, trace_of, turns_of}
-use Rattle.rp_console.specs.CommandLine.{ReadsAs, no_run_of}
+use Rattle.rp_console.specs.CommandLine.{console, live_args, name_of, seed_of, trace_of, turns_of}
+use Rattle.rp_console.specs.CommandLine.{ReadsAs}
 use Rattle.rp_script.specs.Faults.{IsBadDeck, IsProgramFault}
 use Rattle.rp_script.specs.Figures.{figures_line_of}
 use Rattle.rp_script.specs.Given.{IsMeant}
 use Rattle.rp_script.specs.LiveRun.{LiveBegins, LivePrints}
-use Rattle.rp_output.specs.Endings.{RefusesFor, status_after}
+use Rattle.rp_output.specs.Endings.{RefusesAs, status_after}
 use Rattle.rp_output.specs.FaultMessage.{fault_message_of, with_line_feed}
 use Rattle.rp_console.specs.declared.args.Args.{Args}
 use Rattle.rp_console.specs.declared.args.Args.TheVariants.{Script, Live}
@@ -34,24 +34,25 @@ pub record AsksFor (words : List Text) (args : Args) : Type 0 where
   pub traced : trace_of words ≡ Some (codes "true") → args ≡ Script true
   pub quiet : trace_of words ≡ Some (codes "false") → args ≡ Script false
   pub live : (seed turns : ℕ) → ReadsAs (seed_of words) seed → ReadsAs (turns_of words) turns
-      → args ≡ Live seed turns
+      → args ≡ live_args seed turns
 
 -- What a run without a fault prints, of the deck that the bytes given to it mean. A script reports
 -- no figures, and a run in threads reports those of the run that it prints.
 abbrev pub Prints : Args → Content → Content → Content → Option FiguresLine → Type 0
 Prints (Script traced) given old new figures = ScriptPrints traced given old new × (figures ≡ None)
-Prints (Live seed turns) given old new None = ⊥
-Prints (Live seed turns) given old new (Some line) = LivePrints seed turns given old new line.figures
+Prints (Live request) given old new None = ⊥
+Prints (Live request) given old new (Some line) =
+    LivePrints request.seed request.turns given old new line.figures
 
 -- what a run that a fault ends has printed: nothing, or a prefix of that
 abbrev pub HasBegun : Args → Content → Content → Content → Type 0
 HasBegun (Script traced) given old new = ScriptBegins traced given old new
-HasBegun (Live seed turns) given old new = LiveBegins seed turns given old new
+HasBegun (Live request) given old new = LiveBegins request.seed request.turns given old new
 
 -- the mode in which a deck is read
 abbrev pub mode_of : Args → Mode
 mode_of (Script traced) = modes.Script
-mode_of (Live seed turns) = modes.Live
+mode_of (Live request) = modes.Live
 
 -- what is reported of a run: the line of its figures or of its fault, if it has any
 abbrev pub report_of : Result (Option FiguresLine) Fault → List ℕ
@@ -75,19 +76,12 @@ pub record RunsAs (args : Args) (given output output_after errors errors_after :
   pub status : ending.status ≡ status_after ran
   pub reported : OnOk ending.reported (Appends errors errors_after (report_of ran))
 
--- Wrong words were reported, or help or the version was printed and nothing else.
-abbrev pub RefusesAs : ErrorKind → Content → Content → Content → Content → Ending → Type 0
-RefusesAs kind = RefusesFor (no_run_of kind)
-
--- one of the words is not UTF-8, or there is no memory to report that
-abbrev pub IsUnread : ErrorKind → Type 0
-IsUnread kind = (kind ≡ InvalidValue) ⊎ (kind ≡ OutOfMemory)
-
 -- The words ask for a run, which was made; or they are wrong or memory ran out, and that was
 -- reported.
 abbrev pub FollowsWords : List Text → Content → Content → Content → Content → Content → Ending
     → Type 0
 FollowsWords words given output output_after errors errors_after ending =
-    ((args : Args) × AsksFor words args × RunsAs args given output output_after errors errors_after ending)
+    ((args : Args) × AsksFor words args
+    × RunsAs args given output output_after errors errors_after ending)
     ⊎ ((kind : ErrorKind) × ((kind ≡ OutOfMemory) ⊎ IsAmong kind (fault_of console words))
     × RefusesAs kind output output_after errors errors_after ending)

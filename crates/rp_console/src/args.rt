@@ -1,19 +1,18 @@
 //! What the words of the command line ask for.
 
 ghost use Rattle.std.specs.Prelude.{◌≡◌, ℕ, Some, true, false, codes, IfOk, map, option_map};
-ghost use Rattle.clap.specs.Words.{app_of, kind_of, subcommand_of, fault_of, found_of, one_text, FailsBy};
+ghost use Rattle.clap.specs.Words.{app_of, subcommand_of, fault_of, found_of, one_text, FailsBy};
 ghost use Rattle.clap.specs.declared.builder.command.Command.TheViews.{out-Command};
-ghost use Rattle.rp_console.specs.Console.{IsUnread};
-ghost use Rattle.rp_console.specs.CommandLine.{console, script, live, name_of, trace_of, seed_of, turns_of, no_run_of, ReadsAs};
+ghost use Rattle.rp_console.specs.CommandLine.{console, script, live, live_args, name_of, trace_of, seed_of, turns_of, ReadsAs};
 
-use clap::error::ErrorKind;
 use clap::{Arg, ArgAction, ArgMatches, Command, Error, value_parser};
-use rp_output::NoRun;
+use rp_output::VERSION;
+use rp_script::LiveRequest;
 use std::alloc::{AllocError, Global};
 use std::convert::AsStr;
 
 /// What the program is asked to do.
-#[derive(Clone, Copy, Debug, PartialEq, Eq, Hash)]
+#[derive(Clone, Copy, Debug, PartialEq, Eq)]
 pub enum Args {
     /// Runs the script of the deck on standard input.
     Script {
@@ -21,25 +20,18 @@ pub enum Args {
         traced: bool,
     },
     /// Runs the deck on standard input in threads.
-    Live {
-        /// The seed of the faults of the links.
-        seed: u32,
-        /// How many turns each node and each task makes, 1 to 1,000,000.
-        turns: u32,
-    },
+    Live(LiveRequest),
 }
 
-/// The program's version.
-const VERSION: &str = "1.0.0";
-
 /// The program's command line.
-fn command<'a>(alloc: Global) -> Result<Command<'a>, AllocError>
+pub fn command<'a>(alloc: Global) -> Result<Command<'a>, AllocError>
     ensures { IfOk result (λ command. app_of command ≡ console) }
 {
     let script = script_command(alloc)?;
     let live = live_command(alloc)?;
     Command::new(alloc, "rp_console")
         .about("Runs a program of tasks and objects on a cluster of nodes in memory")
+        .after_help("Example: rp_console script < DECK; decks are described in docs/DECK.md")
         .version(VERSION)
         .subcommand_required(true)
         .disable_help_subcommand(true)
@@ -57,7 +49,7 @@ fn script_command<'a>(alloc: Global) -> Result<Command<'a>, AllocError>
         .help("Prints each packet that is sent")
         .action(ArgAction::SetTrue);
     Command::new(alloc, "script")
-        .about("Runs the script of the deck that standard input holds, and prints what happens")
+        .about("Reads a deck from standard input and runs its script")
         .arg(trace)
 }
 
@@ -69,7 +61,9 @@ fn live_command<'a>(alloc: Global) -> Result<Command<'a>, AllocError>
     let seed = Arg::new(alloc, "seed")
         .long("seed")
         .value_name("S")
-        .help("Picks which packets are lost, repeated and reordered")
+        .help(
+            "Seed that determines which packets are lost, duplicated and reordered, 0 to 4294967295",
+        )
         .value_parser(value_parser!(u32))
         .default_value("0");
     let turns = Arg::new(alloc, "turns")
@@ -79,7 +73,7 @@ fn live_command<'a>(alloc: Global) -> Result<Command<'a>, AllocError>
         .value_parser(value_parser!(u32).range(1..=1_000_000))
         .default_value("10000");
     Command::new(alloc, "live")
-        .about("Runs the deck that standard input holds in threads, and prints the result")
+        .about("Reads a deck from standard input and runs its nodes and tasks as threads")
         .arg(seed)?
         .arg(turns)
 }
@@ -98,7 +92,7 @@ pub fn read_args<S: AsStr>(alloc: Global, words: &[S]) -> Result<Args, Error>
     ensures live { IfOk result (λ args. (seed turns : ℕ)
         → ReadsAs (seed_of (map S.text words.now)) seed
         → ReadsAs (turns_of (map S.text words.now)) turns
-        → args ≡ Args.Live seed turns) }
+        → args ≡ live_args seed turns) }
     ensures refused { FailsBy (fault_of console (map S.text words.now)) result }
 {
     let matches = command(alloc)?.try_get_matches_from(words)?;
@@ -107,10 +101,10 @@ pub fn read_args<S: AsStr>(alloc: Global, words: &[S]) -> Result<Args, Error>
         return Ok(Args::Script { traced });
     }
     match matches.subcommand_matches("live") {
-        Some(found) => Ok(Args::Live {
+        Some(found) => Ok(Args::Live(LiveRequest {
             seed: number_of(found, "seed"),
             turns: number_of(found, "turns"),
-        }),
+        })),
         None => unreachable!(),
     }
 }
@@ -121,32 +115,4 @@ fn number_of(found: &ArgMatches<'_>, id: &str) -> u32
         → result ≡ number }
 {
     found.get_one::<u32>(id).unwrap_or(0)
-}
-
-/// The refusal of words of which one is not UTF-8, or `OutOfMemory` if there is no memory for it.
-pub fn unread_words(alloc: Global) -> Error
-    ensures { IsUnread (kind_of result) }
-{
-    match not_utf8(alloc) {
-        Ok(error) => error,
-        Err(error) => Error::from(error),
-    }
-}
-
-/// The error that a word is not UTF-8.
-fn not_utf8(alloc: Global) -> Result<Error, AllocError>
-    ensures { IfOk result (λ error. kind_of error ≡ ErrorKind.InvalidValue) }
-{
-    command(alloc)?.error(ErrorKind::InvalidValue, "a word is not UTF-8")
-}
-
-/// Why words that could not be read ask for no run.
-pub fn no_run(error: &Error) -> NoRun
-    ensures { result ≡ no_run_of (kind_of error.now) }
-{
-    match error.kind() {
-        ErrorKind::OutOfMemory => NoRun::OutOfMemory,
-        ErrorKind::DisplayHelp | ErrorKind::DisplayVersion => NoRun::Help,
-        _ => NoRun::Mistake,
-    }
 }

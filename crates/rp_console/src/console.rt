@@ -2,18 +2,15 @@
 
 ghost use Rattle.std.specs.Prelude.{◌≡◌, IfErr, IfOk, OnErr, OnOk, map};
 ghost use Rattle.std.specs.Io.KnownBytes.{Appends};
-ghost use Rattle.clap.specs.Values.{kind_of};
-ghost use Rattle.rp_console.specs.Console.{FollowsWords, HasBegun, IsUnread, Prints, mode_of, RefusesAs, report_of};
+ghost use Rattle.rp_console.specs.Console.{FollowsWords, HasBegun, Prints, mode_of, report_of};
 ghost use Rattle.rp_output.specs.Endings.{status_after};
 ghost use Rattle.rp_script.specs.Faults.{IsBadDeck, IsProgramFault};
 ghost use Rattle.rp_script.specs.Given.{IsMeant};
 
-use crate::args::{Args, no_run, read_args, unread_words};
-use clap::Error;
-use clap::error::ErrorKind;
+use crate::args::{Args, read_args};
 use rp_base::Fault;
-use rp_output::{Ending, Streams, fail, refuse};
-use rp_script::{FiguresLine, LiveRequest, run_live, run_script};
+use rp_output::{Ending, Streams, fail, refuse_words};
+use rp_script::{FiguresLine, run_live, run_script};
 use std::alloc::Global;
 use std::convert::AsStr;
 use std::io::{Read, Write};
@@ -72,43 +69,11 @@ fn run_as<T: Threads + Wait + Clock, R: Read, W: Write>(
             Ok(()) => Ok(None),
             Err(fault) => Err(fault),
         },
-        Args::Live { seed, turns } => match run_live(
-            rt,
-            alloc,
-            reader,
-            LiveRequest { seed, turns },
-            writer,
-        ) {
+        Args::Live(request) => match run_live(rt, alloc, reader, request, writer) {
             Ok(figures) => Ok(Some(figures)),
             Err(fault) => Err(fault),
         },
     }
-}
-
-/// Reports that one of the words is not UTF-8.
-pub fn refuse_unread<R: Read + Drop, W: Write + Drop, E: Write + Drop>(
-    alloc: Global,
-    streams: &mut Streams<R, W, E>,
-) -> Ending
-    // claim: Words of which one is not UTF-8 are refused as wrong words, or as a fault if there is
-    //   no memory for that
-    ensures refused { (why : ErrorKind) × IsUnread why × RefusesAs why
-        (W.contents streams.old.writer) (W.contents streams.new.writer)
-        (E.contents streams.old.errors) (E.contents streams.new.errors) result }
-{
-    refuse_words(&unread_words(alloc), streams)
-}
-
-/// Reports why the words are wrong, or prints the help that they ask for.
-fn refuse_words<R: Read + Drop, W: Write + Drop, E: Write + Drop>(
-    error: &Error,
-    streams: &mut Streams<R, W, E>,
-) -> Ending
-    ensures refused { RefusesAs (kind_of error.now)
-        (W.contents streams.old.writer) (W.contents streams.new.writer)
-        (E.contents streams.old.errors) (E.contents streams.new.errors) result }
-{
-    refuse(no_run(error), error, streams)
 }
 
 /// Reports a run's figures or its fault, if it has any.

@@ -1,6 +1,8 @@
 -- The status that a program ends with, and what it reports if its words ask for no run.
 use Rattle.std.specs.Prelude.{◌≡◌, ◌≢◌, ◌⊎◌, ℕ, Option, Result, Ok, Err, List, OnOk}
 use Rattle.std.specs.Io.KnownBytes.{Appends}
+use Rattle.clap.specs.declared.error.kind.ErrorKind.{ErrorKind}
+use Rattle.clap.specs.declared.error.kind.ErrorKind.TheVariants as kinds
 use Rattle.rp_base.specs.declared.fault.Fault.{Fault}
 use Rattle.rp_base.specs.declared.fault.Fault.TheVariants as faults
 use Rattle.rp_output.specs.FaultMessage.{fault_message_of, with_line_feed}
@@ -32,10 +34,27 @@ ReportsFault fault errors errors_after ending =
 -- Wrong words were reported, or help or the version was printed and nothing else. The status is the
 -- one for why there is no run; if help or the version could not be printed it is that of `Io`,
 -- which is reported.
-pub record RefusesFor (why : NoRun) (output output_after errors errors_after : Option (List ℕ)) (ending : Ending)
-    : Type 0 where
+pub record RefusesFor (why : NoRun) (output output_after errors errors_after : Option (List ℕ))
+    (ending : Ending) : Type 0 where
   pub status : (ending.status ≡ no_run_status why)
-      ⊎ ((why ≡ Help) × (ending.status ≡ status_of faults.Io) × ReportsFault faults.Io errors errors_after ending)
+      ⊎ ((why ≡ Help) × (ending.status ≡ status_of faults.Io)
+      × ReportsFault faults.Io errors errors_after ending)
   pub output_kept : why ≢ Help → output_after ≡ output
   pub errors_kept : why ≡ Help → ending.status ≡ no_run_status why → errors_after ≡ errors
   pub memory : why ≡ OutOfMemory → ReportsFault faults.OutOfMemory errors errors_after ending
+
+-- why words that could not be read ask for no run
+abbrev pub no_run_of : ErrorKind → NoRun
+no_run_of kinds.OutOfMemory = OutOfMemory
+no_run_of kinds.DisplayHelp = Help
+no_run_of kinds.DisplayVersion = Help
+no_run_of _ = Mistake
+
+-- wrong words were reported, or help or the version was printed and nothing else
+abbrev pub RefusesAs : ErrorKind → Option (List ℕ) → Option (List ℕ) → Option (List ℕ)
+    → Option (List ℕ) → Ending → Type 0
+RefusesAs kind = RefusesFor (no_run_of kind)
+
+-- one of the words is not UTF-8, or there is no memory to report that
+abbrev pub IsUnread : ErrorKind → Type 0
+IsUnread kind = (kind ≡ kinds.InvalidValue) ⊎ (kind ≡ kinds.OutOfMemory)

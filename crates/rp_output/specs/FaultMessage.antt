@@ -4,10 +4,13 @@ use Rattle.rp_base.specs.Fault.{code_of, name_of}
 use Rattle.rp_base.specs.declared.fault.Fault.{Fault}
 use Rattle.rp_base.specs.declared.fault.Fault.TheVariants.{BadDeck}
 use Rattle.rp_base.specs.declared.fault.DeckReason.{DeckReason}
-use Rattle.rp_base.specs.declared.fault.DeckReason.TheVariants.{NodesExpected, UnknownWord, WrongNumberOfWords}
-use Rattle.rp_base.specs.declared.fault.DeckReason.TheVariants.{BadNumber, BadName, DuplicateName, UnknownName, TooMany}
-use Rattle.rp_base.specs.declared.fault.DeckReason.TheVariants.{BadExpression, TaskExpected, ObjectExpected}
-use Rattle.rp_base.specs.declared.fault.DeckReason.TheVariants.{EndExpected, ScriptExpected, NotInLive}
+use Rattle.rp_base.specs.declared.fault.DeckReason.TheVariants.{NodesExpected, UnknownWord}
+use Rattle.rp_base.specs.declared.fault.DeckReason.TheVariants.{WrongNumberOfWords, BadNumber}
+use Rattle.rp_base.specs.declared.fault.DeckReason.TheVariants.{BadName, DuplicateName, UnknownName}
+use Rattle.rp_base.specs.declared.fault.DeckReason.TheVariants.{TooMany, BadExpression}
+use Rattle.rp_base.specs.declared.fault.DeckReason.TheVariants.{TaskExpected, ObjectExpected}
+use Rattle.rp_base.specs.declared.fault.DeckReason.TheVariants.{EndExpected, ScriptExpected}
+use Rattle.rp_base.specs.declared.fault.DeckReason.TheVariants.{NotInLive}
 
 -- the words for a reason
 abbrev pub reason_text_of : DeckReason → List ℕ
@@ -28,7 +31,8 @@ reason_text_of NotInLive = codes "not in live"
 
 -- the line for a fault, without its end
 abbrev pub fault_message_of : Fault → List ℕ
-fault_message_of (BadDeck line reason) = codes "deck line " ++ (decimal line ++ (codes ": " ++ reason_text_of reason))
+fault_message_of (BadDeck line reason) =
+    codes "deck line " ++ (decimal line ++ (codes ": " ++ reason_text_of reason))
 fault_message_of fault = codes "fault " ++ (decimal (code_of fault) ++ (codes " " ++ name_of fault))
 
 -- a line with its end

@@ -1,7 +1,8 @@
 -- Which faults end a run in memory.
 use Rattle.rp_base.specs.declared.fault.Fault.{Fault}
-use Rattle.rp_base.specs.declared.fault.Fault.TheVariants.{OutOfMemory, Device, Failed, BadPacket, NotRunning}
-use Rattle.rp_base.specs.declared.fault.Fault.TheVariants.{BallotsSpent, LogFull, NoSuchMessage, TaskBusy, NumbersSpent}
+use Rattle.rp_base.specs.declared.fault.Fault.TheVariants.{OutOfMemory, Device, Failed, BadPacket}
+use Rattle.rp_base.specs.declared.fault.Fault.TheVariants.{NotRunning, BallotsSpent, LogFull}
+use Rattle.rp_base.specs.declared.fault.Fault.TheVariants.{NoSuchMessage, TaskBusy, NumbersSpent}
 use Rattle.rp_base.specs.declared.fault.Fault.TheVariants.{BadDeck, BadConfig, Io}
 
 -- a fault that ends a run in memory: memory ran out, or a write failed

@@ -6,7 +6,8 @@ use Rattle.rp_base.specs.declared.fault.Fault.{Fault}
 use Rattle.rp_base.specs.declared.reply.Reply.{Reply}
 use Rattle.rp_output.specs.declared.printed.NodeState.{NodeState}
 use Rattle.rp_output.specs.declared.printed.NodeState.TheVariants as states
-use Rattle.rp_base.specs.declared.reply.Reply.TheVariants.{Value, Truth, ConstraintError, ProgramError, NoSuchOperation}
+use Rattle.rp_base.specs.declared.reply.Reply.TheVariants.{Value, Truth, ConstraintError}
+use Rattle.rp_base.specs.declared.reply.Reply.TheVariants.{ProgramError, NoSuchOperation}
 
 -- the words for a reply
 abbrev pub reply_text_of : Reply → List ℕ
@@ -20,18 +21,21 @@ reply_text_of NoSuchOperation = codes "No_Such_Operation"
 -- the line of a task that takes the reply to one of its calls
 abbrev pub reply_line_of : List ℕ → ℕ → Reply → List ℕ
 reply_line_of task number reply =
-    codes "reply " ++ (task ++ (codes " " ++ (decimal number ++ (codes " " ++ reply_text_of reply))))
+    codes "reply " ++ (task ++ (codes " "
+    ++ (decimal number ++ (codes " " ++ reply_text_of reply))))
 
 -- the line of a step of the script that was refused
 abbrev pub refused_line_of : ℕ → Fault → List ℕ
 refused_line_of line fault =
-    codes "line " ++ (decimal line ++ (codes ": refused " ++ (decimal (code_of fault) ++ (codes " " ++ name_of fault))))
+    codes "line " ++ (decimal line ++ (codes ": refused "
+    ++ (decimal (code_of fault) ++ (codes " " ++ name_of fault))))
 
 -- the line of a stopped node that runs again: how many records it found, and how many bytes it
 -- truncated
 abbrev pub opened_line_of : ℕ → ℕ → ℕ → List ℕ
 opened_line_of node records bytes =
-    codes "node " ++ (decimal node ++ (codes " open records " ++ (decimal records ++ (codes " cut " ++ decimal bytes))))
+    codes "node " ++ (decimal node ++ (codes " open records "
+    ++ (decimal records ++ (codes " cut " ++ decimal bytes))))
 
 -- the line of a node that is to start again and is running already
 abbrev pub running_line_of : ℕ → List ℕ
@@ -43,7 +47,8 @@ full_line_of node = codes "node " ++ (decimal node ++ codes " pending full")
 
 -- the line of how many actions a node has applied
 abbrev pub applied_line_of : ℕ → ℕ → List ℕ
-applied_line_of node applied = codes "node " ++ (decimal node ++ (codes " applied " ++ decimal applied))
+applied_line_of node applied =
+    codes "node " ++ (decimal node ++ (codes " applied " ++ decimal applied))
 
 -- the line of a stopped node
 abbrev pub stopped_line_of : ℕ → List ℕ

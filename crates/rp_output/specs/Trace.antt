@@ -5,8 +5,9 @@ use Rattle.rp_base.specs.declared.action.Action.TheVariants as actions
 use Rattle.rp_base.specs.Ranges.{Range}
 use Rattle.rp_codec.specs.Message.{Message}
 use Rattle.rp_codec.specs.declared.packet.Body.{Body}
-use Rattle.rp_codec.specs.declared.packet.Body.TheVariants.{Call, Prepare, Promise, Accept, Accepted, Decided, Ask}
-use Rattle.rp_codec.specs.declared.packet.Body.TheVariants.{Nack, Reply, Report, PrepareRange, PromiseRange}
+use Rattle.rp_codec.specs.declared.packet.Body.TheVariants.{Call, Prepare, Promise, Accept}
+use Rattle.rp_codec.specs.declared.packet.Body.TheVariants.{Accepted, Decided, Ask, Nack, Reply}
+use Rattle.rp_codec.specs.declared.packet.Body.TheVariants.{Report, PrepareRange, PromiseRange}
 use Rattle.rp_codec.specs.declared.packet.Party.{Party}
 use Rattle.rp_codec.specs.declared.packet.Party.TheVariants.{Node, Task, Audit}
 use Rattle.rp_model.specs.World.{part_at}
@@ -41,6 +42,21 @@ abbrev pub range_text_of : Range → ℕ → List ℕ
 range_text_of range ballot =
     decimal range.first ++ (codes " " ++ (decimal range.count ++ (codes " " ++ decimal ballot)))
 
+-- the name of a packet's kind
+abbrev pub kind_name : Body → List ℕ
+kind_name (Call action) = codes "call"
+kind_name (Prepare position ballot) = codes "prepare"
+kind_name (Promise position ballot last) = codes "promise"
+kind_name (Accept position ballot action) = codes "accept"
+kind_name (Accepted position ballot action) = codes "accepted"
+kind_name (Decided position action) = codes "decided"
+kind_name (Ask position) = codes "ask"
+kind_name (Nack position ballot bound) = codes "nack"
+kind_name (Reply number reply) = codes "reply"
+kind_name (Report first applied printed) = codes "report"
+kind_name (PrepareRange range ballot) = codes "prepare_range"
+kind_name (PromiseRange range ballot votes) = codes "promise_range"
+
 -- the kind of a packet, and what distinguishes it from others of its kind
 abbrev pub body_text_of : Body → List ℕ
 body_text_of (Call action) = codes "call " ++ decimal (call_number action)
@@ -54,12 +70,15 @@ body_text_of (Nack position ballot bound) = codes "nack " ++ ballot_text_of posi
 body_text_of (Reply number reply) = codes "reply " ++ decimal number
 body_text_of (Report first applied printed) = codes "report " ++ decimal first
 body_text_of (PrepareRange range ballot) = codes "prepare_range " ++ range_text_of range ballot
-body_text_of (PromiseRange range ballot votes) = codes "promise_range " ++ range_text_of range ballot
+body_text_of (PromiseRange range ballot votes) =
+    codes "promise_range " ++ range_text_of range ballot
 
 -- the line of the message of a number, with its sender, its receiver and its body
 abbrev pub trace_line_of : ℕ → List ℕ → List ℕ → Body → List ℕ
 trace_line_of number from to body =
-    codes "m" ++ (decimal number ++ (codes " " ++ (from ++ (codes ">" ++ (to ++ (codes " " ++ body_text_of body))))))
+    codes "m" ++ (decimal number ++ (codes " " ++ (from
+    ++ (codes ">" ++ (to ++ (codes " " ++ body_text_of body))))))
 
 abbrev pub message_line_of : List (List ℕ) → ℕ → Message → List ℕ
-message_line_of names number m = trace_line_of number (party_text_of names m.from) (party_text_of names m.to) m.body
+message_line_of names number m =
+    trace_line_of number (party_text_of names m.from) (party_text_of names m.to) m.body

@@ -1,11 +1,11 @@
 //! How a program ends, and what it reports.
 
-ghost use Rattle.std.specs.Prelude.{◌≡◌, OnOk};
+ghost use Rattle.std.specs.Prelude.{◌≡◌, IfSome, OnOk};
 ghost use Rattle.std.specs.Io.KnownBytes.{Appends};
 ghost use Rattle.rp_output.specs.Endings.{RefusesFor, no_run_status, status_of};
 ghost use Rattle.rp_output.specs.FaultMessage.{fault_message_of, with_line_feed};
 
-use crate::fault_message::print_fault;
+use crate::fault_message::tell;
 use crate::stream::write_out;
 use rp_base::Fault;
 use std::fmt::Display;
@@ -60,8 +60,14 @@ pub fn refuse<D: Display, R: Drop, W: Write + Drop, E: Write + Drop>(
     text: &D,
     streams: &mut Streams<R, W, E>,
 ) -> Ending
-    ensures { RefusesFor why (W.contents streams.old.writer) (W.contents streams.new.writer)
+    ensures refused { RefusesFor why
+        (W.contents streams.old.writer) (W.contents streams.new.writer)
         (E.contents streams.old.errors) (E.contents streams.new.errors) result }
+    ensures mistake { IfSome (D.output text.now) (λ bytes. why ≡ NoRun.Mistake
+        → OnOk result.reported
+        (Appends (E.contents streams.old.errors) (E.contents streams.new.errors) bytes)) }
+    ensures help { IfSome (D.output text.now) (λ bytes. why ≡ NoRun.Help → result.status ≡ 0
+        → Appends (W.contents streams.old.writer) (W.contents streams.new.writer) bytes) }
 {
     let reported = match why {
         NoRun::OutOfMemory => return fail(&mut streams.errors, Fault::OutOfMemory),
@@ -87,7 +93,7 @@ pub fn fail<E: Write>(errors: &mut E, fault: Fault) -> Ending
     ensures reported { OnOk result.reported (Appends (E.contents errors.old)
         (E.contents errors.new) (with_line_feed (fault_message_of fault))) }
 {
-    let reported = print_fault(&fault, errors);
+    let reported = tell(&fault, errors);
     Ending {
         status: status(&fault),
         reported,

@@ -25,7 +25,7 @@ pub fn is_refusal(fault: &Fault) -> bool
 }
 
 /// Writes the line for a fault: where and why the deck is bad, or the fault's number and name.
-pub fn print_fault<W: Write>(fault: &Fault, writer: &mut W) -> io::Result<()>
+pub fn tell<W: Write>(fault: &Fault, writer: &mut W) -> io::Result<()>
     ensures { OnOk result (Appends (W.contents writer.old) (W.contents writer.new)
         (with_line_feed (fault_message_of fault.now))) }
 {

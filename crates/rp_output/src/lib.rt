@@ -6,6 +6,7 @@
 //! - `fault_message`: the line that is printed for a fault
 //! - `stream`: writes what a run prints
 //! - `ending`: how a program ends, and what it reports
+//! - `words`: what the programs do with the words of their command lines
 #![tactic(auto)]
 
 mod ending;
@@ -13,11 +14,13 @@ mod fault_message;
 mod printed;
 mod stream;
 mod trace;
+mod words;
 
 pub use ending::{Ending, NoRun, Streams, fail, refuse};
-pub use fault_message::{FaultMessage, is_refusal, print_fault, reason_text};
+pub use fault_message::{FaultMessage, is_refusal, reason_text, tell};
 pub use printed::{
     AgreedLine, DrainLimitLine, NodeLine, NodeState, RefusedLine, ReplyLine, ReplyText,
 };
 pub use stream::{print, write_out, write_whole};
 pub use trace::{BodyText, PartyText, TraceLine};
+pub use words::{VERSION, given_words, refuse_unread, refuse_words};

@@ -1,7 +1,7 @@
 //! The line of a trace for a packet. The caller ends it with a line feed.
 
 ghost use Rattle.std.specs.Prelude.{◌≡◌, Some};
-ghost use Rattle.rp_output.specs.Trace.{body_text_of, call_number, trace_line_of};
+ghost use Rattle.rp_output.specs.Trace.{body_text_of, call_number, kind_name, trace_line_of};
 
 use rp_base::{Action, Ballot, NodeId, Position, PositionRange};
 use rp_codec::Body;
@@ -81,69 +81,70 @@ impl fmt::Display for BodyText<'_> {
     ghost output = { λ l. Some (body_text_of l.body.now) };
 
     fn fmt<W: fmt::Write>(&self, f: &mut fmt::Formatter<W>) -> fmt::Result {
+        let kind = kind_name(self.body);
         match *self.body {
             Body::Call { action } => {
                 let number = call_number(action);
-                write!(f, "call {number}")
+                write!(f, "{kind} {number}")
             }
-            Body::Prepare { position, ballot } => {
-                let ballot = BallotText { position, ballot };
-                write!(f, "prepare {ballot}")
+            Body::Prepare { position, ballot }
+            | Body::Promise {
+                position,
+                ballot,
+                ..
             }
-            Body::Promise {
+            | Body::Accept {
+                position,
+                ballot,
+                ..
+            }
+            | Body::Accepted {
+                position,
+                ballot,
+                ..
+            }
+            | Body::Nack {
                 position,
                 ballot,
                 ..
             } => {
                 let ballot = BallotText { position, ballot };
-                write!(f, "promise {ballot}")
+                write!(f, "{kind} {ballot}")
             }
-            Body::Accept {
-                position,
-                ballot,
-                ..
-            } => {
-                let ballot = BallotText { position, ballot };
-                write!(f, "accept {ballot}")
-            }
-            Body::Accepted {
-                position,
-                ballot,
-                ..
-            } => {
-                let ballot = BallotText { position, ballot };
-                write!(f, "accepted {ballot}")
-            }
-            Body::Decided { position, .. } => {
+            Body::Decided { position, .. } | Body::Ask { position } => {
                 let position = position.get();
-                write!(f, "decided {position}")
+                write!(f, "{kind} {position}")
             }
-            Body::Ask { position } => {
-                let position = position.get();
-                write!(f, "ask {position}")
-            }
-            Body::Nack {
-                position,
-                ballot,
-                ..
-            } => {
-                let ballot = BallotText { position, ballot };
-                write!(f, "nack {ballot}")
-            }
-            Body::PrepareRange { range, ballot } => {
+            Body::PrepareRange { range, ballot } | Body::PromiseRange { range, ballot, .. } => {
                 let range = RangeText { range, ballot };
-                write!(f, "prepare_range {range}")
+                write!(f, "{kind} {range}")
             }
-            Body::PromiseRange { range, ballot, .. } => {
-                let range = RangeText { range, ballot };
-                write!(f, "promise_range {range}")
-            }
-            Body::Reply { number, .. } => write!(f, "reply {number}"),
+            Body::Reply { number, .. } => write!(f, "{kind} {number}"),
             Body::Report { first, .. } => {
                 let first = first.get();
-                write!(f, "report {first}")
+                write!(f, "{kind} {first}")
             }
         }
+    }
+}
+
+/// The name of a packet's kind.
+fn kind_name(body: &Body) -> &'static str
+    ensures { result.now ≡ kind_name body.now }
+{
+    match body {
+        Body::Call { .. } => "call",
+        Body::Prepare { .. } => "prepare",
+        Body::Promise { .. } => "promise",
+        Body::Accept { .. } => "accept",
+        Body::Accepted { .. } => "accepted",
+        Body::Decided { .. } => "decided",
+        Body::Ask { .. } => "ask",
+        Body::Nack { .. } => "nack",
+        Body::Reply { .. } => "reply",
+        Body::Report { .. } => "report",
+        Body::PrepareRange { .. } => "prepare_range",
+        Body::PromiseRange { .. } => "promise_range",
     }
 }
 

@@ -1,6 +1,7 @@
 -- What an event is for the tasks: a node's, which changes none of them, or one task's own step.
-use Rattle.std.proofs.Common.{◌≡◌, ◌⊎◌, ℕ, suc, ◌+◌, ◌-◌, ◌<◌, ◌^◌, Bool, true, false, not, ◌||◌, ℤ, Result, Ok, Err, Option, Some, None, List, [], ◌∷◌, ◌++◌, length, arith, inl, inr, refl, sym, ap, subst, ◌∙◌}
+use Rattle.std.proofs.Common.{◌≡◌, ◌⊎◌, ℕ, suc, ◌+◌, ◌-◌, ◌<◌, ◌^◌, Bool, true, false, not, ◌||◌, ℤ, Result, Ok, Err, Option, Some, None, List, [], ◌∷◌, ◌++◌, length, arith, inl, inr, refl, sym, ap, subst, ◌∙◌, append-nil}
 use Rattle.std.specs.Prelude.{is_some, nat_lt, nat_le, nat_eq, if◌then◌else◌}
+use Rattle.std.specs.List.{cons_option}
 use Rattle.std.proofs.lemmas.Bool.{cases_Bool, cond-true, cond-false, and_parts, eqb-true, ltb-true}
 use Rattle.std.proofs.lemmas.List.{length-append}
 use Rattle.rp_base.specs.Action.{is_right}
@@ -193,10 +194,11 @@ event_is_for s w (events.Restart me) = restarts_for s (events.Restart me) refl w
 
 -- ---- what a task's step does
 
--- Its replies stay, it has made one call more for each that its input asks for, the next one, of which it
+-- Its replies stay, with the one that it takes after them; it has made one call more for each that its input asks for, the next one, of which it
 -- asks a node, and a reply that it takes is among its replies.
 pub record StepsOn (t : ℕ) (part : TaskPart) (input : TaskInput) (done : Done TaskPart) : Type 0 where
   pub replies : (answer : Answer) → Has answer part.replies → Has answer done.part.replies
+  pub grown : done.part.replies ≡ part.replies ++ cons_option done.taken []
   pub many : calls_so_far done.part ≡ calls_so_far part + length (made_by input)
   pub sends : (asked : Asked) → Has asked (made_by input) → (node : ℕ) × Has (asks t node (call_for t (suc (calls_so_far part)) asked)) done.sends
   pub taken : (answer : Answer) → done.taken ≡ Some answer → (answer.task ≡ t) × Has answer done.part.replies
@@ -208,6 +210,7 @@ StepsOnIf t part input (Err fault) = Unit {0}
 stays : (t : ℕ) (part : TaskPart) (input : TaskInput) → made_by input ≡ [] → StepsOn t part input (goes_on_as part)
 stays t part input none = record {
   replies = λ answer h. h;
+  grown = sym (append-nil part.replies);
   many = let same : calls_so_far part ≡ calls_so_far part + 0 = omega arith in same ∙ ap (λ (l : List Asked). calls_so_far part + length l) (sym none);
   sends = λ asked h. absurd (subst (λ (l : List Asked). Has asked l) none h);
   taken = λ answer e. absurd (cc);
@@ -239,6 +242,7 @@ call_steps t node object operation arg part (Ok call) this =
     let next : call ≡ call_for t (suc (calls_so_far part)) asked = this.0 ∙ ap (λ (n : ℕ). call_for t (suc n) asked) (sym idle) in
     record {
       replies = λ answer h. h;
+      grown = sym (append-nil part.replies);
       many = let sum : suc (length part.replies) ≡ length part.replies + 1 = omega arith in sum ∙ ap (λ (n : ℕ). n + 1) (sym idle);
       sends = λ other h. elim h [
         | inl same ↦ (node, inl (ap (asks t node) (ap (call_for t (suc (calls_so_far part))) same ∙ sym next)))
@@ -252,6 +256,7 @@ again_steps : (t node : ℕ) (part : TaskPart) (waiting : Option Action) → Ste
 again_steps t node part None = stays t part (Again node) refl
 again_steps t node part (Some call) = record {
   replies = λ answer h. h;
+  grown = sym (append-nil part.replies);
   many = omega arith;
   sends = λ asked h. absurd h;
   taken = λ answer e. absurd (cc);
@@ -281,6 +286,7 @@ reply_steps t part message number reply =
           let sum : length (part.replies ++ answer ∷ []) ≡ length part.replies + 1 = length-append part.replies (answer ∷ []) in
           subst (StepsOn t part (Take message)) (sym (cond-true (takes part number) one (goes_on_as part) hit)) (record {
             replies = λ other h. has_left other part.replies (answer ∷ []) h;
+            grown = refl;
             many = omega (arith, sum, so_far);
             sends = λ asked h. absurd h;
             taken = λ other e. let is : other ≡ answer = same_answer e in

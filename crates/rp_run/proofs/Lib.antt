@@ -6,6 +6,7 @@ pub mod LeastUnsettled
 mod Histories
 mod ItemTexts
 mod Acting
+mod Showing
 mod Recounting
 pub mod Printing
 pub mod RunParts

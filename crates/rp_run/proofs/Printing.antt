@@ -171,6 +171,7 @@ module _ {S : Type 0} (s : RunSetting S) (items : List Item) (w : World) (recoun
     ordered = ordered;
     shown = shown_by;
     replied = replied_by;
+    all = recounted.all;
     alike = λ one other applied image another first second. (shown_by one applied image first).image_is ∙ sym (shown_by other applied another second).image_is;
   }
 

@@ -1,6 +1,6 @@
 -- What the items of a run are to its world: what was shown, taken and called.
 use Rattle.std.proofs.Common.{◌≡◌, ◌≢◌, ◌⊎◌, ℕ, zero, suc, ◌+◌, ◌-◌, ◌^◌, min, Bool, true, false, cond, ◌&&◌, Result, Ok, Err, Option, Some, None, List, [], ◌∷◌, ◌++◌, length, replicate, arith, inl, inr, refl, sym, ap, subst, ◌∙◌, append_assoc, append-nil}
-use Rattle.std.specs.Prelude.{nat_eq, nat_le, slice_get, flat_map}
+use Rattle.std.specs.Prelude.{nat_eq, nat_le, slice_get, filter_map}
 use Rattle.std.specs.List.{cons_option}
 use Rattle.std.proofs.lemmas.Bool.{cases_eq}
 use Rattle.std.proofs.lemmas.Bool.Decides.{nat_tests}
@@ -27,15 +27,16 @@ use Rattle.rp_model.specs.declared.event.Event.TheVariants.{Node as NodeStep}
 use Rattle.rp_model.specs.declared.event.Step.TheVariants.{Deliver}
 use Rattle.rp_model.proofs.WorldGrowing.{GrowsIf, event_grows}
 use Rattle.rp_agreement.specs.Answered.{calls_so_far}
-use Rattle.rp_agreement.specs.Order.{Begins}
+use Rattle.rp_agreement.specs.Order.{IsPrefix}
 use Rattle.rp_agreement.specs.Asked.{Asks}
 use Rattle.rp_agreement.proofs.PartPlaces.{part_below, put_there, put_beside}
 use Rattle.rp_run.specs.Agreeing.{call_for}
-use Rattle.rp_run.specs.Items.{Item, Replied, Shown, Noted, Note, Refused, DrainLimit, Asked, asked_in, asked_by}
+use Rattle.rp_run.specs.Items.{Item, Replied, Shown, Noted, Note, Stopped, Refused, DrainLimit, Asked, asked_in, asked_by, reply_in, replies_by}
 use Rattle.rp_run.specs.Output.{RunSetting, Play, Said, nothing_said, note_said, and_then, called_by, taken_items, traced_notes, changed_notes, state_item, part_items, nodes_items, least_unsettled, effect_of, effect_said, event_said, drain_from, command_said, script_said, opening_play, run_said, from_to}
 use Rattle.rp_output.specs.Trace.{task_name}
 use Rattle.rp_run.proofs.Acting.{made_by, calls_as, IsForNone, IsFor, event_is_for, StepsOn, task_steps_on}
 use Rattle.rp_run.proofs.Refusing.{part_there}
+use Rattle.rp_run.proofs.Showing.{IsState, shown_in, nodes_shown, taken_none}
 use Rattle.rp_deck.specs.declared.deck.Command.{Command}
 use Rattle.rp_deck.specs.declared.deck.Command.TheVariants.{Take, Lose, Drain, Show}
 use Rattle.rp_deck.specs.declared.deck.Line.{Line}
@@ -51,7 +52,7 @@ module _ {S : Type 0} (s : RunSetting S) where
     pub part : NodePart
     pub there : part_at w.nodes node ≡ Some part
     pub before : List Action
-    pub begins : Begins before (applied_of part.records)
+    pub begins : IsPrefix before (applied_of part.records)
     pub count : applied ≡ min (length before) (2 ^ 16 - 1)
     pub image_is : image ≡ s.image (replay_state s.setting.next s.setting.answers s.setting.begin before)
 
@@ -67,10 +68,15 @@ module _ {S : Type 0} (s : RunSetting S) where
     pub many : (part : TaskPart) → part_at w.tasks t ≡ Some part → length made ≡ calls_so_far part
     pub sent : (k : ℕ) (asked : Asked) → slice_get made k ≡ Some asked → Asks w.sent t (call_for t (suc k) asked)
 
+  -- these are the replies that the task took, in order
+  abbrev AreAllTaken : World → ℕ → List Answer → Type 0
+  AreAllTaken w t replies = (part : TaskPart) → part_at w.tasks t ≡ Some part → replies ≡ part.replies
+
   pub record IsRecounted (items : List Item) (w : World) : Type 0 where
     pub shown : (node applied : ℕ) (image : List ℕ) → Has (Shown node applied image) items → WasShown w node applied image
     pub replied : (name : List ℕ) (answer : Answer) → Has (Replied name answer) items → WasTaken w name answer
     pub called : (t : ℕ) → WereMade w t (asked_by t items)
+    pub all : (t : ℕ) → AreAllTaken w t (replies_by t items)
 
   -- ---- at first
 
@@ -91,6 +97,7 @@ module _ {S : Type 0} (s : RunSetting S) where
       many = λ part there. ap calls_so_far (sym (part_same 8 t fresh_task part there));
       sent = λ k asked e. absurd (cc);
     };
+    all = λ t part there. ap (λ (p : TaskPart). p.replies) (sym (part_same 8 t fresh_task part there));
   }
 
   -- ---- items that say nothing of replies, states and calls
@@ -109,90 +116,75 @@ module _ {S : Type 0} (s : RunSetting S) where
       | inr last ↦ elim last [ inl same ↦ absurd (cc) | inr none ↦ absurd none ]
     ];
     called = λ t. subst (WereMade w t) (sym (filter_map-append (asked_in t) items (Noted notes ∷ []) ∙ append-nil (asked_by t items))) (old.called t);
+    all = λ t. subst (AreAllTaken w t) (sym (filter_map-append (reply_in t) items (Noted notes ∷ []) ∙ append-nil (replies_by t items))) (old.all t);
   }
 
   -- ---- nodes that are shown
-
-  state_shown : (node : ℕ) (records : List Rec) (running : Option Running) (shown applied : ℕ) (image : List ℕ) → Shown shown applied image ≡ state_item s node records running
-      → (shown ≡ node) × (applied ≡ min (length (applied_of records)) (2 ^ 16 - 1)) × (image ≡ s.image (replay_state s.setting.next s.setting.answers s.setting.begin (applied_of records)))
-  state_shown node records None shown applied image e = absurd (cc)
-  state_shown node records (Some running) shown applied image e = ((cc), (cc), (cc))
 
   no_reply_shown : (node : ℕ) (records : List Rec) (running : Option Running) (name : List ℕ) (answer : Answer) → Replied name answer ≡ state_item s node records running → ⊥
   no_reply_shown node records None name answer e = cc
   no_reply_shown node records (Some running) name answer e = cc
 
-  no_call_shown : (t node : ℕ) (records : List Rec) (running : Option Running) → asked_in t (state_item s node records running) ≡ None
-  no_call_shown t node records None = refl
-  no_call_shown t node records (Some running) = refl
+  -- an item of a node is nothing that is sought, if neither a state nor notes are
+  module _ {X : Type 0} (sought : Item → Option X) (no_state : (node applied : ℕ) (image : List ℕ) → sought (Shown node applied image) ≡ None)
+      (no_notes : (notes : List Note) → sought (Noted notes) ≡ None) where
+    not_in_state : (node : ℕ) (records : List Rec) (running : Option Running) → sought (state_item s node records running) ≡ None
+    not_in_state node records None = no_notes (Stopped node ∷ [])
+    not_in_state node records (Some running) =
+        no_state node (min (length (applied_of records)) (2 ^ 16 - 1)) (s.image (replay_state s.setting.next s.setting.answers s.setting.begin (applied_of records)))
 
-  abbrev shown_in : World → List ℕ → List Item
-  shown_in w nodes = flat_map (λ (node : ℕ). part_items s node (part_at w.nodes node)) nodes
+    not_in_part : (node : ℕ) (part : Option NodePart) → filter_map sought (part_items s node part) ≡ []
+    not_in_part node None = refl
+    not_in_part node (Some part) = ap (λ (o : Option X). cons_option o []) (not_in_state node part.records part.running)
 
-  part_shown : (w : World) (node : ℕ) (part : Option NodePart) → part_at w.nodes node ≡ part → (shown applied : ℕ) (image : List ℕ)
-      → Has (Shown shown applied image) (part_items s node part) → WasShown w shown applied image
-  part_shown w node None there shown applied image h = absurd h
-  part_shown w node (Some part) there shown applied image h =
-      elim h [
-        | inl same ↦ let is = state_shown node part.records part.running shown applied image same in
-            record {
-              part = part;
-              there = ap (part_at w.nodes) is.0 ∙ there;
-              before = applied_of part.records;
-              begins = ([], sym (append-nil (applied_of part.records)));
-              count = is.1;
-              image_is = is.2;
-            }
-        | inr none ↦ absurd none
-      ]
+    not_in_nodes : (w : World) (nodes : List ℕ) → filter_map sought (shown_in s w nodes) ≡ []
+    not_in_nodes w [] = refl
+    not_in_nodes w (node ∷ rest) =
+        filter_map-append sought (part_items s node (part_at w.nodes node)) (shown_in s w rest)
+        ∙ ap (λ (l : List X). l ++ filter_map sought (shown_in s w rest)) (not_in_part node (part_at w.nodes node))
+        ∙ not_in_nodes w rest
 
-  nodes_shown : (w : World) (nodes : List ℕ) (shown applied : ℕ) (image : List ℕ) → Has (Shown shown applied image) (shown_in w nodes) → WasShown w shown applied image
-  nodes_shown w [] shown applied image h = absurd h
-  nodes_shown w (node ∷ rest) shown applied image h =
-      elim (has_split (Shown shown applied image) (part_items s node (part_at w.nodes node)) (shown_in w rest) h) [
-        | inl here ↦ part_shown w node (part_at w.nodes node) refl shown applied image here
-        | inr later ↦ nodes_shown w rest shown applied image later
-      ]
+  was_shown : (w : World) (node applied : ℕ) (image : List ℕ) → IsState s w node applied image → WasShown w node applied image
+  was_shown w node applied image is = record {
+    part = is.part;
+    there = is.there;
+    before = applied_of is.part.records;
+    begins = ([], sym (append-nil (applied_of is.part.records)));
+    count = is.count;
+    image_is = is.image_is;
+  }
 
   part_no_reply : (node : ℕ) (part : Option NodePart) (name : List ℕ) (answer : Answer) → Has (Replied name answer) (part_items s node part) → ⊥
   part_no_reply node None name answer h = h
   part_no_reply node (Some part) name answer h = elim h [ inl same ↦ no_reply_shown node part.records part.running name answer same | inr none ↦ none ]
 
-  nodes_no_reply : (w : World) (nodes : List ℕ) (name : List ℕ) (answer : Answer) → Has (Replied name answer) (shown_in w nodes) → ⊥
+  nodes_no_reply : (w : World) (nodes : List ℕ) (name : List ℕ) (answer : Answer) → Has (Replied name answer) (shown_in s w nodes) → ⊥
   nodes_no_reply w [] name answer h = h
   nodes_no_reply w (node ∷ rest) name answer h =
-      elim (has_split (Replied name answer) (part_items s node (part_at w.nodes node)) (shown_in w rest) h) [
+      elim (has_split (Replied name answer) (part_items s node (part_at w.nodes node)) (shown_in s w rest) h) [
         | inl here ↦ part_no_reply node (part_at w.nodes node) name answer here
         | inr later ↦ nodes_no_reply w rest name answer later
       ]
 
-  part_no_call : (t node : ℕ) (part : Option NodePart) → asked_by t (part_items s node part) ≡ []
-  part_no_call t node None = refl
-  part_no_call t node (Some part) = ap (λ (o : Option Asked). cons_option o []) (no_call_shown t node part.records part.running)
-
-  nodes_no_call : (t : ℕ) (w : World) (nodes : List ℕ) → asked_by t (shown_in w nodes) ≡ []
-  nodes_no_call t w [] = refl
-  nodes_no_call t w (node ∷ rest) =
-      filter_map-append (asked_in t) (part_items s node (part_at w.nodes node)) (shown_in w rest)
-      ∙ ap (λ (l : List Asked). l ++ asked_by t (shown_in w rest)) (part_no_call t node (part_at w.nodes node))
-      ∙ nodes_no_call t w rest
-
   pub nodes_more : (items : List Item) (w : World) (count : ℕ) → IsRecounted items w → IsRecounted (items ++ nodes_items s w count) w
   unfolding nodes_items
   nodes_more items w count old =
-      let more = shown_in w (one_to count) in
+      let more = shown_in s w (one_to count) in
       record {
         shown = λ node applied image h. elim (has_split (Shown node applied image) items more h) [
           | inl before ↦ old.shown node applied image before
-          | inr now ↦ nodes_shown w (one_to count) node applied image now
+          | inr now ↦ was_shown w node applied image (nodes_shown s w (one_to count) node applied image now)
         ];
         replied = λ name answer h. elim (has_split (Replied name answer) items more h) [
           | inl before ↦ old.replied name answer before
           | inr now ↦ absurd (nodes_no_reply w (one_to count) name answer now)
         ];
         called = λ t. subst (WereMade w t)
-            (sym (filter_map-append (asked_in t) items more ∙ ap (λ (l : List Asked). asked_by t items ++ l) (nodes_no_call t w (one_to count)) ∙ append-nil (asked_by t items)))
+            (sym (filter_map-append (asked_in t) items more ∙ ap (λ (l : List Asked). asked_by t items ++ l) (not_in_nodes (asked_in t) (λ node applied image. refl) (λ notes. refl) w (one_to count)) ∙ append-nil (asked_by t items)))
             (old.called t);
+        all = λ t. subst (AreAllTaken w t)
+            (sym (filter_map-append (reply_in t) items more ∙ ap (λ (l : List Answer). replies_by t items ++ l) (not_in_nodes (reply_in t) (λ node applied image. refl) (λ notes. refl) w (one_to count)) ∙ append-nil (replies_by t items)))
+            (old.all t);
       }
 
   -- ---- an event
@@ -204,10 +196,6 @@ module _ {S : Type 0} (s : RunSetting S) where
   calls_reply_none : (u : ℕ) (made : List Asked) (name : List ℕ) (answer : Answer) → Has (Replied name answer) (calls_as u made) → ⊥
   calls_reply_none u [] name answer h = h
   calls_reply_none u (asked ∷ rest) name answer h = elim h [ inl same ↦ (cc) | inr later ↦ calls_reply_none u rest name answer later ]
-
-  taken_shows_none : (taken : Option Answer) (node applied : ℕ) (image : List ℕ) → Has (Shown node applied image) (taken_items s.names taken) → ⊥
-  taken_shows_none None node applied image h = h
-  taken_shows_none (Some other) node applied image h = elim h [ inl same ↦ (cc) | inr none ↦ none ]
 
   taken_replied : (taken : Option Answer) (name : List ℕ) (answer : Answer) → Has (Replied name answer) (taken_items s.names taken) → (taken ≡ Some answer) × (name ≡ task_name s.names answer.task)
   taken_replied None name answer h = absurd h
@@ -221,14 +209,19 @@ module _ {S : Type 0} (s : RunSetting S) where
   taken_calls_none t notes None = refl
   taken_calls_none t notes (Some answer) = refl
 
+  calls_take_none : (t u : ℕ) (made : List Asked) → replies_by t (calls_as u made) ≡ []
+  calls_take_none t u [] = refl
+  calls_take_none t u (asked ∷ rest) = calls_take_none t u rest
+
   -- what an event adds: the calls of one task, text, and a reply that was taken
   event_more : (items : List Item) (w w' : World) (u : ℕ) (made : List Asked) (notes : List Note) (taken : Option Answer)
       → ((node applied : ℕ) (image : List ℕ) → WasShown w node applied image → WasShown w' node applied image)
       → ((name : List ℕ) (answer : Answer) → WasTaken w name answer → WasTaken w' name answer)
       → ((answer : Answer) → taken ≡ Some answer → WasTaken w' (task_name s.names answer.task) answer)
       → ((t : ℕ) → WereMade w t (asked_by t items) → WereMade w' t (asked_by t items ++ asked_by t (calls_as u made)))
+      → ((t : ℕ) → AreAllTaken w t (replies_by t items) → AreAllTaken w' t (replies_by t items ++ replies_by t (taken_items s.names taken)))
       → IsRecounted items w → IsRecounted (items ++ (calls_as u made ++ Noted notes ∷ taken_items s.names taken)) w'
-  event_more items w w' u made notes taken shown replied takes calls old =
+  event_more items w w' u made notes taken shown replied takes calls replies old =
       let last = Noted notes ∷ taken_items s.names taken in
       let more = calls_as u made ++ last in
       record {
@@ -236,7 +229,7 @@ module _ {S : Type 0} (s : RunSetting S) where
           | inl before ↦ shown node applied image (old.shown node applied image before)
           | inr now ↦ elim (has_split (Shown node applied image) (calls_as u made) last now) [
             | inl call ↦ absurd (calls_show_none u made node applied image call)
-            | inr other ↦ elim other [ inl same ↦ absurd (cc) | inr reply ↦ absurd (taken_shows_none taken node applied image reply) ]
+            | inr other ↦ elim other [ inl same ↦ absurd (cc) | inr reply ↦ absurd (taken_none s taken node applied image reply) ]
           ]
         ];
         replied = λ name answer h. elim (has_split (Replied name answer) items more h) [
@@ -254,6 +247,11 @@ module _ {S : Type 0} (s : RunSetting S) where
             ∙ ap (λ (l : List Asked). asked_by t items ++ l)
             (filter_map-append (asked_in t) (calls_as u made) last ∙ ap (λ (l : List Asked). asked_by t (calls_as u made) ++ l) (taken_calls_none t notes taken) ∙ append-nil (asked_by t (calls_as u made)))))
             (calls t (old.called t));
+        all = λ t. subst (AreAllTaken w' t)
+            (sym (filter_map-append (reply_in t) items more
+            ∙ ap (λ (l : List Answer). replies_by t items ++ l)
+            (filter_map-append (reply_in t) (calls_as u made) last ∙ ap (λ (l : List Answer). l ++ replies_by t last) (calls_take_none t u made))))
+            (replies t (old.all t));
       }
 
   -- a node goes on from what was shown
@@ -292,6 +290,8 @@ module _ {S : Type 0} (s : RunSetting S) where
         many = λ part there. made.many part (ap (λ (l : List TaskPart). part_at l t) (sym is.tasks) ∙ there);
         sent = λ k asked e. subst (λ (l : List Message). Asks l t (call_for t (suc k) asked)) (sym grows.sent) (still_asks w transition.sends t (call_for t (suc k) asked) (made.sent k asked e));
       }))
+      (λ t all. subst (λ (o : Option Answer). AreAllTaken transition.world t (replies_by t items ++ replies_by t (taken_items s.names o))) (sym is.taken)
+      (subst (AreAllTaken transition.world t) (sym (append-nil (replies_by t items))) (λ part there. all part (ap (λ (l : List TaskPart). part_at l t) (sym is.tasks) ∙ there))))
       old)
     where
       taken_some : (answer : Answer) → None ≡ Some answer → ⊥
@@ -316,6 +316,16 @@ module _ {S : Type 0} (s : RunSetting S) where
   others_calls t k (asked ∷ rest) other =
       ap (λ (b : Bool). cons_option (cond b (Some asked) None) (asked_by k (calls_as t rest))) (eq_other t k other)
       ∙ others_calls t k rest other
+
+  own_taken : (t : ℕ) (taken : Option Answer) → ((answer : Answer) → taken ≡ Some answer → answer.task ≡ t) → replies_by t (taken_items s.names taken) ≡ cons_option taken []
+  own_taken t None own = refl
+  own_taken t (Some answer) own =
+      ap (λ (b : Bool). cons_option (cond b (Some answer) None) []) (ap (λ (k : ℕ). nat_eq k t) (own answer refl) ∙ eq_same t)
+
+  others_taken : (t k : ℕ) (taken : Option Answer) → ((answer : Answer) → taken ≡ Some answer → answer.task ≡ t) → k ≢ t → replies_by k (taken_items s.names taken) ≡ []
+  others_taken t k None own other = refl
+  others_taken t k (Some answer) own other =
+      ap (λ (b : Bool). cons_option (cond b (Some answer) None) []) (ap (λ (n : ℕ). nat_eq n k) (own answer refl) ∙ eq_other t k other)
 
   -- a member of two lists joined, by its place
   get_split : {A : Type 0} (xs ys : List A) (k : ℕ) (a : A) → slice_get (xs ++ ys) k ≡ Some a → (slice_get xs k ≡ Some a) ⊎ ((j : ℕ) × (k ≡ length xs + j) × (slice_get ys j ≡ Some a))
@@ -389,11 +399,31 @@ module _ {S : Type 0} (s : RunSetting S) where
               }))
         ]
 
+    whose : (answer : Answer) → done.taken ≡ Some answer → answer.task ≡ t
+    whose answer e = (steps.taken answer e).0
+
+    all_taken : (k : ℕ) (items : List Item) → AreAllTaken w k (replies_by k items) → AreAllTaken after k (replies_by k items ++ replies_by k (taken_items s.names done.taken))
+    all_taken k items old now is =
+        elim (cases_eq k t) [
+          | inl same ↦
+              let part_is : part_at w.tasks k ≡ Some part = ap (part_at w.tasks) same ∙ there in
+              let now_is : done.part ≡ now = some_is (sym now_there ∙ ap (part_at after.tasks) (sym same) ∙ is) in
+              ap (λ (l : List Answer). l ++ replies_by k (taken_items s.names done.taken)) (old part part_is)
+              ∙ ap (λ (n : ℕ). part.replies ++ replies_by n (taken_items s.names done.taken)) same
+              ∙ ap (λ (l : List Answer). part.replies ++ l) (own_taken t done.taken whose)
+              ∙ sym steps.grown
+              ∙ ap (λ (p : TaskPart). p.replies) now_is
+          | inr other ↦
+              ap (λ (l : List Answer). replies_by k items ++ l) (others_taken t k done.taken whose other)
+              ∙ append-nil (replies_by k items)
+              ∙ old now (sym (beside k other) ∙ is)
+        ]
+
     task_more : (items : List Item) (notes : List Note) → IsRecounted items w → IsRecounted (items ++ (calls_as t (made_by input) ++ Noted notes ∷ taken_items s.names done.taken)) after
     task_more items notes old =
         event_more items w after t (made_by input) notes done.taken
         (λ node applied image was. record { part = was.part; there = was.there; before = was.before; begins = was.begins; count = was.count; image_is = was.image_is })
-        still_taken now_taken (λ k made. now_made k items made) old
+        still_taken now_taken (λ k made. now_made k items made) (λ k all. all_taken k items all) old
 
   event_adds : (items : List Item) (w : World) (event : Event) (transition : Transition) (notes : List Note) → event_effect s.setting w (event_of event) ≡ Ok transition → IsRecounted items w
       → IsRecounted (items ++ (called_by event ++ Noted notes ∷ taken_items s.names transition.taken)) transition.world

@@ -8,4 +8,5 @@ use Rattle.rp_world.specs.Failures.{RisesAt}
 -- A fault that ends a run over devices, with the counts of their failures before and after: one
 -- that ends a run in memory, or one of a device, whose count is then higher.
 abbrev pub IsDeviceRunFault : List ℕ → List ℕ → Fault → Type 0
-IsDeviceRunFault before after fault = IsRunFault fault ⊎ ((fault ≡ Device) × (node : ℕ) × RisesAt node before after)
+IsDeviceRunFault before after fault =
+    IsRunFault fault ⊎ ((fault ≡ Device) × (node : ℕ) × RisesAt node before after)

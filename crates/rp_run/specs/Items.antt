@@ -1,11 +1,12 @@
 -- The visible items of a run.
-use Rattle.std.specs.Prelude.{ℕ, ℤ, nat_eq, Option, Some, None, List, [], ◌++◌, filter_map, flat_map, if◌then◌else◌}
+use Rattle.std.specs.Prelude.{ℕ, ℤ, nat_eq, Option, Some, None, List, [], ◌++◌, filter_map}
+use Rattle.std.specs.Prelude.{flat_map, if◌then◌else◌}
 use Rattle.rp_base.specs.declared.action.Operation.{Operation}
 use Rattle.rp_base.specs.declared.fault.Fault.{Fault}
 use Rattle.rp_base.specs.declared.reply.Answer.{Answer}
 use Rattle.rp_codec.specs.declared.packet.Body.{Body}
-use Rattle.rp_output.specs.Printed.{reply_line_of, applied_line_of, refused_line_of, opened_line_of, running_line_of}
-use Rattle.rp_output.specs.Printed.{full_line_of, stopped_line_of, limit_line_of}
+use Rattle.rp_output.specs.Printed.{reply_line_of, applied_line_of, refused_line_of, opened_line_of}
+use Rattle.rp_output.specs.Printed.{running_line_of, full_line_of, stopped_line_of, limit_line_of}
 use Rattle.rp_output.specs.FaultMessage.{with_line_feed}
 use Rattle.rp_output.specs.Trace.{trace_line_of}
 
@@ -72,3 +73,14 @@ asked_in t (Noted notes) = None
 -- what the calls of a task ask for, in order
 abbrev pub asked_by : ℕ → List Item → List Asked
 asked_by t items = filter_map (asked_in t) items
+
+-- the reply that a task of this number takes, if the item is one
+abbrev pub reply_in : ℕ → Item → Option Answer
+reply_in t (Called task asked) = None
+reply_in t (Replied name answer) = if nat_eq answer.task t then Some answer else None
+reply_in t (Shown node applied image) = None
+reply_in t (Noted notes) = None
+
+-- the replies that a task takes, in order
+abbrev pub replies_by : ℕ → List Item → List Answer
+replies_by t items = filter_map (reply_in t) items

@@ -1,7 +1,8 @@
 -- The output of the lines of a script.
-use Rattle.std.specs.Prelude.{ℕ, zero, suc, ◌+◌, ◌-◌, ◌^◌, ◌&&◌, min, not, nat_eq, nat_le, Bool, Option, Some}
-use Rattle.std.specs.Prelude.{None, Result, Ok, Err, List, [], ◌∷◌, ◌++◌, length, map, filter, find}
-use Rattle.std.specs.Prelude.{flat_map, if◌then◌else◌, true, false, String, string_bytes}
+use Rattle.std.specs.Prelude.{ℕ, zero, suc, ◌+◌, ◌-◌, ◌^◌, ◌&&◌, min, not, nat_eq, nat_le, Bool}
+use Rattle.std.specs.Prelude.{Option, Some, None, Result, Ok, Err, List, [], ◌∷◌, ◌++◌, length, map}
+use Rattle.std.specs.Prelude.{filter, find, flat_map, if◌then◌else◌, true, false, String}
+use Rattle.std.specs.Prelude.{string_bytes}
 use Rattle.std.specs.List.{list_any}
 use Rattle.indexmap.specs.IndexMap.{IndexMap, keys}
 use Rattle.rp_base.specs.Records.{applied_of}
@@ -18,13 +19,15 @@ use Rattle.rp_model.specs.declared.effect.Dropped.TheVariants.{No, Full, Foreign
 use Rattle.rp_model.specs.declared.event.Event.{Event}
 use Rattle.rp_model.specs.declared.event.Event.TheVariants.{Submit, Again, Node, Cut, Stop, Restart}
 use Rattle.rp_model.specs.declared.event.Step.{Step}
-use Rattle.rp_model.specs.declared.event.Step.TheVariants.{Deliver, Lead, LeadRange, Interrupt, Tick, Report}
+use Rattle.rp_model.specs.declared.event.Step.TheVariants.{Deliver, Lead, LeadRange, Interrupt}
+use Rattle.rp_model.specs.declared.event.Step.TheVariants.{Tick, Report}
 use Rattle.rp_model.specs.Parts.{NodePart, Running}
 use Rattle.rp_model.specs.Effect.{Setting}
 use Rattle.rp_model.specs.Events.{event_of}
 use Rattle.rp_model.specs.World.{World, Transition, opening_world, event_effect, part_at}
-use Rattle.rp_run.specs.Items.{Item, Called, Replied, Shown, Noted, Note, Sent, Opened, AlreadyRunning, PendingFull}
-use Rattle.rp_run.specs.Items.{Stopped, Refused, DrainLimit, item_text, items_text}
+use Rattle.rp_run.specs.Items.{Item, Called, Replied, Shown, Noted, Note, Sent, Opened}
+use Rattle.rp_run.specs.Items.{AlreadyRunning, PendingFull, Stopped, Refused, DrainLimit, item_text}
+use Rattle.rp_run.specs.Items.{items_text}
 use Rattle.rp_output.specs.Printed.{opened_line_of, running_line_of, full_line_of}
 use Rattle.rp_output.specs.FaultMessage.{with_line_feed}
 use Rattle.rp_output.specs.Trace.{task_name, message_line_of, party_text_of}
@@ -64,7 +67,8 @@ note_said play note = record { items = Noted (note ∷ []) ∷ []; play = play }
 
 -- one result, and then that of a part that starts from the play after it
 abbrev pub and_then : Said → (Play → Said) → Said
-and_then here further = record { items = here.items ++ (further here.play).items; play = (further here.play).play }
+and_then here further =
+    record { items = here.items ++ (further here.play).items; play = (further here.play).play }
 
 -- the names of a table of tasks, in declared order
 abbrev pub names_of : {Y X S : Type 0} → IndexMap (String Y) X S → List (List ℕ)
@@ -111,7 +115,10 @@ listed (Some message) = message ∷ []
 abbrev pub lost : ℕ → Play → ℕ → ℕ → Said
 lost line play first last =
     if nat_le first (length play.world.sent) && nat_le last (length play.world.sent)
-    then record { items = []; play = record { world = play.world; settled = from_to first last ++ play.settled } }
+    then record {
+      items = [];
+      play = record { world = play.world; settled = from_to first last ++ play.settled };
+    }
     else note_said play (Refused line NoSuchMessage)
 
 -- ---- the output of an event that happened
@@ -134,7 +141,8 @@ traced_text traced names number packets = if traced then trace_text names number
 abbrev pub trace_notes : List (List ℕ) → ℕ → List Message → List Note
 trace_notes names number [] = []
 trace_notes names number (m ∷ rest) =
-    Sent number (party_text_of names m.from) (party_text_of names m.to) m.body ∷ trace_notes names (suc number) rest
+    Sent number (party_text_of names m.from) (party_text_of names m.to) m.body
+    ∷ trace_notes names (suc number) rest
 
 abbrev pub traced_notes : Bool → List (List ℕ) → ℕ → List Message → List Note
 traced_notes traced names number packets = if traced then trace_notes names number packets else []
@@ -245,15 +253,19 @@ taken_text names (Some answer) = item_text (reply_item names answer)
 
 -- the lines of a restart and of a pending item that was dropped
 abbrev pub changed_text : List Message → Event → Option (ℕ × ℕ) → Dropped → List ℕ
-changed_text sent event opened dropped = opened_text event opened ++ dropped_text (node_of_event sent event) dropped
+changed_text sent event opened dropped =
+    opened_text event opened ++ dropped_text (node_of_event sent event) dropped
 
 abbrev pub changed_notes : List Message → Event → Option (ℕ × ℕ) → Dropped → List Note
-changed_notes sent event opened dropped = opened_notes event opened ++ dropped_notes (node_of_event sent event) dropped
+changed_notes sent event opened dropped =
+    opened_notes event opened ++ dropped_notes (node_of_event sent event) dropped
 
 -- the same lines, and then that of a reply that was taken
-abbrev pub effect_text : List (List ℕ) → List Message → Event → Option (ℕ × ℕ) → Dropped → Option Answer → List ℕ
+abbrev pub effect_text : List (List ℕ) → List Message → Event → Option (ℕ × ℕ) → Dropped
+    → Option Answer → List ℕ
 effect_text names sent event opened dropped taken =
-    opened_text event opened ++ (dropped_text (node_of_event sent event) dropped ++ taken_text names taken)
+    opened_text event opened
+    ++ (dropped_text (node_of_event sent event) dropped ++ taken_text names taken)
 
 -- ---- a run
 
@@ -266,7 +278,8 @@ module _ {S : Type 0} (s : RunSetting S) where
   -- if they are printed, and the reply that is taken.
   abbrev pub transition_items : World → Event → Transition → List Item
   transition_items before event transition =
-      called_by event ++ Noted (traced_notes s.traced s.names (length before.sent + 1) transition.sends
+      called_by event
+      ++ Noted (traced_notes s.traced s.names (length before.sent + 1) transition.sends
       ++ changed_notes transition.world.sent event transition.opened transition.dropped)
       ∷ taken_items s.names transition.taken
 
@@ -284,7 +297,8 @@ module _ {S : Type 0} (s : RunSetting S) where
   unfoldable pub event_said : ℕ → Play → Event → Said
   event_said line play event = effect_said line play event (effect_of play.world event)
 
-  -- The least unsettled message, if there is one, is delivered, and so on, until none is left or n were delivered.
+  -- The least unsettled message, if there is one, is delivered, and so on, until none is left or n
+  -- were delivered.
   unfoldable pub drain_from : ℕ → Play → Option ℕ → ℕ → Said
   drain_from line play None most = nothing_said play
   drain_from line play (Some message) zero = note_said play (DrainLimit line)
@@ -310,7 +324,8 @@ module _ {S : Type 0} (s : RunSetting S) where
 
   -- the items of the nodes 1 to n
   unfoldable pub nodes_items : World → ℕ → List Item
-  nodes_items world count = flat_map (λ node. part_items node (part_at world.nodes node)) (one_to count)
+  nodes_items world count =
+      flat_map (λ node. part_items node (part_at world.nodes node)) (one_to count)
 
   -- the text of the item of a node with these records
   abbrev pub state_text : ℕ → List Rec → Option Running → List ℕ
@@ -321,20 +336,23 @@ module _ {S : Type 0} (s : RunSetting S) where
   part_text node (Some part) = state_text node part.records part.running
 
   unfoldable pub nodes_text : World → ℕ → List ℕ
-  nodes_text world count = flat_map (λ node. part_text node (part_at world.nodes node)) (one_to count)
+  nodes_text world count =
+      flat_map (λ node. part_text node (part_at world.nodes node)) (one_to count)
 
   -- the result of a command in the line of this number, where a `drain` may deliver n messages
   abbrev pub command_said : ℕ → ℕ → Play → Command → Said
   command_said most line play (Take event) = event_said line play event
   command_said most line play (Lose first last) = lost line play first last
   command_said most line play Drain = drained line most play
-  command_said most line play Show = record { items = nodes_items play.world s.setting.config.nodes; play = play }
+  command_said most line play Show =
+      record { items = nodes_items play.world s.setting.config.nodes; play = play }
 
   -- the result of the lines of a script in order
   unfoldable pub script_said : ℕ → Play → List Line → Said
   script_said most play [] = nothing_said play
   script_said most play (line ∷ rest) =
-      and_then (command_said most line.number play line.command) (λ after. script_said most after rest)
+      and_then (command_said most line.number play line.command)
+      (λ after. script_said most after rest)
 
   -- all nodes run, and nothing was called, sent or settled
   abbrev pub opening_play : Play

@@ -1,5 +1,6 @@
 -- The relation of a run in memory to a play, and what it writes.
-use Rattle.std.specs.Prelude.{◌≡◌, ℕ, ◌-◌, Option, Result, Ok, Err, List, ◌++◌, length, replicate, drop}
+use Rattle.std.specs.Prelude.{◌≡◌, ℕ, ◌-◌, Option, Result, Ok, Err, List, ◌++◌, length, replicate}
+use Rattle.std.specs.Prelude.{drop}
 use Rattle.std.specs.Io.KnownBytes.{Appends}
 use Rattle.rp_base.specs.declared.action.Action.{Action}
 use Rattle.rp_base.specs.declared.config.Config.{Config}
@@ -10,15 +11,16 @@ use Rattle.rp_model.specs.World.{World, opening_world}
 use Rattle.rp_model.specs.declared.effect.Effect.{Effect}
 use Rattle.rp_model.specs.declared.event.Event.{Event}
 use Rattle.rp_world.specs.Steps.{Setup, setting_of}
-use Rattle.rp_run.specs.Output.{RunSetting, Play, Said, text_of, names_of, is_among, traced_text, effect_text}
+use Rattle.rp_run.specs.Output.{RunSetting, Play, Said, text_of, names_of, is_among, traced_text}
+use Rattle.rp_run.specs.Output.{effect_text}
 use Rattle.rp_run.specs.Settled.{is_settled}
 use Rattle.rp_output.specs.Stream.{Begins}
 use Rattle.rp_run.specs.declared.options.RunOptions.{RunOptions}
 use Rattle.rp_run.specs.declared.settled.Settled.{Settled}
 
 -- what is constant in a run of a cluster
-abbrev pub run_setting : {S P : Type 0} → (S → Action → S) → (S → Action → List Answer) → (P → S) → (S → List ℕ)
-    → Setup P → RunOptions → RunSetting S
+abbrev pub run_setting : {S P : Type 0} → (S → Action → S) → (S → Action → List Answer) → (P → S)
+    → (S → List ℕ) → Setup P → RunOptions → RunSetting S
 run_setting next answers start image cluster options = record {
   setting = setting_of next answers start cluster;
   image = image;
@@ -55,6 +57,8 @@ pub record Follows (world : World) (settled : Settled) (play : Play) : Type 0 wh
 
 -- The run has reached the stated play, and wrote its text; or, if something failed, it wrote a
 -- prefix of the text.
-abbrev pub Says : World → Settled → Option (List ℕ) → Option (List ℕ) → Said → Result Unit Fault → Type 0
-Says world settled old new said (Ok done) = Follows world settled said.play × Appends old new (text_of said)
+abbrev pub Says : World → Settled → Option (List ℕ) → Option (List ℕ) → Said → Result Unit Fault
+    → Type 0
+Says world settled old new said (Ok done) =
+    Follows world settled said.play × Appends old new (text_of said)
 Says world settled old new said (Err fault) = Begins old new (text_of said)

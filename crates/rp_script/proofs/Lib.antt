@@ -2,4 +2,4 @@ mod Crossings
 mod LiveEvents
 mod LivePrinting
 mod Kept
-mod Failing
+pub mod Failing

@@ -32,4 +32,5 @@ ScriptPrints traced given old new =
 -- what it prints if a fault ends it: nothing, or a prefix of that deck's output
 abbrev pub ScriptBegins : Bool → Option (List ℕ) → Option (List ℕ) → Option (List ℕ) → Type 0
 ScriptBegins traced given old new =
-    (new ≡ old) ⊎ ((deck : Deck) × MeansDeck Script given deck × Begins old new (output_of traced deck))
+    (new ≡ old)
+    ⊎ ((deck : Deck) × MeansDeck Script given deck × Begins old new (output_of traced deck))

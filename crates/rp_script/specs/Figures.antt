@@ -7,8 +7,9 @@ use Rattle.rp_script.specs.declared.figures.FiguresLine.{FiguresLine}
 -- many ballots were begun
 abbrev pub figures_text : Figures → List ℕ
 figures_text f =
-    decimal f.answered ++ (codes " of " ++ (decimal f.asked ++ (codes " calls by turn " ++ (decimal f.last_reply
-    ++ (codes ", " ++ (decimal f.lost ++ (codes " packets lost, " ++ (decimal f.led ++ codes " ballots"))))))))
+    decimal f.answered ++ (codes " of " ++ (decimal f.asked ++ (codes " calls by turn "
+    ++ (decimal f.last_reply ++ (codes ", " ++ (decimal f.lost ++ (codes " packets lost, "
+    ++ (decimal f.led ++ codes " ballots"))))))))
 
 -- and how long it took, if that is known
 abbrev pub with_time : List ℕ → Option ℕ → List ℕ

@@ -15,7 +15,8 @@ most_bytes = 1048576
 
 -- Some bytes mean this in a mode, and they are all that the reader gives, if it is known what it
 -- gives.
-pub record Means (mode : Mode) (given : Option (List ℕ)) (meaning : Result DeckText BadLine) : Type 0 where
+pub record Means (mode : Mode) (given : Option (List ℕ)) (meaning : Result DeckText BadLine)
+    : Type 0 where
   pub bytes : List ℕ
   pub all : IfSome given (λ whole. bytes ≡ whole)
   pub meaning_is : meaning_of mode bytes ≡ meaning
@@ -28,5 +29,6 @@ pub record MeansDeck (mode : Mode) (given : Option (List ℕ)) (deck : Deck) : T
 -- the line and the reason of a bad deck are the first bad line of these bytes and the first reason
 -- on it
 abbrev pub IsMeant : Mode → Option (List ℕ) → Fault → Type 0
-IsMeant mode given (BadDeck line reason) = Means mode given (Err (record { line = line; reason = reason }))
+IsMeant mode given (BadDeck line reason) =
+    Means mode given (Err (record { line = line; reason = reason }))
 IsMeant mode given _ = Unit {0}

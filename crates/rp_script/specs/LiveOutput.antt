@@ -8,7 +8,8 @@ use Rattle.rp_output.specs.Trace.{task_name}
 
 -- the line of a reply, under the name of its task
 abbrev pub reply_text : List (List ℕ) → Answer → List ℕ
-reply_text names answer = with_line_feed (reply_line_of (task_name names answer.task) answer.number answer.reply)
+reply_text names answer =
+    with_line_feed (reply_line_of (task_name names answer.task) answer.number answer.reply)
 
 -- the lines of replies in order
 abbrev pub replies_text : List (List ℕ) → List Answer → List ℕ
@@ -31,4 +32,5 @@ agreed_text agree = if agree then with_line_feed agreed_line else []
 -- they do
 abbrev pub outcome_text : List (List ℕ) → LiveOutcome → List ℕ
 outcome_text names outcome =
-    replies_text names outcome.replies.items ++ (applied_text 1 outcome.applied.items ++ agreed_text outcome.agree)
+    replies_text names outcome.replies.items
+    ++ (applied_text 1 outcome.applied.items ++ agreed_text outcome.agree)

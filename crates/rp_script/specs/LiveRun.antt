@@ -40,7 +40,8 @@ IsOutcomeOf deck (Tally objects) seed turns outcome =
     IsLiveRun tally_next tally_answers (λ objects. replicate objects (pos 0)) deck.config objects
     (events_of deck.script.items) seed turns outcome
 IsOutcomeOf deck (Objects program) seed turns outcome =
-    IsLiveRun objects_next objects_answers (λ program. first_state (arc_value program.declarations)) deck.config program
+    IsLiveRun objects_next objects_answers
+    (λ program. first_state (arc_value program.declarations)) deck.config program
     (events_of deck.script.items) seed turns outcome
 
 -- a run of the deck's program may have this result
@@ -49,7 +50,8 @@ IsOutcome deck seed turns outcome = IsOutcomeOf deck deck.program seed turns out
 
 -- A text of a possible result of the deck that the reader's bytes mean, for the seed and n turns,
 -- and the figures of the same run.
-pub record IsLiveText (seed turns : ℕ) (given : Option (List ℕ)) (text : List ℕ) (figures : Figures) : Type 0 where
+pub record IsLiveText (seed turns : ℕ) (given : Option (List ℕ)) (text : List ℕ) (figures : Figures)
+    : Type 0 where
   pub deck : Deck
   pub means : MeansDeck Live given deck
   pub taken : IsDeckFor Live deck
@@ -59,7 +61,8 @@ pub record IsLiveText (seed turns : ℕ) (given : Option (List ℕ)) (text : Lis
   pub figures_are : figures ≡ outcome.figures
 
 -- what a run in threads prints: such a text, of a run with these figures
-abbrev pub LivePrints : ℕ → ℕ → Option (List ℕ) → Option (List ℕ) → Option (List ℕ) → Figures → Type 0
+abbrev pub LivePrints : ℕ → ℕ → Option (List ℕ) → Option (List ℕ) → Option (List ℕ) → Figures
+    → Type 0
 LivePrints seed turns given old new figures =
     (text : List ℕ) × IsLiveText seed turns given text figures × Appends old new text
 

@@ -23,7 +23,12 @@ output_at most deck s = text_of (run_said s most deck.script.items)
 abbrev pub tally_run : Bool → Deck → ℕ → RunSetting (List ℤ)
 tally_run traced deck objects = record {
   setting =
-      record { config = deck.config; next = tally_next; answers = tally_answers; begin = replicate objects (pos 0) };
+      record {
+        config = deck.config;
+        next = tally_next;
+        answers = tally_answers;
+        begin = replicate objects (pos 0);
+      };
   image = tally_image;
   names = names_of deck.tasks;
   traced = traced;
@@ -47,7 +52,8 @@ objects_run traced deck program = record {
 -- the output of a deck, with or without packets
 abbrev pub output_by : Bool → Deck → DeckProgram → List ℕ
 output_by traced deck (Tally objects) = output_at drain_limit deck (tally_run traced deck objects)
-output_by traced deck (Objects program) = output_at drain_limit deck (objects_run traced deck program)
+output_by traced deck (Objects program) =
+    output_at drain_limit deck (objects_run traced deck program)
 
 abbrev pub output_of : Bool → Deck → List ℕ
 output_of traced deck = output_by traced deck deck.program

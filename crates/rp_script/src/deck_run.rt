@@ -75,6 +75,9 @@ pub fn run_deck<W: Write>(
     //   lead, so equal counts show equal images; each printed reply is under its task's name and is
     //   the answer in the order to the call of that number, which takes effect at one place, and
     //   the action there is what that call of the script asked for; after any two lines nodes agree
+    // claim (headline): A deck's run prints all replies that a task took, each once and in order. A
+    //   node is shown only while it runs, with as many actions as it has applied at that line, and
+    //   `show` shows each node that runs
     ensures headline { OnOk result (DeckPrints traced deck
         (W.contents writer.old) (W.contents writer.new)) }
     ensures fault { IfErr result IsRunFault }

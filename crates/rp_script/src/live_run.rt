@@ -33,7 +33,7 @@ use std::time::{Clock, Instant};
 /// The options of a live run.
 #[derive(Clone, Copy, Debug, PartialEq, Eq)]
 pub struct LiveRequest {
-    /// The seed: it determines which packets are lost, repeated and reordered.
+    /// The seed: it determines which packets are lost, duplicated and reordered.
     pub seed: u32,
     /// How many turns each node and each task makes.
     pub turns: u32,

@@ -1,8 +1,8 @@
 use Rattle.std.proofs.Common.{◌≡◌, ◌∙◌, [], map, inl, inr, rules, true, false, codes, ap, ap₂, sym, subst, refl, Option, Some}
 use Rattle.clap.specs.Words.{Text, fault_of, found_of, one_text, subcommand_name_of}
-use Rattle.rp_console.specs.CommandLine.{console, option_of, trace_of, ReadsAs}
+use Rattle.rp_console.specs.CommandLine.{console, live_args, option_of, trace_of, ReadsAs}
 use Rattle.rp_console.proofs.CommandLineLemmas.{no_fault, has_fault, met_one, option_read}
-use Rattle.rp_console.specs.declared.args.Args.TheVariants.{Script, Live}
+use Rattle.rp_console.specs.declared.args.Args.TheVariants.{Script}
 use Rattle.rp_console.proofs.args.read_args.Given as given
 use Rattle.rp_console.proofs.args.read_args.Goals as goal
 use Rattle.rp_console.proofs.args.read_args.Goals.{In_ok-matches}
@@ -46,6 +46,6 @@ returns-clause-live g c seed turns of_seed of_turns =
     let named : subcommand_name_of c.in_ok-matches.matches ≡ Some (codes "live") = c.in-Some-subcommand_matches.ensures.found.0 refl in
     let text : (option : Text) → one_text (found_of found) option ≡ option_of (codes "live") option (map g.S.AsStr.text c.args.words.now) = λ option.
     option_read _ _ c.in_ok-matches.matches _ c.in_ok-command.ensures c.in_ok-matches.ensures.matches (codes "live") option found named refl c.in-Some-subcommand_matches.ensures.rows in
-    ap₂ Live
+    ap₂ live_args
     (c.number_of.ensures seed (subst (λ (t : Option Text). ReadsAs t seed) (sym (text (codes "seed"))) of_seed))
     (c.number_of-in-Some-subcommand_matches.ensures turns (subst (λ (t : Option Text). ReadsAs t turns) (sym (text (codes "turns"))) of_turns))

@@ -1,10 +1,13 @@
 -- A script's lines are events one after another.
-use Rattle.std.proofs.Common.{List, length, take, subst}
+use Rattle.std.proofs.Common.{List, ◌≤◌, arith, length, take, subst}
 use Rattle.std.proofs.Math.Seq.{take-length}
+use Rattle.rp_base.specs.Records.{applied_of}
 use Rattle.rp_run.specs.Agreeing.{RunIsPrinted, world_after}
 use Rattle.rp_run.specs.Runs.{run_setting, opening_setup}
 use Rattle.rp_run.proofs.Histories.{run_is_history, run_has_moments}
+use Rattle.rp_run.specs.Output.{opening_play}
 use Rattle.rp_run.proofs.Printing.{run_is_printed}
+use Rattle.rp_run.proofs.Showing.{lines_show}
 use Rattle.rp_run.proofs.agreement.scripts_agree.Goals as goal
 use Rattle.rp_deck.specs.declared.deck.Line.{Line}
 
@@ -23,6 +26,13 @@ returns-clause-agrees g c = λ program.
           let history = run_is_history s options.right options.most lines right i in
           let world = world_after s options.most lines i in
           run_is_printed s options.most (take i lines) options.right (laws.ordered config program history.0 world history.1) (c.records_stay_in_the_log.ensures.applied s.setting history.0 world history.1);
+      shows = λ i.
+          let history = run_is_history s options.right options.most lines right i in
+          let world = world_after s options.most lines i in
+          let few = options.right.positions.1 in
+          lines_show s options.most (opening_play s) lines i (λ node part there.
+          let within : length (applied_of part.records) ≤ config.max_positions = c.records_stay_in_the_log.ensures.applied s.setting history.0 world history.1 node part there in
+          omega (arith, within, few));
     }
 
 pub returns-clause-printed : goal.returns-clause-printed

@@ -1,0 +1,60 @@
+-- What the program does with the words of the command line, and how it ends.
+use Rattle.std.specs.Prelude.{◌≡◌, ◌⊎◌, ℕ, true, false, Option, Some, None, Result, Ok, Err, List}
+use Rattle.std.specs.Prelude.{[], codes, OnOk, IfErr, OnErr}
+use Rattle.std.specs.Io.KnownBytes.{Appends}
+use Rattle.clap.specs.Kinds.{IsAmong}
+use Rattle.clap.specs.Words.{Text, fault_of}
+use Rattle.clap.specs.declared.error.kind.ErrorKind.{ErrorKind}
+use Rattle.clap.specs.declared.error.kind.ErrorKind.TheVariants.{OutOfMemory}
+use Rattle.rp_base.specs.declared.fault.Fault.{Fault}
+use Rattle.rp_chart.specs.Charts.{DrawingBegins, DrawsScript}
+use Rattle.rp_chart.specs.CommandLine.{chart, hide_self_of, position_of, ReadsAs}
+use Rattle.rp_deck.specs.declared.deck.Mode.TheVariants.{Script}
+use Rattle.rp_history.specs.declared.view.View.{View}
+use Rattle.rp_output.specs.Endings.{RefusesAs, status_after}
+use Rattle.rp_output.specs.FaultMessage.{fault_message_of, with_line_feed}
+use Rattle.rp_output.specs.declared.ending.Ending.{Ending}
+use Rattle.rp_script.specs.Faults.{IsBadDeck, IsProgramFault}
+use Rattle.rp_script.specs.Given.{IsMeant}
+
+-- the bytes that a stream has, if the contract of its type says which they are
+abbrev pub Content : Type 0
+Content = Option (List ℕ)
+
+-- these words ask for this part of a run
+pub record AsksFor (words : List Text) (view : View) : Type 0 where
+  pub right : fault_of chart words ≡ []
+  pub hides : hide_self_of words ≡ Some (codes "true") → view.hides_self ≡ true
+  pub shows : hide_self_of words ≡ Some (codes "false") → view.hides_self ≡ false
+  pub whole : position_of words ≡ None → view.position ≡ None
+  pub position : (number : ℕ) → ReadsAs (position_of words) number → view.position ≡ Some number
+
+-- what is reported of a drawing: the line of its fault, if it has any
+abbrev pub report_of : Result Unit Fault → List ℕ
+report_of (Ok done) = []
+report_of (Err fault) = with_line_feed (fault_message_of fault)
+
+-- The run of the deck that the bytes given mean was drawn, or a fault ended that after a prefix of
+-- the drawing. If the bytes mean no deck, nothing is written, and the fault has the first bad line
+-- and the first reason on it. The status is 0 without a fault, and otherwise that of the fault,
+-- which is reported.
+pub record DrawsAs (view : View) (given output output_after errors errors_after : Content)
+    (ending : Ending) : Type 0 where
+  pub drawn : Result Unit Fault
+  pub drawing : OnOk drawn (DrawsScript view given output output_after)
+  pub begun : OnErr drawn (DrawingBegins view given output output_after)
+  pub meant : IfErr drawn (IsMeant Script given)
+  pub bad : IfErr drawn (λ fault. IsBadDeck fault → output_after ≡ output)
+  pub fault : IfErr drawn IsProgramFault
+  pub status : ending.status ≡ status_after drawn
+  pub reported : OnOk ending.reported (Appends errors errors_after (report_of drawn))
+
+-- The words ask for a drawing, which was made; or they are wrong, ask for help or the version, or
+-- memory ran out, and that was reported.
+abbrev pub FollowsWords : List Text → Content → Content → Content → Content → Content → Ending
+    → Type 0
+FollowsWords words given output output_after errors errors_after ending =
+    ((view : View) × AsksFor words view
+    × DrawsAs view given output output_after errors errors_after ending)
+    ⊎ ((kind : ErrorKind) × ((kind ≡ OutOfMemory) ⊎ IsAmong kind (fault_of chart words))
+    × RefusesAs kind output output_after errors errors_after ending)

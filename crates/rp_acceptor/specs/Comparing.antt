@@ -1,6 +1,6 @@
 -- How a ballot compares with the bounds at positions.
-use Rattle.std.specs.Prelude.{ℕ, nat_eq, nat_le, nat_lt, ◌&&◌, ◌||◌, Option, Some, None, List, [], ◌∷◌, find}
-use Rattle.std.specs.Prelude.{if◌then◌else◌}
+use Rattle.std.specs.Prelude.{ℕ, nat_eq, nat_le, nat_lt, ◌&&◌, ◌||◌, Option, Some, None, List, []}
+use Rattle.std.specs.Prelude.{◌∷◌, find, if◌then◌else◌}
 use Rattle.std.specs.List.{list_all}
 use Rattle.rp_acceptor.specs.declared.comparison.Comparison.{Comparison}
 use Rattle.rp_acceptor.specs.declared.comparison.Comparison.TheVariants.{Above, Below, Equal}
@@ -10,8 +10,8 @@ abbrev pub not_above : (ℕ → ℕ) → Option ℕ → Comparison
 not_above bound None = Equal
 not_above bound (Some i) = Below i (bound i)
 
--- the ballot against the bounds at positions: above each; else below one, at the least such position; else
--- equal to one
+-- the ballot against the bounds at positions: above each; else below one, at the least such
+-- position; else equal to one
 abbrev pub compared : (ℕ → ℕ) → ℕ → List ℕ → Comparison
 compared bound b is =
     if list_all (λ i. nat_lt (bound i) b) is then Above
@@ -19,7 +19,8 @@ compared bound b is =
 
 -- the ballot against the bound at one position
 abbrev pub compared_at : ℕ → ℕ → ℕ → Comparison
-compared_at i bound b = if nat_lt b bound then Below i bound else if nat_lt bound b then Above else Equal
+compared_at i bound b =
+    if nat_lt b bound then Below i bound else if nat_lt bound b then Above else Equal
 
 -- at some positions and at later ones
 abbrev pub followed_by : Comparison → Comparison → Comparison

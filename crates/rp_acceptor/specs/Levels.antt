@@ -1,7 +1,8 @@
--- The ballots that an acceptor promised for ranges, as levels: each holds from its position up to the next one (callers
--- see none of it).
-use Rattle.std.specs.Prelude.{◌≡◌, ◌<◌, ◌≤◌, ◌⊎◌, ℕ, zero, suc, max, Bool, false, ◌&&◌, nat_eq, Option, Some, None}
-use Rattle.std.specs.Prelude.{nat_le, nat_lt, List, [], ◌∷◌, length, if◌then◌else◌}
+-- The ballots that an acceptor promised for ranges, as levels: each holds from its position up to
+-- the next one (callers see none of it).
+use Rattle.std.specs.Prelude.{◌≡◌, ◌<◌, ◌≤◌, ◌⊎◌, ℕ, zero, suc, max, Bool, false, ◌&&◌, nat_eq}
+use Rattle.std.specs.Prelude.{Option, Some, None, nat_le, nat_lt, List, [], ◌∷◌, length}
+use Rattle.std.specs.Prelude.{if◌then◌else◌}
 use Rattle.std.specs.List.{AllWithin}
 use Rattle.std.specs.List.Sorted.{IsNonDecreasingBy}
 use Rattle.rp_base.specs.Ballot.{IsBallot}
@@ -28,7 +29,8 @@ pub record IsCountBelow (levels : List Level) (i count : ℕ) : Type 0 where
 -- the ballot that holds at a position, where another holds before the first level
 abbrev pub ballot_after : ℕ → List Level → ℕ → ℕ
 ballot_after before [] i = before
-ballot_after before (level ∷ rest) i = if nat_le level.from i then ballot_after level.ballot rest i else before
+ballot_after before (level ∷ rest) i =
+    if nat_le level.from i then ballot_after level.ballot rest i else before
 
 -- the ballot that holds at a position, or 0
 abbrev pub ballot_at : List Level → ℕ → ℕ
@@ -60,4 +62,5 @@ raised_at first end b i ballot = if is_between first end i then max ballot b els
 
 -- a level with its ballot raised, if it begins between the two positions
 abbrev pub raised_level : ℕ → ℕ → ℕ → Level → Level
-raised_level first end b level = record level { ballot = raised_at first end b level.from level.ballot }
+raised_level first end b level =
+    record level { ballot = raised_at first end b level.from level.ballot }

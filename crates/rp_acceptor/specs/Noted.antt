@@ -1,13 +1,15 @@
 -- What an acceptor has noted, and where it may note more.
-use Rattle.std.specs.Prelude.{ℕ, Option, Some, None, option_map, option_to_list, List, [], ◌∷◌, ◌++◌}
+use Rattle.std.specs.Prelude.{ℕ, Option, Some, None, option_map, option_to_list, List, [], ◌∷◌}
+use Rattle.std.specs.Prelude.{◌++◌}
 use Rattle.rp_base.specs.declared.record.Rec.{Rec}
-use Rattle.rp_base.specs.declared.record.Rec.TheVariants.{Started, Promised, Voted, Learned, PromisedRange}
+use Rattle.rp_base.specs.declared.record.Rec.TheVariants.{Started, Promised, Voted, Learned}
+use Rattle.rp_base.specs.declared.record.Rec.TheVariants.{PromisedRange}
 use Rattle.rp_base.specs.Ranges.{Range, positions_of}
 use Rattle.rp_base.specs.declared.placed.PlacedVote.{PlacedVote}
 use Rattle.rp_base.specs.Sets.{Has}
 
--- The records noted, in order. The positions for which room was made: for promises, and for votes. The
--- ranges for which room was made.
+-- The records noted, in order. The positions for which room was made: for promises, and for votes.
+-- The ranges for which room was made.
 pub record Noted : Type 0 where
   pub records : List Rec
   pub reserved : List ℕ
@@ -18,7 +20,8 @@ pub record Noted : Type 0 where
 abbrev pub nothing_noted : Noted
 nothing_noted = record { records = []; reserved = []; votes = []; ranges = [] }
 
--- the positions at which a record counts for an acceptor: that of a promise or a vote, those of a range
+-- the positions at which a record counts for an acceptor: that of a promise or a vote, those of a
+-- range
 abbrev pub places_in : Rec → List ℕ
 places_in (Started ballot) = []
 places_in (Promised position ballot) = position ∷ []
@@ -63,7 +66,8 @@ pub record HasRoom (noted : Noted) (rec : Rec) : Type 0 where
 
 -- room is made for promises and votes at a position
 abbrev pub reserves : Noted → ℕ → Noted
-reserves noted i = record noted { reserved = noted.reserved ++ i ∷ []; votes = noted.votes ++ i ∷ [] }
+reserves noted i =
+    record noted { reserved = noted.reserved ++ i ∷ []; votes = noted.votes ++ i ∷ [] }
 
 -- room is made for votes at a position
 abbrev pub reserves_vote : Noted → ℕ → Noted

@@ -4,7 +4,8 @@ use Rattle.std.specs.Prelude.{Option, Some, None, option_map, option_to_list}
 use Rattle.std.specs.Prelude.{List, [], ◌∷◌, ◌++◌, length, slice_index_or, if◌then◌else◌}
 use Rattle.std.specs.List.{cons_option}
 use Rattle.rp_base.specs.declared.record.Rec.{Rec}
-use Rattle.rp_base.specs.declared.record.Rec.TheVariants.{Started, Promised, Voted, Learned, PromisedRange}
+use Rattle.rp_base.specs.declared.record.Rec.TheVariants.{Started, Promised, Voted, Learned}
+use Rattle.rp_base.specs.declared.record.Rec.TheVariants.{PromisedRange}
 use Rattle.rp_base.specs.declared.placed.PlacedVote.{PlacedVote}
 use Rattle.rp_base.specs.declared.record.Vote.{Vote}
 use Rattle.rp_base.specs.Sets.{Has}
@@ -28,7 +29,8 @@ stretch_in (Started ballot) = None
 stretch_in (Promised position ballot) = None
 stretch_in (Voted position ballot action) = None
 stretch_in (Learned position action) = None
-stretch_in (PromisedRange range ballot) = Some (record { first = range.first; end = end_of range; ballot = ballot })
+stretch_in (PromisedRange range ballot) =
+    Some (record { first = range.first; end = end_of range; ballot = ballot })
 
 -- the ballot that it promises at a position, or 0
 abbrev pub promise_at : ℕ → Option Stretch → ℕ
@@ -42,7 +44,8 @@ HasEnds levels (Some stretch) = HasLevel levels stretch.first × HasLevel levels
 
 -- ---- single positions
 
--- What is kept for one position: the greatest ballot promised for it alone, or 0, and the last vote there.
+-- What is kept for one position: the greatest ballot promised for it alone, or 0, and the last vote
+-- there.
 pub record Kept : Type 0 where
   pub promised : ℕ
   pub last : Option Vote
@@ -157,9 +160,11 @@ votes_from i (kept ∷ rest) = cons_option (placed_if i kept.last) (votes_from (
 -- the bounds at places in a row, the first of them that of a position
 abbrev pub bounds_from : ℕ → List Kept → List Bound
 bounds_from i [] = []
-bounds_from i (kept ∷ rest) = record { position = i; ballot = bound_of kept } ∷ bounds_from (i + 1) rest
+bounds_from i (kept ∷ rest) =
+    record { position = i; ballot = bound_of kept } ∷ bounds_from (i + 1) rest
 
--- a ballot compares with these bounds as with what the records say of the single positions of a range
+-- a ballot compares with these bounds as with what the records say of the single positions of a
+-- range
 abbrev pub AreBoundsOf : List Bound → List Rec → Range → Type 0
 AreBoundsOf bounds records range = (b : ℕ) → 0 < b
     → compared_bounds b bounds ≡ compared (λ i. bound_of (kept_at records i)) b (positions_of range)
@@ -168,11 +173,13 @@ AreBoundsOf bounds records range = (b : ℕ) → 0 < b
 
 -- the bound at each position is the greatest of what the levels promise and of what is kept there
 abbrev pub AreBounds : List Level → List Rec → Type 0
-AreBounds levels records = (i : ℕ) → max (ballot_at levels i) (bound_of (kept_at records i)) ≡ bound_at records i
+AreBounds levels records =
+    (i : ℕ) → max (ballot_at levels i) (bound_of (kept_at records i)) ≡ bound_at records i
 
 -- a level begins at each end of the ranges that were reserved
 abbrev pub HaveEnds : List Level → List Range → Type 0
-HaveEnds levels ranges = (range : Range) → Has range ranges → HasLevel levels range.first × HasLevel levels (end_of range)
+HaveEnds levels ranges = (range : Range) → Has range ranges → HasLevel levels range.first
+    × HasLevel levels (end_of range)
 
 -- the pages keep what the records say, and have a place for each position reserved for votes
 pub record ArePages (pages : List (List Kept)) (voted : List ℕ) (records : List Rec) : Type 0 where

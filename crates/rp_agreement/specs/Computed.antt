@@ -1,5 +1,6 @@
 -- The order, read off the packets.
-use Rattle.std.specs.Prelude.{ℕ, zero, suc, nat_eq, ◌&&◌, Option, Some, None, List, [], length, find, filter_map}
+use Rattle.std.specs.Prelude.{ℕ, zero, suc, nat_eq, ◌&&◌, Option, Some, None, List, [], length}
+use Rattle.std.specs.Prelude.{find, filter_map}
 use Rattle.std.specs.Option.{option_map}
 use Rattle.rp_base.specs.Promises.{HeardVote, makes_majority}
 use Rattle.rp_base.specs.Records.{unless_missing}
@@ -8,8 +9,9 @@ use Rattle.rp_codec.specs.Message.{Message}
 use Rattle.rp_codec.specs.declared.packet.Party.{Party}
 use Rattle.rp_codec.specs.declared.packet.Party.TheVariants.{Node, Task, Audit}
 use Rattle.rp_codec.specs.declared.packet.Body.{Body}
-use Rattle.rp_codec.specs.declared.packet.Body.TheVariants.{Call, Prepare, Promise, Accept, Accepted, Decided, Ask}
-use Rattle.rp_codec.specs.declared.packet.Body.TheVariants.{Nack, Reply, Report, PrepareRange, PromiseRange}
+use Rattle.rp_codec.specs.declared.packet.Body.TheVariants.{Call, Prepare, Promise, Accept}
+use Rattle.rp_codec.specs.declared.packet.Body.TheVariants.{Accepted, Decided, Ask, Nack, Reply}
+use Rattle.rp_codec.specs.declared.packet.Body.TheVariants.{Report, PrepareRange, PromiseRange}
 
 -- the vote of this node that a body reports, if it reports one
 abbrev pub vote_by : ℕ → Body → Option HeardVote
@@ -17,7 +19,8 @@ vote_by a (Call action) = None
 vote_by a (Prepare position ballot) = None
 vote_by a (Promise position ballot last) = None
 vote_by a (Accept position ballot action) = None
-vote_by a (Accepted position ballot action) = Some (a, position, record { ballot = ballot; action = action })
+vote_by a (Accepted position ballot action) =
+    Some (a, position, record { ballot = ballot; action = action })
 vote_by a (Decided position action) = None
 vote_by a (Ask position) = None
 vote_by a (Nack position ballot bound) = None
@@ -47,7 +50,8 @@ decided_at nodes sent i =
 -- the actions decided from a position on without a gap, n at most
 abbrev pub decided_run : ℕ → List Message → ℕ → ℕ → List Action
 decided_run nodes sent zero i = []
-decided_run nodes sent (suc most) i = unless_missing (decided_at nodes sent i) (decided_run nodes sent most (suc i))
+decided_run nodes sent (suc most) i =
+    unless_missing (decided_at nodes sent i) (decided_run nodes sent most (suc i))
 
 -- The order: the longest list whose ith action is decided at i. (It is no longer than the packets.)
 abbrev pub order_of : ℕ → List Message → List Action

@@ -33,6 +33,12 @@ pub record IsReplied {S : Type 0} (s : Setting S) (answer : Answer) : Type 0 whe
   pub replies : part.replies ≡ answer ∷ []
 
 -- three nodes, a log of one position, and this machine
-abbrev pub three_nodes : {S : Type 0} → (S → Action → S) → (S → Action → List Answer) → S → Setting S
+abbrev pub three_nodes : {S : Type 0} → (S → Action → S) → (S → Action → List Answer) → S
+    → Setting S
 three_nodes next answers begin =
-    record { config = record { nodes = 3; max_positions = 1 }; next = next; answers = answers; begin = begin }
+    record {
+      config = record { nodes = 3; max_positions = 1 };
+      next = next;
+      answers = answers;
+      begin = begin;
+    }

@@ -8,7 +8,8 @@ use Rattle.rp_base.specs.declared.action.Action.{Action}
 use Rattle.rp_codec.specs.Message.{Message}
 use Rattle.rp_codec.specs.declared.packet.Party.TheVariants.{Task}
 use Rattle.rp_codec.specs.declared.packet.Body.TheVariants.{Call}
-use Rattle.rp_model.specs.Effect.{Done, NodeInput, Receive, Lead, LeadRange, Interrupt, Tick, Report}
+use Rattle.rp_model.specs.Effect.{Done, NodeInput, Receive, Lead, LeadRange, Interrupt, Tick}
+use Rattle.rp_model.specs.Effect.{Report}
 use Rattle.rp_model.specs.Tasks.{TaskInput, Submit, Again, Take}
 use Rattle.rp_model.specs.Parts.{NodePart}
 use Rattle.rp_model.specs.Parts.{TaskPart}

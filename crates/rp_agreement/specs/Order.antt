@@ -15,7 +15,8 @@ AreAlike xs ys = IsPrefix xs ys ⊎ IsPrefix ys xs
 
 -- the ith action is decided at position i, for each from 1 on
 abbrev pub AreDecided : ℕ → List Message → List Action → Type 0
-AreDecided nodes sent actions = (k : ℕ) (v : Action) → slice_get actions k ≡ Some v → IsDecided nodes sent (suc k) v
+AreDecided nodes sent actions =
+    (k : ℕ) (v : Action) → slice_get actions k ≡ Some v → IsDecided nodes sent (suc k) v
 
 -- all that was sent is still sent later
 abbrev pub AllSent : List Message → List Message → Type 0

@@ -39,8 +39,8 @@ pub record IsRangedPart (part : NodePart) : Type 0 where
   pub records : (rec : Rec) → Has rec part.records → IsRecord rec
   pub running : IfSome part.running IsRangedRunning
 
--- A world of n nodes: every node's part is so, each task waits for a right call of its own, and every
--- packet ever sent is one.
+-- A world of n nodes: every node's part is so, each task waits for a right call of its own, and
+-- every packet ever sent is one.
 pub record IsRangedWorld (nodes : ℕ) (w : World) : Type 0 where
   pub size : length w.nodes ≡ nodes
   pub parts : (part : NodePart) → Has part w.nodes → IsRangedPart part
@@ -53,8 +53,10 @@ pub record IsRangedStep (x : ℕ) (done : Done NodePart) : Type 0 where
   pub packets : (m : Message) → Has m done.sends → IsPacket m
   pub own : (m : Message) → Has m done.sends → m.from ≡ Node x
 
--- Every vote that was sent to a node is for a position less than 64 above the first that the node has not learned.
+-- Every vote that was sent to a node is for a position less than 64 above the first that the node
+-- has not learned.
 abbrev pub AreVotesNear : World → Type 0
 AreVotesNear w =
-    (from : Party) (x i b : ℕ) (v : Action) → Has (record { from = from; to = Node x; body = Accepted i b v }) w.sent
+    (from : Party) (x i b : ℕ) (v : Action)
+    → Has (record { from = from; to = Node x; body = Accepted i b v }) w.sent
     → (part : NodePart) → part_at w.nodes x ≡ Some part → is_beyond part.records i ≡ false

@@ -7,7 +7,8 @@ use Rattle.rp_base.specs.Records.{started_of, bound_at}
 use Rattle.rp_base.specs.declared.action.Action.{Action}
 use Rattle.rp_base.specs.declared.proposal.Phase.TheVariants.{Preparing}
 use Rattle.rp_base.specs.declared.record.Rec.{Rec}
-use Rattle.rp_base.specs.declared.record.Rec.TheVariants.{Started, Promised, Voted, Learned, PromisedRange}
+use Rattle.rp_base.specs.declared.record.Rec.TheVariants.{Started, Promised, Voted, Learned}
+use Rattle.rp_base.specs.declared.record.Rec.TheVariants.{PromisedRange}
 use Rattle.rp_codec.specs.Message.{Message}
 use Rattle.rp_codec.specs.declared.packet.Party.TheVariants.{Node, Task}
 use Rattle.rp_model.specs.Facts.{IsOffered, IsDecided}
@@ -22,8 +23,10 @@ SentToo packets sent sent' = (m : Message) → Has m sent' ↔ (Has m sent ⊎ H
 
 -- The node x writes a record or none, goes on with a running part or none, and sends these packets;
 -- every other node stays as it was.
-pub record Happens (x : ℕ) (written : Option Rec) (running : Option Running) (packets : List Message)
-    (node : ℕ → NodePart) (sent : List Message) (node' : ℕ → NodePart) (sent' : List Message) : Type 0 where
+pub record Happens (x : ℕ) (written : Option Rec) (running : Option Running)
+    (packets : List Message)
+    (node : ℕ → NodePart) (sent : List Message) (node' : ℕ → NodePart) (sent' : List Message)
+    : Type 0 where
   pub records : (node' x).records ≡ with_record (node x).records written
   pub part : (node' x).running ≡ running
   pub others : (k : ℕ) → k ≢ x → node' k ≡ node k
@@ -46,15 +49,19 @@ MayWrite nodes sent x records (Some (Voted i b v)) = IsOffered sent i b v × (bo
 MayWrite nodes sent x records (Some (Learned i v)) = IsDecided nodes sent i v
 MayWrite nodes sent x records (Some (PromisedRange range b)) = Unit {0}
 
--- The obligations of a node's step, by its own records and the packets sent before. (What it sends itself justifies
--- no offer yet, counts in no proposal, and is no vote that it heard.)
-pub record IsSoundStep (nodes x : ℕ) (records : List Rec) (sent : List Message) (written : Option Rec)
+-- The obligations of a node's step, by its own records and the packets sent before. (What it sends
+-- itself justifies no offer yet, counts in no proposal, and is no vote that it heard.)
+pub record IsSoundStep (nodes x : ℕ) (records : List Rec) (sent : List Message)
+    (written : Option Rec)
     (running : Option Running) (packets : List Message) : Type 0 where
   pub writes : MayWrite nodes sent x records written
   pub from : (m : Message) → Has m packets → m.from ≡ Node x
   pub says : (m : Message) → Has m packets → IsSo nodes sent (with_record records written) m.body
   pub unoffered : (i b : ℕ) (v w : Action) → IsOffered packets i b v → ¬ IsOffered sent i b w
-  pub one_offer : (i b : ℕ) (v w : Action) → IsOffered packets i b v → IsOffered packets i b w → v ≡ w
-  pub runs : (after : Running) → running ≡ Some after → IsRunning sent (with_record records written) after
-  pub waits : (after : Running) → running ≡ Some after → (p : Proposal) → Has p after.proposals → p.phase ≡ Preparing
+  pub one_offer : (i b : ℕ) (v w : Action) → IsOffered packets i b v → IsOffered packets i b w
+      → v ≡ w
+  pub runs : (after : Running) → running ≡ Some after
+      → IsRunning sent (with_record records written) after
+  pub waits : (after : Running) → running ≡ Some after → (p : Proposal) → Has p after.proposals
+      → p.phase ≡ Preparing
       → (v : Action) → ¬ IsOffered packets p.position p.ballot v

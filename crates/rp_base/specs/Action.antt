@@ -4,7 +4,8 @@ use Rattle.std.specs.Ordering.{int_eq}
 use Rattle.std.specs.Int.{w64}
 use Rattle.rp_base.specs.Number.{IsTask, in_range}
 use Rattle.rp_base.specs.declared.action.Operation.{Operation}
-use Rattle.rp_base.specs.declared.action.Operation.TheVariants.{Function, Procedure, Entry, SetTimer, CancelTimer}
+use Rattle.rp_base.specs.declared.action.Operation.TheVariants.{Function, Procedure, Entry}
+use Rattle.rp_base.specs.declared.action.Operation.TheVariants.{SetTimer, CancelTimer}
 use Rattle.rp_base.specs.declared.action.Action.{Action}
 use Rattle.rp_base.specs.declared.action.Action.TheVariants.{Noop, Call, Interrupt, Tick}
 
@@ -71,5 +72,6 @@ same_action _ _ = false
 
 -- the items are equal: calls by task and number, all else whole
 abbrev pub equal_items : Action → Action → Bool
-equal_items (Call task number o p a) (Call other same q r b) = nat_eq task other && nat_eq number same
+equal_items (Call task number o p a) (Call other same q r b) =
+    nat_eq task other && nat_eq number same
 equal_items item other = same_action item other

@@ -1,6 +1,7 @@
--- Ballots. Lamport, "Paxos Made Simple", section 2.2: proposers draw their numbers from disjoint sets. The form of
--- the number is ours.
-use Rattle.std.specs.Prelude.{◌≡◌, ℕ, ◌+◌, ◌-◌, ◌*◌, ◌/◌, ◌%◌, ◌<◌, ◌≤◌, ◌^◌, max, Option, Some, unwrap_or}
+-- Ballots. Lamport, "Paxos Made Simple", section 2.2: proposers draw their numbers from disjoint
+-- sets. The form of the number is ours.
+use Rattle.std.specs.Prelude.{◌≡◌, ℕ, ◌+◌, ◌-◌, ◌*◌, ◌/◌, ◌%◌, ◌<◌, ◌≤◌, ◌^◌, max, Option, Some}
+use Rattle.std.specs.Prelude.{unwrap_or}
 use Rattle.rp_base.specs.Number.{IsNode}
 
 -- the ballot of a round and the node that owns it

@@ -1,5 +1,6 @@
 -- A task's calls. Their numbers count up from 1, and at most one call has no reply yet.
-use Rattle.std.specs.Prelude.{ℕ, suc, ◌-◌, ◌^◌, ℤ, Bool, ◌&&◌, nat_eq, nat_lt, nat_le, Option, Some, None}
+use Rattle.std.specs.Prelude.{ℕ, suc, ◌-◌, ◌^◌, ℤ, Bool, ◌&&◌, nat_eq, nat_lt, nat_le, Option, Some}
+use Rattle.std.specs.Prelude.{None}
 use Rattle.rp_base.specs.declared.action.Action.{Action}
 use Rattle.rp_base.specs.declared.action.Action.TheVariants.{Noop, Call, Interrupt, Tick}
 use Rattle.rp_base.specs.declared.action.Operation.{Operation}

@@ -1,8 +1,9 @@
--- What a proposer makes of the promises, and a learner of the votes, that came. Lamport, "Paxos Made
--- Simple", section 2.2: the value of the highest-numbered proposal among the responses, or any value
--- if they report none; and section 2.3: a value is learned once a majority of acceptors accepted it.
-use Rattle.std.specs.Prelude.{ℕ, Bool, true, false, not, ◌&&◌, nat_eq, Option, Some, None, unwrap_or, List, [], map}
-use Rattle.std.specs.Prelude.{filter, filter_map}
+-- What a proposer makes of the promises, and a learner of the votes, that came. Lamport, "Paxos
+-- Made Simple", section 2.2: the value of the highest-numbered proposal among the responses, or any
+-- value if they report none; and section 2.3: a value is learned once a majority of acceptors
+-- accepted it.
+use Rattle.std.specs.Prelude.{ℕ, Bool, true, false, not, ◌&&◌, nat_eq, Option, Some, None}
+use Rattle.std.specs.Prelude.{unwrap_or, List, [], map, filter, filter_map}
 use Rattle.rp_base.specs.declared.action.Action.{Action}
 use Rattle.rp_base.specs.declared.action.Action.TheVariants.{Noop}
 use Rattle.rp_base.specs.declared.record.Vote.{Vote}
@@ -42,8 +43,8 @@ abbrev pub action_or : Action → Option Vote → Action
 action_or own None = own
 action_or own (Some vote) = vote.action
 
--- what a proposal offers: the action of the highest vote reported, or its own where there is none, or
--- nothing where it has none
+-- what a proposal offers: the action of the highest vote reported, or its own where there is none,
+-- or nothing where it has none
 abbrev pub offer_of : Option Action → List Promise → Action
 offer_of own promises = action_or (unwrap_or own Noop) (highest_vote promises)
 

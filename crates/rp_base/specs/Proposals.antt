@@ -1,8 +1,8 @@
 -- Proposals that run at a node, one for each position. Lamport, "Paxos Made Simple", section 2.2: a
--- proposer asks for promises in its ballot, and with a majority of them offers one action; section 3:
--- one proposal for each position of the log.
-use Rattle.std.specs.Prelude.{ℕ, Bool, true, false, not, ◌&&◌, ◌||◌, nat_eq, Option, Some, None, List, [], ◌∷◌, filter}
-use Rattle.std.specs.Prelude.{find, if◌then◌else◌}
+-- proposer asks for promises in its ballot, and with a majority of them offers one action; section
+-- 3: one proposal for each position of the log.
+use Rattle.std.specs.Prelude.{ℕ, Bool, true, false, not, ◌&&◌, ◌||◌, nat_eq, Option, Some, None}
+use Rattle.std.specs.Prelude.{List, [], ◌∷◌, filter, find, if◌then◌else◌}
 use Rattle.rp_base.specs.declared.action.Action.{Action}
 use Rattle.rp_base.specs.declared.proposal.Phase.{Phase}
 use Rattle.rp_base.specs.declared.proposal.Phase.TheVariants.{Preparing, Offering}
@@ -14,9 +14,9 @@ use Rattle.rp_base.specs.PlacedVotes.{placed_at}
 use Rattle.rp_base.specs.declared.placed.PlacedVote.{PlacedVote}
 use Rattle.rp_base.specs.declared.record.Vote.{Vote}
 
--- A proposal: where it runs, in which ballot, what it offers where no promise reports a vote (nothing
--- yet where it has no action of its own), whether it began with a range, its phase, and the set of the
--- promises that came.
+-- A proposal: where it runs, in which ballot, what it offers where no promise reports a vote
+-- (nothing yet where it has no action of its own), whether it began with a range, its phase, and
+-- the set of the promises that came.
 pub record Proposal : Type 0 where
   pub position : ℕ
   pub ballot : ℕ
@@ -27,11 +27,13 @@ pub record Proposal : Type 0 where
 
 -- a proposal that begins: it waits for promises, and none came
 abbrev pub new_proposal : ℕ → ℕ → Option Action → Proposal
-new_proposal i b own = record { position = i; ballot = b; own = own; ranged = false; phase = Preparing; promises = [] }
+new_proposal i b own =
+    record { position = i; ballot = b; own = own; ranged = false; phase = Preparing; promises = [] }
 
 -- a proposal that begins with a range: it has no action of its own yet
 abbrev pub range_proposal : ℕ → ℕ → Proposal
-range_proposal b i = record { position = i; ballot = b; own = None; ranged = true; phase = Preparing; promises = [] }
+range_proposal b i =
+    record { position = i; ballot = b; own = None; ranged = true; phase = Preparing; promises = [] }
 
 -- ---- the proposals that run, one for each position
 
@@ -46,7 +48,8 @@ without_proposal proposals i = filter (λ p. not (nat_eq p.position i)) proposal
 -- the proposals, this one in place of the one at its position, or after them where none runs there
 abbrev pub with_proposal : List Proposal → Proposal → List Proposal
 with_proposal [] p = p ∷ []
-with_proposal (q ∷ rest) p = if nat_eq q.position p.position then p ∷ rest else q ∷ with_proposal rest p
+with_proposal (q ∷ rest) p =
+    if nat_eq q.position p.position then p ∷ rest else q ∷ with_proposal rest p
 
 -- a proposal runs in the ballot
 abbrev pub is_in : ℕ → Option Proposal → Bool
@@ -60,8 +63,8 @@ abbrev pub is_preparing : Phase → Bool
 is_preparing Preparing = true
 is_preparing Offering = false
 
--- a promise for its position in this ballot counts for the proposal: it is the proposal's, which waits for
--- promises and did not begin with a range
+-- a promise for its position in this ballot counts for the proposal: it is the proposal's, which
+-- waits for promises and did not begin with a range
 abbrev pub takes_promise : ℕ → Proposal → Bool
 takes_promise b p = nat_eq p.ballot b && (is_preparing p.phase && not p.ranged)
 
@@ -90,7 +93,8 @@ is_prepared nodes p = is_preparing p.phase && is_promised nodes p
 abbrev pub is_gathering : ℕ → Proposal → Bool
 is_gathering nodes p = is_preparing p.phase && not (is_promised nodes p)
 
--- a promise for a range in this ballot counts for the proposal, which began with a range and gathers promises
+-- a promise for a range in this ballot counts for the proposal, which began with a range and
+-- gathers promises
 abbrev pub takes_range_promise : ℕ → ℕ → Proposal → Bool
 takes_range_promise nodes b p = nat_eq p.ballot b && (p.ranged && is_gathering nodes p)
 
@@ -115,6 +119,7 @@ own_unless own (Some vote) = None
 abbrev pub as_offered : Action → Proposal → Proposal
 as_offered own p = record p { own = own_unless own (highest_vote p.promises); phase = Offering }
 
--- a refusal at a position in a ballot ends the proposal there, and each other of the ballot that gathers promises
+-- a refusal at a position in a ballot ends the proposal there, and each other of the ballot that
+-- gathers promises
 abbrev pub is_given_up : ℕ → ℕ → ℕ → Proposal → Bool
 is_given_up nodes i b p = nat_eq p.position i || (nat_eq p.ballot b && is_gathering nodes p)

@@ -1,6 +1,8 @@
--- Ranges of positions, for which a leader asks once. Lamport, "Paxos Made Simple", section 3: a new leader executes
--- phase 1 for all later instances in one message. That a range has at most 64 positions is ours.
-use Rattle.std.specs.Prelude.{ℕ, ◌+◌, ◌≤◌, ◌^◌, Bool, not, ◌&&◌, nat_le, nat_lt, List, Result, Ok, Err, if◌then◌else◌}
+-- Ranges of positions, for which a leader asks once. Lamport, "Paxos Made Simple", section 3: a new
+-- leader executes phase 1 for all later instances in one message. That a range has at most 64
+-- positions is ours.
+use Rattle.std.specs.Prelude.{ℕ, ◌+◌, ◌≤◌, ◌^◌, Bool, not, ◌&&◌, nat_le, nat_lt, List, Result, Ok}
+use Rattle.std.specs.Prelude.{Err, if◌then◌else◌}
 use Rattle.std.specs.List.{range_with_len}
 use Rattle.rp_base.specs.Number.{IsPosition, in_range}
 use Rattle.rp_base.specs.declared.fault.Fault.{Fault}
@@ -33,7 +35,8 @@ positions_of range = range_with_len range.first range.count
 abbrev pub is_covered : Range → ℕ → Bool
 is_covered range i = nat_le range.first i && nat_lt i (end_of range)
 
--- The range of n positions from the first on. A wrong count is reported before a last position above the greatest.
+-- The range of n positions from the first on. A wrong count is reported before a last position
+-- above the greatest.
 abbrev pub range_of : ℕ → ℕ → Result Range Fault
 range_of first count =
     if not (in_range 1 64 count) then Err BadConfig

@@ -1,11 +1,13 @@
--- What a node's records say. Lamport, "Paxos Made Simple", section 2.2: an acceptor needs to remember
--- only the highest-numbered proposal that it accepted and the highest number that it promised.
-use Rattle.std.specs.Prelude.{ℕ, zero, suc, max, nat_eq, nat_lt, Option, Some, None, List, [], ◌∷◌, length, filter_map}
-use Rattle.std.specs.Prelude.{if◌then◌else◌}
+-- What a node's records say. Lamport, "Paxos Made Simple", section 2.2: an acceptor needs to
+-- remember only the highest-numbered proposal that it accepted and the highest number that it
+-- promised.
+use Rattle.std.specs.Prelude.{ℕ, zero, suc, max, nat_eq, nat_lt, Option, Some, None, List, [], ◌∷◌}
+use Rattle.std.specs.Prelude.{length, filter_map, if◌then◌else◌}
 use Rattle.rp_base.specs.declared.action.Action.{Action}
 use Rattle.rp_base.specs.declared.record.Vote.{Vote}
 use Rattle.rp_base.specs.declared.record.Rec.{Rec}
-use Rattle.rp_base.specs.declared.record.Rec.TheVariants.{Started, Promised, Voted, Learned, PromisedRange}
+use Rattle.rp_base.specs.declared.record.Rec.TheVariants.{Started, Promised, Voted, Learned}
+use Rattle.rp_base.specs.declared.record.Rec.TheVariants.{PromisedRange}
 use Rattle.rp_base.specs.Ranges.{is_covered}
 
 -- the ballot in which a record leads, or 0
@@ -83,9 +85,11 @@ unless_missing (Some action) rest = action ∷ rest
 -- the actions learned from a position on without a gap, n at most
 abbrev pub learned_run : List Rec → ℕ → ℕ → List Action
 learned_run records zero i = []
-learned_run records (suc most) i = unless_missing (learned_at records i) (learned_run records most (suc i))
+learned_run records (suc most) i =
+    unless_missing (learned_at records i) (learned_run records most (suc i))
 
--- The applied list: the longest whose ith action is learned at i. (It is no longer than the records.)
+-- The applied list: the longest whose ith action is learned at i. (It is no longer than the
+-- records.)
 abbrev pub applied_of : List Rec → List Action
 applied_of records = learned_run records (length records) 1
 

@@ -3,10 +3,12 @@ use Rattle.std.specs.Prelude.{FitsSigned}
 use Rattle.std.specs.Int.{w64}
 use Rattle.rp_base.specs.Action.{IsRight}
 use Rattle.rp_base.specs.declared.reply.Reply.{Reply}
-use Rattle.rp_base.specs.declared.reply.Reply.TheVariants.{Value, Truth, ConstraintError, ProgramError, NoSuchOperation}
+use Rattle.rp_base.specs.declared.reply.Reply.TheVariants.{Value, Truth, ConstraintError}
+use Rattle.rp_base.specs.declared.reply.Reply.TheVariants.{ProgramError, NoSuchOperation}
 use Rattle.rp_base.specs.declared.record.Vote.{Vote}
 use Rattle.rp_base.specs.declared.record.Rec.{Rec}
-use Rattle.rp_base.specs.declared.record.Rec.TheVariants.{Started, Promised, Voted, Learned, PromisedRange}
+use Rattle.rp_base.specs.declared.record.Rec.TheVariants.{Started, Promised, Voted, Learned}
+use Rattle.rp_base.specs.declared.record.Rec.TheVariants.{PromisedRange}
 
 -- the value of the reply has 64 signed bits
 abbrev pub IsReply : Reply → Type 0

@@ -1,6 +1,8 @@
--- What an acceptor answers, by its records. Lamport, "Paxos Made Simple", section 2.2, phases 1b and 2b. That a lower
--- ballot is answered by the bound, an equal one by nothing, and a vote that was cast by the same again, is ours.
-use Rattle.std.specs.Prelude.{ℕ, nat_eq, nat_lt, Option, Some, None, Bool, List, find, if◌then◌else◌}
+-- What an acceptor answers, by its records. Lamport, "Paxos Made Simple", section 2.2, phases 1b
+-- and 2b. That a lower ballot is answered by the bound, an equal one by nothing, and a vote that
+-- was cast by the same again, is ours.
+use Rattle.std.specs.Prelude.{ℕ, nat_eq, nat_lt, Option, Some, None, Bool, List, find}
+use Rattle.std.specs.Prelude.{if◌then◌else◌}
 use Rattle.std.specs.List.{list_all}
 use Rattle.rp_base.specs.declared.action.Action.{Action}
 use Rattle.rp_base.specs.declared.record.Vote.{Vote}
@@ -37,11 +39,12 @@ abbrev pub range_refusal : List Rec → Option ℕ → RangeAnswer
 range_refusal records None = range_prepares.Silent
 range_refusal records (Some i) = range_prepares.Nack i (bound_at records i)
 
--- PrepareRange: above the bound at each position a promise with the last votes; else the bound at the least
--- position where the ballot is below it; else nothing
+-- PrepareRange: above the bound at each position a promise with the last votes; else the bound at
+-- the least position where the ballot is below it; else nothing
 abbrev pub range_answer : List Rec → Range → ℕ → RangeAnswer
 range_answer records range b =
-    if is_above_bounds records range b then range_prepares.Promise (last_votes records range) (PromisedRange range b)
+    if is_above_bounds records range b
+    then range_prepares.Promise (last_votes records range) (PromisedRange range b)
     else range_refusal records (refusing_position records range b)
 
 -- by the last vote: none or one in another ballot, then a vote; this one, then again; another

@@ -1,12 +1,13 @@
 -- Which bodies keep the limits of the language.
-use Rattle.std.specs.Prelude.{ℕ, ◌+◌, ◌≤◌, max, nat_lt, nat_le, Bool, true, ◌&&◌, IsTrue, List, [], ◌∷◌, map, sum}
+use Rattle.std.specs.Prelude.{ℕ, ◌+◌, ◌≤◌, max, nat_lt, nat_le, Bool, true, ◌&&◌, IsTrue, List, []}
+use Rattle.std.specs.Prelude.{◌∷◌, map, sum}
 use Rattle.std.specs.List.{list_all}
 use Rattle.rp_body.specs.declared.components.Limits.{Limits}
 use Rattle.rp_body.specs.declared.expression.Expr.{Expr}
 use Rattle.rp_body.specs.declared.expression.Expr.TheVariants.{Number, Arg, Out, Int, Add', Sub'}
 use Rattle.rp_body.specs.declared.expression.Cond.{Cond}
-use Rattle.rp_body.specs.declared.expression.Cond.TheVariants.{Constant, Bool as Named, Less, LessOrEqual, Equal, Not'}
-use Rattle.rp_body.specs.declared.expression.Cond.TheVariants.{And', Or'}
+use Rattle.rp_body.specs.declared.expression.Cond.TheVariants.{Constant, Bool as Named, Less}
+use Rattle.rp_body.specs.declared.expression.Cond.TheVariants.{LessOrEqual, Equal, Not', And', Or'}
 use Rattle.rp_body.specs.declared.statement.Stmt.{Stmt}
 use Rattle.rp_body.specs.declared.statement.Stmt.TheOpen.{Stmt-F}
 use Rattle.rp_body.specs.declared.statement.Stmt.TheFolds.{fold-Stmt}
@@ -103,7 +104,8 @@ abbrev pub fits_step : Limits → Stmt-F Bool → Bool
 fits_step limits (Stmt-F.Set name expr) = nat_lt name limits.ints && expr_fits limits expr
 fits_step limits (Stmt-F.Put name cond) = nat_lt name limits.bools && cond_fits limits cond
 fits_step limits (Stmt-F.Out expr) = expr_fits limits expr
-fits_step limits (Stmt-F.If cond first second) = cond_fits limits cond && all_hold first.items && all_hold second.items
+fits_step limits (Stmt-F.If cond first second) =
+    cond_fits limits cond && all_hold first.items && all_hold second.items
 
 -- the expressions and conditions of a statement fit, and it names only components that are counted
 abbrev pub stmt_fits : Limits → Stmt → Bool
@@ -113,7 +115,8 @@ stmt_fits limits = fold-Stmt Bool (fits_step limits)
 abbrev pub body_fits : Limits → List Stmt → Bool
 body_fits limits body = all_hold (map (stmt_fits limits) body)
 
--- at most 64 statements, at most 8 deep, each expression and condition of at most 32 nodes, and each name counted
+-- at most 64 statements, at most 8 deep, each expression and condition of at most 32 nodes, and
+-- each name counted
 pub record KeepsLimits (limits : Limits) (body : List Stmt) : Type 0 where
   pub count : statement_count body ≤ 64
   pub depth : depth_of body ≤ 8

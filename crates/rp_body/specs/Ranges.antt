@@ -11,7 +11,8 @@ range_of component = (component.low, component.high)
 
 -- the same names denote whole numbers, each with the same range
 abbrev pub HasRangesOf : Store → Store → Type 0
-HasRangesOf old new = (name : ℕ) → option_map range_of (get new.ints name) ≡ option_map range_of (get old.ints name)
+HasRangesOf old new =
+    (name : ℕ) → option_map range_of (get new.ints name) ≡ option_map range_of (get old.ints name)
 
 -- each whole number lies in its range
 abbrev pub IsInRange : Store → Type 0

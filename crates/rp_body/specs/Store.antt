@@ -1,6 +1,6 @@
 -- The components of a protected object, by name.
-use Rattle.std.specs.Prelude.{ℕ, ℤ, pos, Bool, true, false, ◌&&◌, int_le, Option, Some, None, unwrap_or, option_map}
-use Rattle.std.specs.Prelude.{List, if◌then◌else◌, refl}
+use Rattle.std.specs.Prelude.{ℕ, ℤ, pos, Bool, true, false, ◌&&◌, int_le, Option, Some, None}
+use Rattle.std.specs.Prelude.{unwrap_or, option_map, List, if◌then◌else◌, refl}
 use Rattle.std.specs.List.{enumerate_from}
 use Rattle.std.specs.Ordering.{nat_cmp}
 use Rattle.std.specs.FinMap.{FinMap, code, get, insert, len, from_entries}
@@ -8,8 +8,8 @@ use Rattle.std.specs.Coded.{Coded, code_by, coded×, coded_ℕ, coded_ℤ, coded
 use Rattle.rp_body.specs.declared.components.Ranged.{Ranged}
 use Rattle.rp_body.specs.declared.components.Limits.{Limits}
 
--- the components of an object: whole numbers with their ranges, and Booleans, each by its name, which is a number
--- from 0
+-- the components of an object: whole numbers with their ranges, and Booleans, each by its name,
+-- which is a number from 0
 pub record Store : Type 0 where
   pub ints : FinMap nat_cmp Ranged
   pub bools : FinMap nat_cmp Bool
@@ -17,13 +17,15 @@ pub record Store : Type 0 where
 -- a whole number, for the proofs, as the tuple of its fields
 abbrev pub ranged_code : Coded Ranged
 ranged_code =
-    code_by (ℤ × (ℤ × ℤ)) (coded× coded_ℤ (coded× coded_ℤ coded_ℤ)) (λ c. (c.low, (c.high, c.value)))
+    code_by (ℤ × (ℤ × ℤ)) (coded× coded_ℤ (coded× coded_ℤ coded_ℤ))
+    (λ c. (c.low, (c.high, c.value)))
     (λ p. record { low = p.0; high = p.1.0; value = p.1.1 }) (λ _. refl)
 
 -- the components, for the proofs, as the pair of their maps
 abbrev pub store_code : Coded Store
 store_code =
-    code_by (FinMap nat_cmp Ranged × FinMap nat_cmp Bool) (coded× (code coded_ℕ ranged_code) (code coded_ℕ coded_bool))
+    code_by (FinMap nat_cmp Ranged × FinMap nat_cmp Bool)
+    (coded× (code coded_ℕ ranged_code) (code coded_ℕ coded_bool))
     (λ s. (s.ints, s.bools)) (λ p. record { ints = p.0; bools = p.1 }) (λ _. refl)
 
 -- how many components of each kind there are
@@ -32,7 +34,8 @@ limits_of store = record { ints = len store.ints; bools = len store.bools }
 
 -- the value of a whole number; a name that is not there counts as 0
 abbrev pub int_value : Store → ℕ → ℤ
-int_value store name = unwrap_or (option_map (λ component. component.value) (get store.ints name)) (pos 0)
+int_value store name =
+    unwrap_or (option_map (λ component. component.value) (get store.ints name)) (pos 0)
 
 -- the value of a Boolean; a name that is not there counts as False
 abbrev pub bool_value : Store → ℕ → Bool
@@ -54,8 +57,8 @@ with_found (Some component) store name value =
     then (record store { ints = insert store.ints name (record component { value = value }) }, true)
     else (store, false)
 
--- the components once a whole number is given a value, and whether the value lies in its range; where it does not,
--- nothing changes
+-- the components once a whole number is given a value, and whether the value lies in its range;
+-- where it does not, nothing changes
 abbrev pub with_int : Store → ℕ → ℤ → Store × Bool
 with_int store name value = with_found (get store.ints name) store name value
 

@@ -8,7 +8,8 @@ use Rattle.rp_script.specs.Agreeing.{ScriptPrints}
 use Rattle.rp_output.specs.FaultMessage.{fault_message_of, with_line_feed}
 use Rattle.rp_script.specs.Given.{most_bytes}
 use Rattle.rp_c.specs.declared.status.Status.{Status}
-use Rattle.rp_c.specs.declared.status.Status.TheVariants.{Done, OutOfMemory, BadPacket, BadDeck, Io, ShortAnswer}
+use Rattle.rp_c.specs.declared.status.Status.TheVariants.{Done, OutOfMemory, BadPacket, BadDeck, Io}
+use Rattle.rp_c.specs.declared.status.Status.TheVariants.{ShortAnswer}
 
 -- The text is the whole output of the deck that the bytes mean, and `DeckPrints` holds of it.
 abbrev pub IsOutput : Bool → List ℕ → List ℕ → Type 0
@@ -21,7 +22,8 @@ IsBadLine bytes text = (line : ℕ) × (reason : DeckReason)
     × (meaning_of Script bytes ≡ Err (record { line = line; reason = reason }))
     × (text ≡ with_line_feed (fault_message_of (faults.BadDeck line reason)))
 
--- The text is at the front of the buffer, whose other bytes are as they were, and its length was written.
+-- The text is at the front of the buffer, whose other bytes are as they were, and its length was
+-- written.
 pub record IsPut (text old new : List ℕ) (used : ℕ) : Type 0 where
   pub front : new ≡ text ++ drop (length text) old
   pub length_is : used ≡ length text
@@ -39,12 +41,15 @@ RunsDeck traced bytes old new before used Done =
 RunsDeck traced bytes old new before used BadDeck =
     (text : List ℕ) × IsBadLine bytes text × IsPut text old new used
 RunsDeck traced bytes old new before used ShortAnswer =
-    (text : List ℕ) × (IsOutput traced bytes text ⊎ IsBadLine bytes text) × IsTooLong text old new used
+    (text : List ℕ) × (IsOutput traced bytes text ⊎ IsBadLine bytes text)
+    × IsTooLong text old new used
 RunsDeck traced bytes old new before used OutOfMemory = (new ≡ old) × (used ≡ before)
-RunsDeck traced bytes old new before used Io = (most_bytes < length bytes) × (new ≡ old) × (used ≡ before)
+RunsDeck traced bytes old new before used Io =
+    (most_bytes < length bytes) × (new ≡ old) × (used ≡ before)
 RunsDeck traced bytes old new before used BadPacket = ⊥
 
 -- A text is put into a buffer, if it fits, with this status.
 abbrev pub PutsText : List ℕ → List ℕ → List ℕ → ℕ → Status → Status → Type 0
 PutsText text old new used done status =
-    ((status ≡ done) × IsPut text old new used) ⊎ ((status ≡ ShortAnswer) × IsTooLong text old new used)
+    ((status ≡ done) × IsPut text old new used)
+    ⊎ ((status ≡ ShortAnswer) × IsTooLong text old new used)

@@ -7,13 +7,15 @@ use Rattle.rp_codec.specs.Reading.{all_of}
 use Rattle.rp_codec.specs.Text.{IsTextBefore, IsTextOf, text_of}
 use Rattle.rp_c.specs.Status.{reason_code}
 use Rattle.rp_c.specs.declared.status.Status.{Status}
-use Rattle.rp_c.specs.declared.status.Status.TheVariants.{Done, OutOfMemory, BadPacket, BadDeck, Io, ShortAnswer}
+use Rattle.rp_c.specs.declared.status.Status.TheVariants.{Done, OutOfMemory, BadPacket, BadDeck, Io}
+use Rattle.rp_c.specs.declared.status.Status.TheVariants.{ShortAnswer}
 
 -- The bytes begin with a packet, whose length is written; or with none, and the length is as it
 -- was.
 abbrev pub PutsLength : List ℕ → ℕ → ℕ → Status → Type 0
 PutsLength bytes old new Done =
-    (p : Message) × (rest : List ℕ) × IsPacket p × IsTextBefore p rest bytes × (new ≡ length (text_of p))
+    (p : Message) × (rest : List ℕ) × IsPacket p × IsTextBefore p rest bytes
+    × (new ≡ length (text_of p))
 PutsLength bytes old new BadPacket = (¬ BeginsWithPacket bytes) × (new ≡ old)
 PutsLength bytes old new _ = ⊥
 

@@ -6,7 +6,8 @@ use Rattle.rp_base.specs.declared.fault.DeckReason.TheVariants.{NodesExpected}
 use Rattle.rp_base.specs.declared.fault.PacketReason.{PacketReason}
 use Rattle.rp_base.specs.declared.fault.PacketReason.TheVariants.{Short, Long, Version, Kind, Field}
 use Rattle.rp_c.specs.declared.status.Status.{Status}
-use Rattle.rp_c.specs.declared.status.Status.TheVariants.{Done, OutOfMemory, BadPacket, BadDeck, Io, ShortAnswer}
+use Rattle.rp_c.specs.declared.status.Status.TheVariants.{Done, OutOfMemory, BadPacket, BadDeck, Io}
+use Rattle.rp_c.specs.declared.status.Status.TheVariants.{ShortAnswer}
 
 -- 0, the number of the fault of the same name, or 64 for the status that only this library has
 abbrev pub status_code : Status → ℕ

@@ -1,10 +1,13 @@
 -- What bytes are read as: the packet of which they are a text, all of them, or why there is none.
 use Rattle.std.specs.Prelude.{◌≡◌, ◌≢◌, ◌↔◌, ℕ, List, [], ◌∷◌, Result, Ok, Err, IfOk}
 use Rattle.rp_base.specs.declared.fault.PacketReason.{PacketReason}
-use Rattle.rp_base.specs.declared.fault.PacketReason.TheVariants.{Long, Version as UnknownVersion, Kind as UnknownKind}
+use Rattle.rp_base.specs.declared.fault.PacketReason.TheVariants.{Long, Version as UnknownVersion}
+use Rattle.rp_base.specs.declared.fault.PacketReason.TheVariants.{Kind as UnknownKind}
 use Rattle.rp_codec.specs.declared.packet.Body.{Body}
-use Rattle.rp_codec.specs.declared.packet.Body.TheVariants.{Call, Prepare, Promise, Accept, Accepted, Decided, Ask}
-use Rattle.rp_codec.specs.declared.packet.Body.TheVariants.{Nack, Reply as Answer, Report, PrepareRange, PromiseRange}
+use Rattle.rp_codec.specs.declared.packet.Body.TheVariants.{Call, Prepare, Promise, Accept}
+use Rattle.rp_codec.specs.declared.packet.Body.TheVariants.{Accepted, Decided, Ask, Nack}
+use Rattle.rp_codec.specs.declared.packet.Body.TheVariants.{Reply as Answer, Report, PrepareRange}
+use Rattle.rp_codec.specs.declared.packet.Body.TheVariants.{PromiseRange}
 use Rattle.rp_codec.specs.Message.{Message, IsPacket}
 use Rattle.rp_codec.specs.declared.version.Version.{Version}
 use Rattle.rp_codec.specs.Version.{version_number}
@@ -19,13 +22,16 @@ HasOtherVersion bytes = (n : ℕ) × (rest : List ℕ) × (n ≢ 1) × (n ≢ 2)
 -- a version, and then a byte that is no kind
 abbrev pub HasNoKind : List ℕ → Type 0
 HasNoKind bytes =
-    (version : Version) × (n : ℕ) × (rest : List ℕ) × (¬ IsKind n) × (bytes ≡ version_number version ∷ n ∷ rest)
+    (version : Version) × (n : ℕ) × (rest : List ℕ) × (¬ IsKind n)
+    × (bytes ≡ version_number version ∷ n ∷ rest)
 
 -- a packet's text, and one byte or more
 abbrev pub IsTooLong : List ℕ → Type 0
-IsTooLong bytes = (p : Message) × (rest : List ℕ) × IsPacket p × (rest ≢ []) × IsTextBefore p rest bytes
+IsTooLong bytes = (p : Message) × (rest : List ℕ) × IsPacket p × (rest ≢ [])
+    × IsTextBefore p rest bytes
 
--- what is read has this text, of one version or the other, what has it is read, and a refusal has its one reason
+-- what is read has this text, of one version or the other, what has it is read, and a refusal has
+-- its one reason
 pub record IsDecoded (bytes : List ℕ) (answer : Result Message PacketReason) : Type 0 where
   pub found : IfOk answer (λ p. IsPacket p × IsTextOf p bytes)
   pub only : (p : Message) → IsPacket p → IsTextOf p bytes → answer ≡ Ok p

@@ -20,7 +20,8 @@ Skips (Err e) after read = read ≡ Err e
 
 -- a position was read, and the ballot and the action of a vote there
 abbrev pub GivesVote : Result (ℕ × ℕ × Action) PacketReason → List ℕ → Read PlacedVote → Type 0
-GivesVote (Ok x) after read = read ≡ Ok (record { position = x.0; vote = record { ballot = x.1; action = x.2 } }, after)
+GivesVote (Ok x) after read =
+    read ≡ Ok (record { position = x.0; vote = record { ballot = x.1; action = x.2 } }, after)
 GivesVote (Err e) after read = read ≡ Err e
 
 -- a content that ends where these bytes begin denotes this body
@@ -35,7 +36,8 @@ IsContentOf (Voted version range ballot text) after body =
 
 -- what a function returned, and the bytes that it left, denote what reading gives
 abbrev pub Finds : Result Content PacketReason → List ℕ → Read Body → Type 0
-Finds (Ok content) after read = (body : Body) × IsContentOf content after body × (read ≡ Ok (body, after))
+Finds (Ok content) after read =
+    (body : Body) × IsContentOf content after body × (read ≡ Ok (body, after))
 Finds (Err e) after read = read ≡ Err e
 
 -- the packet of this body
@@ -50,29 +52,34 @@ FindsPacket (Err e) after read = read ≡ Err e
 -- all of the bytes
 abbrev pub FindsWhole : Result Found PacketReason → Result Message PacketReason → Type 0
 FindsWhole (Ok found) read =
-    (body : Body) × (after : List ℕ) × IsContentOf found.content after body × (read ≡ Ok (with_body found body))
+    (body : Body) × (after : List ℕ) × IsContentOf found.content after body
+    × (read ≡ Ok (with_body found body))
 FindsWhole (Err e) read = read ≡ Err e
 
 -- its packet keeps the rules
 abbrev pub KeepsRulesAt : Found → Type 0
 KeepsRulesAt found =
-    (body : Body) × (after : List ℕ) × IsContentOf found.content after body × KeepsRules (with_body found body)
+    (body : Body) × (after : List ℕ) × IsContentOf found.content after body
+    × KeepsRules (with_body found body)
 
 -- the list is that of the first n actions
 abbrev pub AreFirst : List Action → Version → ℕ → List ℕ → Type 0
 AreFirst list version count text =
-    (actions : List Action) (after : List ℕ) → actions_at version count text ≡ Ok (actions, after) → list ≡ actions
+    (actions : List Action) (after : List ℕ) → actions_at version count text ≡ Ok (actions, after)
+    → list ≡ actions
 
 -- the list is that of the votes that are reported
 abbrev pub AreFirstVotes : List PlacedVote → Version → Range → ℕ → List ℕ → Type 0
 AreFirstVotes list version range ballot text =
-    (votes : List PlacedVote) (after : List ℕ) → reported_votes_at version range ballot text ≡ Ok (votes, after)
+    (votes : List PlacedVote) (after : List ℕ)
+    → reported_votes_at version range ballot text ≡ Ok (votes, after)
     → list ≡ votes
 
 -- the packet is the one that was found
 abbrev pub IsListed : Message → Found → Type 0
 IsListed packet found =
-    (body : Body) (after : List ℕ) → IsContentOf found.content after body → packet ≡ with_body found body
+    (body : Body) (after : List ℕ) → IsContentOf found.content after body
+    → packet ≡ with_body found body
 
 -- a report or a promise for a range, whose actions or votes are yet to be put into a list
 abbrev pub IsList : Content → Type 0

@@ -1,10 +1,12 @@
 -- The kinds of packets, and their numbers.
-use Rattle.std.specs.Prelude.{ℕ, List, ◌==◌, if◌then◌else◌, Option, Some, None, IsSome, slice_get, option_and_then}
+use Rattle.std.specs.Prelude.{ℕ, List, ◌==◌, if◌then◌else◌, Option, Some, None, IsSome, slice_get}
+use Rattle.std.specs.Prelude.{option_and_then}
 use Rattle.rp_codec.specs.declared.packet.Body.{Body}
 use Rattle.rp_codec.specs.declared.packet.Body.TheVariants as bodies
 use Rattle.rp_codec.specs.declared.kind.Kind.{Kind}
-use Rattle.rp_codec.specs.declared.kind.Kind.TheVariants.{Call, Prepare, Promise, Accept, Accepted, Decided, Ask, Nack}
-use Rattle.rp_codec.specs.declared.kind.Kind.TheVariants.{Reply, Report, PrepareRange, PromiseRange}
+use Rattle.rp_codec.specs.declared.kind.Kind.TheVariants.{Call, Prepare, Promise, Accept, Accepted}
+use Rattle.rp_codec.specs.declared.kind.Kind.TheVariants.{Decided, Ask, Nack, Reply, Report}
+use Rattle.rp_codec.specs.declared.kind.Kind.TheVariants.{PrepareRange, PromiseRange}
 
 -- the number of a kind
 abbrev pub number_of : Kind → ℕ

@@ -12,8 +12,10 @@ use Rattle.rp_base.specs.declared.record.Vote.{Vote}
 use Rattle.rp_codec.specs.declared.packet.Party.{Party}
 use Rattle.rp_codec.specs.declared.packet.Party.TheVariants.{Node, Task, Audit}
 use Rattle.rp_codec.specs.declared.packet.Body.{Body}
-use Rattle.rp_codec.specs.declared.packet.Body.TheVariants.{Call, Prepare, Promise, Accept, Accepted, Decided, Ask}
-use Rattle.rp_codec.specs.declared.packet.Body.TheVariants.{Nack, Reply as Answer, Report, PrepareRange, PromiseRange}
+use Rattle.rp_codec.specs.declared.packet.Body.TheVariants.{Call, Prepare, Promise, Accept}
+use Rattle.rp_codec.specs.declared.packet.Body.TheVariants.{Accepted, Decided, Ask, Nack}
+use Rattle.rp_codec.specs.declared.packet.Body.TheVariants.{Reply as Answer, Report, PrepareRange}
+use Rattle.rp_codec.specs.declared.packet.Body.TheVariants.{PromiseRange}
 
 pub record Message : Type 0 where
   pub from : Party
@@ -96,16 +98,19 @@ MayCall from to action = IsTaskParty from × IsNodeParty to × IsCallOf from act
 abbrev pub MaySay : Party → Party → Body → Type 0
 MaySay from to (Call action) = MayCall from to action
 MaySay from to (Prepare position ballot) = BetweenNodes from to
-MaySay from to (Promise position ballot last) = BetweenNodes from to × IfSome last (λ vote. IsVoteBelow ballot vote)
+MaySay from to (Promise position ballot last) =
+    BetweenNodes from to × IfSome last (λ vote. IsVoteBelow ballot vote)
 MaySay from to (Accept position ballot action) = BetweenNodes from to × IsRight action
 MaySay from to (Accepted position ballot action) = BetweenNodes from to × IsRight action
 MaySay from to (Decided position action) = BetweenNodes from to × IsRight action
 MaySay from to (Ask position) = BetweenNodes from to
 MaySay from to (Nack position ballot bound) = BetweenNodes from to × (ballot < bound)
 MaySay from to (Answer number reply) = IsNodeParty from × IsTaskParty to × IsCount number
-MaySay from to (Report first applied actions) = IsNodeParty from × IsAudit to × IsReport first applied actions
+MaySay from to (Report first applied actions) =
+    IsNodeParty from × IsAudit to × IsReport first applied actions
 MaySay from to (PrepareRange range ballot) = BetweenNodes from to
-MaySay from to (PromiseRange range ballot votes) = BetweenNodes from to × AreReported range ballot votes
+MaySay from to (PromiseRange range ballot votes) =
+    BetweenNodes from to × AreReported range ballot votes
 
 abbrev pub KeepsRules : Message → Type 0
 KeepsRules m = MaySay m.from m.to m.body

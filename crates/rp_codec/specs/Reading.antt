@@ -1,9 +1,11 @@
 -- Reading from left to right, up to the first fault.
-use Rattle.std.specs.Prelude.{◌≡◌, ℕ, zero, suc, ◌+◌, ◌-◌, ◌^◌, ◌%◌, Bool, true, false, ◌&&◌, List, [], ◌∷◌, length}
-use Rattle.std.specs.Prelude.{take, drop, Option, Some, None, Result, Ok, Err, nat_lt, nat_le, ◌==◌, if◌then◌else◌, ℤ}
+use Rattle.std.specs.Prelude.{◌≡◌, ℕ, zero, suc, ◌+◌, ◌-◌, ◌^◌, ◌%◌, Bool, true, false, ◌&&◌, List}
+use Rattle.std.specs.Prelude.{[], ◌∷◌, length, take, drop, Option, Some, None, Result, Ok, Err}
+use Rattle.std.specs.Prelude.{nat_lt, nat_le, ◌==◌, if◌then◌else◌, ℤ}
 use Rattle.std.specs.Int.{Width, w16, w32, w64, byte_len, from_be_bytes, cast_signed}
 use Rattle.rp_base.specs.declared.fault.PacketReason.{PacketReason}
-use Rattle.rp_base.specs.declared.fault.PacketReason.TheVariants.{Short, Long, Version as UnknownVersion}
+use Rattle.rp_base.specs.declared.fault.PacketReason.TheVariants.{Short, Long}
+use Rattle.rp_base.specs.declared.fault.PacketReason.TheVariants.{Version as UnknownVersion}
 use Rattle.rp_base.specs.declared.fault.PacketReason.TheVariants.{Kind as UnknownKind, Field}
 use Rattle.rp_base.specs.declared.action.Operation.{Operation}
 use Rattle.rp_base.specs.declared.action.Operation.TheVariants as operations
@@ -20,8 +22,9 @@ use Rattle.rp_codec.specs.declared.packet.Party.TheVariants.{Node, Task, Audit}
 use Rattle.rp_codec.specs.declared.packet.Body.{Body}
 use Rattle.rp_codec.specs.declared.packet.Body.TheVariants as bodies
 use Rattle.rp_codec.specs.declared.kind.Kind.{Kind}
-use Rattle.rp_codec.specs.declared.kind.Kind.TheVariants.{Call, Prepare, Promise, Accept, Accepted, Decided, Ask, Nack}
-use Rattle.rp_codec.specs.declared.kind.Kind.TheVariants.{Reply as Answer, Report, PrepareRange, PromiseRange}
+use Rattle.rp_codec.specs.declared.kind.Kind.TheVariants.{Call, Prepare, Promise, Accept, Accepted}
+use Rattle.rp_codec.specs.declared.kind.Kind.TheVariants.{Decided, Ask, Nack, Reply as Answer}
+use Rattle.rp_codec.specs.declared.kind.Kind.TheVariants.{Report, PrepareRange, PromiseRange}
 use Rattle.rp_codec.specs.Kind.{kind_of, Role, ANode, ATask, TheAudit, sender_role, receiver_role}
 use Rattle.rp_codec.specs.declared.version.Version.{Version}
 use Rattle.rp_codec.specs.declared.version.Version.TheVariants.{V1, V2}
@@ -29,7 +32,8 @@ use Rattle.rp_codec.specs.Version.{version_of}
 use Rattle.rp_codec.specs.Message.{Message, report_len}
 
 infixl 10 ◌>>=◌
-abbrev pub ◌>>=◌ : {A B : Type 0} → Result A PacketReason → (A → Result B PacketReason) → Result B PacketReason
+abbrev pub ◌>>=◌ : {A B : Type 0} → Result A PacketReason → (A → Result B PacketReason)
+    → Result B PacketReason
 (Ok x) >>= f = f x
 (Err e) >>= f = Err e
 
@@ -220,7 +224,10 @@ unfoldable pub placed_vote_at : Version → List ℕ → Read PlacedVote
 placed_vote_at version bytes = do
   place ← place_at bytes
   action ← action_at version place.1
-  Ok (record { position = place.0.0; vote = record { ballot = place.0.1; action = action.0 } }, action.1)
+  Ok (
+    record { position = place.0.0; vote = record { ballot = place.0.1; action = action.0 } },
+    action.1,
+  )
 
 -- ---- replies
 
@@ -355,7 +362,8 @@ prepare_range_at bytes = do
   place ← range_place_at bytes
   Ok (bodies.PrepareRange place.0.0 place.0.1, place.1)
 
--- a vote in a ballot below this one, at a position that is the first or a later one, and below the end
+-- a vote in a ballot below this one, at a position that is the first or a later one, and below the
+-- end
 unfoldable pub reported_at : Version → ℕ → ℕ → ℕ → List ℕ → Read PlacedVote
 reported_at version ballot end first bytes = do
   n ← position_at bytes

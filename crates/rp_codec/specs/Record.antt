@@ -5,11 +5,13 @@ use Rattle.rp_base.specs.Ballot.{IsBallot}
 use Rattle.rp_base.specs.Ranges.{IsRange}
 use Rattle.rp_base.specs.Right.{IsRightRecord}
 use Rattle.rp_base.specs.declared.record.Rec.{Rec}
-use Rattle.rp_base.specs.declared.record.Rec.TheVariants.{Started, Promised, Voted, Learned, PromisedRange}
+use Rattle.rp_base.specs.declared.record.Rec.TheVariants.{Started, Promised, Voted, Learned}
+use Rattle.rp_base.specs.declared.record.Rec.TheVariants.{PromisedRange}
 use Rattle.rp_codec.specs.declared.version.Version.{Version}
 use Rattle.rp_codec.specs.declared.version.Version.TheVariants.{V2}
 use Rattle.rp_codec.specs.Version.{version_number}
-use Rattle.rp_codec.specs.Text.{range_text, position_text, ballot_text, action_text_at, HasActionText}
+use Rattle.rp_codec.specs.Text.{range_text, position_text, ballot_text, action_text_at}
+use Rattle.rp_codec.specs.Text.{HasActionText}
 
 -- the version, the kind, and the fields in order
 abbrev pub record_text_at : Version → Rec → List ℕ
@@ -17,7 +19,8 @@ record_text_at version (Started ballot) = (version_number version ∷ 1 ∷ []) 
 record_text_at version (Promised position ballot) =
     (version_number version ∷ 2 ∷ []) ++ position_text position ++ ballot_text ballot
 record_text_at version (Voted position ballot action) =
-    (version_number version ∷ 3 ∷ []) ++ position_text position ++ ballot_text ballot ++ action_text_at version action
+    (version_number version ∷ 3 ∷ []) ++ position_text position ++ ballot_text ballot
+    ++ action_text_at version action
 record_text_at version (Learned position action) =
     (version_number version ∷ 4 ∷ []) ++ position_text position ++ action_text_at version action
 record_text_at version (PromisedRange range ballot) =

@@ -2,7 +2,8 @@
 use Rattle.std.specs.Prelude.{ℕ, List, Ok, Err, ◌==◌, if◌then◌else◌}
 use Rattle.rp_base.specs.declared.fault.PacketReason.TheVariants.{Field}
 use Rattle.rp_base.specs.declared.record.Rec.{Rec}
-use Rattle.rp_base.specs.declared.record.Rec.TheVariants.{Started, Promised, Voted, Learned, PromisedRange}
+use Rattle.rp_base.specs.declared.record.Rec.TheVariants.{Started, Promised, Voted, Learned}
+use Rattle.rp_base.specs.declared.record.Rec.TheVariants.{PromisedRange}
 use Rattle.rp_codec.specs.declared.version.Version.{Version}
 use Rattle.rp_codec.specs.Version.{version_of}
 use Rattle.rp_codec.specs.Reading.{◌>>=◌, Read, known, byte_at, position_at, ballot_at}

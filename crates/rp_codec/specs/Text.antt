@@ -1,7 +1,8 @@
--- The text of each packet, and of its parts, in each version. Numbers have their highest byte first. What is written
--- is of version 2; in version 1 an entry's index is 0, and a value with another entry than 1 has no text.
-use Rattle.std.specs.Prelude.{◌≡◌, ℕ, ℤ, ◌+◌, Bool, true, false, List, [], ◌∷◌, ◌++◌, length, flat_map, All, IfSome}
-use Rattle.std.specs.Prelude.{Option, Some, None}
+-- The text of each packet, and of its parts, in each version. Numbers have their highest byte
+-- first. What is written is of version 2; in version 1 an entry's index is 0, and a value with
+-- another entry than 1 has no text.
+use Rattle.std.specs.Prelude.{◌≡◌, ℕ, ℤ, ◌+◌, Bool, true, false, List, [], ◌∷◌, ◌++◌, length}
+use Rattle.std.specs.Prelude.{flat_map, All, IfSome, Option, Some, None}
 use Rattle.std.specs.Int.{Width, w16, w32, w64, to_be_bytes, cast_unsigned}
 use Rattle.rp_base.specs.declared.action.Operation.{Operation}
 use Rattle.rp_base.specs.declared.action.Operation.TheVariants as operations
@@ -15,8 +16,10 @@ use Rattle.rp_base.specs.Ranges.{Range}
 use Rattle.rp_codec.specs.declared.packet.Party.{Party}
 use Rattle.rp_codec.specs.declared.packet.Party.TheVariants.{Node, Task, Audit}
 use Rattle.rp_codec.specs.declared.packet.Body.{Body}
-use Rattle.rp_codec.specs.declared.packet.Body.TheVariants.{Call, Prepare, Promise, Accept, Accepted, Decided, Ask}
-use Rattle.rp_codec.specs.declared.packet.Body.TheVariants.{Nack, Reply as Answer, Report, PrepareRange, PromiseRange}
+use Rattle.rp_codec.specs.declared.packet.Body.TheVariants.{Call, Prepare, Promise, Accept}
+use Rattle.rp_codec.specs.declared.packet.Body.TheVariants.{Accepted, Decided, Ask, Nack}
+use Rattle.rp_codec.specs.declared.packet.Body.TheVariants.{Reply as Answer, Report, PrepareRange}
+use Rattle.rp_codec.specs.declared.packet.Body.TheVariants.{PromiseRange}
 use Rattle.rp_codec.specs.declared.version.Version.{Version}
 use Rattle.rp_codec.specs.Kind.{number_of, kind_of_body}
 use Rattle.rp_codec.specs.declared.version.Version.TheVariants.{V1, V2}
@@ -56,8 +59,10 @@ operation_text_at version (operations.CancelTimer index) = 5 ∷ index ∷ []
 abbrev pub action_text_at : Version → Action → List ℕ
 action_text_at version actions.Noop = 0 ∷ []
 action_text_at version (actions.Call task number object operation arg) =
-    (1 ∷ task ∷ number_text w32 number) ++ (object ∷ operation_text_at version operation) ++ signed_text arg
-action_text_at version (actions.Interrupt source occurrence) = 2 ∷ source ∷ number_text w32 occurrence
+    (1 ∷ task ∷ number_text w32 number) ++ (object ∷ operation_text_at version operation)
+    ++ signed_text arg
+action_text_at version (actions.Interrupt source occurrence) =
+    2 ∷ source ∷ number_text w32 occurrence
 action_text_at version (actions.Tick now) = 3 ∷ number_text w32 now
 
 -- how many actions there are, and each
@@ -75,7 +80,8 @@ actions_text actions = actions_text_at V2 actions
 
 -- a vote's place, and its action
 abbrev pub vote_text : ℕ → ℕ → Action → List ℕ
-vote_text position ballot action = position_text position ++ ballot_text ballot ++ action_text action
+vote_text position ballot action =
+    position_text position ++ ballot_text ballot ++ action_text action
 
 abbrev pub truth_text : Bool → List ℕ
 truth_text false = 0 ∷ []
@@ -91,7 +97,8 @@ reply_text replies.NoSuchOperation = 5 ∷ []
 -- a flag, and the vote where there is one
 abbrev pub last_text_at : Version → Option Vote → List ℕ
 last_text_at version None = 0 ∷ []
-last_text_at version (Some vote) = (1 ∷ ballot_text vote.ballot) ++ action_text_at version vote.action
+last_text_at version (Some vote) =
+    (1 ∷ ballot_text vote.ballot) ++ action_text_at version vote.action
 
 abbrev pub last_text : Option Vote → List ℕ
 last_text last = last_text_at V2 last
@@ -99,7 +106,8 @@ last_text last = last_text_at V2 last
 -- a vote with its position
 abbrev pub placed_text_at : Version → PlacedVote → List ℕ
 placed_text_at version placed =
-    position_text placed.position ++ ballot_text placed.vote.ballot ++ action_text_at version placed.vote.action
+    position_text placed.position ++ ballot_text placed.vote.ballot
+    ++ action_text_at version placed.vote.action
 
 abbrev pub placed_text : PlacedVote → List ℕ
 placed_text placed = placed_text_at V2 placed
@@ -131,12 +139,16 @@ kind_number body = number_of (kind_of_body body)
 abbrev pub short_body_text : Body → List ℕ
 short_body_text (Call action) = action_text action
 short_body_text (Prepare position ballot) = position_text position ++ ballot_text ballot
-short_body_text (Promise position ballot last) = position_text position ++ ballot_text ballot ++ last_text last
-short_body_text (Accept position ballot action) = position_text position ++ ballot_text ballot ++ action_text action
-short_body_text (Accepted position ballot action) = position_text position ++ ballot_text ballot ++ action_text action
+short_body_text (Promise position ballot last) =
+    position_text position ++ ballot_text ballot ++ last_text last
+short_body_text (Accept position ballot action) =
+    position_text position ++ ballot_text ballot ++ action_text action
+short_body_text (Accepted position ballot action) =
+    position_text position ++ ballot_text ballot ++ action_text action
 short_body_text (Decided position action) = position_text position ++ action_text action
 short_body_text (Ask position) = position_text position
-short_body_text (Nack position ballot bound) = position_text position ++ ballot_text ballot ++ ballot_text bound
+short_body_text (Nack position ballot bound) =
+    position_text position ++ ballot_text ballot ++ ballot_text bound
 short_body_text (Answer number reply) = number_text w32 number ++ reply_text reply
 short_body_text (Report first applied actions) = position_text first ++ number_text w16 applied
 short_body_text (PrepareRange range ballot) = range_text range ++ ballot_text ballot
@@ -151,9 +163,11 @@ body_text_at version (Accept position ballot action) =
     position_text position ++ ballot_text ballot ++ action_text_at version action
 body_text_at version (Accepted position ballot action) =
     position_text position ++ ballot_text ballot ++ action_text_at version action
-body_text_at version (Decided position action) = position_text position ++ action_text_at version action
+body_text_at version (Decided position action) =
+    position_text position ++ action_text_at version action
 body_text_at version (Ask position) = position_text position
-body_text_at version (Nack position ballot bound) = position_text position ++ ballot_text ballot ++ ballot_text bound
+body_text_at version (Nack position ballot bound) =
+    position_text position ++ ballot_text ballot ++ ballot_text bound
 body_text_at version (Answer number reply) = number_text w32 number ++ reply_text reply
 body_text_at version (Report first applied actions) =
     position_text first ++ number_text w16 applied ++ actions_text_at version actions
@@ -163,7 +177,8 @@ body_text_at version (PromiseRange range ballot votes) =
 
 -- the version, the kind, and who says it to whom
 abbrev pub head_text_at : Version → Message → List ℕ
-head_text_at version m = (version_number version ∷ kind_number m.body ∷ party_text m.from) ++ party_text m.to
+head_text_at version m =
+    (version_number version ∷ kind_number m.body ∷ party_text m.from) ++ party_text m.to
 
 abbrev pub text_at : Version → Message → List ℕ
 text_at version m = head_text_at version m ++ body_text_at version m.body
@@ -191,7 +206,8 @@ HasOperationText version (operations.CancelTimer index) = Unit {0}
 
 abbrev pub HasActionText : Version → Action → Type 0
 HasActionText version actions.Noop = Unit {0}
-HasActionText version (actions.Call task number object operation arg) = HasOperationText version operation
+HasActionText version (actions.Call task number object operation arg) =
+    HasOperationText version operation
 HasActionText version (actions.Interrupt source occurrence) = Unit {0}
 HasActionText version (actions.Tick now) = Unit {0}
 
@@ -201,7 +217,8 @@ HasPlacedText version placed = HasActionText version placed.vote.action
 abbrev pub HasBodyText : Version → Body → Type 0
 HasBodyText version (Call action) = HasActionText version action
 HasBodyText version (Prepare position ballot) = Unit {0}
-HasBodyText version (Promise position ballot last) = IfSome last (λ vote. HasActionText version vote.action)
+HasBodyText version (Promise position ballot last) =
+    IfSome last (λ vote. HasActionText version vote.action)
 HasBodyText version (Accept position ballot action) = HasActionText version action
 HasBodyText version (Accepted position ballot action) = HasActionText version action
 HasBodyText version (Decided position action) = HasActionText version action
@@ -221,4 +238,5 @@ IsTextOf m bytes = (version : Version) × HasText version m × (bytes ≡ text_a
 
 -- the bytes are a text of the packet, and others after it
 abbrev pub IsTextBefore : Message → List ℕ → List ℕ → Type 0
-IsTextBefore m rest bytes = (version : Version) × HasText version m × (bytes ≡ text_at version m ++ rest)
+IsTextBefore m rest bytes =
+    (version : Version) × HasText version m × (bytes ≡ text_at version m ++ rest)

@@ -19,12 +19,15 @@ use Rattle.rp_codec.specs.declared.usual_texts.SentReply.{SentReply}
 
 -- each number of the header is within its range
 abbrev pub IsHeader : Header → Type 0
-IsHeader header = IsNode header.from × IsNode header.to × IsPosition header.position × IsBallot header.ballot
+IsHeader header = IsNode header.from × IsNode header.to × IsPosition header.position
+    × IsBallot header.ballot
 
--- a packet of version 2 and of this kind, from one party to the other: its body is what these bytes are read as
+-- a packet of version 2 and of this kind, from one party to the other: its body is what these bytes
+-- are read as
 abbrev pub said_by : Kind → Party → Party → List ℕ → Read Message
 said_by kind from to rest =
-    body_at V2 kind from rest >>= λ body. Ok (record { from = from; to = to; body = body.0 }, body.1)
+    body_at V2 kind from rest >>= λ body.
+    Ok (record { from = from; to = to; body = body.0 }, body.1)
 
 -- the bytes begin so: after the version, the kind and the parties the rest is left
 abbrev pub IsHead : List ℕ → Kind → Party → Party → List ℕ → Type 0
@@ -35,7 +38,13 @@ abbrev pub IsVoteText : List ℕ → Kind → Header → Action → Type 0
 IsVoteText bytes kind header action =
     (rest : List ℕ) × IsHead bytes kind (Node header.from) (Node header.to) rest
     × (placed_vote_at V2 rest
-    ≡ Ok (record { position = header.position; vote = record { ballot = header.ballot; action = action } }, []))
+    ≡ Ok (
+      record {
+        position = header.position;
+        vote = record { ballot = header.ballot; action = action };
+      },
+      [],
+    ))
 
 -- the packet between the two nodes of a header that says this
 abbrev pub between : Header → Body → Message
@@ -54,7 +63,8 @@ abbrev pub accepted_at : Header → Action → Message
 accepted_at header action = between header (bodies.Accepted header.position header.ballot action)
 
 abbrev pub decided_of : SentDecision → Message
-decided_of d = record { from = Node d.from; to = Node d.to; body = bodies.Decided d.position d.action }
+decided_of d =
+    record { from = Node d.from; to = Node d.to; body = bodies.Decided d.position d.action }
 
 abbrev pub call_sent : SentCall → Message
 call_sent c = record { from = Task c.task; to = Node c.to; body = bodies.Call c.action }

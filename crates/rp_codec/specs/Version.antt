@@ -1,5 +1,5 @@
--- The versions of texts (the formats are ours). They differ in their first byte, and in the byte for the index of an
--- entry.
+-- The versions of texts (the formats are ours). They differ in their first byte, and in the byte
+-- for the index of an entry.
 use Rattle.std.specs.Prelude.{ℕ, ◌==◌, if◌then◌else◌, Option, Some, None}
 use Rattle.rp_codec.specs.declared.version.Version.{Version}
 use Rattle.rp_codec.specs.declared.version.Version.TheVariants.{V1, V2}

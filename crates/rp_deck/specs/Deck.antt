@@ -9,10 +9,10 @@ use Rattle.rp_deck_declarations.specs.Programs.{DeclaresAll}
 use Rattle.rp_words.specs.Tables.{key_names}
 use Rattle.rp_deck.specs.Script.{FitsIn, IsCommandDeclared}
 
--- A right configuration, 1 to 8 tasks and as many objects, at most 8 interrupts and timing events, no name
--- twice among those of a kind, and a program of them. The script names nodes, tasks and objects that there
--- are; what it calls is an operation of the object or a timing event whose handler the object has; and its
--- interrupts are declared.
+-- A right configuration, 1 to 8 tasks and as many objects, at most 8 interrupts and timing events,
+-- no name twice among those of a kind, and a program of them. The script names nodes, tasks and
+-- objects that there are; what it calls is an operation of the object or a timing event whose
+-- handler the object has; and its interrupts are declared.
 pub record IsRightDeck (deck : Deck) : Type 0 where
   pub config : IsRightConfig deck.config
   pub tasks : IsNameTable deck.tasks
@@ -26,5 +26,6 @@ pub record IsRightDeck (deck : Deck) : Type 0 where
   pub timers : IsNameTable deck.timers
   pub script : All (λ line. FitsIn deck.config.nodes (index_map_len deck.tasks)
       (index_set_len deck.objects) line.command) deck.script.items
-  pub named : All (λ line. IsCommandDeclared deck.program (index_map_len deck.interrupts) line.command)
+  pub named : All
+      (λ line. IsCommandDeclared deck.program (index_map_len deck.interrupts) line.command)
       deck.script.items

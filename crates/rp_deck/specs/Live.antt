@@ -3,7 +3,8 @@ use Rattle.std.specs.Prelude.{All}
 use Rattle.rp_model.specs.declared.event.Event.{Event}
 use Rattle.rp_model.specs.declared.event.Event.TheVariants.{Submit, Again, Node, Cut, Stop, Restart}
 use Rattle.rp_model.specs.declared.event.Step.{Step}
-use Rattle.rp_model.specs.declared.event.Step.TheVariants.{Deliver, Lead, LeadRange, Interrupt, Tick, Report}
+use Rattle.rp_model.specs.declared.event.Step.TheVariants.{Deliver, Lead, LeadRange, Interrupt}
+use Rattle.rp_model.specs.declared.event.Step.TheVariants.{Tick, Report}
 use Rattle.rp_deck.specs.declared.deck.Command.{Command}
 use Rattle.rp_deck.specs.declared.deck.Command.TheVariants.{Take, Lose, Drain, Show}
 use Rattle.rp_deck.specs.declared.deck.Deck.{Deck}

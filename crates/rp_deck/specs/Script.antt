@@ -7,7 +7,8 @@ use Rattle.rp_model.specs.Events.{IsEvent, event_of}
 use Rattle.rp_model.specs.declared.event.Event.{Event}
 use Rattle.rp_model.specs.declared.event.Event.TheVariants.{Submit, Again, Node, Cut, Stop, Restart}
 use Rattle.rp_model.specs.declared.event.Step.{Step}
-use Rattle.rp_model.specs.declared.event.Step.TheVariants.{Deliver, Lead, LeadRange, Interrupt, Tick, Report}
+use Rattle.rp_model.specs.declared.event.Step.TheVariants.{Deliver, Lead, LeadRange, Interrupt}
+use Rattle.rp_model.specs.declared.event.Step.TheVariants.{Tick, Report}
 use Rattle.rp_deck.specs.declared.deck.Command.{Command}
 use Rattle.rp_deck.specs.declared.deck.Command.TheVariants.{Take, Lose, Drain, Show}
 use Rattle.rp_deck_declarations.specs.declared.deck_program.DeckProgram.{DeckProgram}
@@ -67,7 +68,8 @@ IsStepDeclared interrupts (Report node first) = Unit {0}
 
 -- an event calls what the program has, and notes one of its n interrupts
 abbrev pub IsEventDeclared : DeckProgram → ℕ → Event → Type 0
-IsEventDeclared program interrupts (Submit task node object operation arg) = IsOffered program object operation
+IsEventDeclared program interrupts (Submit task node object operation arg) =
+    IsOffered program object operation
 IsEventDeclared program interrupts (Again task node) = Unit {0}
 IsEventDeclared program interrupts (Node step) = IsStepDeclared interrupts step
 IsEventDeclared program interrupts (Cut step kept) = IsStepDeclared interrupts step
@@ -84,7 +86,8 @@ IsCommandDeclared program interrupts Show = Unit {0}
 -- an event names what is declared
 abbrev pub IsRightEvent : Declared → Event → Type 0
 IsRightEvent declared event =
-    IsEventWithin declared.nodes (index_map_len declared.tasks) (index_set_len declared.objects) event
+    IsEventWithin declared.nodes (index_map_len declared.tasks) (index_set_len declared.objects)
+    event
     × IsEventDeclared declared.program (index_map_len declared.interrupts) event
 
 -- and so does a command

@@ -1,14 +1,14 @@
--- The lines of a script, and how their words are read. A task, an object, an interrupt and a timing event are named,
--- and denote their numbers from 1 in declared order.
-use Rattle.std.specs.Prelude.{ℕ, ◌+◌, ◌-◌, ◌^◌, ℤ, pos, Bool, true, false, not, List, [], ◌∷◌, codes, slice_get, Option}
-use Rattle.std.specs.Prelude.{Some, None, Result, Ok, Err, if◌then◌else◌}
+-- The lines of a script, and how their words are read. A task, an object, an interrupt and a timing
+-- event are named, and denote their numbers from 1 in declared order.
+use Rattle.std.specs.Prelude.{ℕ, ◌+◌, ◌-◌, ◌^◌, ℤ, pos, Bool, true, false, not, List, [], ◌∷◌}
+use Rattle.std.specs.Prelude.{codes, slice_get, Option, Some, None, Result, Ok, Err, if◌then◌else◌}
 use Rattle.std.specs.Str.{bytes_eq}
 use Rattle.rp_base.specs.declared.action.Operation.{Operation}
 use Rattle.rp_base.specs.declared.action.Operation.TheVariants.{SetTimer, CancelTimer}
 use Rattle.rp_base.specs.declared.fault.DeckReason.{DeckReason}
 use Rattle.rp_base.specs.declared.fault.DeckReason.TheVariants.{UnknownWord, UnknownName, NotInLive}
-use Rattle.rp_model.specs.Events.{Event, Step, Submit, Again, Makes, Cut, Stop, Restart, Deliver, Lead, LeadRange}
-use Rattle.rp_model.specs.Events.{Interrupt, Tick}
+use Rattle.rp_model.specs.Events.{Event, Step, Submit, Again, Makes, Cut, Stop, Restart, Deliver}
+use Rattle.rp_model.specs.Events.{Lead, LeadRange, Interrupt, Tick}
 use Rattle.rp_deck.specs.declared.deck.Mode.{Mode}
 use Rattle.rp_deck.specs.declared.deck.Mode.TheVariants.{Script, Live}
 use Rattle.rp_deck.specs.declared.verbs.Verb.{Verb}
@@ -22,8 +22,8 @@ use Rattle.rp_words.specs.Reading.{◌>>=◌, some_or, unless, made_of, word_at,
 use Rattle.rp_words.specs.Reading.{name_at, integer_at, number_at, dotted_of}
 use Rattle.rp_deck_declarations.specs.ScriptNames.{DeclaredNames}
 
--- what a line asks for: an event, the messages from the first to the last count as settled, messages are
--- delivered until none is left, or every node is shown
+-- what a line asks for: an event, the messages from the first to the last count as settled,
+-- messages are delivered until none is left, or every node is shown
 pub data CommandText : Type 0 where
   Take : (event : Event) → CommandText
   Lose : (first last : ℕ) → CommandText
@@ -145,7 +145,8 @@ tick_at nodes words = do
   now ← number_at 0 (2 ^ 32 - 1) node.1
   Ok (Tick node.0 now.0, now.1)
 
--- a step that may be cut, `lead NODE [POSITION]`, `range NODE FIRST COUNT` or `deliver M`, by its first word
+-- a step that may be cut, `lead NODE [POSITION]`, `range NODE FIRST COUNT` or `deliver M`, by its
+-- first word
 abbrev pub step_from : ℕ → Verb → List ℕ → Result (Step × List ℕ) DeckReason
 step_from nodes verbs.Lead words = lead_at nodes words
 step_from nodes verbs.Range words = range_at nodes words

@@ -1,6 +1,6 @@
 -- Bodies of operations, and how each line of one goes on.
-use Rattle.std.specs.Prelude.{ℕ, ◌-◌, ◌==◌, Bool, true, false, not, nat_lt, List, [], ◌∷◌, codes, length, Option, Some}
-use Rattle.std.specs.Prelude.{None, is_some, Result, Ok, if◌then◌else◌}
+use Rattle.std.specs.Prelude.{ℕ, ◌-◌, ◌==◌, Bool, true, false, not, nat_lt, List, [], ◌∷◌, codes}
+use Rattle.std.specs.Prelude.{length, Option, Some, None, is_some, Result, Ok, if◌then◌else◌}
 use Rattle.std.specs.Str.{bytes_eq}
 use Rattle.rp_base.specs.declared.fault.DeckReason.{DeckReason}
 use Rattle.rp_base.specs.declared.fault.DeckReason.TheVariants.{UnknownWord, TooMany}
@@ -11,7 +11,8 @@ use Rattle.rp_deck_bodies.specs.declared.statements.StatementWord.{StatementWord
 use Rattle.rp_deck_bodies.specs.declared.statements.StatementWord.TheVariants as words
 use Rattle.rp_words.specs.Lines.{LineText}
 use Rattle.rp_words.specs.Reading.{◌>>=◌, some_or, unless, word_at, end_at}
-use Rattle.rp_deck_bodies.specs.Expressions.{ExprText, CondText, int_of, bool_of, expr_line, cond_line}
+use Rattle.rp_deck_bodies.specs.Expressions.{ExprText, CondText, int_of, bool_of, expr_line}
+use Rattle.rp_deck_bodies.specs.Expressions.{cond_line}
 
 -- statements in order: the last one, and those before it
 pub data BodyText : Type 0 where
@@ -21,15 +22,15 @@ pub data BodyText : Type 0 where
   Out : (before : BodyText) (value : ExprText) → BodyText
   If : (before : BodyText) (condition : CondText) (first second : BodyText) → BodyText
 
--- an `if` whose `end` was not read yet: its condition, the statements before it, and once its `else` was read the
--- statements up to there
+-- an `if` whose `end` was not read yet: its condition, the statements before it, and once its
+-- `else` was read the statements up to there
 pub record OpenIfText : Type 0 where
   pub condition : CondText
   pub before : BodyText
   pub first : Option BodyText
 
--- a body whose `end` was not read yet: the open `if`s, the innermost first, the statements of the innermost part, and
--- how many more there may be
+-- a body whose `end` was not read yet: the open `if`s, the innermost first, the statements of the
+-- innermost part, and how many more there may be
 pub record OpenBodyText : Type 0 where
   pub ifs : List OpenIfText
   pub statements : BodyText
@@ -108,7 +109,8 @@ closed b = closed_at b.ifs b
 
 module _ (names : List (List ℕ)) (declared : List Component) where
   -- a statement, after its first word; of an `if` the condition
-  unfoldable pub statement_line : OpenBodyText → StatementWord → List ℕ → Result OpenBodyText DeckReason
+  unfoldable pub statement_line : OpenBodyText → StatementWord → List ℕ
+      → Result OpenBodyText DeckReason
   statement_line b words.Set rest = do
     word ← word_at rest
     place ← int_of names declared word.0
@@ -130,7 +132,8 @@ module _ (names : List (List ℕ)) (declared : List Component) where
     })
 
   -- a line by what its first word is, and whether it ends the body
-  unfoldable pub body_line_of : OpenBodyText → BodyWord → List ℕ → Result (OpenBodyText × Bool) DeckReason
+  unfoldable pub body_line_of : OpenBodyText → BodyWord → List ℕ
+      → Result (OpenBodyText × Bool) DeckReason
   body_line_of b (Statement word) rest = do
     more ← one_more b
     after ← statement_line more word rest

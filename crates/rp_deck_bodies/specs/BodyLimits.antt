@@ -1,5 +1,6 @@
 -- The limits that a body keeps whose `end` was not read yet.
-use Rattle.std.specs.Prelude.{ℕ, ◌+◌, ◌-◌, ◌≤◌, Bool, true, IsTrue, List, [], ◌∷◌, All, length, Option, Some, None, Vec}
+use Rattle.std.specs.Prelude.{ℕ, ◌+◌, ◌-◌, ◌≤◌, Bool, true, IsTrue, List, [], ◌∷◌, All, length}
+use Rattle.std.specs.Prelude.{Option, Some, None, Vec}
 use Rattle.std.specs.declared.alloc.Global.{Global}
 use Rattle.rp_body.specs.Check.{cond_fits, statement_count, depth_of, body_fits}
 use Rattle.rp_body.specs.declared.components.Limits.{Limits}
@@ -39,9 +40,10 @@ pub record IfFits (limits : Limits) (i : OpenIf) : Type 0 where
   pub before : IsTrue (body_fits limits i.before.items)
   pub first : IsTrue (part_fits limits i.first)
 
--- At most 64 statements, of which some are counted and still to be read, at most 8 deep; and each fits where the
--- components are counted that these names denote.
-pub record KeepsBody (declared : List Component) (pending : ℕ) (ifs : List OpenIf) (statements : List Stmt)
+-- At most 64 statements, of which some are counted and still to be read, at most 8 deep; and each
+-- fits where the components are counted that these names denote.
+pub record KeepsBody (declared : List Component) (pending : ℕ) (ifs : List OpenIf)
+    (statements : List Stmt)
     (left : ℕ) : Type 0 where
   pub count : ifs_count ifs + statement_count statements + pending + left ≤ 64
   pub room : pending + length ifs ≤ 8

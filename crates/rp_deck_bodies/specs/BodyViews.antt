@@ -6,7 +6,8 @@ use Rattle.rp_body.specs.declared.statement.Stmt.TheOpen.{Stmt-F}
 use Rattle.rp_body.specs.declared.statement.Stmt.TheFolds.{fold-Stmt}
 use Rattle.rp_deck_bodies.specs.declared.statements.OpenIf.{OpenIf}
 use Rattle.rp_deck_bodies.specs.declared.statements.BodyDraft.{BodyDraft}
-use Rattle.rp_deck_bodies.specs.Bodies.{BodyText, Empty, Set, Put, Out, If, OpenIfText, OpenBodyText}
+use Rattle.rp_deck_bodies.specs.Bodies.{BodyText, Empty, Set, Put, Out, If, OpenIfText}
+use Rattle.rp_deck_bodies.specs.Bodies.{OpenBodyText}
 use Rattle.rp_deck_bodies.specs.ExpressionViews.{expr_text, cond_text}
 
 -- some statements after others, where each one is given as what it adds
@@ -34,7 +35,11 @@ abbrev pub part_text : Option (Vec Stmt Global) → Option BodyText
 part_text part = option_map (λ body. body_text body.items) part
 
 abbrev pub if_text : OpenIf → OpenIfText
-if_text i = record { condition = cond_text i.cond; before = body_text i.before.items; first = part_text i.first }
+if_text i = record {
+  condition = cond_text i.cond;
+  before = body_text i.before.items;
+  first = part_text i.first;
+}
 
 -- the open `if`s, the innermost first
 abbrev pub within : List OpenIf → List OpenIfText → List OpenIfText

@@ -3,8 +3,9 @@ use Rattle.rp_body.specs.declared.expression.Expr.{Expr}
 use Rattle.rp_body.specs.declared.expression.Expr.TheVariants as exprs
 use Rattle.rp_body.specs.declared.expression.Cond.{Cond}
 use Rattle.rp_body.specs.declared.expression.Cond.TheVariants as conds
-use Rattle.rp_deck_bodies.specs.Expressions.{ExprText, Number, Arg, Out, Int, Add, Sub, CondText, Constant, Named, Less}
-use Rattle.rp_deck_bodies.specs.Expressions.{LessOrEqual, Equal, Not, And, Or}
+use Rattle.rp_deck_bodies.specs.Expressions.{ExprText, Number, Arg, Out, Int, Add, Sub, CondText}
+use Rattle.rp_deck_bodies.specs.Expressions.{Constant, Named, Less, LessOrEqual, Equal, Not, And}
+use Rattle.rp_deck_bodies.specs.Expressions.{Or}
 
 abbrev pub expr_text : Expr → ExprText
 expr_text (exprs.Number number) = Number number

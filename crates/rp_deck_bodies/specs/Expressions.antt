@@ -1,9 +1,10 @@
 -- Expressions and conditions, and how their words are read.
-use Rattle.std.specs.Prelude.{ℕ, zero, suc, ◌-◌, ◌==◌, ℤ, Bool, true, false, List, [], ◌∷◌, codes, Option, Some, None}
-use Rattle.std.specs.Prelude.{Result, Ok, Err, if◌then◌else◌}
+use Rattle.std.specs.Prelude.{ℕ, zero, suc, ◌-◌, ◌==◌, ℤ, Bool, true, false, List, [], ◌∷◌, codes}
+use Rattle.std.specs.Prelude.{Option, Some, None, Result, Ok, Err, if◌then◌else◌}
 use Rattle.std.specs.Str.{bytes_eq}
 use Rattle.rp_base.specs.declared.fault.DeckReason.{DeckReason}
-use Rattle.rp_base.specs.declared.fault.DeckReason.TheVariants.{BadExpression, BadNumber, UnknownName}
+use Rattle.rp_base.specs.declared.fault.DeckReason.TheVariants.{BadExpression, BadNumber}
+use Rattle.rp_base.specs.declared.fault.DeckReason.TheVariants.{UnknownName}
 use Rattle.rp_deck_bodies.specs.declared.expressions.CondWord.{CondWord}
 use Rattle.rp_deck_bodies.specs.declared.expressions.CondWord.TheVariants as words
 use Rattle.rp_deck_bodies.specs.declared.names.Component.{Component}
@@ -58,8 +59,8 @@ cond_word_named word =
     else if bytes_eq word (codes "or") then Some words.Or
     else None
 
--- A reader of an expression or of a condition: of how many nodes are left and the bytes of the line, what was read, how
--- many nodes are left after it, and the bytes after it.
+-- A reader of an expression or of a condition: of how many nodes are left and the bytes of the
+-- line, what was read, how many nodes are left after it, and the bytes after it.
 abbrev pub NodeReader : Type 0 → Type 0
 NodeReader X = ℕ → List ℕ → Result (X × ℕ × List ℕ) DeckReason
 
@@ -98,7 +99,8 @@ tree_at from (suc depth) left words = do
   from (tree_at from depth) node.0 node.1 node.2
 
 -- at most 32 nodes, and no word after them
-unfoldable pub tree_line : {X : Type 0} → (NodeReader X → List ℕ → NodeReader X) → List ℕ → Result X DeckReason
+unfoldable pub tree_line : {X : Type 0} → (NodeReader X → List ℕ → NodeReader X) → List ℕ
+    → Result X DeckReason
 tree_line from words = do
   tree ← tree_at from 32 32 words
   e ← end_at tree.2

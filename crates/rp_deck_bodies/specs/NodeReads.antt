@@ -14,7 +14,8 @@ use Rattle.rp_deck_bodies.specs.Expressions.{NodeReader, ExprText, CondText, exp
 use Rattle.rp_deck_bodies.specs.ExpressionViews.{expr_text, cond_text}
 
 -- it returned what the reader says, seen by view, and the names are the same
-abbrev pub Reads : {X Y : Type 0} → (X → Y) → NodeReader Y → Nodes → Nodes → Result X LineError → Type 0
+abbrev pub Reads : {X Y : Type 0} → (X → Y) → NodeReader Y → Nodes → Nodes → Result X LineError
+    → Type 0
 Reads view reader old new result =
     Makes (λ x. (view x, new.left, unread new.words)) result (reader old.left (unread old.words))
     × (new.names ≡ old.names)
@@ -34,7 +35,9 @@ cond_in nodes depth = cond_at (key_names nodes.names.now) (values nodes.names.no
 
 -- the components in it are counted
 abbrev pub IsExprCounted : Nodes → Expr → Type 0
-IsExprCounted nodes expr = WhereCounted (values nodes.names.now) (λ limits. IsTrue (expr_names limits expr))
+IsExprCounted nodes expr =
+    WhereCounted (values nodes.names.now) (λ limits. IsTrue (expr_names limits expr))
 
 abbrev pub IsCondCounted : Nodes → Cond → Type 0
-IsCondCounted nodes cond = WhereCounted (values nodes.names.now) (λ limits. IsTrue (cond_names limits cond))
+IsCondCounted nodes cond =
+    WhereCounted (values nodes.names.now) (λ limits. IsTrue (cond_names limits cond))

@@ -56,7 +56,8 @@ pub record IsDraft (draft : Draft) : Type 0 where
   pub kept : All (IsObject (unwrap_or draft.profile Ravenscar)) draft.drafts.items
   pub interrupts : IsNameTable draft.interrupts
   pub timers : IsNameTable draft.timers
-  pub interrupts_handled : All (IsHandled (procedure_counts draft.drafts.items)) (values draft.interrupts)
+  pub interrupts_handled : All (IsHandled (procedure_counts draft.drafts.items))
+      (values draft.interrupts)
   pub timers_handled : All (IsHandled (procedure_counts draft.drafts.items)) (values draft.timers)
 
 -- and there are tasks and objects
@@ -73,7 +74,8 @@ pub record IsComplete (declared : Declared) : Type 0 where
   pub objects : IsNameSet declared.objects
   pub some_object : 1 ≤ index_set_len declared.objects
   pub program : HasObjects (index_set_len declared.objects) declared.program
-  pub kept : DeclaresAll (map (λ task. task.priority) (values declared.tasks)) (values declared.interrupts)
+  pub kept : DeclaresAll (map (λ task. task.priority) (values declared.tasks))
+      (values declared.interrupts)
       (values declared.timers) (key_names declared.timers) declared.program
   pub operations : length declared.operations.items ≡ index_set_len declared.objects
   pub named : AreNamesOf declared.program declared.operations.items

@@ -46,7 +46,8 @@ declared_of d = record {
   timer_handlers = d.timer_handlers;
 }
 
--- what is known after the declarations: the names that the script may use, what is declared, and the lines left
+-- what is known after the declarations: the names that the script may use, what is declared, and
+-- the lines left
 abbrev pub known : Result (DraftText × List LineText) BadLine
     → Result (DeclaredNames × DeclaredText × List LineText) BadLine
 known (Ok read) = Ok (declared_names read.0, declared_of read.0, read.1)

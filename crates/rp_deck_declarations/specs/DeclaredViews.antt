@@ -8,7 +8,8 @@ use Rattle.rp_object.specs.declared.program.Profile.{Profile}
 use Rattle.rp_words.specs.Tables.{key_names, set_names}
 use Rattle.rp_deck_objects.specs.declared.names.OperationName.{OperationName}
 use Rattle.rp_deck_objects.specs.Objects.{ObjectText}
-use Rattle.rp_deck_objects.specs.ObjectViews.{protected_of, protected_text, object_operations, own_operations}
+use Rattle.rp_deck_objects.specs.ObjectViews.{protected_of, protected_text, object_operations}
+use Rattle.rp_deck_objects.specs.ObjectViews.{own_operations}
 use Rattle.rp_deck_declarations.specs.declared.declarations.Declared.{Declared}
 use Rattle.rp_deck_declarations.specs.declared.deck_program.DeckProgram.{DeckProgram}
 use Rattle.rp_deck_declarations.specs.declared.deck_program.DeckProgram.TheVariants as programs
@@ -20,7 +21,8 @@ use Rattle.rp_deck_declarations.specs.ScriptNames.{DeclaredNames, tally_operatio
 -- the handlers of a program's timing events; a tally has none
 abbrev pub timer_handlers : DeckProgram → List Handler
 timer_handlers (programs.Tally program) = []
-timer_handlers (programs.Objects program) = map (λ timer. timer.handler) (arc_value program.declarations).timers.items
+timer_handlers (programs.Objects program) =
+    map (λ timer. timer.handler) (arc_value program.declarations).timers.items
 
 abbrev pub names_of : Declared → DeclaredNames
 names_of declared = record {
@@ -36,7 +38,8 @@ names_of declared = record {
 abbrev pub program_text : DeckProgram → ProgramText
 program_text (programs.Tally program) = Tally program
 program_text (programs.Objects program) =
-    Objects (arc_value program.declarations).profile (map protected_text (arc_value program.declarations).objects.items)
+    Objects (arc_value program.declarations).profile
+    (map protected_text (arc_value program.declarations).objects.items)
 
 -- these nodes, positions, program, tasks, objects, interrupts and timing events
 abbrev pub declared_as : {Y S : Type 0} → ℕ → ℕ → DeckProgram → IndexMap (String Y) Task S
@@ -57,7 +60,8 @@ declared_as nodes max_positions program tasks objects interrupts timers = record
 
 abbrev pub declared_text : Declared → DeclaredText
 declared_text d =
-    declared_as d.nodes (unwrap_or d.positions 1000) d.program d.tasks d.objects d.interrupts d.timers
+    declared_as d.nodes (unwrap_or d.positions 1000) d.program d.tasks d.objects d.interrupts
+    d.timers
 
 -- the program is a tally of n objects, with these names
 pub record IsTally {Y S : Type 0} (count : ℕ) (program : DeckProgram)
@@ -66,8 +70,10 @@ pub record IsTally {Y S : Type 0} (count : ℕ) (program : DeckProgram)
   pub no_timers : timer_handlers program ≡ []
   pub names : map own_operations operations ≡ replicate count tally_operations
 
--- the program has what is declared of these objects, with these names, and the timing events have these handlers
-pub record IsMadeOf {Y S : Type 0} (profile : Profile) (objects : List ObjectText) (timers : List Handler)
+-- the program has what is declared of these objects, with these names, and the timing events have
+-- these handlers
+pub record IsMadeOf {Y S : Type 0} (profile : Profile) (objects : List ObjectText)
+    (timers : List Handler)
     (program : DeckProgram) (operations : List (IndexMap (String Y) OperationName S)) : Type 0 where
   pub program_is : program_text program ≡ Objects profile (map protected_of objects)
   pub timers_are : timer_handlers program ≡ timers

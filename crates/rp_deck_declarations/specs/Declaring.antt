@@ -1,19 +1,23 @@
--- What the declarations of a deck say: one line after another up to `script`, or the first bad line.
-use Rattle.std.specs.Prelude.{ℕ, ◌-◌, ◌&&◌, Bool, not, List, [], ◌∷◌, codes, length, slice_set, Option, Some, None}
-use Rattle.std.specs.Prelude.{Result, Ok, Err, if◌then◌else◌}
+-- What the declarations of a deck say: one line after another up to `script`, or the first bad
+-- line.
+use Rattle.std.specs.Prelude.{ℕ, ◌-◌, ◌&&◌, Bool, not, List, [], ◌∷◌, codes, length, slice_set}
+use Rattle.std.specs.Prelude.{Option, Some, None, Result, Ok, Err, if◌then◌else◌}
 use Rattle.std.specs.Str.{bytes_eq}
 use Rattle.rp_base.specs.declared.fault.DeckReason.{DeckReason}
-use Rattle.rp_base.specs.declared.fault.DeckReason.TheVariants.{NodesExpected, UnknownWord, EndExpected, ScriptExpected}
+use Rattle.rp_base.specs.declared.fault.DeckReason.TheVariants.{NodesExpected, UnknownWord}
+use Rattle.rp_base.specs.declared.fault.DeckReason.TheVariants.{EndExpected, ScriptExpected}
 use Rattle.rp_deck_declarations.specs.declared.draft.Kind.{Kind}
 use Rattle.rp_words.specs.LineFaults.{BadLine}
 use Rattle.rp_words.specs.Lines.{LineText}
 use Rattle.rp_words.specs.Reading.{◌>>=◌}
 use Rattle.rp_deck_objects.specs.Objects.{ObjectText, object_step}
-use Rattle.rp_deck_declarations.specs.Drafts.{DraftText, empty_draft, profile_of, last_object, is_in_body, kind_of}
-use Rattle.rp_deck_declarations.specs.Drafts.{nodes_line, declaration_line, script_line}
+use Rattle.rp_deck_declarations.specs.Drafts.{DraftText, empty_draft, profile_of, last_object}
+use Rattle.rp_deck_declarations.specs.Drafts.{is_in_body, kind_of, nodes_line, declaration_line}
+use Rattle.rp_deck_declarations.specs.Drafts.{script_line}
 
 -- what a line gives and what follows, up to the first bad one
-abbrev pub on_line : {X Y : Type 0} → ℕ → Result X DeckReason → (X → Result Y BadLine) → Result Y BadLine
+abbrev pub on_line : {X Y : Type 0} → ℕ → Result X DeckReason → (X → Result Y BadLine)
+    → Result Y BadLine
 on_line number (Ok x) next = next x
 on_line number (Err reason) next = Err (record { line = number; reason = reason })
 
@@ -43,12 +47,14 @@ ends_declarations d line = not (is_in_body d) && bytes_eq line.first (codes "scr
 abbrev pub missing : DraftText → DeckReason
 missing d = if is_in_body d then EndExpected else ScriptExpected
 
--- what these lines declare after what is declared already, and the lines after `script`; the line after the last of
--- the deck has this number
-unfoldable pub declarations_from : ℕ → DraftText → List LineText → Result (DraftText × List LineText) BadLine
+-- what these lines declare after what is declared already, and the lines after `script`; the line
+-- after the last of the deck has this number
+unfoldable pub declarations_from : ℕ → DraftText → List LineText
+    → Result (DraftText × List LineText) BadLine
 declarations_from last d [] = Err (record { line = last; reason = missing d })
 declarations_from last d (line ∷ rest) =
-    if ends_declarations d line then on_line line.number (script_line d line.rest) (λ e. Ok (d, rest))
+    if ends_declarations d line
+    then on_line line.number (script_line d line.rest) (λ e. Ok (d, rest))
     else on_line line.number (declaring_line d line) (λ after. declarations_from last after rest)
 
 -- what the lines of a deck declare, and the lines after `script`

@@ -1,21 +1,25 @@
 -- What a deck declares so far, and how each line adds to it.
-use Rattle.std.specs.Prelude.{ℕ, zero, suc, ◌+◌, ◌-◌, ◌&&◌, ◌==◌, Bool, true, false, not, List, [], ◌∷◌, ◌++◌, codes}
-use Rattle.std.specs.Prelude.{length, slice_get, Option, Some, None, is_some, unwrap_or, Result, Ok, if◌then◌else◌}
+use Rattle.std.specs.Prelude.{ℕ, zero, suc, ◌+◌, ◌-◌, ◌&&◌, ◌==◌, Bool, true, false, not, List, []}
+use Rattle.std.specs.Prelude.{◌∷◌, ◌++◌, codes, length, slice_get, Option, Some, None, is_some}
+use Rattle.std.specs.Prelude.{unwrap_or, Result, Ok, if◌then◌else◌}
 use Rattle.std.specs.Str.{bytes_eq}
 use Rattle.rp_base.specs.declared.action.Operation.{Operation}
 use Rattle.rp_base.specs.declared.action.Operation.TheVariants as operations
 use Rattle.rp_base.specs.declared.fault.DeckReason.{DeckReason}
-use Rattle.rp_base.specs.declared.fault.DeckReason.TheVariants.{NodesExpected, UnknownWord, UnknownName, TaskExpected}
+use Rattle.rp_base.specs.declared.fault.DeckReason.TheVariants.{NodesExpected, UnknownWord}
+use Rattle.rp_base.specs.declared.fault.DeckReason.TheVariants.{UnknownName, TaskExpected}
 use Rattle.rp_base.specs.declared.fault.DeckReason.TheVariants.{ObjectExpected}
 use Rattle.rp_object.specs.declared.program.Handler.{Handler}
 use Rattle.rp_object.specs.declared.program.Profile.{Profile as ProgramProfile}
 use Rattle.rp_object.specs.declared.program.Profile.TheVariants.{Ravenscar, Jorvik}
 use Rattle.rp_deck_declarations.specs.declared.draft.Kind.{Kind}
-use Rattle.rp_deck_declarations.specs.declared.draft.Kind.TheVariants.{Positions, Profile, Task, Tally, Object}
-use Rattle.rp_deck_declarations.specs.declared.draft.Kind.TheVariants.{Interrupt, Timer}
+use Rattle.rp_deck_declarations.specs.declared.draft.Kind.TheVariants.{Positions, Profile, Task}
+use Rattle.rp_deck_declarations.specs.declared.draft.Kind.TheVariants.{Tally, Object, Interrupt}
+use Rattle.rp_deck_declarations.specs.declared.draft.Kind.TheVariants.{Timer}
 use Rattle.rp_words.specs.Lines.{LineText}
 use Rattle.rp_words.specs.Tables.{place_of, find}
-use Rattle.rp_words.specs.Reading.{room, ◌>>=◌, some_or, unless, word_at, end_at, new_name_at, number_at, dotted_of}
+use Rattle.rp_words.specs.Reading.{room, ◌>>=◌, some_or, unless, word_at, end_at, new_name_at}
+use Rattle.rp_words.specs.Reading.{number_at, dotted_of}
 use Rattle.rp_deck_objects.specs.Objects.{empty_object, ObjectText}
 
 -- what is declared so far, each kind in declared order: the names, and what they denote
@@ -85,7 +89,8 @@ kind_named first =
     else if bytes_eq first (codes "timer") then Some Timer
     else None
 
--- what may be declared here: `positions` right after `nodes`, then the profile, and either a tally or objects
+-- what may be declared here: `positions` right after `nodes`, then the profile, and either a tally
+-- or objects
 abbrev pub allows : DraftText → Kind → Bool
 allows d Positions = not (is_some d.positions) && is_new d
 allows d Profile = is_new d
@@ -162,7 +167,10 @@ object_line d words = do
   name ← new_name_at d.objects words
   ceiling ← number_at 1 30 name.1
   e ← end_at ceiling.1
-  Ok (record d { objects = d.objects ++ name.0 ∷ []; drafts = d.drafts ++ empty_object name.0 ceiling.0 ∷ [] })
+  Ok (record d {
+    objects = d.objects ++ name.0 ∷ [];
+    drafts = d.drafts ++ empty_object name.0 ceiling.0 ∷ [];
+  })
 
 -- a procedure's number
 abbrev pub procedure_number : Operation → Option ℕ
@@ -180,11 +188,13 @@ handler_at d words = do
   names ← dotted_of word.0
   place ← some_or UnknownName (place_of names.0 d.objects)
   object ← some_or UnknownName (slice_get d.drafts place)
-  procedure ← some_or UnknownName (procedure_of (find names.1 object.operation_names object.operations))
+  procedure ← some_or UnknownName
+      (procedure_of (find names.1 object.operation_names object.operations))
   Ok (record { object = place + 1; procedure = procedure }, word.1)
 
 -- `NAME OBJECT.PROCEDURE`, where the name is not among these
-unfoldable pub handled_at : DraftText → List (List ℕ) → List ℕ → Result (List ℕ × Handler) DeckReason
+unfoldable pub handled_at : DraftText → List (List ℕ) → List ℕ
+    → Result (List ℕ × Handler) DeckReason
 handled_at d names words = do
   few ← room 8 (length names)
   name ← new_name_at names words
@@ -196,7 +206,10 @@ handled_at d names words = do
 unfoldable pub interrupt_line : DraftText → List ℕ → Result DraftText DeckReason
 interrupt_line d words = do
   new ← handled_at d d.interrupts words
-  Ok (record d { interrupts = d.interrupts ++ new.0 ∷ []; interrupt_handlers = d.interrupt_handlers ++ new.1 ∷ [] })
+  Ok (record d {
+    interrupts = d.interrupts ++ new.0 ∷ [];
+    interrupt_handlers = d.interrupt_handlers ++ new.1 ∷ [];
+  })
 
 -- `timer NAME OBJECT.PROCEDURE`
 unfoldable pub timer_line : DraftText → List ℕ → Result DraftText DeckReason

@@ -25,7 +25,8 @@ declared_names d = record {
   nodes = d.nodes;
   tasks = d.tasks;
   objects = d.objects;
-  operations = if d.is_tally then replicate (length d.objects) tally_operations else map object_operations d.drafts;
+  operations = if d.is_tally then replicate (length d.objects) tally_operations
+      else map object_operations d.drafts;
   interrupts = d.interrupts;
   timers = d.timers;
   timer_handlers = if d.is_tally then [] else d.timer_handlers;

@@ -1,6 +1,6 @@
 -- The limits that an object keeps whose lines are read.
-use Rattle.std.specs.Prelude.{ℕ, ◌≡◌, ◌<◌, ◌≤◌, All, true, false, List, Option, Some, None, String, string_bytes}
-use Rattle.std.specs.Prelude.{length, Result, OnOk}
+use Rattle.std.specs.Prelude.{ℕ, ◌≡◌, ◌<◌, ◌≤◌, All, true, false, List, Option, Some, None, String}
+use Rattle.std.specs.Prelude.{string_bytes, length, Result, OnOk}
 use Rattle.std.specs.FinMap.{len}
 use Rattle.indexmap.specs.IndexMap.{IndexMap, values}
 use Rattle.rp_body.specs.Ranges.{IsInRange, IsNumbered}
@@ -27,12 +27,14 @@ use Rattle.rp_deck_objects.specs.Objects.{most_entries}
 module _ {Y S : Type 0} where
   -- each name denotes one of these operations
   abbrev pub AreNamed : Operations → IndexMap (String Y) OperationName S → Type 0
-  AreNamed declared names = All (λ name. has_operation (operation_of name) declared ≡ true) (values names)
+  AreNamed declared names =
+      All (λ name. has_operation (operation_of name) declared ≡ true) (values names)
 
 -- there is room for one more operation of this kind
 abbrev pub HasRoom : Profile → Operations → Head → Type 0
 HasRoom profile operations Procedure = length operations.procedures.items < 8
-HasRoom profile operations (Entry barrier longest) = length operations.entries.items < most_entries profile
+HasRoom profile operations (Entry barrier longest) =
+    length operations.entries.items < most_entries profile
 
 -- a barrier is counted, and at most 8 calls wait
 abbrev pub HeadFits : Limits → Head → Type 0
@@ -46,14 +48,16 @@ HeadKeeps Ravenscar (Entry barrier longest) = longest ≡ 1
 HeadKeeps Jorvik head = Unit {0}
 
 -- an operation whose body may begin: there is room for it, its name is new, and it fits
-pub record MayBegin (profile : Profile) (o : ObjectDraft) (name : List ℕ) (head : Head) : Type 0 where
+pub record MayBegin (profile : Profile) (o : ObjectDraft) (name : List ℕ) (head : Head)
+    : Type 0 where
   pub room : HasRoom profile o.operations head
   pub new : is_declared name (key_names o.operation_names) ≡ false
   pub fits : WhereCounted (values o.component_names) (λ limits. HeadFits limits head)
   pub keeps : HeadKeeps profile head
 
 -- and so it was where its body began, which keeps its limits
-pub record IsOpenIn (profile : Profile) (o : ObjectDraft) (operation : OperationDraft) : Type 0 where
+pub record IsOpenIn (profile : Profile) (o : ObjectDraft) (operation : OperationDraft)
+    : Type 0 where
   pub begun : MayBegin profile o (string_bytes operation.name) operation.head
   pub body : IsBody (values o.component_names) 0 operation.body
 
@@ -61,9 +65,10 @@ abbrev pub HasOpen : Profile → ObjectDraft → Option OperationDraft → Type 
 HasOpen profile o None = Unit {0}
 HasOpen profile o (Some operation) = IsOpenIn profile o operation
 
--- components, n names of each kind, and what names denote: at most 8 of each kind, a name for each, ranges of 64
--- bits, first values in them, and each name denotes a component
-pub record KeepsComponents (store : Store) (int_count bool_count : ℕ) (declared : List Component) : Type 0 where
+-- components, n names of each kind, and what names denote: at most 8 of each kind, a name for each,
+-- ranges of 64 bits, first values in them, and each name denotes a component
+pub record KeepsComponents (store : Store) (int_count bool_count : ℕ) (declared : List Component)
+    : Type 0 where
   pub few_ints : len store.ints ≤ 8
   pub few_bools : len store.bools ≤ 8
   pub ints : int_count ≡ len store.ints
@@ -76,7 +81,8 @@ pub record KeepsComponents (store : Store) (int_count bool_count : ℕ) (declare
 -- what an object has so far keeps the limits
 pub record IsObject (profile : Profile) (o : ObjectDraft) : Type 0 where
   pub ceiling : IsPriority o.ceiling
-  pub components : KeepsComponents o.components (length o.int_names.items) (length o.bool_names.items)
+  pub components : KeepsComponents o.components (length o.int_names.items)
+      (length o.bool_names.items)
       (values o.component_names)
   pub entries : length o.entry_names.items ≡ length o.operations.entries.items
   pub fit : WhereCounted (values o.component_names) (λ limits. OperationsFit limits o.operations)
@@ -93,7 +99,8 @@ pub record MayDeclare (profile : Profile) (o : ObjectDraft) : Type 0 where
 abbrev pub Grows : ObjectDraft → ObjectDraft → Type 0
 Grows old new = length (object_text old).procedures ≤ length (object_text new).procedures
 
--- what each line that declares keeps, if it was read: the limits, under each profile, and the procedures
+-- what each line that declares keeps, if it was read: the limits, under each profile, and the
+-- procedures
 abbrev pub KeepsObject : ObjectDraft → ObjectDraft → Result (Unit {0}) LineError → Type 0
 KeepsObject old new result =
     ((profile : Profile) → MayDeclare profile old → OnOk result (IsObject profile new))

@@ -14,10 +14,12 @@ use Rattle.rp_deck_bodies.specs.Bodies.{BodyText}
 use Rattle.rp_deck_bodies.specs.BodyViews.{body_text, body_draft_text}
 use Rattle.rp_deck_bodies.specs.ExpressionViews.{expr_text, cond_text}
 use Rattle.rp_deck_objects.specs.declared.names.OperationName.{OperationName}
-use Rattle.rp_deck_objects.specs.declared.names.OperationName.TheVariants.{Function, Procedure, Entry}
+use Rattle.rp_deck_objects.specs.declared.names.OperationName.TheVariants.{Function, Procedure}
+use Rattle.rp_deck_objects.specs.declared.names.OperationName.TheVariants.{Entry}
 use Rattle.rp_deck_objects.specs.declared.objects.ObjectDraft.{ObjectDraft}
 use Rattle.rp_deck_objects.specs.declared.objects.OperationDraft.{OperationDraft}
-use Rattle.rp_deck_objects.specs.Objects.{FunctionText, Value, Truth, EntryText, OpenOperationText, ObjectText}
+use Rattle.rp_deck_objects.specs.Objects.{FunctionText, Value, Truth, EntryText, OpenOperationText}
+use Rattle.rp_deck_objects.specs.Objects.{ObjectText}
 
 -- what a call asks for by this name
 abbrev pub operation_of : OperationName → Operation
@@ -30,11 +32,16 @@ function_text (functions.Value expr) = Value (expr_text expr)
 function_text (functions.Truth cond) = Truth (cond_text cond)
 
 abbrev pub entry_text : DeclaredEntry → EntryText
-entry_text entry = record { barrier = entry.barrier; longest = entry.longest; body = body_text entry.body.items }
+entry_text entry =
+    record { barrier = entry.barrier; longest = entry.longest; body = body_text entry.body.items }
 
 abbrev pub operation_text : OperationDraft → OpenOperationText
 operation_text operation =
-    record { name = string_bytes operation.name; head = operation.head; body = body_draft_text operation.body }
+    record {
+      name = string_bytes operation.name;
+      head = operation.head;
+      body = body_draft_text operation.body;
+    }
 
 abbrev pub object_text : ObjectDraft → ObjectText
 object_text draft = record {
@@ -56,7 +63,8 @@ object_text draft = record {
 
 -- ---- an object whose lines were all read
 
--- a protected object: the names of its components of each kind, their first values, and its operations
+-- a protected object: the names of its components of each kind, their first values, and its
+-- operations
 pub record ProtectedText : Type 0 where
   pub name : List ℕ
   pub ceiling : ℕ

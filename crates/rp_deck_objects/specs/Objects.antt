@@ -20,7 +20,8 @@ use Rattle.rp_words.specs.Words.{truth_named, is_at_end}
 use Rattle.rp_deck_bodies.specs.declared.names.Component.{Component}
 use Rattle.rp_deck_bodies.specs.declared.names.Component.TheVariants as components
 use Rattle.rp_deck_bodies.specs.Bodies.{BodyText, OpenBodyText, begun_body, body_line}
-use Rattle.rp_deck_bodies.specs.Expressions.{ExprText, CondText, expression_words, bool_of, expr_line, cond_line}
+use Rattle.rp_deck_bodies.specs.Expressions.{ExprText, CondText, expression_words, bool_of}
+use Rattle.rp_deck_bodies.specs.Expressions.{expr_line, cond_line}
 use Rattle.rp_deck_objects.specs.declared.objects.FunctionKind.{FunctionKind}
 use Rattle.rp_deck_objects.specs.declared.objects.FunctionKind.TheVariants as functions
 use Rattle.rp_deck_objects.specs.declared.objects.Head.{Head}
@@ -44,8 +45,8 @@ pub record OpenOperationText : Type 0 where
   pub head : Head
   pub body : OpenBodyText
 
--- what an object has so far: its components, by name and by kind, with their first values; its operations, by name and
--- by kind; and the operation whose body has not ended
+-- what an object has so far: its components, by name and by kind, with their first values; its
+-- operations, by name and by kind; and the operation whose body has not ended
 pub record ObjectText : Type 0 where
   pub name : List ℕ
   pub ceiling : ℕ
@@ -232,7 +233,8 @@ completed_as (heads.Entry barrier longest) name body o = record o {
 
 -- an operation after a line of its body, which may have ended it
 abbrev pub with_body : ObjectText → OpenOperationText → OpenBodyText × Bool → ObjectText
-with_body o operation (body, false) = record o { open_operation = Some (record operation { body = body }) }
+with_body o operation (body, false) =
+    record o { open_operation = Some (record operation { body = body }) }
 with_body o operation (body, true) = completed_as operation.head operation.name body.statements o
 
 -- what a line of an object declares by its first word
@@ -254,15 +256,18 @@ part_line profile o (Some parts.Procedure) words = procedure_line o words
 part_line profile o (Some parts.Entry) words = entry_line profile o words
 
 -- a line of an operation's body
-unfoldable pub operation_line : ObjectText → OpenOperationText → LineText → Result ObjectText DeckReason
+unfoldable pub operation_line : ObjectText → OpenOperationText → LineText
+    → Result ObjectText DeckReason
 operation_line o operation line = do
   after ← body_line o.component_names o.components operation.body line
   Ok (with_body o operation after)
 
 -- a line of the object itself, or of the body of an operation
-abbrev pub line_within : Option OpenOperationText → Profile → ObjectText → LineText → Result ObjectText DeckReason
+abbrev pub line_within : Option OpenOperationText → Profile → ObjectText → LineText
+    → Result ObjectText DeckReason
 line_within None profile o line = part_line profile o (part_named line.first) line.rest
 line_within (Some operation) profile o line = operation_line o operation line
 
 abbrev pub object_step : Profile → ObjectText → LineText → Result ObjectText DeckReason
-object_step profile o line = line_within o.open_operation profile (record o { open_operation = None }) line
+object_step profile o line =
+    line_within o.open_operation profile (record o { open_operation = None }) line

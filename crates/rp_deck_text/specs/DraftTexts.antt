@@ -10,8 +10,10 @@ use Rattle.rp_deck_text.specs.ScriptText.{numbered_lines}
 abbrev pub at_object : DraftText → List ObjectText → ObjectText → DraftText
 at_object d before o = record d { drafts = before ++ o ∷ [] }
 
--- after these lines the declarations go on from the other draft, whatever the lines' numbers and whatever follows
+-- after these lines the declarations go on from the other draft, whatever the lines' numbers and
+-- whatever follows
 abbrev pub Declares : DraftText → List (List (List ℕ)) → DraftText → Type 0
 Declares d lines after =
     (last number : ℕ) (rest : List LineText)
-    → declarations_from last d (numbered_lines number lines ++ rest) ≡ declarations_from last after rest
+    → declarations_from last d (numbered_lines number lines ++ rest) ≡ declarations_from last after
+    rest

@@ -1,13 +1,14 @@
 -- The text of an expression and of a condition: one way to write each, which reading gives back.
-use Rattle.std.specs.Prelude.{ℕ, ◌≡◌, ◌+◌, FitsSigned, Bool, true, false, not, nat_eq, IsTrue, List, [], ◌∷◌, ◌++◌}
-use Rattle.std.specs.Prelude.{codes, length, ◌⊎◌, if◌then◌else◌}
+use Rattle.std.specs.Prelude.{ℕ, ◌≡◌, ◌+◌, FitsSigned, Bool, true, false, not, nat_eq, IsTrue, List}
+use Rattle.std.specs.Prelude.{[], ◌∷◌, ◌++◌, codes, length, ◌⊎◌, if◌then◌else◌}
 use Rattle.std.specs.Fmt.{signed_decimal}
 use Rattle.std.specs.Int.{w64}
 use Rattle.std.specs.List.{list_all}
 use Rattle.rp_deck_bodies.specs.declared.names.Component.{Component}
 use Rattle.rp_deck_bodies.specs.declared.names.Component.TheVariants as components
-use Rattle.rp_deck_bodies.specs.Expressions.{ExprText, Number, Arg, Out, Int, Add, Sub, CondText, Constant, Named, Less}
-use Rattle.rp_deck_bodies.specs.Expressions.{LessOrEqual, Equal, Not, And, Or, expression_words}
+use Rattle.rp_deck_bodies.specs.Expressions.{ExprText, Number, Arg, Out, Int, Add, Sub, CondText}
+use Rattle.rp_deck_bodies.specs.Expressions.{Constant, Named, Less, LessOrEqual, Equal, Not, And}
+use Rattle.rp_deck_bodies.specs.Expressions.{Or, expression_words}
 use Rattle.rp_deck_text.specs.ScriptText.{are_names}
 use Rattle.rp_words.specs.Tables.{is_declared}
 
@@ -24,7 +25,8 @@ is_bool place (components.Bool p) = nat_eq p place
 abbrev pub component_name : (Component → Bool) → List (List ℕ) → List Component → List ℕ
 component_name test [] declared = []
 component_name test names [] = []
-component_name test (name ∷ names) (first ∷ rest) = if test first then name else component_name test names rest
+component_name test (name ∷ names) (first ∷ rest) =
+    if test first then name else component_name test names rest
 
 -- how many nodes there are
 abbrev pub expr_nodes : ExprText → ℕ

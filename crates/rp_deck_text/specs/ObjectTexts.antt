@@ -1,6 +1,6 @@
 -- The text of a deck of protected objects: one way to write each, which reading gives back.
-use Rattle.std.specs.Prelude.{ℕ, ◌≡◌, ◌<◌, ◌≤◌, ◌+◌, false, List, [], ◌∷◌, ◌++◌, codes, length, map, slice_get, Option}
-use Rattle.std.specs.Prelude.{Some, None, IfSome}
+use Rattle.std.specs.Prelude.{ℕ, ◌≡◌, ◌<◌, ◌≤◌, ◌+◌, false, List, [], ◌∷◌, ◌++◌, codes, length, map}
+use Rattle.std.specs.Prelude.{slice_get, Option, Some, None, IfSome}
 use Rattle.std.specs.Fmt.{decimal}
 use Rattle.rp_base.specs.declared.action.Operation.TheVariants.{Procedure}
 use Rattle.rp_object.specs.declared.program.Handler.{Handler}
@@ -23,7 +23,8 @@ pub record DeclaredObject : Type 0 where
   pub ceiling : ℕ
   pub parts : List PartText
 
--- an interrupt or a timing event, and its handler: a procedure by its number, of an object by its place
+-- an interrupt or a timing event, and its handler: a procedure by its number, of an object by its
+-- place
 pub record DeclaredHandler : Type 0 where
   pub name : List ℕ
   pub object : List ℕ
@@ -43,7 +44,8 @@ with_object d o =
 
 abbrev pub object_lines : Profile → DeclaredObject → List (List (List ℕ))
 object_lines profile o =
-    (codes "object" ∷ o.name ∷ decimal o.ceiling ∷ []) ∷ parts_lines profile (empty_object o.name o.ceiling) o.parts
+    (codes "object" ∷ o.name ∷ decimal o.ceiling ∷ [])
+    ∷ parts_lines profile (empty_object o.name o.ceiling) o.parts
 
 abbrev pub IsObjectOf : DraftText → DeclaredObject → Type 0
 IsObjectOf d o =
@@ -84,7 +86,10 @@ with_interrupt d h =
     }
 
 abbrev pub with_timer : DraftText → DeclaredHandler → DraftText
-with_timer d h = record d { timers = d.timers ++ h.name ∷ []; timer_handlers = d.timer_handlers ++ handler_of h ∷ [] }
+with_timer d h = record d {
+  timers = d.timers ++ h.name ∷ [];
+  timer_handlers = d.timer_handlers ++ handler_of h ∷ [];
+}
 
 abbrev pub handler_words : DeclaredHandler → List (List ℕ)
 handler_words h = h.name ∷ (h.object ++ 46 ∷ h.procedure) ∷ []
@@ -100,12 +105,14 @@ with_timers d (h ∷ hs) = with_timers (with_timer d h) hs
 abbrev pub AreInterruptsOf : DraftText → List DeclaredHandler → Type 0
 AreInterruptsOf d [] = Unit {0}
 AreInterruptsOf d (h ∷ hs) =
-    (length d.interrupts < 8) × IsNew d.interrupts h.name × IsHandlerOf d h × AreInterruptsOf (with_interrupt d h) hs
+    (length d.interrupts < 8) × IsNew d.interrupts h.name × IsHandlerOf d h
+    × AreInterruptsOf (with_interrupt d h) hs
 
 abbrev pub AreTimersOf : DraftText → List DeclaredHandler → Type 0
 AreTimersOf d [] = Unit {0}
 AreTimersOf d (h ∷ hs) =
-    (length d.timers < 8) × IsNew d.timers h.name × IsHandlerOf d h × AreTimersOf (with_timer d h) hs
+    (length d.timers < 8) × IsNew d.timers h.name × IsHandlerOf d h
+    × AreTimersOf (with_timer d h) hs
 
 abbrev pub handlers_lines : List ℕ → List DeclaredHandler → List (List (List ℕ))
 handlers_lines first handlers = map (λ h. first ∷ handler_words h) handlers
@@ -137,7 +144,8 @@ tasks_draft t =
     { positions = t.positions; profile = t.profile; tasks = t.tasks; priorities = t.priorities }
 
 abbrev pub objects_draft : ObjectsText → DraftText
-objects_draft t = with_timers (with_interrupts (with_objects (tasks_draft t) t.objects) t.interrupts) t.timers
+objects_draft t =
+    with_timers (with_interrupts (with_objects (tasks_draft t) t.objects) t.interrupts) t.timers
 
 abbrev pub declared_lines : ObjectsText → List (List (List ℕ))
 declared_lines t =
@@ -154,7 +162,8 @@ pub record IsObjectsText (t : ObjectsText) : Type 0 where
   pub tasks : AreTasks [] t.tasks t.priorities
   pub objects : AreObjectsOf (tasks_draft t) t.objects
   pub interrupts : AreInterruptsOf (with_objects (tasks_draft t) t.objects) t.interrupts
-  pub timers : AreTimersOf (with_interrupts (with_objects (tasks_draft t) t.objects) t.interrupts) t.timers
+  pub timers : AreTimersOf (with_interrupts (with_objects (tasks_draft t) t.objects) t.interrupts)
+      t.timers
   pub some_task : is_empty (objects_draft t).tasks ≡ false
   pub some_object : is_empty (objects_draft t).objects ≡ false
 
@@ -162,8 +171,10 @@ pub record IsObjectsText (t : ObjectsText) : Type 0 where
 
 abbrev pub objects_text : ObjectsText → List CommandText → List ℕ
 objects_text t commands =
-    text_of_lines (declared_lines t ++ map (command_words (declared_names (objects_draft t))) commands)
+    text_of_lines
+    (declared_lines t ++ map (command_words (declared_names (objects_draft t))) commands)
 
 -- the deck that it is: the script begins after those lines
 abbrev pub objects_deck : ObjectsText → List CommandText → DeckText
-objects_deck t commands = deck_of (objects_draft t) (numbered_commands (1 + length (declared_lines t)) commands)
+objects_deck t commands =
+    deck_of (objects_draft t) (numbered_commands (1 + length (declared_lines t)) commands)

@@ -1,15 +1,16 @@
 -- The text of a script's line: one way to write each command, which reading gives back.
-use Rattle.std.specs.Prelude.{ℕ, ◌≡◌, ◌<◌, ◌≤◌, ◌+◌, ◌-◌, ◌^◌, ℤ, pos, FitsSigned, Bool, true, false, nat_eq, not, ◌&&◌}
-use Rattle.std.specs.Prelude.{IsTrue, List, [], ◌∷◌, ◌++◌, codes, length, map, slice_get, slice_index_or, Some, None}
-use Rattle.std.specs.Prelude.{◌⊎◌, if◌then◌else◌, IfSome}
+use Rattle.std.specs.Prelude.{ℕ, ◌≡◌, ◌<◌, ◌≤◌, ◌+◌, ◌-◌, ◌^◌, ℤ, pos, FitsSigned, Bool, true}
+use Rattle.std.specs.Prelude.{false, nat_eq, not, ◌&&◌, IsTrue, List, [], ◌∷◌, ◌++◌, codes, length}
+use Rattle.std.specs.Prelude.{map, slice_get, slice_index_or, Some, None, ◌⊎◌, if◌then◌else◌}
+use Rattle.std.specs.Prelude.{IfSome}
 use Rattle.std.specs.Fmt.{decimal, signed_decimal}
 use Rattle.std.specs.Int.{w64}
 use Rattle.std.specs.List.{list_all}
 use Rattle.rp_base.specs.declared.action.Operation.{Operation}
 use Rattle.rp_base.specs.declared.action.Operation.TheVariants as operations
 use Rattle.rp_object.specs.declared.program.Handler.{Handler}
-use Rattle.rp_model.specs.Events.{Event, Step, Submit, Again, Makes, Cut, Stop, Restart, Deliver, Lead, LeadRange}
-use Rattle.rp_model.specs.Events.{Interrupt, Tick, Report}
+use Rattle.rp_model.specs.Events.{Event, Step, Submit, Again, Makes, Cut, Stop, Restart, Deliver}
+use Rattle.rp_model.specs.Events.{Lead, LeadRange, Interrupt, Tick, Report}
 use Rattle.rp_words.specs.Lines.{LineText}
 use Rattle.rp_deck.specs.Script.{IsUpTo, IsMessage}
 use Rattle.rp_deck_objects.specs.ObjectViews.{OperationsText}
@@ -49,11 +50,13 @@ operation_name_in (name ∷ names) (first ∷ rest) operation =
 
 -- what an object of this number has
 abbrev pub operations_numbered : DeclaredNames → ℕ → OperationsText
-operations_numbered d object = slice_index_or d.operations (object - 1) (record { names = []; operations = [] })
+operations_numbered d object =
+    slice_index_or d.operations (object - 1) (record { names = []; operations = [] })
 
 abbrev pub operation_name : DeclaredNames → ℕ → Operation → List ℕ
 operation_name d object operation =
-    operation_name_in (operations_numbered d object).names (operations_numbered d object).operations operation
+    operation_name_in (operations_numbered d object).names (operations_numbered d object).operations
+    operation
 
 -- ---- lines
 
@@ -61,7 +64,8 @@ abbrev pub step_words : DeclaredNames → Step → List (List ℕ)
 step_words d (Deliver message) = codes "deliver" ∷ decimal message ∷ []
 step_words d (Lead node None) = codes "lead" ∷ decimal node ∷ []
 step_words d (Lead node (Some position)) = codes "lead" ∷ decimal node ∷ decimal position ∷ []
-step_words d (LeadRange node first count) = codes "range" ∷ decimal node ∷ decimal first ∷ decimal count ∷ []
+step_words d (LeadRange node first count) =
+    codes "range" ∷ decimal node ∷ decimal first ∷ decimal count ∷ []
 step_words d (Interrupt node source occurrence) =
     codes "irq" ∷ decimal node ∷ name_numbered d.interrupts source ∷ decimal occurrence ∷ []
 step_words d (Tick node now) = codes "tick" ∷ decimal node ∷ decimal now ∷ []
@@ -69,15 +73,18 @@ step_words d (Report node first) = []
 
 abbrev pub submit_words : DeclaredNames → ℕ → ℕ → ℕ → Operation → ℤ → List (List ℕ)
 submit_words d task node object (operations.SetTimer timer) arg =
-    codes "arm" ∷ name_numbered d.tasks task ∷ decimal node ∷ name_numbered d.timers timer ∷ signed_decimal arg ∷ []
+    codes "arm" ∷ name_numbered d.tasks task ∷ decimal node ∷ name_numbered d.timers timer
+    ∷ signed_decimal arg ∷ []
 submit_words d task node object (operations.CancelTimer timer) arg =
     codes "disarm" ∷ name_numbered d.tasks task ∷ decimal node ∷ name_numbered d.timers timer ∷ []
 submit_words d task node object operation arg =
     codes "call" ∷ name_numbered d.tasks task ∷ decimal node
-    ∷ (name_numbered d.objects object ++ 46 ∷ operation_name d object operation) ∷ signed_decimal arg ∷ []
+    ∷ (name_numbered d.objects object ++ 46 ∷ operation_name d object operation)
+    ∷ signed_decimal arg ∷ []
 
 abbrev pub event_words : DeclaredNames → Event → List (List ℕ)
-event_words d (Submit task node object operation arg) = submit_words d task node object operation arg
+event_words d (Submit task node object operation arg) =
+    submit_words d task node object operation arg
 event_words d (Again task node) = codes "again" ∷ name_numbered d.tasks task ∷ decimal node ∷ []
 event_words d (Makes step) = step_words d step
 event_words d (Cut step kept) = codes "cut" ∷ decimal kept ∷ step_words d step
@@ -136,7 +143,8 @@ pub record AreDeclared (d : DeclaredNames) : Type 0 where
   pub nodes : d.nodes ≤ 7
   pub tasks : IsTrue (are_names d.tasks)
   pub objects : IsTrue (are_names d.objects)
-  pub operations : (k : ℕ) (own : OperationsText) → slice_get d.operations k ≡ Some own → AreOperations own
+  pub operations : (k : ℕ) (own : OperationsText) → slice_get d.operations k ≡ Some own
+      → AreOperations own
   pub interrupts : IsTrue (are_names d.interrupts)
   pub timers : IsTrue (are_names d.timers)
 

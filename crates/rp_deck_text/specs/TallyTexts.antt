@@ -1,6 +1,6 @@
 -- The text of a deck whose objects are a tally: one way to write each, which reading gives back.
-use Rattle.std.specs.Prelude.{ℕ, ◌≡◌, ◌<◌, ◌≤◌, ◌+◌, true, false, IsTrue, List, [], ◌∷◌, ◌++◌, codes, length, map}
-use Rattle.std.specs.Prelude.{Option, Some, None, IfSome}
+use Rattle.std.specs.Prelude.{ℕ, ◌≡◌, ◌<◌, ◌≤◌, ◌+◌, true, false, IsTrue, List, [], ◌∷◌, ◌++◌}
+use Rattle.std.specs.Prelude.{codes, length, map, Option, Some, None, IfSome}
 use Rattle.std.specs.Fmt.{decimal}
 use Rattle.rp_deck_declarations.specs.Drafts.{DraftText, tally_names}
 use Rattle.rp_deck.specs.Meaning.{DeckText, deck_of}
@@ -34,7 +34,8 @@ abbrev pub tally_lines : TallyText → List (List (List ℕ))
 tally_lines t =
     (codes "nodes" ∷ decimal t.nodes ∷ [])
     ∷ (positions_words t.positions
-    ++ (task_words t.tasks t.priorities ++ (codes "tally" ∷ decimal t.count ∷ []) ∷ (codes "script" ∷ []) ∷ []))
+    ++ (task_words t.tasks t.priorities ++ (codes "tally" ∷ decimal t.count ∷ [])
+    ∷ (codes "script" ∷ []) ∷ []))
 
 abbrev pub tally_draft : TallyText → DraftText
 tally_draft t = record {
@@ -53,17 +54,20 @@ tally_draft t = record {
 }
 
 abbrev pub tally_text : TallyText → List CommandText → List ℕ
-tally_text t commands = text_of_lines (tally_lines t ++ map (command_words (declared_names (tally_draft t))) commands)
+tally_text t commands =
+    text_of_lines (tally_lines t ++ map (command_words (declared_names (tally_draft t))) commands)
 
 -- the deck that it is: the script begins after those lines
 abbrev pub tally_deck : TallyText → List CommandText → DeckText
-tally_deck t commands = deck_of (tally_draft t) (numbered_commands (1 + length (tally_lines t)) commands)
+tally_deck t commands =
+    deck_of (tally_draft t) (numbered_commands (1 + length (tally_lines t)) commands)
 
 -- at most 8 tasks, each with a new name and a priority from 1 to 30
 abbrev pub AreTasks : List (List ℕ) → List (List ℕ) → List ℕ → Type 0
 AreTasks before [] [] = Unit {0}
 AreTasks before (task ∷ tasks) (priority ∷ priorities) =
-    (length before < 8) × IsTrue (is_name task) × (is_declared task before ≡ false) × IsUpTo 30 priority
+    (length before < 8) × IsTrue (is_name task) × (is_declared task before ≡ false)
+    × IsUpTo 30 priority
     × AreTasks (before ++ task ∷ []) tasks priorities
 AreTasks before _ _ = ⊥
 

@@ -1,6 +1,6 @@
 -- The drawing of a sketch.
-use Rattle.std.specs.Prelude.{◌≡◌, ℕ, ◌+◌, ◌-◌, ◌*◌, ◌/◌, ◌≤◌, nat_eq, Option, Some, None, List, [], ◌∷◌, ◌++◌}
-use Rattle.std.specs.Prelude.{codes, flat_map, length, if◌then◌else◌}
+use Rattle.std.specs.Prelude.{◌≡◌, ℕ, ◌+◌, ◌-◌, ◌*◌, ◌/◌, ◌≤◌, nat_eq, Option, Some, None, List, []}
+use Rattle.std.specs.Prelude.{◌∷◌, ◌++◌, codes, flat_map, length, if◌then◌else◌}
 use Rattle.rp_drawing.specs.Elements.{curve_text}
 use Rattle.rp_drawing.specs.Lines.{head_text, lanes_text, row_text}
 use Rattle.rp_drawing.specs.Pages.{arrival_y, departure_y, lane_x, line_y}
@@ -18,8 +18,8 @@ end_kind Taken = 0
 end_kind Unheard = 1
 end_kind Lost = 2
 
--- a curve of this colour and kind from one place to another: a straight one, or one that leaves its lane to the left
--- and comes back
+-- a curve of this colour and kind from one place to another: a straight one, or one that leaves its
+-- lane to the left and comes back
 abbrev pub curve_between : ℕ → ℕ → ℕ → ℕ → ℕ → ℕ → ℕ → Curve
 curve_between colour kind x to_x y end_x end_y = record {
   look = record { colour = colour; kind = kind };
@@ -28,8 +28,9 @@ curve_between colour kind x to_x y end_x end_y = record {
   to = record { x = end_x; y = end_y };
 }
 
--- A way begins on the lane of its packet's sender, in the line of the moment that sent it, and ends on the receiver's
--- lane in the line of the moment that settled it; where nothing did, it ends half way.
+-- A way begins on the lane of its packet's sender, in the line of the moment that sent it, and ends
+-- on the receiver's lane in the line of the moment that settled it; where nothing did, it ends half
+-- way.
 abbrev pub curve_to : ℕ → Way → Option Arrival → Curve
 curve_to lanes way None =
     let x = lane_x lanes way.sending.from in
@@ -40,17 +41,19 @@ curve_to lanes way (Some arrival) =
     let x = lane_x lanes way.sending.from in
     let to_x = lane_x lanes way.sending.to in
     let y = departure_y lanes way.line in
-    curve_between way.sending.colour (end_kind arrival.end) x to_x y to_x (arrival_y lanes arrival.line)
+    curve_between way.sending.colour (end_kind arrival.end) x to_x y to_x
+    (arrival_y lanes arrival.line)
 
 abbrev pub way_curve : ℕ → Way → Curve
 way_curve lanes way = curve_to lanes way way.ended
 
 -- the arrow of a way, if it is drawn
 abbrev pub way_text : ℕ → Way → List ℕ
-way_text lanes way = if way.sending.is_drawn then curve_text (way_curve lanes way) ++ 10 ∷ [] else []
+way_text lanes way = if way.sending.is_drawn then curve_text (way_curve lanes way) ++ 10 ∷ []
+    else []
 
--- The text of a drawing, all of it: its head, its lanes under these names, the arrows of its ways, in
--- order, and its moments. Names and labels have no `<` (Words), so it has no other arrow.
+-- The text of a drawing, all of it: its head, its lanes under these names, the arrows of its ways,
+-- in order, and its moments. Names and labels have no `<` (Words), so it has no other arrow.
 abbrev pub page_text : List Lane → Sketch → List ℕ
 page_text names sketch =
     let lanes = length names in

@@ -7,7 +7,8 @@ use Rattle.rp_drawing.specs.Style.{style_text}
 use Rattle.rp_drawing.specs.declared.drawing.Lane.{Lane}
 use Rattle.rp_drawing.specs.declared.elements.Point.{Point}
 use Rattle.rp_drawing.specs.declared.sketch.Kind.{Kind}
-use Rattle.rp_drawing.specs.declared.sketch.Kind.TheVariants.{Act, Record, Torn, Stop, Restart, State}
+use Rattle.rp_drawing.specs.declared.sketch.Kind.TheVariants.{Act, Record, Torn, Stop, Restart}
+use Rattle.rp_drawing.specs.declared.sketch.Kind.TheVariants.{State}
 use Rattle.rp_drawing.specs.declared.sketch.Mark.{Mark}
 use Rattle.rp_drawing.specs.declared.sketch.Row.{Row}
 use Rattle.rp_drawing.specs.declared.words.Words.{Words}

@@ -4,7 +4,8 @@ use Rattle.std.specs.Prelude.{ℕ, ◌+◌, ◌*◌, nat_le, if◌then◌else◌
 -- the lane of this place, from 0, of n lanes
 abbrev pub lane_x : ℕ → ℕ → ℕ
 lane_x lanes lane =
-    if nat_le lanes 6 then 270 + 60 * lane else if nat_le lanes 10 then 270 + 34 * lane else 270 + 22 * lane
+    if nat_le lanes 6 then 270 + 60 * lane else if nat_le lanes 10 then 270 + 34 * lane
+    else 270 + 22 * lane
 
 -- the name of a lane
 abbrev pub name_y : ℕ → ℕ

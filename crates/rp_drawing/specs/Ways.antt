@@ -1,7 +1,7 @@
--- The ways of the messages of a run: each from the moment in which it was sent to the one in which it was settled, and
--- none upwards.
-use Rattle.std.specs.Prelude.{◌≡◌, ℕ, zero, suc, ◌-◌, ◌<◌, ◌≤◌, Bool, true, false, nat_eq, Option, Some, None, List, []}
-use Rattle.std.specs.Prelude.{◌∷◌, length, map, slice_get, unwrap_or}
+-- The ways of the messages of a run: each from the moment in which it was sent to the one in which
+-- it was settled, and none upwards.
+use Rattle.std.specs.Prelude.{◌≡◌, ℕ, zero, suc, ◌-◌, ◌<◌, ◌≤◌, Bool, true, false, nat_eq, Option}
+use Rattle.std.specs.Prelude.{Some, None, List, [], ◌∷◌, length, map, slice_get, unwrap_or}
 use Rattle.rp_drawing.specs.declared.sketch.Arrival.{Arrival}
 use Rattle.rp_drawing.specs.declared.sketch.Ending.{Ending}
 use Rattle.rp_drawing.specs.declared.sketch.Moment.{Moment}
@@ -26,7 +26,8 @@ settles (Some e) number = nat_eq e.message number
 
 -- the way of a packet that is sent in the moment of this place and line
 abbrev pub sent_way : ℕ → ℕ → Sending → Way
-sent_way moment line sending = record { sending = sending; sent = moment; line = line; ended = None }
+sent_way moment line sending =
+    record { sending = sending; sent = moment; line = line; ended = None }
 
 abbrev pub sent_ways : List Sending → ℕ → ℕ → List Way
 sent_ways sends moment line = map (sent_way moment line) sends
@@ -61,15 +62,18 @@ module _ (rows : List Row) where
     pub row : Row
     pub there : slice_get rows way.sent ≡ Some row
     pub after : row.moment.before < number
-    pub sending_is : slice_get row.moment.sends.items (number - suc row.moment.before) ≡ Some way.sending
+    pub sending_is : slice_get row.moment.sends.items (number - suc row.moment.before) ≡ Some
+        way.sending
     pub line_is : way.line ≡ row.line
 
   -- no moment among the first ones settles the message of this number
   abbrev pub IsUnsettled : ℕ → ℕ → Type 0
   IsUnsettled number count =
-      (i : ℕ) (row : Row) → i < count → slice_get rows i ≡ Some row → settles row.moment.ending number ≡ false
+      (i : ℕ) (row : Row) → i < count → slice_get rows i ≡ Some row
+      → settles row.moment.ending number ≡ false
 
-  -- It was settled in the moment in which its way ends, which is later than that of its sending, and in none before.
+  -- It was settled in the moment in which its way ends, which is later than that of its sending,
+  -- and in none before.
   pub record IsSettled (number : ℕ) (way : Way) (arrival : Arrival) : Type 0 where
     pub row : Row
     pub there : slice_get rows arrival.moment ≡ Some row
@@ -90,7 +94,8 @@ module _ (rows : List Row) where
   -- the ways of the messages from 1 on, of which some are settled
   pub record AreWays (ways : List Way) : Type 0 where
     pub each : (k : ℕ) (way : Way) → slice_get ways k ≡ Some way → IsWay (suc k) way
-    pub known : (i : ℕ) (row : Row) → slice_get rows i ≡ Some row → IsEndingWithin (length ways) row.moment.ending
+    pub known : (i : ℕ) (row : Row) → slice_get rows i ≡ Some row
+        → IsEndingWithin (length ways) row.moment.ending
 
 -- A way that is drawn begins in a line so far, and ends in a later one.
 pub record IsDown (lines : ℕ) (way : Way) : Type 0 where

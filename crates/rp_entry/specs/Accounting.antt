@@ -1,6 +1,7 @@
--- Who waited, who was answered and who waits, in order, at each entry by itself (Ada Reference Manual, section 9.5.3;
--- the order of arrival: section D.4).
-use Rattle.std.specs.Prelude.{◌≡◌, ℕ, ◌-◌, nat_eq, List, [], ◌∷◌, ◌++◌, map, length, Option, Some, None, if◌then◌else◌}
+-- Who waited, who was answered and who waits, in order, at each entry by itself (Ada Reference
+-- Manual, section 9.5.3; the order of arrival: section D.4).
+use Rattle.std.specs.Prelude.{◌≡◌, ℕ, ◌-◌, nat_eq, List, [], ◌∷◌, ◌++◌, map, length, Option, Some}
+use Rattle.std.specs.Prelude.{None, if◌then◌else◌}
 use Rattle.rp_base.specs.declared.reply.Answer.{Answer}
 use Rattle.rp_entry.specs.declared.state.Waiting.{Waiting}
 use Rattle.rp_entry.specs.declared.state.CallOutcome.{CallOutcome}
@@ -16,9 +17,11 @@ name_of call = (call.task, call.number)
 abbrev pub answered_caller : Answer → ℕ × ℕ
 answered_caller answer = (answer.task, answer.number)
 
--- those that were answered, and after them those that wait still, are those that waited, in the same order
+-- those that were answered, and after them those that wait still, are those that waited, in the
+-- same order
 abbrev pub KeepsCallers : List Waiting → List Answer → List Waiting → Type 0
-KeepsCallers waited replied waiting = map answered_caller replied ++ map name_of waiting ≡ map name_of waited
+KeepsCallers waited replied waiting =
+    map answered_caller replied ++ map name_of waiting ≡ map name_of waited
 
 -- what a request puts into a queue: its call, if the outcome is that it waits
 abbrev pub joins : Request → Option CallOutcome → List Waiting
@@ -40,13 +43,17 @@ joins_at place (event handler) outcome = []
 -- the answers to the callers of the entry at this place, where these are the entries of all answers
 abbrev pub replied_at : ℕ → List ℕ → List Answer → List Answer
 replied_at place (entry ∷ entries) (answer ∷ replied) =
-    if nat_eq entry place then answer ∷ replied_at place entries replied else replied_at place entries replied
+    if nat_eq entry place then answer ∷ replied_at place entries replied
+    else replied_at place entries replied
 replied_at place _ _ = []
 
--- Each answer is for a caller of one entry, and each entry's callers are kept, those that joined it too.
-pub record KeepsAll (before : State) (request : Request) (caller : Option CallOutcome) (replied : List Answer)
+-- Each answer is for a caller of one entry, and each entry's callers are kept, those that joined it
+-- too.
+pub record KeepsAll (before : State) (request : Request) (caller : Option CallOutcome)
+    (replied : List Answer)
     (after : State) : Type 0 where
   pub entries : List ℕ
   pub each : length entries ≡ length replied
-  pub kept : (place : ℕ) → KeepsCallers (queue_at before.queues place ++ joins_at place request caller)
+  pub kept : (place : ℕ)
+      → KeepsCallers (queue_at before.queues place ++ joins_at place request caller)
       (replied_at place entries replied) (queue_at after.queues place)

@@ -13,7 +13,8 @@ abbrev pub of_index : {X : Type 0} → List X → ℕ → Option X
 of_index xs zero = None
 of_index xs (suc n) = slice_get xs n
 
--- the expression or condition of a function has at most 32 nodes and names only components that are counted
+-- the expression or condition of a function has at most 32 nodes and names only components that are
+-- counted
 abbrev pub FunctionFits : Limits → Function → Type 0
 FunctionFits limits (Value expr) = IsTrue (expr_fits limits expr)
 FunctionFits limits (Truth test) = IsTrue (cond_fits limits test)
@@ -22,8 +23,9 @@ FunctionFits limits (Truth test) = IsTrue (cond_fits limits test)
 abbrev pub longest_queue : ℕ
 longest_queue = 8
 
--- the barrier of an entry names a Boolean that is counted (a simple barrier: Ada Reference Manual, section D.7), its
--- longest queue is 1 to 8 calls (Max_Entry_Queue_Length), and its body keeps the limits of bodies
+-- the barrier of an entry names a Boolean that is counted (a simple barrier: Ada Reference Manual,
+-- section D.7), its longest queue is 1 to 8 calls (Max_Entry_Queue_Length), and its body keeps the
+-- limits of bodies
 pub record EntryFits (limits : Limits) (entry : Entry) : Type 0 where
   pub barrier : entry.barrier < limits.bools
   pub some_room : 1 ≤ entry.longest

@@ -20,21 +20,23 @@ pub record Protected : Type 0 where
 -- an object, for the proofs, as the pair of its parts
 abbrev pub protected_code : Coded Protected
 protected_code =
-    code_by (Operations × State) (coded× declared.the_row.coded state_code) (λ o. (o.operations, o.state))
+    code_by (Operations × State) (coded× declared.the_row.coded state_code)
+    (λ o. (o.operations, o.state))
     (λ p. record { operations = p.0; state = p.1 }) (λ _. refl)
 
 -- no more calls wait at an entry than it allows
 abbrev pub IsShort : Entry → List Waiting → Type 0
 IsShort entry queue = length queue ≤ entry.longest
 
--- each entry has its queue, which is not too long, and the calls that wait are of distinct tasks, since a task waits
--- at one place at most
+-- each entry has its queue, which is not too long, and the calls that wait are of distinct tasks,
+-- since a task waits at one place at most
 pub record HasQueues (operations : Operations) (state : State) : Type 0 where
   pub short : AllZip IsShort operations.entries.items state.queues
   pub tasks : (task : ℕ) → Has task (tasks_waiting state) → IsTask task
   pub apart : IsSet (tasks_waiting state)
 
--- between actions the operations fit the components, no call waits at an open barrier, and the queues are right
+-- between actions the operations fit the components, no call waits at an open barrier, and the
+-- queues are right
 pub record IsObject (operations : Operations) (state : State) : Type 0 where
   pub fits : OperationsFit (limits_of state.store) operations
   pub serviced : IsServiced operations state

@@ -1,4 +1,5 @@
--- The state of a protected object: its components, and a queue for each of its entries (Ada Reference Manual, section
+-- The state of a protected object: its components, and a queue for each of its entries (Ada
+-- Reference Manual, section
 -- 9.5.3).
 use Rattle.std.specs.Prelude.{◌≡◌, ℕ, ℤ, IsTrue, Some, List, [], ◌∷◌, map, flat_map, slice_get}
 use Rattle.std.specs.Prelude.{slice_index_or, refl}
@@ -16,7 +17,8 @@ pub record State : Type 0 where
 -- a call, for the proofs, as the tuple of its fields
 abbrev pub waiting_code : Coded Waiting
 waiting_code =
-    code_by (ℕ × (ℕ × ℤ)) (coded× coded_ℕ (coded× coded_ℕ coded_ℤ)) (λ w. (w.task, (w.number, w.arg)))
+    code_by (ℕ × (ℕ × ℤ)) (coded× coded_ℕ (coded× coded_ℕ coded_ℤ))
+    (λ w. (w.task, (w.number, w.arg)))
     (λ p. record { task = p.0; number = p.1.0; arg = p.1.1 }) (λ _. refl)
 
 -- a state, for the proofs, as the pair of its parts

@@ -1,7 +1,7 @@
--- The result of a protected action, as a function of the operations, the state and the request: the result of exactly
--- the actions of Actions (stated in our way).
-use Rattle.std.specs.Prelude.{ℕ, zero, suc, ◌-◌, ℤ, pos, nat_lt, List, [], ◌∷◌, length, Option, Some, None, Vec}
-use Rattle.std.specs.Prelude.{if◌then◌else◌}
+-- The result of a protected action, as a function of the operations, the state and the request: the
+-- result of exactly the actions of Actions (stated in our way).
+use Rattle.std.specs.Prelude.{ℕ, zero, suc, ◌-◌, ℤ, pos, nat_lt, List, [], ◌∷◌, length, Option}
+use Rattle.std.specs.Prelude.{Some, None, Vec, if◌then◌else◌}
 use Rattle.std.specs.declared.alloc.Global.{Global}
 use Rattle.rp_base.specs.declared.reply.Reply.TheVariants.{ProgramError, NoSuchOperation}
 use Rattle.rp_base.specs.declared.reply.Answer.{Answer}
@@ -17,9 +17,11 @@ use Rattle.rp_entry.specs.declared.state.CallOutcome.TheVariants.{Reply, Waits}
 use Rattle.rp_entry.specs.Operations.{of_index}
 use Rattle.rp_entry.specs.Queue.{State, queue_at, all_calls}
 use Rattle.rp_entry.specs.Replies.{reply_of, function_reply}
-use Rattle.rp_entry.specs.Actions.{Request, calls_function, calls_procedure, calls_entry, event, with_caller}
+use Rattle.rp_entry.specs.Actions.{Request, calls_function, calls_procedure, calls_entry, event}
+use Rattle.rp_entry.specs.Actions.{with_caller}
 
--- the outcome of the caller, if there is one, the answers of the callers that were served, and the state after
+-- the outcome of the caller, if there is one, the answers of the callers that were served, and the
+-- state after
 pub record Acted : Type 0 where
   pub caller : Option CallOutcome
   pub replied : List Answer
@@ -40,11 +42,13 @@ abbrev pub with_queue_first : List Waiting → Option Next → Option Next
 with_queue_first queue None = None
 with_queue_first queue (Some next) = Some (record next { left = queue ∷ next.left })
 
--- the call to be served next at these components, if there is one: the first of the first open entry that has a caller
+-- the call to be served next at these components, if there is one: the first of the first open
+-- entry that has a caller
 abbrev pub next_call : Store → List Entry → List (List Waiting) → Option Next
 next_call store [] queues = None
 next_call store (entry ∷ entries) [] = None
-next_call store (entry ∷ entries) ([] ∷ queues) = with_queue_first [] (next_call store entries queues)
+next_call store (entry ∷ entries) ([] ∷ queues) =
+    with_queue_first [] (next_call store entries queues)
 next_call store (entry ∷ entries) ((call ∷ rest) ∷ queues) =
     if bool_value store entry.barrier
     then Some (record { entry = entry; call = call; left = rest ∷ queues })
@@ -55,12 +59,15 @@ abbrev pub Serviced : Type 0
 Serviced = List Answer × State
 
 -- the body runs for the call, if there is one, and servicing goes on with what that leaves
-abbrev pub served : (Store → List (List Waiting) → Serviced) → Store → List (List Waiting) → Option Next → Serviced
+abbrev pub served : (Store → List (List Waiting) → Serviced) → Store → List (List Waiting)
+    → Option Next → Serviced
 served later store queues None = ([], record { store = store; queues = queues })
 served later store queues (Some next) =
     let ran = body_effect next.entry.body.items next.call.arg store in
-    let others = later ran.0 next.left in
-    (record { task = next.call.task; number = next.call.number; reply = reply_of ran.1 } ∷ others.0, others.1)
+    let others = later ran.0 next.left in (
+      record { task = next.call.task; number = next.call.number; reply = reply_of ran.1 } ∷ others.0,
+      others.1,
+    )
 
 -- servicing of queues in which no more than n calls wait, at these components
 abbrev pub serviced_from : ℕ → List Entry → Store → List (List Waiting) → Serviced
@@ -70,7 +77,8 @@ serviced_from (suc most) entries store queues =
 
 -- servicing of all calls that wait
 abbrev pub serviced : Operations → Store → List (List Waiting) → Serviced
-serviced operations store queues = serviced_from (length (all_calls queues)) operations.entries.items store queues
+serviced operations store queues =
+    serviced_from (length (all_calls queues)) operations.entries.items store queues
 
 -- a body runs for a caller, if there is one, and the queues are serviced
 abbrev pub ran_for : (CallOutcome → Option CallOutcome) → Operations → List Stmt → ℤ → State → Acted
@@ -82,12 +90,14 @@ ran_for caller operations body arg before =
 -- a call of a function, if there is one of this index
 abbrev pub function_called : Option Function → ℤ → State → Acted
 function_called None arg before = replies_with (Reply NoSuchOperation) before
-function_called (Some called) arg before = replies_with (Reply (function_reply called before.store arg)) before
+function_called (Some called) arg before =
+    replies_with (Reply (function_reply called before.store arg)) before
 
 -- a call of a procedure, if there is one of this index
 abbrev pub procedure_called : Operations → Option (Vec Stmt Global) → ℤ → State → Acted
 procedure_called operations None arg before = replies_with (Reply NoSuchOperation) before
-procedure_called operations (Some body) arg before = ran_for (λ outcome. Some outcome) operations body.items arg before
+procedure_called operations (Some body) arg before =
+    ran_for (λ outcome. Some outcome) operations body.items arg before
 
 -- a call of an entry, if there is one of this index
 abbrev pub entry_called : Operations → Option Entry → ℕ → Waiting → State → Acted
@@ -102,7 +112,8 @@ entry_called operations (Some entry) index call before =
 -- an event, if it has a handler
 abbrev pub event_handled : Operations → Option (Vec Stmt Global) → State → Acted
 event_handled operations None before = record { caller = None; replied = []; after = before }
-event_handled operations (Some body) before = ran_for (λ outcome. None) operations body.items (pos 0) before
+event_handled operations (Some body) before =
+    ran_for (λ outcome. None) operations body.items (pos 0) before
 
 -- the result of the action of a request
 abbrev pub acted : Operations → State → Request → Acted
@@ -112,4 +123,5 @@ acted operations before (calls_procedure index arg) =
     procedure_called operations (of_index operations.procedures.items index) arg before
 acted operations before (calls_entry index call) =
     entry_called operations (of_index operations.entries.items index) index call before
-acted operations before (event index) = event_handled operations (of_index operations.procedures.items index) before
+acted operations before (event index) =
+    event_handled operations (of_index operations.procedures.items index) before

@@ -1,10 +1,12 @@
--- A counter with a bound and a reset: what each action makes of it, and the answers (the rule is ours).
-use Rattle.std.specs.Prelude.{◌≡◌, ℕ, ◌+◌, ◌≤◌, ◌==◌, nat_le, ℤ, pos, negsuc, Option, Some, None, List, []}
-use Rattle.std.specs.Prelude.{◌∷◌, ◌++◌, if◌then◌else◌, decimal, codes}
+-- A counter with a bound and a reset: what each action makes of it, and the answers (the rule is
+-- ours).
+use Rattle.std.specs.Prelude.{◌≡◌, ℕ, ◌+◌, ◌≤◌, ◌==◌, nat_le, ℤ, pos, negsuc, Option, Some, None}
+use Rattle.std.specs.Prelude.{List, [], ◌∷◌, ◌++◌, if◌then◌else◌, decimal, codes}
 use Rattle.rp_base.specs.declared.action.Action.{Action}
 use Rattle.rp_base.specs.declared.action.Action.TheVariants.{Noop, Call, Interrupt, Tick}
 use Rattle.rp_base.specs.declared.action.Operation.{Operation}
-use Rattle.rp_base.specs.declared.action.Operation.TheVariants.{Function, Procedure, Entry, SetTimer, CancelTimer}
+use Rattle.rp_base.specs.declared.action.Operation.TheVariants.{Function, Procedure, Entry}
+use Rattle.rp_base.specs.declared.action.Operation.TheVariants.{SetTimer, CancelTimer}
 use Rattle.rp_base.specs.declared.reply.Reply.{Reply}
 use Rattle.rp_base.specs.declared.reply.Reply.TheVariants.{Value, ConstraintError, NoSuchOperation}
 use Rattle.rp_base.specs.declared.reply.Answer.{Answer}
@@ -26,7 +28,8 @@ with_count counter count = record counter { count = count }
 
 -- the count after an `add`, if it is within the bound
 abbrev pub increased : BoundedCounter → ℤ → Option ℕ
-increased counter (pos n) = if nat_le (counter.count + n) counter.most then Some (counter.count + n) else None
+increased counter (pos n) =
+    if nat_le (counter.count + n) counter.most then Some (counter.count + n) else None
 increased counter (negsuc n) = None
 
 -- the count after an `add`, and the reply
@@ -51,7 +54,8 @@ called counter (CancelTimer index) arg = (counter.count, NoSuchOperation)
 -- the counter after an action: a call alone changes it
 abbrev pub counter_next : BoundedCounter → Action → BoundedCounter
 counter_next counter Noop = counter
-counter_next counter (Call task number object operation arg) = with_count counter (called counter operation arg).0
+counter_next counter (Call task number object operation arg) =
+    with_count counter (called counter operation arg).0
 counter_next counter (Interrupt source occurrence) = counter
 counter_next counter (Tick now) = counter
 

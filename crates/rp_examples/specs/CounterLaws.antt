@@ -1,7 +1,7 @@
 -- The counter keeps the laws of a machine.
-use Rattle.std.proofs.Common.{◌≡◌, ℕ, ◌+◌, ◌<◌, ◌≤◌, ◌^◌, ◌==◌, nat_le, ℤ, pos, negsuc, Bool, true, false, Some}
-use Rattle.std.proofs.Common.{None, [], ◌++◌, codes, decimal, if◌then◌else◌}
-use Rattle.std.proofs.Common.{refl, sym, ap₂, ◌∙◌, subst, inl, inr, arith}
+use Rattle.std.proofs.Common.{◌≡◌, ℕ, ◌+◌, ◌<◌, ◌≤◌, ◌^◌, ◌==◌, nat_le, ℤ, pos, negsuc, Bool, true}
+use Rattle.std.proofs.Common.{false, Some, None, [], ◌++◌, codes, decimal, if◌then◌else◌, refl, sym}
+use Rattle.std.proofs.Common.{ap₂, ◌∙◌, subst, inl, inr, arith}
 use Rattle.std.proofs.lemmas.Bool.{leb-true}
 use Rattle.std.proofs.lemmas.List.{append_cancel_left, append_cancel_right}
 use Rattle.std.proofs.lemmas.Fmt.{decimal_injective}
@@ -11,7 +11,8 @@ use Rattle.rp_base.specs.Sets.{Has}
 use Rattle.rp_base.specs.declared.action.Action.{Action}
 use Rattle.rp_base.specs.declared.action.Action.TheVariants.{Noop, Call, Interrupt, Tick}
 use Rattle.rp_base.specs.declared.action.Operation.{Operation}
-use Rattle.rp_base.specs.declared.action.Operation.TheVariants.{Function, Procedure, Entry, SetTimer, CancelTimer}
+use Rattle.rp_base.specs.declared.action.Operation.TheVariants.{Function, Procedure, Entry}
+use Rattle.rp_base.specs.declared.action.Operation.TheVariants.{SetTimer, CancelTimer}
 use Rattle.rp_base.specs.declared.reply.Answer.{Answer}
 use Rattle.rp_base.specs.declared.reply.Reply.{Reply}
 use Rattle.rp_base.specs.declared.reply.Reply.TheVariants.{Value, NoSuchOperation}
@@ -34,21 +35,25 @@ small program n within = omega (arith, program.fits)
 value_fits : (program : CounterProgram) (n : ℕ) → n ≤ program.most → IsReply (Value (pos n))
 value_fits program n within = record { sfits = small program n within }
 
-sum_fits : (program : CounterProgram) (counter : BoundedCounter) → Runs program counter → (sum : ℕ) (b : Bool)
+sum_fits : (program : CounterProgram) (counter : BoundedCounter) → Runs program counter
+    → (sum : ℕ) (b : Bool)
     → nat_le sum counter.most ≡ b
     → Fits program.most (after_add counter (if b then Some sum else None))
 sum_fits program counter runs sum true e =
     let within : sum ≤ program.most = omega (arith, leb-true sum counter.most e, runs.bound) in
     record { within = within; reply = value_fits program sum within }
-sum_fits program counter runs sum false e = record { within = omega (arith, runs.bound, runs.within); reply = tt }
+sum_fits program counter runs sum false e =
+    record { within = omega (arith, runs.bound, runs.within); reply = tt }
 
 add_fits : (program : CounterProgram) (counter : BoundedCounter) → Runs program counter → (arg : ℤ)
     → Fits program.most (after_add counter (increased counter arg))
 add_fits program counter runs (pos n) =
     sum_fits program counter runs (counter.count + n) (nat_le (counter.count + n) counter.most) refl
-add_fits program counter runs (negsuc n) = record { within = omega (arith, runs.bound, runs.within); reply = tt }
+add_fits program counter runs (negsuc n) =
+    record { within = omega (arith, runs.bound, runs.within); reply = tt }
 
-procedure_fits : (program : CounterProgram) (counter : BoundedCounter) → Runs program counter → (arg : ℤ)
+procedure_fits : (program : CounterProgram) (counter : BoundedCounter) → Runs program counter
+    → (arg : ℤ)
     (adds resets : Bool)
     → Fits program.most (if adds then after_add counter (increased counter arg)
     else (if resets then (0, Value (pos 0)) else (counter.count, NoSuchOperation)))
@@ -58,7 +63,8 @@ procedure_fits program counter runs arg false true =
 procedure_fits program counter runs arg false false =
     record { within = omega (arith, runs.bound, runs.within); reply = tt }
 
-call_fits : (program : CounterProgram) (counter : BoundedCounter) → Runs program counter → (operation : Operation)
+call_fits : (program : CounterProgram) (counter : BoundedCounter) → Runs program counter
+    → (operation : Operation)
     (arg : ℤ) → Fits program.most (called counter operation arg)
 call_fits program counter runs (Procedure index) arg =
     procedure_fits program counter runs arg (index == 1) (index == 2)
@@ -76,7 +82,8 @@ pub Runs-begun : (program : CounterProgram) → Runs program (begun program)
 Runs-begun program = record { bound = refl; within = omega arith }
 
 -- an action leads to a state of the program
-pub Runs-next : (program : CounterProgram) (counter : BoundedCounter) (action : Action) → Runs program counter
+pub Runs-next : (program : CounterProgram) (counter : BoundedCounter) (action : Action)
+    → Runs program counter
     → IsRight action → MayApply [] action → Runs program (counter_next counter action)
 Runs-next program counter Noop runs right may = runs
 Runs-next program counter (Call task number object operation arg) runs right may = record {
@@ -89,35 +96,47 @@ Runs-next program counter (Tick now) runs right may = runs
 -- ---- the image shows the count
 
 same_counter : (s t : BoundedCounter) → s.most ≡ t.most → s.count ≡ t.count → s ≡ t
-same_counter s t most count = ap₂ (λ (m n : ℕ). let c : BoundedCounter = record { most = m; count = n } in c) most count
+same_counter s t most count =
+    ap₂ (λ (m n : ℕ). let c : BoundedCounter = record { most = m; count = n } in c) most count
 
 -- counters of one program that look the same are the same
-pub counter_image-injective : (program : CounterProgram) (s t : BoundedCounter) → Runs program s → Runs program t
+pub counter_image-injective : (program : CounterProgram) (s t : BoundedCounter) → Runs program s
+    → Runs program t
     → counter_image s ≡ counter_image t → s ≡ t
 counter_image-injective program s t first second e =
-    let line = append_cancel_left (codes "count ") (decimal s.count ++ codes "\n") (decimal t.count ++ codes "\n") e in
-    let number : decimal s.count ≡ decimal t.count = append_cancel_right (decimal s.count) (decimal t.count)
+    let line = append_cancel_left (codes "count ") (decimal s.count ++ codes "\n")
+    (decimal t.count ++ codes "\n") e in
+    let number : decimal s.count ≡ decimal t.count =
+    append_cancel_right (decimal s.count) (decimal t.count)
     (codes "\n") line in
     let count : s.count ≡ t.count = decimal_injective s.count t.count
-    (omega (arith, program.fits, first.bound, first.within)) (omega (arith, program.fits, second.bound, second.within))
+    (omega (arith, program.fits, first.bound, first.within))
+    (omega (arith, program.fits, second.bound, second.within))
     number in
     same_counter s t (first.bound ∙ sym second.bound) count
 
 -- ---- a call is answered at once
 
-pub counter_accounts : (program : CounterProgram) (counter : BoundedCounter) (action : Action) → Runs program counter
-    → IsRight action → MayApply [] action → AccountsFor [] action (counter_answers counter action) []
+pub counter_accounts : (program : CounterProgram) (counter : BoundedCounter) (action : Action)
+    → Runs program counter
+    → IsRight action → MayApply [] action
+    → AccountsFor [] action (counter_answers counter action) []
 counter_accounts program counter Noop runs right may =
     record { distinct = tt; known = λ call h. h; waits = λ call. (λ h. absurd h, λ h. h.0) }
 counter_accounts program counter (Call task number object operation arg) runs right may =
-    record { distinct = (λ h. h, tt); known = λ call h. h; waits = λ call. (λ h. absurd h, λ h. absurd (h.1 h.0)) }
+    record {
+      distinct = (λ h. h, tt);
+      known = λ call h. h;
+      waits = λ call. (λ h. absurd h, λ h. absurd (h.1 h.0));
+    }
 counter_accounts program counter (Interrupt source occurrence) runs right may =
     record { distinct = tt; known = λ call h. h; waits = λ call. (λ h. absurd h, λ h. h.0) }
 counter_accounts program counter (Tick now) runs right may =
     record { distinct = tt; known = λ call h. h; waits = λ call. (λ h. absurd h, λ h. h.0) }
 
 -- the value of each reply has 64 signed bits
-pub counter_replies : (program : CounterProgram) (counter : BoundedCounter) (action : Action) → Runs program counter
+pub counter_replies : (program : CounterProgram) (counter : BoundedCounter) (action : Action)
+    → Runs program counter
     → IsRight action → MayApply [] action
     → (answer : Answer) → Has answer (counter_answers counter action) → IsReply answer.reply
 counter_replies program counter Noop runs right may answer h = absurd h

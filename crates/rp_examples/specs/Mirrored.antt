@@ -7,8 +7,8 @@ pub record AreAlike (main spare : Disk) : Type 0 where
   pub contents : spare.contents ≡ main.contents
   pub stable : spare.stable ≡ main.stable
 
--- Which copies are left after a call, the main one first: those of which it succeeded. The main one stays if it
--- succeeded of none.
+-- Which copies are left after a call, the main one first: those of which it succeeded. The main one
+-- stays if it succeeded of none.
 abbrev pub copies_left : {D : Type 0} → D → Option D → Bool → Bool → D × Option D
 copies_left main spare true true = (main, spare)
 copies_left main spare true false = (main, None)

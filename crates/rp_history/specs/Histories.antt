@@ -1,6 +1,7 @@
 -- How the sketch of a cluster's run describes its history: which messages were sent in each moment,
 -- and which one was settled there, and how.
-use Rattle.std.specs.Prelude.{◌≡◌, ℕ, ◌^◌, ◌≤◌, Option, Some, None, List, [], ◌∷◌, length, map, drop}
+use Rattle.std.specs.Prelude.{◌≡◌, ℕ, ◌^◌, ◌≤◌, Option, Some, None, List, [], ◌∷◌, length, map}
+use Rattle.std.specs.Prelude.{drop}
 use Rattle.rp_codec.specs.Message.{Message}
 use Rattle.rp_codec.specs.declared.packet.Party.{Party}
 use Rattle.rp_codec.specs.declared.packet.Party.TheVariants.{Node, Task, Audit}
@@ -17,9 +18,11 @@ use Rattle.rp_model.specs.Parts.{NodePart, Running}
 use Rattle.rp_model.specs.Answers.{ResultsIn}
 use Rattle.rp_model.specs.World.{World, opening_world, part_at}
 use Rattle.rp_model.specs.declared.event.Event.{Event}
-use Rattle.rp_model.specs.declared.event.Event.TheVariants.{Submit, Again, Node as NodeStep, Cut, Stop, Restart}
+use Rattle.rp_model.specs.declared.event.Event.TheVariants.{Submit, Again, Node as NodeStep, Cut}
+use Rattle.rp_model.specs.declared.event.Event.TheVariants.{Stop, Restart}
 use Rattle.rp_model.specs.declared.event.Step.{Step}
-use Rattle.rp_model.specs.declared.event.Step.TheVariants.{Deliver, Lead, LeadRange, Interrupt, Tick, Report}
+use Rattle.rp_model.specs.declared.event.Step.TheVariants.{Deliver, Lead, LeadRange, Interrupt}
+use Rattle.rp_model.specs.declared.event.Step.TheVariants.{Tick, Report}
 use Rattle.rp_history.specs.Views.{sending_of}
 use Rattle.rp_history.specs.declared.stage.Stage.{Stage}
 
@@ -89,12 +92,14 @@ module _ {S : Type 0} (s : Setting S) (stage : Stage) where
   -- world does not change: a line was refused, a message was lost, or a node was shown.
   abbrev pub HappensBy : World → Option Event → World → Option Ending → Type 0
   HappensBy w None after ending = (after ≡ w) × (lost : Option ℕ) × (ending ≡ lost_of lost)
-  HappensBy w (Some event) after ending = ResultsIn s w (event_of event) after × (ending ≡ ending_by w event)
+  HappensBy w (Some event) after ending =
+      ResultsIn s w (event_of event) after × (ending ≡ ending_by w event)
 
   -- the packets that a moment sends are the messages after those that were sent before it
   pub record IsStepFrom (w : World) (step : HistoryStep) : Type 0 where
     pub before : step.moment.before ≡ length w.sent
-    pub sends : step.moment.sends.items ≡ map (sending_of stage) (drop (length w.sent) step.after.sent)
+    pub sends : step.moment.sends.items ≡ map (sending_of stage)
+        (drop (length w.sent) step.after.sent)
     pub happens : HappensBy w step.event step.after step.moment.ending
 
   -- steps lead from one world to another
@@ -116,7 +121,8 @@ pub record IsDrawable (sketch : Sketch) : Type 0 where
 
 -- The sketch is that of a history that leads to this world, and each message of the history has its
 -- way.
-pub record IsSketchOf {S : Type 0} (s : Setting S) (stage : Stage) (sketch : Sketch) (last : World) : Type 0 where
+pub record IsSketchOf {S : Type 0} (s : Setting S) (stage : Stage) (sketch : Sketch) (last : World)
+    : Type 0 where
   pub history : IsHistory s stage (moments_of sketch) last
   pub drawable : IsDrawable sketch
   pub count : length sketch.ways.items ≡ length last.sent
@@ -124,7 +130,8 @@ pub record IsSketchOf {S : Type 0} (s : Setting S) (stage : Stage) (sketch : Ske
 -- The text is the drawing of a sketch of a history that leads to this world. It has the ways of
 -- the messages of that history as its arrows, and no others, each from the moment in which the
 -- message was sent down to the one in which it was settled.
-pub record IsDrawingOf {S : Type 0} (s : Setting S) (stage : Stage) (lanes : ℕ) (last : World) (text : List ℕ)
+pub record IsDrawingOf {S : Type 0} (s : Setting S) (stage : Stage) (lanes : ℕ) (last : World)
+    (text : List ℕ)
     : Type 0 where
   pub sketch : Sketch
   pub sketched : IsSketchOf s stage sketch last

@@ -1,11 +1,13 @@
 -- Which packets are drawn, on which lanes, and in which colour.
-use Rattle.std.specs.Prelude.{ℕ, ◌+◌, ◌-◌, ◌%◌, Bool, true, false, ◌&&◌, nat_eq, if◌then◌else◌, Option, Some, None}
+use Rattle.std.specs.Prelude.{ℕ, ◌+◌, ◌-◌, ◌%◌, Bool, true, false, ◌&&◌, nat_eq, if◌then◌else◌}
+use Rattle.std.specs.Prelude.{Option, Some, None}
 use Rattle.rp_base.specs.Ballot.{owner_of, round_of}
 use Rattle.rp_base.specs.Ranges.{is_covered}
 use Rattle.rp_codec.specs.Message.{Message}
 use Rattle.rp_codec.specs.declared.packet.Body.{Body}
-use Rattle.rp_codec.specs.declared.packet.Body.TheVariants.{Call, Prepare, Promise, Accept, Accepted, Decided, Ask}
-use Rattle.rp_codec.specs.declared.packet.Body.TheVariants.{Nack, Reply, Report, PrepareRange, PromiseRange}
+use Rattle.rp_codec.specs.declared.packet.Body.TheVariants.{Call, Prepare, Promise, Accept}
+use Rattle.rp_codec.specs.declared.packet.Body.TheVariants.{Accepted, Decided, Ask, Nack, Reply}
+use Rattle.rp_codec.specs.declared.packet.Body.TheVariants.{Report, PrepareRange, PromiseRange}
 use Rattle.rp_codec.specs.declared.packet.Party.{Party}
 use Rattle.rp_codec.specs.declared.packet.Party.TheVariants.{Node, Task, Audit}
 use Rattle.rp_history.specs.declared.stage.Stage.{Stage}
@@ -46,7 +48,8 @@ is_about (Some position) body = names_position body position
 
 -- the packet's arrow is drawn
 abbrev pub shows : View → Message → Bool
-shows view m = if view.hides_self && is_to_itself m.from m.to then false else is_about view.position m.body
+shows view m = if view.hides_self && is_to_itself m.from m.to then false
+    else is_about view.position m.body
 
 -- the ballot that a packet names
 abbrev pub named_ballot : Body → Option ℕ
@@ -66,7 +69,8 @@ named_ballot (PromiseRange range ballot votes) = Some ballot
 -- the colour of a ballot: that of its owner, and a second one in every other round
 abbrev pub ballot_colour : Option ℕ → ℕ
 ballot_colour None = 0
-ballot_colour (Some ballot) = if nat_eq (round_of ballot % 2) 1 then owner_of ballot else owner_of ballot + 7
+ballot_colour (Some ballot) =
+    if nat_eq (round_of ballot % 2) 1 then owner_of ballot else owner_of ballot + 7
 
 abbrev pub colour_of : Body → ℕ
 colour_of body = ballot_colour (named_ballot body)

@@ -1,13 +1,14 @@
 -- What the places of a learner's window hold, as sets of votes and positions.
-use Rattle.std.specs.Prelude.{ℕ, suc, ◌≡◌, ◌≤◌, ◌<◌, length, Bool, true, false, nat_eq, List, [], ◌∷◌, ◌++◌, map}
-use Rattle.std.specs.Prelude.{if◌then◌else◌}
+use Rattle.std.specs.Prelude.{ℕ, suc, ◌≡◌, ◌≤◌, ◌<◌, length, Bool, true, false, nat_eq, List, []}
+use Rattle.std.specs.Prelude.{◌∷◌, ◌++◌, map, if◌then◌else◌}
 use Rattle.std.specs.Int.{bit_at}
 use Rattle.rp_base.specs.Sets.{SameMembers, with_member}
 use Rattle.rp_base.specs.Majority.{majority_of, nodes_among}
 use Rattle.rp_base.specs.Promises.{HeardVote}
 use Rattle.rp_learner.specs.Casts.{CastVote, same_cast, voters_with}
 use Rattle.rp_learner.specs.declared.position_state.PositionState.{PositionState}
-use Rattle.rp_learner.specs.declared.position_state.PositionState.TheVariants.{Unheard, Heard, Settled}
+use Rattle.rp_learner.specs.declared.position_state.PositionState.TheVariants.{Unheard, Heard}
+use Rattle.rp_learner.specs.declared.position_state.PositionState.TheVariants.{Settled}
 
 -- the votes that a place holds
 abbrev pub votes_in : PositionState → List CastVote
@@ -23,15 +24,19 @@ is_settled_in Settled = true
 
 -- how many of the nodes have cast the vote at the place, once this one has
 abbrev pub voters_at : ℕ → PositionState → CastVote → ℕ
-voters_at nodes place cast = length (nodes_among nodes (voters_with (votes_in place) cast.from cast.vote))
+voters_at nodes place cast =
+    length (nodes_among nodes (voters_with (votes_in place) cast.from cast.vote))
 
--- The place after this vote was noted there: a settled one stays, one where it makes a majority is settled, and
--- any other holds the vote too.
-pub record NotesCast (nodes : ℕ) (before : PositionState) (cast : CastVote) (after : PositionState) : Type 0 where
+-- The place after this vote was noted there: a settled one stays, one where it makes a majority is
+-- settled, and any other holds the vote too.
+pub record NotesCast (nodes : ℕ) (before : PositionState) (cast : CastVote) (after : PositionState)
+    : Type 0 where
   pub known : is_settled_in before ≡ true → after ≡ before
-  pub learned : is_settled_in before ≡ false → majority_of nodes ≤ voters_at nodes before cast → after ≡ Settled
+  pub learned : is_settled_in before ≡ false → majority_of nodes ≤ voters_at nodes before cast
+      → after ≡ Settled
   pub counting : is_settled_in before ≡ false → voters_at nodes before cast < majority_of nodes
-      → (is_settled_in after ≡ false) × SameMembers (votes_in after) (with_member same_cast (votes_in before) cast)
+      → (is_settled_in after ≡ false)
+      × SameMembers (votes_in after) (with_member same_cast (votes_in before) cast)
 
 -- whether the bits say that the position at an offset of the window is settled
 abbrev pub is_marked : ℕ → ℕ → Bool
@@ -44,7 +49,8 @@ opened bits offset = if is_marked bits offset then Settled else Unheard
 -- the votes that the places hold, from position i on
 abbrev pub heard_from : ℕ → List PositionState → List HeardVote
 heard_from i [] = []
-heard_from i (place ∷ rest) = map (λ c. (c.from, i, c.vote)) (votes_in place) ++ heard_from (suc i) rest
+heard_from i (place ∷ rest) =
+    map (λ c. (c.from, i, c.vote)) (votes_in place) ++ heard_from (suc i) rest
 
 -- the position, if its place is settled
 abbrev pub if_settled : ℕ → PositionState → List ℕ

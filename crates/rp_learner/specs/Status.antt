@@ -1,7 +1,8 @@
--- What a learner knows, and what a vote makes of it. Lamport, "Paxos Made Simple", section 2.3: a value
--- is learned once a majority of acceptors accepted it; here, all of them in one ballot, which is stricter.
-use Rattle.std.specs.Prelude.{◌≡◌, ◌≤◌, ◌<◌, ◌+◌, ◌-◌, ◌||◌, ℕ, Bool, nat_eq, nat_le, nat_lt, List, [], filter}
-use Rattle.std.specs.Prelude.{if◌then◌else◌}
+-- What a learner knows, and what a vote makes of it. Lamport, "Paxos Made Simple", section 2.3: a
+-- value is learned once a majority of acceptors accepted it; here, all of them in one ballot, which
+-- is stricter.
+use Rattle.std.specs.Prelude.{◌≡◌, ◌≤◌, ◌<◌, ◌+◌, ◌-◌, ◌||◌, ℕ, Bool, nat_eq, nat_le, nat_lt, List}
+use Rattle.std.specs.Prelude.{[], filter, if◌then◌else◌}
 use Rattle.std.specs.List.{list_any}
 use Rattle.rp_base.specs.declared.action.Action.{Action}
 use Rattle.rp_base.specs.declared.record.Vote.{Vote}
@@ -11,7 +12,8 @@ use Rattle.rp_learner.specs.Learning.{Learning}
 use Rattle.rp_base.specs.Number.{window}
 use Rattle.rp_learner.specs.Places.{is_marked}
 use Rattle.rp_learner.specs.declared.learner.VoteStatus.{VoteStatus}
-use Rattle.rp_learner.specs.declared.learner.VoteStatus.TheVariants.{Counting, Learned, Known, Beyond}
+use Rattle.rp_learner.specs.declared.learner.VoteStatus.TheVariants.{Counting, Learned, Known}
+use Rattle.rp_learner.specs.declared.learner.VoteStatus.TheVariants.{Beyond}
 use Rattle.rp_learner.specs.declared.learner.Decision.{Decision}
 use Rattle.rp_learner.specs.declared.learner.Decision.TheVariants as decisions
 
@@ -39,8 +41,9 @@ is_settled l i = nat_lt i l.first || list_any (nat_eq i) l.settled
 abbrev pub heard_with : Learning → ℕ → ℕ → Vote → List HeardVote
 heard_with l from i vote = with_member same_heard l.heard (from, i, vote)
 
--- What holds at a position once this vote is counted: beyond above the window, known where it is settled,
--- learned where those who cast this very vote there are a majority, else the votes are still counted.
+-- What holds at a position once this vote is counted: beyond above the window, known where it is
+-- settled, learned where those who cast this very vote there are a majority, else the votes are
+-- still counted.
 abbrev pub status_with : Learning → ℕ → ℕ → Vote → VoteStatus
 status_with l from i vote =
     if is_beyond l i then Beyond
@@ -48,7 +51,8 @@ status_with l from i vote =
     else if makes_majority l.nodes i vote (heard_with l from i vote) then Learned
     else Counting
 
--- what a decision at a position is: beyond above the window, known where it is settled, else learned
+-- what a decision at a position is: beyond above the window, known where it is settled, else
+-- learned
 abbrev pub decision_at : Learning → ℕ → Decision
 decision_at l i =
     if is_beyond l i then decisions.Beyond
@@ -57,7 +61,8 @@ decision_at l i =
 
 -- a position of the window settled, and the votes heard there let go
 abbrev pub with_mark : Learning → ℕ → Learning
-with_mark l i = record l { heard = heard_elsewhere l.heard i; settled = with_member nat_eq l.settled i }
+with_mark l i =
+    record l { heard = heard_elsewhere l.heard i; settled = with_member nat_eq l.settled i }
 
 -- the position settled: below the window it is, and above nothing is marked
 abbrev pub with_settled : Learning → ℕ → Learning
@@ -70,8 +75,8 @@ with_status l from i vote Learned = with_mark l i
 with_status l from i vote Known = l
 with_status l from i vote Beyond = l
 
--- The learner with this vote noted: it is heard, or its position is settled where it makes a majority. At a
--- settled position, and above the window, nothing is noted.
+-- The learner with this vote noted: it is heard, or its position is settled where it makes a
+-- majority. At a settled position, and above the window, nothing is noted.
 abbrev pub with_vote : Learning → ℕ → ℕ → Vote → Learning
 with_vote l from i vote = with_status l from i vote (status_with l from i vote)
 
@@ -88,15 +93,16 @@ NotesVote before from i vote after = SameLearning after (with_vote before from i
 abbrev pub Settles : Learning → ℕ → Learning → Type 0
 Settles before i after = SameLearning after (with_settled before i)
 
--- The second is the first with its window moved on to this position. Of the votes heard those within it stay.
--- Of its positions those that were in the window before stay settled or not, and of the others those are
--- settled whose bits say so.
+-- The second is the first with its window moved on to this position. Of the votes heard those
+-- within it stay. Of its positions those that were in the window before stay settled or not, and of
+-- the others those are settled whose bits say so.
 pub record Advances (before : Learning) (first bits : ℕ) (after : Learning) : Type 0 where
   pub nodes : after.nodes ≡ before.nodes
   pub positions : after.max_positions ≡ before.max_positions
   pub begins : after.first ≡ first
   pub heard : SameMembers after.heard (filter (λ h. nat_le first h.1) before.heard)
-  pub stays : (i : ℕ) → first ≤ i → i < before.first + window → is_settled after i ≡ is_settled before i
+  pub stays : (i : ℕ) → first ≤ i → i < before.first + window
+      → is_settled after i ≡ is_settled before i
   pub opens : (i : ℕ) → first ≤ i → before.first + window ≤ i → i < first + window
       → is_settled after i ≡ is_marked bits (i - first)
 
@@ -106,4 +112,5 @@ SameSizes l m = (l.nodes ≡ m.nodes) × (l.max_positions ≡ m.max_positions) �
 
 -- a learner of n nodes and positions that heard nothing, from position 1 on
 abbrev pub fresh : ℕ → ℕ → Learning
-fresh nodes max_positions = record { nodes = nodes; max_positions = max_positions; first = 1; heard = []; settled = [] }
+fresh nodes max_positions =
+    record { nodes = nodes; max_positions = max_positions; first = 1; heard = []; settled = [] }

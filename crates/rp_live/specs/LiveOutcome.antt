@@ -49,7 +49,8 @@ module _ {S P : Type 0} (next : S → Action → S) (answers : S → Action → 
   -- the loop of the task at this seat, with its calls and over the link of its party, had this end
   abbrev pub IsTaskEnd : SeatState P → TaskEnd S P → Type 0
   IsTaskEnd seat end =
-      IsTaskLooped next answers begin heard_task config.nodes turns (calls_at events seat.number) seat
+      IsTaskLooped next answers begin heard_task config.nodes turns (calls_at events seat.number)
+      seat
       (party_line seed (Task seat.number)) end
 
 module _ {S P : Type 0} (next : S → Action → S) (answers : S → Action → List Answer)

@@ -1,7 +1,8 @@
--- What a log holds. Lamport, "Paxos Made Simple", section 3: a server may learn the commands of later
--- positions first, and executes a command once those of all earlier positions are known.
-use Rattle.std.specs.Prelude.{ℕ, ◌+◌, ◌≡◌, Option, Some, None, IsSome, is_some, unwrap_or, option_and_then, List, []}
-use Rattle.std.specs.Prelude.{length, EachIndex, slice_get, if◌then◌else◌, refl}
+-- What a log holds. Lamport, "Paxos Made Simple", section 3: a server may learn the commands of
+-- later positions first, and executes a command once those of all earlier positions are known.
+use Rattle.std.specs.Prelude.{ℕ, ◌+◌, ◌≡◌, Option, Some, None, IsSome, is_some, unwrap_or}
+use Rattle.std.specs.Prelude.{option_and_then, List, [], length, EachIndex, slice_get}
+use Rattle.std.specs.Prelude.{if◌then◌else◌, refl}
 use Rattle.std.specs.Ordering.{nat_cmp}
 use Rattle.std.specs.FinMap.{FinMap, code, get, insert, empty}
 use Rattle.std.specs.Coded.{Coded, code_by, coded×, coded_ℕ, coded_list, coded_option}
@@ -21,7 +22,8 @@ pub record Contents : Type 0 where
 abbrev pub contents_code : Coded Contents
 contents_code =
     code_by (Places × List Action)
-    (coded× (code coded_ℕ (coded_option declared.the_row.coded)) (coded_list declared.the_row.coded))
+    (coded× (code coded_ℕ (coded_option declared.the_row.coded))
+    (coded_list declared.the_row.coded))
     (λ c. (c.places, c.taken)) (λ p. record { places = p.0; taken = p.1 }) (λ _. refl)
 
 -- no position is reserved, and nothing is taken
@@ -42,11 +44,13 @@ IsLearned log i = IsSome (action_at log i)
 
 -- the log once the position is reserved
 abbrev pub with_room : Contents → ℕ → Contents
-with_room log i = if is_some (get log.places i) then log else record log { places = insert log.places i None }
+with_room log i = if is_some (get log.places i) then log
+    else record log { places = insert log.places i None }
 
 -- the log once an action is learned at the position: the first one stays
 abbrev pub with_action : Contents → ℕ → Action → Contents
-with_action log i v = record log { places = insert log.places i (Some (unwrap_or (action_at log i) v)) }
+with_action log i v =
+    record log { places = insert log.places i (Some (unwrap_or (action_at log i) v)) }
 
 -- the least position that was not taken
 abbrev pub next_to_take : Contents → ℕ

@@ -1,6 +1,7 @@
 -- How a log keeps its places.
-use Rattle.std.specs.Prelude.{ℕ, zero, suc, ◌+◌, ◌≡◌, ◌<◌, ◌≤◌, Bool, true, Option, Some, None, IsSome, option_and_then}
-use Rattle.std.specs.Prelude.{List, [], ◌∷◌, ◌++◌, map, length, slice_get, if◌then◌else◌}
+use Rattle.std.specs.Prelude.{ℕ, zero, suc, ◌+◌, ◌≡◌, ◌<◌, ◌≤◌, Bool, true, Option, Some, None}
+use Rattle.std.specs.Prelude.{IsSome, option_and_then, List, [], ◌∷◌, ◌++◌, map, length, slice_get}
+use Rattle.std.specs.Prelude.{if◌then◌else◌}
 use Rattle.std.specs.Ordering.{nat_cmp}
 use Rattle.std.specs.Option.{option_map, option_or}
 use Rattle.std.specs.List.{enumerate_from}
@@ -51,9 +52,10 @@ IsAhead front ahead = (i : ℕ) → IsSome (place_ahead ahead i) → (front < i)
 abbrev pub reserved_count : Bool → Ahead → ℕ
 reserved_count reserved ahead = length ahead + (if reserved then 1 else 0)
 
--- The front has room for each place after it, n of its actions are taken, and `top` is the greatest position learned,
--- or 0.
-pub record Fits (front : List Action) (reserved : Bool) (ahead : Ahead) (capacity taken top : ℕ) : Type 0 where
+-- The front has room for each place after it, n of its actions are taken, and `top` is the greatest
+-- position learned, or 0.
+pub record Fits (front : List Action) (reserved : Bool) (ahead : Ahead) (capacity taken top : ℕ)
+    : Type 0 where
   pub bound : length front ≤ 65535
   pub following : IsAhead (length front) ahead
   pub next_once : reserved ≡ true → place_ahead ahead (length front + 1) ≡ None
@@ -62,5 +64,7 @@ pub record Fits (front : List Action) (reserved : Bool) (ahead : Ahead) (capacit
   pub room : length front + reserved_count reserved ahead ≤ capacity
   pub taken_within : taken ≤ length front
   pub top_bound : top ≤ 65535
-  pub top_learned : 0 < top → IsSome (option_and_then (λ learned. learned) (place_of front reserved ahead top))
-  pub none_above : (i : ℕ) → IsSome (option_and_then (λ learned. learned) (place_of front reserved ahead i)) → i ≤ top
+  pub top_learned : 0 < top
+      → IsSome (option_and_then (λ learned. learned) (place_of front reserved ahead top))
+  pub none_above : (i : ℕ)
+      → IsSome (option_and_then (λ learned. learned) (place_of front reserved ahead i)) → i ≤ top

@@ -1,5 +1,6 @@
 -- Actions in pages (callers see none of it).
-use Rattle.std.specs.Prelude.{◌≡◌, ◌≤◌, ℕ, ◌*◌, ◌-◌, min, Vec, List, [], ◌∷◌, ◌++◌, length, vec_capacity}
+use Rattle.std.specs.Prelude.{◌≡◌, ◌≤◌, ℕ, ◌*◌, ◌-◌, min, Vec, List, [], ◌∷◌, ◌++◌, length}
+use Rattle.std.specs.Prelude.{vec_capacity}
 use Rattle.std.specs.declared.alloc.Global.{Global}
 use Rattle.rp_base.specs.declared.action.Action.{Action}
 
@@ -23,7 +24,8 @@ paged_of pages = record { items = joined pages; room = 64 * length pages }
 abbrev pub IsPage : Page → ℕ → Type 0
 IsPage page count = (64 ≤ vec_capacity page) × (length page.items ≡ min 64 count)
 
--- the pages have n actions: each is full where one more follows, and those after the last action are empty
+-- the pages have n actions: each is full where one more follows, and those after the last action
+-- are empty
 abbrev pub AreFilled : List Page → ℕ → Type 0
 AreFilled [] count = count ≡ 0
 AreFilled (page ∷ rest) count = IsPage page count × AreFilled rest (count - 64)

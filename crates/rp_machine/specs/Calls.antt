@@ -28,13 +28,15 @@ call_of answer = record { task = answer.task; number = answer.number }
 
 -- no call of the action's task waits (a task makes its next call after the reply)
 abbrev pub MayApply : List CallName → Action → Type 0
-MayApply waiting action = (own other : CallName) → Has own (calls_of action) → Has other waiting → own.task ≢ other.task
+MayApply waiting action = (own other : CallName) → Has own (calls_of action) → Has other waiting
+    → own.task ≢ other.task
 
 -- An action's answers are for distinct calls, its own or ones that waited, and exactly the others
 -- of these wait after it (Ada Reference Manual, 9.5.3).
 pub record AccountsFor (before : List CallName) (action : Action) (answers : List Answer)
     (after : List CallName) : Type 0 where
   pub distinct : IsSet (map call_of answers)
-  pub known : (call : CallName) → Has call (map call_of answers) → Has call (calls_of action ++ before)
+  pub known : (call : CallName) → Has call (map call_of answers)
+      → Has call (calls_of action ++ before)
   pub waits : (call : CallName)
       → Has call after ↔ (Has call (calls_of action ++ before) × (¬ Has call (map call_of answers)))

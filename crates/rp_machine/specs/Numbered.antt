@@ -1,5 +1,6 @@
 -- A machine after a log, which lets each call count once.
-use Rattle.std.specs.Prelude.{◌≡◌, ℕ, ◌-◌, ◌≤◌, Some, None, List, [], ◌∷◌, length, slice_set, slice_index_or}
+use Rattle.std.specs.Prelude.{◌≡◌, ℕ, ◌-◌, ◌≤◌, Some, None, List, [], ◌∷◌, length, slice_set}
+use Rattle.std.specs.Prelude.{slice_index_or}
 use Rattle.rp_base.specs.Action.{IsRight}
 use Rattle.rp_base.specs.Sets.{Has}
 use Rattle.rp_base.specs.declared.action.Action.{Action}
@@ -24,7 +25,10 @@ module _ {S : Type 0} (next : S → Action → S) (answers : S → Action → Li
 -- what is kept of a task's calls
 abbrev pub caller_of : ℕ → List Action → List Answer → Caller
 caller_of task kept given =
-    record { last = last_number task kept; reply = kept_reply task (last_number task kept) kept given }
+    record {
+      last = last_number task kept;
+      reply = kept_reply task (last_number task kept) kept given;
+    }
 
 -- there is one for each task
 abbrev pub AreCallers : List Caller → List Action → List Answer → Type 0
@@ -39,7 +43,8 @@ AreOccurrences occurrences kept =
     → slice_index_or occurrences (source - 1) other ≡ last_occurrence source kept
 
 -- right actions led to this machine, these callers and these occurrences
-pub record IsNumbered {S : Type 0} (r : Replayed S) (actions : List Action) (machine : S) (callers : List Caller)
+pub record IsNumbered {S : Type 0} (r : Replayed S) (actions : List Action) (machine : S)
+    (callers : List Caller)
     (occurrences : List ℕ) : Type 0 where
   pub right : (action : Action) → Has action actions → IsRight action
   pub state : machine ≡ r.state
@@ -54,7 +59,8 @@ waiting_caller number = record { last = number; reply = None }
 -- a call that counts waits
 abbrev pub with_action : List Caller → Action → List Caller
 with_action callers Noop = callers
-with_action callers (Call task number object operation arg) = slice_set callers (task - 1) (waiting_caller number)
+with_action callers (Call task number object operation arg) =
+    slice_set callers (task - 1) (waiting_caller number)
 with_action callers (Interrupt source occurrence) = callers
 with_action callers (Tick now) = callers
 
@@ -62,7 +68,8 @@ with_action callers (Tick now) = callers
 abbrev pub with_occurrence : List ℕ → Action → List ℕ
 with_occurrence occurrences Noop = occurrences
 with_occurrence occurrences (Call task number object operation arg) = occurrences
-with_occurrence occurrences (Interrupt source occurrence) = slice_set occurrences (source - 1) occurrence
+with_occurrence occurrences (Interrupt source occurrence) =
+    slice_set occurrences (source - 1) occurrence
 with_occurrence occurrences (Tick now) = occurrences
 
 -- an answer is the reply to its task's last call

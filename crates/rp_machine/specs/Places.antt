@@ -10,7 +10,8 @@ module _ {S : Type 0} (next : S → Action → S) (answers : S → Action → Li
   -- the action counts after these
   abbrev pub counts_after : List Action → Action → Bool
   counts_after before action =
-      counts (replay_of next answers begin before).kept (replay_of next answers begin before).given action
+      counts (replay_of next answers begin before).kept (replay_of next answers begin before).given
+      action
 
   -- the place of a call in a list of actions: the position, from 1, where it counts
   pub record IsPlace (actions : List Action) (call : CallName) (position : ℕ) : Type 0 where
@@ -29,10 +30,11 @@ module _ {S : Type 0} (next : S → Action → S) (answers : S → Action → Li
 
   -- the answer of a call in a list of actions: the one that its replay gives
   abbrev pub IsAnswerOf : List Action → CallName → Answer → Type 0
-  IsAnswerOf actions call answer = (call_of answer ≡ call) × Has answer (replay_answers next answers begin actions)
+  IsAnswerOf actions call answer =
+      (call_of answer ≡ call) × Has answer (replay_answers next answers begin actions)
 
-  -- A call has its reply in a list of actions: it takes effect at one place, and there alone, and the reply is the
-  -- answer that the list gives to it.
+  -- A call has its reply in a list of actions: it takes effect at one place, and there alone, and
+  -- the reply is the answer that the list gives to it.
   pub record HasReply (actions : List Action) (call : CallName) (answer : Answer) : Type 0 where
     pub place : ℕ
     pub takes_effect : IsOnlyPlace actions call place

@@ -1,6 +1,6 @@
 -- Which actions of a log count, and what they lead to, for any machine.
-use Rattle.std.specs.Prelude.{◌≡◌, ℕ, zero, suc, Bool, true, false, ◌&&◌, nat_eq, nat_lt, Option, Some, None, List, []}
-use Rattle.std.specs.Prelude.{◌∷◌, ◌++◌, filter_map, if◌then◌else◌}
+use Rattle.std.specs.Prelude.{◌≡◌, ℕ, zero, suc, Bool, true, false, ◌&&◌, nat_eq, nat_lt, Option}
+use Rattle.std.specs.Prelude.{Some, None, List, [], ◌∷◌, ◌++◌, filter_map, if◌then◌else◌}
 use Rattle.std.specs.List.{list_any, list_all}
 use Rattle.std.specs.Cmp.Lexicographic.{pointwise}
 use Rattle.rp_base.specs.declared.action.Action.{Action}
@@ -10,7 +10,8 @@ use Rattle.rp_base.specs.declared.reply.Answer.{Answer}
 -- the number of the action's call, if it is a call of the task
 abbrev pub number_for : ℕ → Action → Option ℕ
 number_for task Noop = None
-number_for task (Call caller number object operation arg) = if nat_eq caller task then Some number else None
+number_for task (Call caller number object operation arg) =
+    if nat_eq caller task then Some number else None
 number_for task (Interrupt source occurrence) = None
 number_for task (Tick now) = None
 
@@ -18,7 +19,8 @@ number_for task (Tick now) = None
 abbrev pub occurrence_for : ℕ → Action → Option ℕ
 occurrence_for source Noop = None
 occurrence_for source (Call task number object operation arg) = None
-occurrence_for source (Interrupt other occurrence) = if nat_eq other source then Some occurrence else None
+occurrence_for source (Interrupt other occurrence) =
+    if nat_eq other source then Some occurrence else None
 occurrence_for source (Tick now) = None
 
 -- the numbers 1 to n
@@ -40,7 +42,8 @@ occurrences_of source actions = filter_map (occurrence_for source) actions
 
 -- the call is the task's next: its calls so far are those numbered 1 to below it
 abbrev pub is_next_number : List Action → ℕ → ℕ → Bool
-is_next_number kept task number = pointwise nat_eq (one_to number) (numbers_of task kept ++ number ∷ [])
+is_next_number kept task number =
+    pointwise nat_eq (one_to number) (numbers_of task kept ++ number ∷ [])
 
 -- the call is answered
 abbrev pub is_answered : List Answer → ℕ → ℕ → Bool
@@ -50,9 +53,9 @@ is_answered given task number = list_any (is_for task number) given
 abbrev pub all_answered : List Action → List Answer → ℕ → Bool
 all_answered kept given task = list_all (is_answered given task) (numbers_of task kept)
 
--- Whether an action counts after those that counted, which gave these answers. A call does if it is the next of its
--- task and the task does not wait; an interrupt if its occurrence is above those of its source that counted; a tick
--- always; a Noop never.
+-- Whether an action counts after those that counted, which gave these answers. A call does if it is
+-- the next of its task and the task does not wait; an interrupt if its occurrence is above those of
+-- its source that counted; a tick always; a Noop never.
 abbrev pub counts : List Action → List Answer → Action → Bool
 counts kept given Noop = false
 counts kept given (Call task number object operation arg) =

@@ -1,12 +1,13 @@
 -- The rule of the tally: one sum for each object, to which a call of `add` adds.
-use Rattle.std.specs.Prelude.{◌≡◌, ℕ, zero, suc, ℤ, pos, negsuc, ◌+ℤ◌, ◌-◌, ◌^◌, ◌==◌, nat_lt, Bool, true, false}
-use Rattle.std.specs.Prelude.{Option, Some, None, List, [], ◌∷◌, ◌++◌, All, length, slice_get, slice_set, if◌then◌else◌}
-use Rattle.std.specs.Prelude.{decimal, codes, option_and_then}
+use Rattle.std.specs.Prelude.{◌≡◌, ℕ, zero, suc, ℤ, pos, negsuc, ◌+ℤ◌, ◌-◌, ◌^◌, ◌==◌, nat_lt, Bool}
+use Rattle.std.specs.Prelude.{true, false, Option, Some, None, List, [], ◌∷◌, ◌++◌, All, length}
+use Rattle.std.specs.Prelude.{slice_get, slice_set, if◌then◌else◌, decimal, codes, option_and_then}
 use Rattle.std.specs.Fmt.{signed_decimal}
 use Rattle.rp_base.specs.declared.action.Action.{Action}
 use Rattle.rp_base.specs.declared.action.Action.TheVariants.{Noop, Call, Interrupt, Tick}
 use Rattle.rp_base.specs.declared.action.Operation.{Operation}
-use Rattle.rp_base.specs.declared.action.Operation.TheVariants.{Function, Procedure, Entry, SetTimer, CancelTimer}
+use Rattle.rp_base.specs.declared.action.Operation.TheVariants.{Function, Procedure, Entry}
+use Rattle.rp_base.specs.declared.action.Operation.TheVariants.{SetTimer, CancelTimer}
 use Rattle.rp_base.specs.declared.reply.Reply.{Reply}
 use Rattle.rp_base.specs.declared.reply.Reply.TheVariants.{Value, ConstraintError, NoSuchOperation}
 use Rattle.rp_base.specs.declared.reply.Answer.{Answer}

@@ -19,14 +19,17 @@ use Rattle.rp_model.specs.Says.{says, sends, notes, writes}
 abbrev pub answers_prepare : ℕ → Running → ℕ → ℕ → ℕ → PrepareAnswer → Turn
 answers_prepare me running from i b (prepares.Promise last rec) =
     writes rec running (says me (bodies.Promise i b last) from ∷ [])
-answers_prepare me running from i b (prepares.Nack bound) = sends running (says me (bodies.Nack i b bound) from ∷ [])
+answers_prepare me running from i b (prepares.Nack bound) =
+    sends running (says me (bodies.Nack i b bound) from ∷ [])
 answers_prepare me running from i b prepares.Silent = notes running
 
 -- Prepare: a node asks for a promise at a position in a ballot
 abbrev pub on_prepare : ℕ → List Rec → Running → ℕ → ℕ → ℕ → Turn
-on_prepare me records running from i b = answers_prepare me running from i b (prepare_answer records i b)
+on_prepare me records running from i b =
+    answers_prepare me running from i b (prepare_answer records i b)
 
--- the answer to a PrepareRange is sent: a promise for the range once it is written, a refusal, or nothing
+-- the answer to a PrepareRange is sent: a promise for the range once it is written, a refusal, or
+-- nothing
 abbrev pub answers_prepare_range : ℕ → Running → ℕ → Range → ℕ → RangeAnswer → Turn
 answers_prepare_range me running from range b (range_prepares.Promise votes rec) =
     writes rec running (says me (bodies.PromiseRange range b votes) from ∷ [])
@@ -41,11 +44,15 @@ on_prepare_range me records running from range b =
 
 -- the answer to an Accept is sent: a vote once it is written, a vote again, a refusal, or nothing
 abbrev pub answers_accept : ℕ → Running → ℕ → ℕ → ℕ → Action → AcceptAnswer → Turn
-answers_accept me running from i b v (accepts.Vote rec) = writes rec running (says me (bodies.Accepted i b v) from ∷ [])
-answers_accept me running from i b v accepts.Again = sends running (says me (bodies.Accepted i b v) from ∷ [])
-answers_accept me running from i b v (accepts.Nack bound) = sends running (says me (bodies.Nack i b bound) from ∷ [])
+answers_accept me running from i b v (accepts.Vote rec) =
+    writes rec running (says me (bodies.Accepted i b v) from ∷ [])
+answers_accept me running from i b v accepts.Again =
+    sends running (says me (bodies.Accepted i b v) from ∷ [])
+answers_accept me running from i b v (accepts.Nack bound) =
+    sends running (says me (bodies.Nack i b bound) from ∷ [])
 answers_accept me running from i b v accepts.Silent = notes running
 
 -- Accept: a node asks for a vote for an action at a position in a ballot
 abbrev pub on_accept : ℕ → List Rec → Running → ℕ → ℕ → ℕ → Action → Turn
-on_accept me records running from i b v = answers_accept me running from i b v (accept_answer records i b v)
+on_accept me records running from i b v =
+    answers_accept me running from i b v (accept_answer records i b v)

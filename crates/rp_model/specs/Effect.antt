@@ -1,7 +1,7 @@
--- The result of an input for one node, and what a stop, a cut and a restart leave of it. Nothing here looks at
--- another actor.
-use Rattle.std.specs.Prelude.{ℕ, ◌-◌, min, nat_le, Option, Some, None, Result, Ok, Err, List, [], ◌∷◌, ◌++◌, length}
-use Rattle.std.specs.Prelude.{take, drop, if◌then◌else◌}
+-- The result of an input for one node, and what a stop, a cut and a restart leave of it. Nothing
+-- here looks at another actor.
+use Rattle.std.specs.Prelude.{ℕ, ◌-◌, min, nat_le, Option, Some, None, Result, Ok, Err, List, []}
+use Rattle.std.specs.Prelude.{◌∷◌, ◌++◌, length, take, drop, if◌then◌else◌}
 use Rattle.rp_base.specs.declared.action.Action.{Action}
 use Rattle.rp_base.specs.declared.config.Config.{Config}
 use Rattle.rp_base.specs.declared.fault.Fault.{Fault}
@@ -33,8 +33,9 @@ pub record Setting (S : Type 0) : Type 0 where
   pub answers : S → Action → List Answer
   pub begin : S
 
--- The result of an input for one actor: its part after, the record that it writes first, the packets that it sends in
--- order, what it dropped, the reply that it took, and how many records and torn bytes it opened with.
+-- The result of an input for one actor: its part after, the record that it writes first, the
+-- packets that it sends in order, what it dropped, the reply that it took, and how many records and
+-- torn bytes it opened with.
 pub record Done (P : Type 0) : Type 0 where
   pub part : P
   pub written : Option Rec
@@ -45,10 +46,12 @@ pub record Done (P : Type 0) : Type 0 where
 
 -- the part goes on so, and nothing else results
 abbrev pub goes_on_as : {P : Type 0} → P → Done P
-goes_on_as part = record { part = part; written = None; sends = []; dropped = No; taken = None; opened = None }
+goes_on_as part =
+    record { part = part; written = None; sends = []; dropped = No; taken = None; opened = None }
 
--- what a node may be given: a packet, the command to lead at a position or the least free one, the command to lead at n
--- positions from one on, an interrupt of a source, a tick, or the wish to report
+-- what a node may be given: a packet, the command to lead at a position or the least free one, the
+-- command to lead at n positions from one on, an interrupt of a source, a tick, or the wish to
+-- report
 pub data NodeInput : Type 0 where
   Receive : Message → NodeInput
   Lead : Option ℕ → NodeInput
@@ -64,21 +67,27 @@ report_of me first applied =
     record { from = Node me; to = Audit; body = bodies.Report first (length applied) stated }
 
 -- the turn of a node that runs
-abbrev pub running_effect : {S : Type 0} → Setting S → ℕ → List Rec → Running → NodeInput → Result Turn Fault
+abbrev pub running_effect : {S : Type 0} → Setting S → ℕ → List Rec → Running → NodeInput
+    → Result Turn Fault
 running_effect s me records running (Receive message) =
     Ok (receives s.next s.answers s.begin s.config me records running message)
-running_effect s me records running (Lead choice) = on_lead s.next s.answers s.begin s.config me records running choice
+running_effect s me records running (Lead choice) =
+    on_lead s.next s.answers s.begin s.config me records running choice
 running_effect s me records running (LeadRange first count) =
     on_lead_range s.config me records running (range_of first count)
 running_effect s me records running (Interrupt source occurrence) =
-    Ok (on_interrupt (kept_of s.next s.answers s.begin (applied_of records)) running source occurrence)
+    Ok (on_interrupt (kept_of s.next s.answers s.begin (applied_of records)) running source
+    occurrence)
 running_effect s me records running (Tick now) = Ok (on_tick running now)
-running_effect s me records running (Report first) = Ok (sends running (report_of me first (applied_of records) ∷ []))
+running_effect s me records running (Report first) =
+    Ok (sends running (report_of me first (applied_of records) ∷ []))
 
--- a turn takes effect: its record is written, then its packets are sent, and the node knows what it knows
+-- a turn takes effect: its record is written, then its packets are sent, and the node knows what it
+-- knows
 abbrev pub turn_done : NodePart → Turn → Done NodePart
 turn_done part turn = record {
-  part = record part { records = with_record part.records turn.written; running = Some turn.running };
+  part =
+      record part { records = with_record part.records turn.written; running = Some turn.running };
   written = turn.written;
   sends = turn.sent;
   dropped = turn.dropped;
@@ -93,10 +102,12 @@ turn_done_if part (Err fault) = Err fault
 abbrev pub effect_while : {S : Type 0} → Setting S → ℕ → NodePart → NodeInput → Option Running
     → Result (Done NodePart) Fault
 effect_while s me part input None = Err NotRunning
-effect_while s me part input (Some running) = turn_done_if part (running_effect s me part.records running input)
+effect_while s me part input (Some running) =
+    turn_done_if part (running_effect s me part.records running input)
 
 -- The result of an input for a node, or its refusal, after which the node is as it was.
-abbrev pub node_effect : {S : Type 0} → Setting S → ℕ → NodePart → NodeInput → Result (Done NodePart) Fault
+abbrev pub node_effect : {S : Type 0} → Setting S → ℕ → NodePart → NodeInput
+    → Result (Done NodePart) Fault
 node_effect s me part input = effect_while s me part input part.running
 
 -- ---- stops
@@ -105,8 +116,8 @@ node_effect s me part input = effect_while s me part input part.running
 abbrev pub stop_part : NodePart → NodePart
 stop_part part = record part { running = None }
 
--- A stop within a step that writes this record, or none: the record is whole exactly if as many bytes are kept as it
--- has, else these bytes of it are torn; and nothing is sent.
+-- A stop within a step that writes this record, or none: the record is whole exactly if as many
+-- bytes are kept as it has, else these bytes of it are torn; and nothing is sent.
 abbrev pub cut_part : ℕ → NodePart → Option Rec → NodePart
 cut_part kept part None = stop_part part
 cut_part kept part (Some rec) =
@@ -132,11 +143,12 @@ cut_if kept part (Ok done) = Ok (goes_on_as (cut_part kept part done.written))
 cut_if kept part (Err fault) = Err fault
 
 -- the node stops within a step, where n bytes of its record are kept
-abbrev pub cut_effect : {S : Type 0} → Setting S → ℕ → NodePart → NodeInput → ℕ → Result (Done NodePart) Fault
+abbrev pub cut_effect : {S : Type 0} → Setting S → ℕ → NodePart → NodeInput → ℕ
+    → Result (Done NodePart) Fault
 cut_effect s me part input kept = cut_if kept part (node_effect s me part input)
 
--- A restart: a stopped node runs again by its records alone, its torn bytes are truncated, and it returns the numbers
--- of both. One that runs goes on.
+-- A restart: a stopped node runs again by its records alone, its torn bytes are truncated, and it
+-- returns the numbers of both. One that runs goes on.
 abbrev pub restart_while : NodePart → Option Running → Done NodePart
 restart_while part None =
     record (goes_on_as (record part { torn = 0; running = Some fresh_running })) {

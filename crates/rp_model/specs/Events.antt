@@ -4,15 +4,16 @@ use Rattle.std.specs.Int.{w64}
 use Rattle.rp_base.specs.Number.{IsNode, IsTask, IsPosition}
 use Rattle.rp_base.specs.Action.{IsIndex, IsCount}
 use Rattle.rp_base.specs.declared.action.Operation.{Operation}
-use Rattle.rp_base.specs.declared.action.Operation.TheVariants.{Function, Procedure, Entry, SetTimer, CancelTimer}
+use Rattle.rp_base.specs.declared.action.Operation.TheVariants.{Function, Procedure, Entry}
+use Rattle.rp_base.specs.declared.action.Operation.TheVariants.{SetTimer, CancelTimer}
 use Rattle.rp_model.specs.declared.event.Step.{Step as TakenStep}
 use Rattle.rp_model.specs.declared.event.Step.TheVariants as taken_steps
 use Rattle.rp_model.specs.declared.event.Event.{Event as TakenEvent}
 use Rattle.rp_model.specs.declared.event.Event.TheVariants as taken_events
 
--- A node's step: a packet that was sent, by its number from 1, is delivered to whom it is for; or the node of a
--- number leads, at a position or the least free one or at n from a position on, notes an interrupt of a source, notes
--- a tick, or reports from a position on.
+-- A node's step: a packet that was sent, by its number from 1, is delivered to whom it is for; or
+-- the node of a number leads, at a position or the least free one or at n from a position on, notes
+-- an interrupt of a source, notes a tick, or reports from a position on.
 pub data Step : Type 0 where
   Deliver : ℕ → Step
   Lead : ℕ → Option ℕ → Step
@@ -21,8 +22,8 @@ pub data Step : Type 0 where
   Tick : ℕ → ℕ → Step
   Report : ℕ → ℕ → Step
 
--- A task makes its next call and asks a node; it asks a node again; a node makes a step; it stops within the step, of
--- whose record n bytes are kept; it stops; it starts again.
+-- A task makes its next call and asks a node; it asks a node again; a node makes a step; it stops
+-- within the step, of whose record n bytes are kept; it stops; it starts again.
 pub data Event : Type 0 where
   Submit : ℕ → ℕ → ℕ → Operation → ℤ → Event
   Again : ℕ → ℕ → Event
@@ -64,12 +65,14 @@ abbrev pub step_of : TakenStep → Step
 step_of (taken_steps.Deliver number) = Deliver number
 step_of (taken_steps.Lead node position) = Lead node position
 step_of (taken_steps.LeadRange node first count) = LeadRange node first count
-step_of (taken_steps.Interrupt node interrupt) = Interrupt node interrupt.source interrupt.occurrence
+step_of (taken_steps.Interrupt node interrupt) =
+    Interrupt node interrupt.source interrupt.occurrence
 step_of (taken_steps.Tick node now) = Tick node now
 step_of (taken_steps.Report node first) = Report node first
 
 abbrev pub event_of : TakenEvent → Event
-event_of (taken_events.Submit task node object operation arg) = Submit task node object operation arg
+event_of (taken_events.Submit task node object operation arg) =
+    Submit task node object operation arg
 event_of (taken_events.Again task node) = Again task node
 event_of (taken_events.Node step) = Makes (step_of step)
 event_of (taken_events.Cut step kept) = Cut (step_of step) kept

@@ -6,8 +6,8 @@ use Rattle.rp_base.specs.Records.{applied_of}
 use Rattle.rp_model.specs.Parts.{NodePart}
 use Rattle.rp_model.specs.World.{World, Transition, part_at}
 
--- Packets are added at the end, there are as many nodes as before, and the records and the applied list of
--- each go on from what they were.
+-- Packets are added at the end, there are as many nodes as before, and the records and the applied
+-- list of each go on from what they were.
 pub record Grows (before : World) (transition : Transition) : Type 0 where
   pub sent : transition.world.sent ≡ before.sent ++ transition.sends
   pub nodes : length transition.world.nodes ≡ length before.nodes

@@ -1,5 +1,6 @@
 -- What a node does with a packet, over Lamport's messages.
-use Rattle.std.specs.Prelude.{ℕ, suc, Bool, true, false, not, ◌&&◌, nat_eq, nat_lt, nat_le, List, if◌then◌else◌}
+use Rattle.std.specs.Prelude.{ℕ, suc, Bool, true, false, not, ◌&&◌, nat_eq, nat_lt, nat_le, List}
+use Rattle.std.specs.Prelude.{if◌then◌else◌}
 use Rattle.rp_base.specs.declared.action.Action.{Action}
 use Rattle.rp_base.specs.declared.config.Config.{Config}
 use Rattle.rp_base.specs.declared.reply.Answer.{Answer}
@@ -11,8 +12,9 @@ use Rattle.rp_codec.specs.Message.{Message}
 use Rattle.rp_codec.specs.declared.packet.Party.{Party}
 use Rattle.rp_codec.specs.declared.packet.Party.TheVariants.{Node, Task, Audit}
 use Rattle.rp_codec.specs.declared.packet.Body.{Body}
-use Rattle.rp_codec.specs.declared.packet.Body.TheVariants.{Call, Prepare, Promise, Accept, Accepted, Decided, Ask}
-use Rattle.rp_codec.specs.declared.packet.Body.TheVariants.{Nack, Reply, Report, PrepareRange, PromiseRange}
+use Rattle.rp_codec.specs.declared.packet.Body.TheVariants.{Call, Prepare, Promise, Accept}
+use Rattle.rp_codec.specs.declared.packet.Body.TheVariants.{Accepted, Decided, Ask, Nack, Reply}
+use Rattle.rp_codec.specs.declared.packet.Body.TheVariants.{Report, PrepareRange, PromiseRange}
 use Rattle.rp_machine.specs.Replay.{kept_of, replay_answers}
 use Rattle.rp_model.specs.Parts.{Running}
 use Rattle.rp_model.specs.Parts.{Turn}
@@ -47,16 +49,19 @@ is_range_within most range = nat_le range.first most && nat_le (end_of range) (s
 -- the position, or each of a range, is within the log, and who asks for a ballot owns it
 abbrev pub is_allowed : ℕ → ℕ → Body → Bool
 is_allowed most from (Call action) = true
-is_allowed most from (Prepare position ballot) = not (nat_lt most position) && nat_eq (owner_of ballot) from
+is_allowed most from (Prepare position ballot) =
+    not (nat_lt most position) && nat_eq (owner_of ballot) from
 is_allowed most from (Promise position ballot last) = not (nat_lt most position)
-is_allowed most from (Accept position ballot action) = not (nat_lt most position) && nat_eq (owner_of ballot) from
+is_allowed most from (Accept position ballot action) =
+    not (nat_lt most position) && nat_eq (owner_of ballot) from
 is_allowed most from (Accepted position ballot action) = not (nat_lt most position)
 is_allowed most from (Decided position action) = not (nat_lt most position)
 is_allowed most from (Ask position) = not (nat_lt most position)
 is_allowed most from (Nack position ballot bound) = not (nat_lt most position)
 is_allowed most from (Reply number reply) = true
 is_allowed most from (Report first applied actions) = true
-is_allowed most from (PrepareRange range ballot) = is_range_within most range && nat_eq (owner_of ballot) from
+is_allowed most from (PrepareRange range ballot) =
+    is_range_within most range && nat_eq (owner_of ballot) from
 is_allowed most from (PromiseRange range ballot votes) = is_range_within most range
 
 -- the packet is for this node, and keeps to the configuration
@@ -70,8 +75,10 @@ module _ {S : Type 0} (next : S → Action → S) (answers : S → Action → Li
   abbrev pub on_body : ℕ → ℕ → List Rec → Running → ℕ → Body → Turn
   on_body nodes me records running from (Call action) =
       let applied = applied_of records in
-      on_call me (kept_of next answers begin applied) (replay_answers next answers begin applied) running action
-  on_body nodes me records running from (Prepare position ballot) = on_prepare me records running from position ballot
+      on_call me (kept_of next answers begin applied) (replay_answers next answers begin applied)
+      running action
+  on_body nodes me records running from (Prepare position ballot) =
+      on_prepare me records running from position ballot
   on_body nodes me records running from (Promise position ballot last) =
       on_promise nodes me running from position ballot last
   on_body nodes me records running from (Accept position ballot action) =
@@ -82,7 +89,8 @@ module _ {S : Type 0} (next : S → Action → S) (answers : S → Action → Li
   on_body nodes me records running from (Decided position action) =
       on_decided next answers begin me records running from position action
   on_body nodes me records running from (Ask position) = on_ask me records running from position
-  on_body nodes me records running from (Nack position ballot bound) = on_nack nodes running position ballot bound
+  on_body nodes me records running from (Nack position ballot bound) =
+      on_nack nodes running position ballot bound
   on_body nodes me records running from (Reply number reply) = notes running
   on_body nodes me records running from (Report first applied actions) = notes running
   on_body nodes me records running from (PrepareRange range ballot) =

@@ -35,7 +35,8 @@ notes running = sends running []
 
 -- the node writes a record first
 abbrev pub writes : Rec → Running → List Message → Turn
-writes rec running packets = record { written = Some rec; sent = packets; running = running; dropped = No }
+writes rec running packets =
+    record { written = Some rec; sent = packets; running = running; dropped = No }
 
 -- nothing happens, for a packet that is not for this node or breaks the configuration
 abbrev pub drops_foreign : Running → Turn

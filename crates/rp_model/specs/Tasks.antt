@@ -1,7 +1,7 @@
--- The result of an input for one task. Its calls are numbered from 1, and the next one is made once the last one has
--- its reply.
-use Rattle.std.specs.Prelude.{ℕ, Bool, not, ◌||◌, nat_lt, ℤ, Option, Some, None, Result, Ok, Err, [], ◌∷◌, ◌++◌, length}
-use Rattle.std.specs.Prelude.{if◌then◌else◌}
+-- The result of an input for one task. Its calls are numbered from 1, and the next one is made once
+-- the last one has its reply.
+use Rattle.std.specs.Prelude.{ℕ, Bool, not, ◌||◌, nat_lt, ℤ, Option, Some, None, Result, Ok, Err}
+use Rattle.std.specs.Prelude.{[], ◌∷◌, ◌++◌, length, if◌then◌else◌}
 use Rattle.rp_base.specs.declared.action.Action.{Action}
 use Rattle.rp_base.specs.declared.action.Operation.{Operation}
 use Rattle.rp_base.specs.declared.reply.Reply.{Reply}
@@ -19,7 +19,8 @@ use Rattle.rp_codec.specs.declared.packet.Body.TheVariants as bodies
 use Rattle.rp_model.specs.Parts.{TaskPart}
 use Rattle.rp_model.specs.Effect.{Done, goes_on_as}
 
--- what a task may be given: a call to make and the node to ask, the command to ask a node again, or a packet
+-- what a task may be given: a call to make and the node to ask, the command to ask a node again, or
+-- a packet
 pub data TaskInput : Type 0 where
   Submit : ℕ → ℕ → Operation → ℤ → TaskInput
   Again : ℕ → TaskInput
@@ -31,7 +32,8 @@ asks task node call = record { from = Task task; to = Node node; body = bodies.C
 
 -- the next call of a task
 abbrev pub next_call : ℕ → TaskPart → ℕ → Operation → ℤ → Action
-next_call task part object operation arg = calls.next_call task (length part.replies) object operation arg
+next_call task part object operation arg =
+    calls.next_call task (length part.replies) object operation arg
 
 -- the call that a task which waits for nothing may make, or its refusal
 abbrev pub may_call : Config → ℕ → TaskPart → Action → Option Action → Result Action Fault
@@ -45,12 +47,14 @@ may_call config node part call None =
 abbrev pub calls_if : ℕ → ℕ → TaskPart → Result Action Fault → Result (Done TaskPart) Fault
 calls_if task node part (Err fault) = Err fault
 calls_if task node part (Ok call) =
-    Ok (record (goes_on_as (record part { outstanding = Some call })) { sends = asks task node call ∷ [] })
+    Ok (record (goes_on_as (record part { outstanding = Some call }))
+    { sends = asks task node call ∷ [] })
 
 -- the task asks once more for the call that it waits for, if it waits
 abbrev pub asks_again : ℕ → ℕ → TaskPart → Option Action → Done TaskPart
 asks_again task node part None = goes_on_as part
-asks_again task node part (Some call) = record (goes_on_as part) { sends = asks task node call ∷ [] }
+asks_again task node part (Some call) =
+    record (goes_on_as part) { sends = asks task node call ∷ [] }
 
 -- a reply of this number is to the call that the task waits for
 abbrev pub takes : TaskPart → ℕ → Bool
@@ -85,7 +89,9 @@ task_hears task part (bodies.PromiseRange range ballot votes) = goes_on_as part
 -- The result of an input for a task, or its refusal, after which the task is as it was.
 abbrev pub task_effect : Config → ℕ → TaskPart → TaskInput → Result (Done TaskPart) Fault
 task_effect config task part (Submit node object operation arg) =
-    calls_if task node part (may_call config node part (next_call task part object operation arg) part.outstanding)
+    calls_if task node part
+    (may_call config node part (next_call task part object operation arg) part.outstanding)
 task_effect config task part (Again node) =
-    if nat_lt config.nodes node then Err BadConfig else Ok (asks_again task node part part.outstanding)
+    if nat_lt config.nodes node then Err BadConfig
+    else Ok (asks_again task node part part.outstanding)
 task_effect config task part (Take message) = Ok (task_hears task part message.body)

@@ -1,6 +1,7 @@
--- A world, and what an event does to it: the event picks one actor's part, and puts the part after back.
-use Rattle.std.specs.Prelude.{ℕ, zero, suc, Option, Some, None, Result, Ok, Err, List, [], ◌++◌, replicate, slice_get}
-use Rattle.std.specs.Prelude.{slice_set}
+-- A world, and what an event does to it: the event picks one actor's part, and puts the part after
+-- back.
+use Rattle.std.specs.Prelude.{ℕ, zero, suc, Option, Some, None, Result, Ok, Err, List, [], ◌++◌}
+use Rattle.std.specs.Prelude.{replicate, slice_get, slice_set}
 use Rattle.rp_base.specs.declared.reply.Answer.{Answer}
 use Rattle.rp_base.specs.declared.config.Config.{Config}
 use Rattle.rp_base.specs.declared.fault.Fault.{Fault}
@@ -16,11 +17,12 @@ use Rattle.rp_model.specs.declared.effect.Dropped.{Dropped}
 use Rattle.rp_model.specs.declared.effect.Dropped.TheVariants.{No}
 use Rattle.rp_model.specs.Parts.{fresh_node, fresh_task}
 use Rattle.rp_model.specs.Effect as nodes
-use Rattle.rp_model.specs.Effect.{Setting, Done, NodeInput, node_effect, stop_effect, cut_effect, restart_part}
+use Rattle.rp_model.specs.Effect.{Setting, Done, NodeInput, node_effect, stop_effect, cut_effect}
+use Rattle.rp_model.specs.Effect.{restart_part}
 use Rattle.rp_model.specs.Tasks as tasks
 use Rattle.rp_model.specs.Tasks.{TaskInput, task_effect}
-use Rattle.rp_model.specs.Events.{Step, Deliver, Lead, LeadRange, Interrupt, Tick, Report, Event, Submit, Again, Makes}
-use Rattle.rp_model.specs.Events.{Cut, Stop, Restart}
+use Rattle.rp_model.specs.Events.{Step, Deliver, Lead, LeadRange, Interrupt, Tick, Report, Event}
+use Rattle.rp_model.specs.Events.{Submit, Again, Makes, Cut, Stop, Restart}
 
 -- the nodes and the tasks, each from number 1, and the packets ever sent, in order
 pub record World : Type 0 where
@@ -30,10 +32,11 @@ pub record World : Type 0 where
 
 -- all nodes run, and all else is empty
 abbrev pub opening_world : ℕ → World
-opening_world nodes = record { nodes = replicate nodes fresh_node; tasks = replicate 8 fresh_task; sent = [] }
+opening_world nodes =
+    record { nodes = replicate nodes fresh_node; tasks = replicate 8 fresh_task; sent = [] }
 
--- The result of an event: the world after it, the packets that it sent, what was dropped, the reply that a task took,
--- and the numbers of records and torn bytes that a restart found.
+-- The result of an event: the world after it, the packets that it sent, what was dropped, the reply
+-- that a task took, and the numbers of records and torn bytes that a restart found.
 pub record Transition : Type 0 where
   pub world : World
   pub sends : List Message
@@ -58,7 +61,7 @@ nothing_happens w = record { world = w; sends = []; dropped = No; taken = None; 
 -- the result of an actor's step is in the world: its part is put back, and its packets are sent
 abbrev pub node_done : World → ℕ → Done NodePart → Transition
 node_done w me done = record {
-  world = record { nodes = with_part w.nodes me done.part; tasks = w.tasks; sent = w.sent ++ done.sends };
+  world = record w { nodes = with_part w.nodes me done.part; sent = w.sent ++ done.sends };
   sends = done.sends;
   dropped = done.dropped;
   taken = done.taken;
@@ -67,7 +70,7 @@ node_done w me done = record {
 
 abbrev pub task_done : World → ℕ → Done TaskPart → Transition
 task_done w task done = record {
-  world = record { nodes = w.nodes; tasks = with_part w.tasks task done.part; sent = w.sent ++ done.sends };
+  world = record w { tasks = with_part w.tasks task done.part; sent = w.sent ++ done.sends };
   sends = done.sends;
   dropped = done.dropped;
   taken = done.taken;
@@ -85,7 +88,8 @@ task_done_if w task (Err fault) = Err fault
 -- a task's input, where there is a task of this number
 abbrev pub task_takes : Config → World → ℕ → TaskInput → Option TaskPart → Result Transition Fault
 task_takes config w task input None = Err BadConfig
-task_takes config w task input (Some part) = task_done_if w task (task_effect config task part input)
+task_takes config w task input (Some part) =
+    task_done_if w task (task_effect config task part input)
 
 -- a packet arrives at a task; to none it is lost
 abbrev pub task_receives : Config → World → ℕ → Message → Option TaskPart → Result Transition Fault
@@ -94,7 +98,8 @@ task_receives config w task message (Some part) =
     task_done_if w task (task_effect config task part (tasks.Take message))
 
 -- a node's input, where there is a node of this number
-abbrev pub node_takes : {S : Type 0} → Setting S → World → ℕ → NodeInput → Option NodePart → Result Transition Fault
+abbrev pub node_takes : {S : Type 0} → Setting S → World → ℕ → NodeInput → Option NodePart
+    → Result Transition Fault
 node_takes s w me input None = Err BadConfig
 node_takes s w me input (Some part) = node_done_if w me (node_effect s me part input)
 
@@ -102,10 +107,12 @@ node_takes s w me input (Some part) = node_done_if w me (node_effect s me part i
 abbrev pub node_hears : {S : Type 0} → Setting S → World → ℕ → Message → NodePart → Option Running
     → Result Transition Fault
 node_hears s w me message part None = Ok (nothing_happens w)
-node_hears s w me message part (Some running) = node_done_if w me (node_effect s me part (nodes.Receive message))
+node_hears s w me message part (Some running) =
+    node_done_if w me (node_effect s me part (nodes.Receive message))
 
 -- a packet arrives at the node of this number; to none it is lost
-abbrev pub node_receives : {S : Type 0} → Setting S → World → ℕ → Message → Option NodePart → Result Transition Fault
+abbrev pub node_receives : {S : Type 0} → Setting S → World → ℕ → Message → Option NodePart
+    → Result Transition Fault
 node_receives s w me message None = Ok (nothing_happens w)
 node_receives s w me message (Some part) = node_hears s w me message part part.running
 
@@ -124,7 +131,8 @@ delivers s w (Some message) = arrives s w message message.to
 abbrev pub step_effect : {S : Type 0} → Setting S → World → Step → Result Transition Fault
 step_effect s w (Deliver number) = delivers s w (part_at w.sent number)
 step_effect s w (Lead me choice) = node_takes s w me (nodes.Lead choice) (part_at w.nodes me)
-step_effect s w (LeadRange me first count) = node_takes s w me (nodes.LeadRange first count) (part_at w.nodes me)
+step_effect s w (LeadRange me first count) =
+    node_takes s w me (nodes.LeadRange first count) (part_at w.nodes me)
 step_effect s w (Interrupt me source occurrence) =
     node_takes s w me (nodes.Interrupt source occurrence) (part_at w.nodes me)
 step_effect s w (Tick me now) = node_takes s w me (nodes.Tick now) (part_at w.nodes me)
@@ -142,27 +150,32 @@ node_is_cut s w me input kept (Some part) = node_done_if w me (cut_effect s me p
 abbrev pub hearing_is_cut : {S : Type 0} → Setting S → World → Message → ℕ → Option NodePart → ℕ
     → Result Transition Fault
 hearing_is_cut s w message me None kept = Err NotRunning
-hearing_is_cut s w message me (Some part) kept = node_done_if w me (cut_effect s me part (nodes.Receive message) kept)
+hearing_is_cut s w message me (Some part) kept =
+    node_done_if w me (cut_effect s me part (nodes.Receive message) kept)
 
-abbrev pub arrival_is_cut : {S : Type 0} → Setting S → World → Message → Party → ℕ → Result Transition Fault
+abbrev pub arrival_is_cut : {S : Type 0} → Setting S → World → Message → Party → ℕ
+    → Result Transition Fault
 arrival_is_cut s w message (Node me) kept = hearing_is_cut s w message me (part_at w.nodes me) kept
 arrival_is_cut s w message (Task task) kept = Err NotRunning
 arrival_is_cut s w message Audit kept = Err NotRunning
 
-abbrev pub delivery_is_cut : {S : Type 0} → Setting S → World → Option Message → ℕ → Result Transition Fault
+abbrev pub delivery_is_cut : {S : Type 0} → Setting S → World → Option Message → ℕ
+    → Result Transition Fault
 delivery_is_cut s w None kept = Err NoSuchMessage
 delivery_is_cut s w (Some message) kept = arrival_is_cut s w message message.to kept
 
 -- a node's step, cut where n bytes of its record are kept
 abbrev pub cut_step : {S : Type 0} → Setting S → World → Step → ℕ → Result Transition Fault
 cut_step s w (Deliver number) kept = delivery_is_cut s w (part_at w.sent number) kept
-cut_step s w (Lead me choice) kept = node_is_cut s w me (nodes.Lead choice) kept (part_at w.nodes me)
+cut_step s w (Lead me choice) kept =
+    node_is_cut s w me (nodes.Lead choice) kept (part_at w.nodes me)
 cut_step s w (LeadRange me first count) kept =
     node_is_cut s w me (nodes.LeadRange first count) kept (part_at w.nodes me)
 cut_step s w (Interrupt me source occurrence) kept =
     node_is_cut s w me (nodes.Interrupt source occurrence) kept (part_at w.nodes me)
 cut_step s w (Tick me now) kept = node_is_cut s w me (nodes.Tick now) kept (part_at w.nodes me)
-cut_step s w (Report me first) kept = node_is_cut s w me (nodes.Report first) kept (part_at w.nodes me)
+cut_step s w (Report me first) kept =
+    node_is_cut s w me (nodes.Report first) kept (part_at w.nodes me)
 
 -- ---- stops and restarts
 
@@ -178,7 +191,8 @@ restarts w me (Some part) = Ok (node_done w me (restart_part part))
 abbrev pub event_effect : {S : Type 0} → Setting S → World → Event → Result Transition Fault
 event_effect s w (Submit task node object operation arg) =
     task_takes s.config w task (tasks.Submit node object operation arg) (part_at w.tasks task)
-event_effect s w (Again task node) = task_takes s.config w task (tasks.Again node) (part_at w.tasks task)
+event_effect s w (Again task node) =
+    task_takes s.config w task (tasks.Again node) (part_at w.tasks task)
 event_effect s w (Makes step) = step_effect s w step
 event_effect s w (Cut step kept) = cut_step s w step kept
 event_effect s w (Stop me) = stops w me (part_at w.nodes me)
@@ -237,7 +251,8 @@ delivery_writes s w (Some message) = arrival_writes s w message message.to
 abbrev pub step_writes : {S : Type 0} → Setting S → World → Step → Option Rec
 step_writes s w (Deliver number) = delivery_writes s w (part_at w.sent number)
 step_writes s w (Lead me choice) = node_writes s me (nodes.Lead choice) (part_at w.nodes me)
-step_writes s w (LeadRange me first count) = node_writes s me (nodes.LeadRange first count) (part_at w.nodes me)
+step_writes s w (LeadRange me first count) =
+    node_writes s me (nodes.LeadRange first count) (part_at w.nodes me)
 step_writes s w (Interrupt me source occurrence) =
     node_writes s me (nodes.Interrupt source occurrence) (part_at w.nodes me)
 step_writes s w (Tick me now) = node_writes s me (nodes.Tick now) (part_at w.nodes me)

@@ -1,6 +1,6 @@
 -- The text that shows the state of a program.
-use Rattle.std.specs.Prelude.{ℕ, suc, ℤ, Bool, true, false, Option, Some, None, List, [], ◌∷◌, ◌++◌, String}
-use Rattle.std.specs.Prelude.{string_bytes, codes, decimal, flat_map}
+use Rattle.std.specs.Prelude.{ℕ, suc, ℤ, Bool, true, false, Option, Some, None, List, [], ◌∷◌, ◌++◌}
+use Rattle.std.specs.Prelude.{String, string_bytes, codes, decimal, flat_map}
 use Rattle.std.specs.declared.alloc.Global.{Global}
 use Rattle.std.specs.Fmt.{signed_decimal}
 use Rattle.rp_body.specs.Store.{Store, int_value, bool_value}
@@ -49,7 +49,8 @@ entry_text Jorvik name = codes " " ++ name
 -- the queue of each entry, in order
 abbrev pub queues_text : Profile → List (String Global) → List (List Waiting) → List ℕ
 queues_text profile (name ∷ names) (queue ∷ queues) =
-    codes " queue" ++ (entry_text profile (string_bytes name) ++ (queue_text queue ++ queues_text profile names queues))
+    codes " queue" ++ (entry_text profile (string_bytes name)
+    ++ (queue_text queue ++ queues_text profile names queues))
 queues_text profile _ _ = []
 
 -- the line of an object
@@ -72,7 +73,8 @@ time_text (Some time) = codes " at " ++ signed_decimal time
 
 -- the line of a timing event
 abbrev pub timer_line : TimingEvent → Option ℤ → List ℕ
-timer_line timer time = codes "timer " ++ (string_bytes timer.name ++ (time_text time ++ codes "\n"))
+timer_line timer time =
+    codes "timer " ++ (string_bytes timer.name ++ (time_text time ++ codes "\n"))
 
 abbrev pub timer_lines : List TimingEvent → List (Option ℤ) → List ℕ
 timer_lines (timer ∷ rest) (time ∷ times) = timer_line timer time ++ timer_lines rest times

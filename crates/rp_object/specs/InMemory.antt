@@ -22,9 +22,10 @@ tasks_at objects = tasks_of (flat_map waiting_at objects)
 abbrev pub waiting_count : List Protected → ℕ
 waiting_count objects = length (flat_map waiting_at objects)
 
--- the program is right, each object and each timing event that is declared is there, and a task waits at one place at
--- most, so that there are no more answers than tasks
-pub record AreObjects (program : Declarations) (objects : List Protected) (timers : List (Option ℤ)) : Type 0 where
+-- the program is right, each object and each timing event that is declared is there, and a task
+-- waits at one place at most, so that there are no more answers than tasks
+pub record AreObjects (program : Declarations) (objects : List Protected) (timers : List (Option ℤ))
+    : Type 0 where
   pub right : IsProgram program
   pub all_objects : length objects ≡ length program.objects.items
   pub made : AllZip IsMade program.objects.items objects

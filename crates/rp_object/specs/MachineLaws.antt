@@ -38,11 +38,13 @@ starts = first_is_state
 pub keeps : (program : Declarations) → IsProgram program → (running : Running) (action : Action)
     → IsStateOf program running → IsRight action → MayApply (objects_waiting running) action
     → IsStateOf program (objects_next running action)
-keeps program right running action is fits may = next_is_state program running action right is fits may
+keeps program right running action is fits may =
+    next_is_state program running action right is fits may
 
 -- two states of one program that look the same are the same
 pub shows : (program : Declarations) → IsProgram program → (one other : Running)
-    → IsStateOf program one → IsStateOf program other → objects_image one ≡ objects_image other → one ≡ other
+    → IsStateOf program one → IsStateOf program other → objects_image one ≡ objects_image other
+    → one ≡ other
 shows = image_shows
 
 -- who is answered and who waits

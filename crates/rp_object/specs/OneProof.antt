@@ -14,7 +14,8 @@ FunctionFits-prop : (limits : Limits) (function : Function) → IsProp (Function
 FunctionFits-prop limits (Value expr) = hlevel props
 FunctionFits-prop limits (Truth test) = hlevel props
 
-KeepsProfile-prop : (profile : Profile) (operations : Operations) → IsProp (KeepsProfile profile operations)
+KeepsProfile-prop : (profile : Profile) (operations : Operations)
+    → IsProp (KeepsProfile profile operations)
 KeepsProfile-prop Ravenscar operations = hlevel props
 KeepsProfile-prop Jorvik operations = hlevel props
 

@@ -1,12 +1,13 @@
 -- What is declared, and which declarations are right (the limits are ours).
-use Rattle.std.specs.Prelude.{◌≡◌, ℕ, ◌≤◌, nat_le, nat_eq, Bool, true, false, ◌&&◌, Option, Some, None, is_some}
-use Rattle.std.specs.Prelude.{option_map, IfSome, FitsSigned, length}
+use Rattle.std.specs.Prelude.{◌≡◌, ℕ, ◌≤◌, nat_le, nat_eq, Bool, true, false, ◌&&◌, Option, Some}
+use Rattle.std.specs.Prelude.{None, is_some, option_map, IfSome, FitsSigned, length}
 use Rattle.std.specs.Int.{w64}
 use Rattle.std.specs.List.{All}
 use Rattle.std.specs.FinMap.{get, len}
 use Rattle.std.specs.Arc.{arc_value}
 use Rattle.rp_base.specs.declared.action.Operation.{Operation}
-use Rattle.rp_base.specs.declared.action.Operation.TheVariants.{Function, Procedure, Entry, SetTimer, CancelTimer}
+use Rattle.rp_base.specs.declared.action.Operation.TheVariants.{Function, Procedure, Entry}
+use Rattle.rp_base.specs.declared.action.Operation.TheVariants.{SetTimer, CancelTimer}
 use Rattle.rp_body.specs.Store.{Store, limits_of}
 use Rattle.rp_body.specs.Ranges.{IsInRange, IsNumbered}
 use Rattle.rp_entry.specs.declared.operations.Operations.{Operations}
@@ -21,7 +22,8 @@ use Rattle.rp_object.specs.declared.program.Declarations.{Declarations}
 abbrev pub operations_of : ObjectDeclaration → Operations
 operations_of declaration = arc_value declaration.operations
 
--- the object has the function, the procedure or the entry; a timing event is no operation of an object
+-- the object has the function, the procedure or the entry; a timing event is no operation of an
+-- object
 abbrev pub has_operation : Operation → Operations → Bool
 has_operation (Function index) operations = is_some (of_index operations.functions.items index)
 has_operation (Procedure index) operations = is_some (of_index operations.procedures.items index)
@@ -37,7 +39,8 @@ is_some_and test (Some x) = test x
 -- the object of this number has the operation
 abbrev pub object_has : Declarations → ℕ → Operation → Bool
 object_has program object operation =
-    is_some_and (λ declared. has_operation operation (operations_of declared)) (of_index program.objects.items object)
+    is_some_and (λ declared. has_operation operation (operations_of declared))
+    (of_index program.objects.items object)
 
 -- the handler of the timing event of this number belongs to the object
 abbrev pub timer_is_of : Declarations → ℕ → ℕ → Bool
@@ -57,7 +60,8 @@ abbrev pub is_declared : Declarations → ℕ → ℕ → Operation → Bool
 is_declared program task object operation =
     is_some (of_index program.priorities.items task) && is_offered program object operation
 
--- the task's base priority is not above the object's ceiling (Ada Reference Manual, section D.3); equal is allowed
+-- the task's base priority is not above the object's ceiling (Ada Reference Manual, section D.3);
+-- equal is allowed
 abbrev pub is_within_ceiling : Declarations → ℕ → ℕ → Bool
 is_within_ceiling program task object =
     is_some_and (λ priority. is_some_and (λ declared. nat_le priority declared.ceiling)
@@ -69,7 +73,8 @@ interrupt_handler program source = of_index program.interrupts.items source
 
 -- the handler of the timing event of this number, if it is declared (section D.15)
 abbrev pub timer_handler : Declarations → ℕ → Option Handler
-timer_handler program number = option_map (λ timer. timer.handler) (of_index program.timers.items number)
+timer_handler program number =
+    option_map (λ timer. timer.handler) (of_index program.timers.items number)
 
 -- a priority or a ceiling is 1 to 30
 abbrev pub IsPriority : ℕ → Type 0
@@ -85,8 +90,9 @@ EndsFit store =
     (name : ℕ) → IfSome (get store.ints name)
     (λ component. FitsSigned w64 component.low × FitsSigned w64 component.high)
 
--- an object has its ceiling, at most 8 components of each kind, named by the numbers from 0, a name for each
--- component and each entry, ranges of 64 bits, first values in their ranges, and operations that fit the components
+-- an object has its ceiling, at most 8 components of each kind, named by the numbers from 0, a name
+-- for each component and each entry, ranges of 64 bits, first values in their ranges, and
+-- operations that fit the components
 pub record DeclarationFits (declared : ObjectDeclaration) : Type 0 where
   pub ceiling : IsPriority declared.ceiling
   pub few_ints : length declared.ints.items ≤ most_declared
@@ -103,15 +109,17 @@ pub record DeclarationFits (declared : ObjectDeclaration) : Type 0 where
 abbrev pub is_handler : Declarations → Handler → Bool
 is_handler program handler = object_has program handler.object (Procedure handler.procedure)
 
--- under the Ravenscar profile an object has at most one entry, at which one call waits (Max_Protected_Entries and
--- Max_Entry_Queue_Length, section D.13); under Jorvik its operations' own limits are all
+-- under the Ravenscar profile an object has at most one entry, at which one call waits
+-- (Max_Protected_Entries and Max_Entry_Queue_Length, section D.13); under Jorvik its operations'
+-- own limits are all
 abbrev pub KeepsProfile : Profile → Operations → Type 0
 KeepsProfile Ravenscar operations =
-    (length operations.entries.items ≤ 1) × All (λ entry. entry.longest ≡ 1) operations.entries.items
+    (length operations.entries.items ≤ 1)
+    × All (λ entry. entry.longest ≡ 1) operations.entries.items
 KeepsProfile Jorvik operations = Unit {0}
 
--- A right program: each kind is declared at most 8 times, priorities are in their range, each object fits and keeps
--- the profile, and each handler is there.
+-- A right program: each kind is declared at most 8 times, priorities are in their range, each
+-- object fits and keeps the profile, and each handler is there.
 pub record IsProgram (program : Declarations) : Type 0 where
   pub task_count : length program.priorities.items ≤ most_declared
   pub object_count : length program.objects.items ≤ most_declared
@@ -119,6 +127,7 @@ pub record IsProgram (program : Declarations) : Type 0 where
   pub timer_count : length program.timers.items ≤ most_declared
   pub tasks : All IsPriority program.priorities.items
   pub objects : All DeclarationFits program.objects.items
-  pub profile : All (λ declared. KeepsProfile program.profile (operations_of declared)) program.objects.items
+  pub profile : All (λ declared. KeepsProfile program.profile (operations_of declared))
+      program.objects.items
   pub interrupts : All (λ handler. is_handler program handler ≡ true) program.interrupts.items
   pub timers : All (λ timer. is_handler program timer.handler ≡ true) program.timers.items

@@ -1,5 +1,5 @@
--- The states that a program reaches: what its start has and every action keeps (Ada Reference Manual, section 9.5.3;
--- the limits are ours).
+-- The states that a program reaches: what its start has and every action keeps (Ada Reference
+-- Manual, section 9.5.3; the limits are ours).
 use Rattle.std.specs.Prelude.{◌≡◌, ◌<◌, ◌^◌, FitsSigned, IfSome, List, [], ◌∷◌, length}
 use Rattle.std.specs.Int.{w64}
 use Rattle.std.specs.List.{All, AllZip}
@@ -22,9 +22,9 @@ pub record IsCall (call : Waiting) : Type 0 where
   pub number : IsCount call.number
   pub arg : FitsSigned w64 call.arg
 
--- the object is the declared one: its operations, its components' names and their ranges are those declared, the
--- values lie in their ranges, each entry has its queue, which is not too long, and nobody waits at an open barrier
--- (section 9.5.3)
+-- the object is the declared one: its operations, its components' names and their ranges are those
+-- declared, the values lie in their ranges, each entry has its queue, which is not too long, and
+-- nobody waits at an open barrier (section 9.5.3)
 pub record IsObjectOf (declared : ObjectDeclaration) (object : Protected) : Type 0 where
   pub operations : object.operations ≡ operations_of declared
   pub ranges : HasRangesOf declared.components object.state.store
@@ -37,10 +37,11 @@ pub record IsObjectOf (declared : ObjectDeclaration) (object : Protected) : Type
 -- each of these objects has a queue for each of its entries
 abbrev pub HaveQueues : List Protected → Type 0
 HaveQueues [] = Unit {0}
-HaveQueues (object ∷ rest) = (length object.state.queues ≡ length object.operations.entries.items) × HaveQueues rest
+HaveQueues (object ∷ rest) =
+    (length object.state.queues ≡ length object.operations.entries.items) × HaveQueues rest
 
--- The state is one of the program's: each object is as declared, each timing event that is declared is there, times
--- and clock fit their types, and no task waits twice.
+-- The state is one of the program's: each object is as declared, each timing event that is declared
+-- is there, times and clock fit their types, and no task waits twice.
 pub record IsStateOf (program : Declarations) (running : Running) : Type 0 where
   pub declared : running.program ≡ program
   pub objects : AllZip IsObjectOf program.objects.items running.state.objects

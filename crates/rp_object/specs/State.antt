@@ -11,8 +11,9 @@ use Rattle.rp_object.specs.declared.program.TimingEvent.{TimingEvent}
 use Rattle.rp_object.specs.declared.program.Declarations.{Declarations}
 use Rattle.rp_object.specs.Program.{operations_of}
 
--- the objects, each with its operations, components and queues, the time for which each timing event is set, if it
--- is, and the clock; objects and timing events are in order of their numbers from 1
+-- the objects, each with its operations, components and queues, the time for which each timing
+-- event is set, if it is, and the clock; objects and timing events are in order of their numbers
+-- from 1
 pub record ProgramState : Type 0 where
   pub objects : List Protected
   pub timers : List (Option ℤ)
@@ -29,7 +30,10 @@ first_object declared =
     record {
       operations = operations_of declared;
       state =
-          record { store = declared.components; queues = empty_queues (operations_of declared).entries.items };
+          record {
+            store = declared.components;
+            queues = empty_queues (operations_of declared).entries.items;
+          };
     }
 
 -- a timing event that is not set
@@ -41,7 +45,11 @@ abbrev pub first_state : Declarations → Running
 first_state program = record {
   program = program;
   state =
-      record { objects = map first_object program.objects.items; timers = map unset program.timers.items; clock = 0 };
+      record {
+        objects = map first_object program.objects.items;
+        timers = map unset program.timers.items;
+        clock = 0;
+      };
 }
 
 -- the name of a call that waits

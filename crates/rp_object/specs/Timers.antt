@@ -1,6 +1,7 @@
--- Which timing events are due, and in which order (Ada Reference Manual, section D.15; the order is ours).
-use Rattle.std.specs.Prelude.{◌≡◌, ℕ, suc, ℤ, pos, int_lt, int_le, nat_lt, Bool, false, ◌&&◌, ◌||◌, Option, Some, None}
-use Rattle.std.specs.Prelude.{List, [], ◌∷◌, map, if◌then◌else◌}
+-- Which timing events are due, and in which order (Ada Reference Manual, section D.15; the order is
+-- ours).
+use Rattle.std.specs.Prelude.{◌≡◌, ℕ, suc, ℤ, pos, int_lt, int_le, nat_lt, Bool, false, ◌&&◌, ◌||◌}
+use Rattle.std.specs.Prelude.{Option, Some, None, List, [], ◌∷◌, map, if◌then◌else◌}
 use Rattle.std.specs.Ordering.{int_eq}
 
 -- a time for which a timing event is set, and the event's number

@@ -1,4 +1,5 @@
--- Packets that are sent, as memory holds them: their texts in one run of bytes, and the place where each ends.
+-- Packets that are sent, as memory holds them: their texts in one run of bytes, and the place where
+-- each ends.
 use Rattle.std.specs.Prelude.{◌≡◌, ℕ, zero, suc, ◌+◌, Ok, Err, List, [], ◌∷◌, ◌++◌, length}
 use Rattle.std.specs.List.{AllByRecursion}
 use Rattle.rp_codec.specs.Message.{Message, IsPacket}
@@ -41,8 +42,8 @@ pub record IsRun (bytes ends : List ℕ) : Type 0 where
   pub texts : AreTexts bytes (length ends)
   pub ends_are : ends ≡ ends_of 0 (packets_in (length ends) bytes)
 
--- Packets that are sent, in order; for how many bytes of packets that take no memory there is room, and for how many
--- of one more packet.
+-- Packets that are sent, in order; for how many bytes of packets that take no memory there is room,
+-- and for how many of one more packet.
 pub record Sending : Type 0 where
   pub sent : List Message
   pub room : ℕ

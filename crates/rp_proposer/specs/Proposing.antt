@@ -1,7 +1,8 @@
--- What a node knows as a proposer, and what it does with promises and refusals. Lamport, "Paxos Made
--- Simple", section 2.2; one proposal for each position as in section 3.
-use Rattle.std.specs.Prelude.{ℕ, suc, ◌+◌, ◌-◌, ◌<◌, ◌≤◌, Bool, true, false, not, ◌&&◌, nat_eq, max, Option, Some, None}
-use Rattle.std.specs.Prelude.{option_map, List, [], ◌∷◌, map, filter, length, if◌then◌else◌}
+-- What a node knows as a proposer, and what it does with promises and refusals. Lamport, "Paxos
+-- Made Simple", section 2.2; one proposal for each position as in section 3.
+use Rattle.std.specs.Prelude.{ℕ, suc, ◌+◌, ◌-◌, ◌<◌, ◌≤◌, Bool, true, false, not, ◌&&◌, nat_eq, max}
+use Rattle.std.specs.Prelude.{Option, Some, None, option_map, List, [], ◌∷◌, map, filter, length}
+use Rattle.std.specs.Prelude.{if◌then◌else◌}
 use Rattle.std.specs.Int.{bit_at}
 use Rattle.std.specs.List.{list_any}
 use Rattle.rp_base.specs.declared.action.Action.{Action}
@@ -13,14 +14,15 @@ use Rattle.rp_base.specs.Records.{started_of}
 use Rattle.rp_base.specs.declared.placed.PlacedVote.{PlacedVote}
 use Rattle.rp_base.specs.Ranges.{Range, positions_of}
 use Rattle.rp_base.specs.Promises.{Promise, highest_vote, offer_of}
-use Rattle.rp_base.specs.Proposals.{Proposal, new_proposal, proposal_at, without_proposal, with_proposal, is_in}
-use Rattle.rp_base.specs.Proposals.{is_preparing, takes_promise, with_promise, is_promised, after_promise, is_prepared}
-use Rattle.rp_base.specs.Proposals.{with_range, once_promised, as_offered, is_given_up}
+use Rattle.rp_base.specs.Proposals.{Proposal, new_proposal, proposal_at, without_proposal}
+use Rattle.rp_base.specs.Proposals.{with_proposal, is_in, is_preparing, takes_promise, with_promise}
+use Rattle.rp_base.specs.Proposals.{is_promised, after_promise, is_prepared, with_range}
+use Rattle.rp_base.specs.Proposals.{once_promised, as_offered, is_given_up}
 use Rattle.rp_proposer.specs.declared.proposal.Progress.{Progress}
 use Rattle.rp_proposer.specs.declared.proposal.Progress.TheVariants.{Waiting, Offer, Stale}
 
--- What a node knows as a proposer: which node it is, of how many; the proposals that run; the greatest ballot that it
--- started, or 0; and the greatest in a refusal of a running proposal.
+-- What a node knows as a proposer: which node it is, of how many; the proposals that run; the
+-- greatest ballot that it started, or 0; and the greatest in a refusal of a running proposal.
 pub record ProposerPart : Type 0 where
   pub node : ℕ
   pub nodes : ℕ
@@ -35,7 +37,13 @@ counted_by part = max part.started (number_of part.refused)
 -- a proposer whose node wrote these records: no proposal runs
 abbrev pub restored : ℕ → ℕ → List Rec → ProposerPart
 restored node nodes records =
-    record { node = node; nodes = nodes; proposals = []; started = started_of records; refused = None }
+    record {
+      node = node;
+      nodes = nodes;
+      proposals = [];
+      started = started_of records;
+      refused = None;
+    }
 
 -- how many proposals may run
 abbrev pub most_running : ℕ
@@ -76,16 +84,23 @@ index_from k i (p ∷ rest) = if nat_eq p.position i then Some k else index_from
 abbrev pub ballot_at : List Proposal → ℕ → Option ℕ
 ballot_at proposals i = option_map (λ p. p.ballot) (proposal_at proposals i)
 
--- a proposal begins at the position, in place of any other there, and its ballot is counted as started
+-- a proposal begins at the position, in place of any other there, and its ballot is counted as
+-- started
 abbrev pub begins : ProposerPart → ℕ → ℕ → Option Action → ProposerPart
 begins part i b own =
-    record part { proposals = with_proposal part.proposals (new_proposal i b own); started = max part.started b }
+    record part {
+      proposals = with_proposal part.proposals (new_proposal i b own);
+      started = max part.started b;
+    }
 
--- the positions of a range, but for those whose bit, counted from the first position, is set in a mask
+-- the positions of a range, but for those whose bit, counted from the first position, is set in a
+-- mask
 abbrev pub unskipped : Range → ℕ → List ℕ
-unskipped range skip = filter (λ i. not (nat_eq (bit_at skip (i - range.first)) 1)) (positions_of range)
+unskipped range skip =
+    filter (λ i. not (nat_eq (bit_at skip (i - range.first)) 1)) (positions_of range)
 
--- a proposal begins at each of these positions, in place of any other there, and its ballot is counted as started
+-- a proposal begins at each of these positions, in place of any other there, and its ballot is
+-- counted as started
 abbrev pub begins_range : ProposerPart → List ℕ → ℕ → ProposerPart
 begins_range part positions b =
     record part { proposals = with_range part.proposals b positions; started = max part.started b }
@@ -97,11 +112,12 @@ progress_of nodes p promise =
     then Offer (offer_of p.own (with_promise p promise).promises)
     else Waiting
 
--- what a promise for its position in a ballot makes of the proposal that runs there; one that began with a
--- range takes promises for a range alone
+-- what a promise for its position in a ballot makes of the proposal that runs there; one that began
+-- with a range takes promises for a range alone
 abbrev pub progress_in : ℕ → ℕ → Promise → Option Proposal → Progress
 progress_in nodes b promise None = Stale
-progress_in nodes b promise (Some p) = if nat_eq p.ballot b && not p.ranged then progress_of nodes p promise else Stale
+progress_in nodes b promise (Some p) =
+    if nat_eq p.ballot b && not p.ranged then progress_of nodes p promise else Stale
 
 -- a proposal after a promise in its ballot, which counts while promises are waited for
 abbrev pub noted : ℕ → Proposal → Promise → Proposal
@@ -117,7 +133,8 @@ is_offer Stale = false
 abbrev pub offers_made : ℕ → Proposal → List Promise → ℕ
 offers_made nodes p [] = 0
 offers_made nodes p (promise ∷ rest) =
-    (if is_offer (progress_of nodes p promise) then 1 else 0) + offers_made nodes (noted nodes p promise) rest
+    (if is_offer (progress_of nodes p promise) then 1 else 0)
+    + offers_made nodes (noted nodes p promise) rest
 
 -- a proposal once a promise in this ballot is noted, which counts if the proposal takes it
 abbrev pub once_noted : ℕ → ℕ → Proposal → Promise → Proposal
@@ -138,20 +155,22 @@ notes_range part from range b votes =
 abbrev pub prepared_by : ℕ → Option Proposal → Option (ℕ × Option Action)
 prepared_by nodes None = None
 prepared_by nodes (Some p) =
-    if is_prepared nodes p then Some (p.ballot, option_map (λ vote. vote.action) (highest_vote p.promises)) else None
+    if is_prepared nodes p
+    then Some (p.ballot, option_map (λ vote. vote.action) (highest_vote p.promises)) else None
 
--- a proposal once it is to offer: if it is prepared its second phase begins, with this own action where no promise
--- reports a vote
+-- a proposal once it is to offer: if it is prepared its second phase begins, with this own action
+-- where no promise reports a vote
 abbrev pub once_offered : ℕ → Action → Proposal → Proposal
 once_offered nodes own p = if is_prepared nodes p then as_offered own p else p
 
 -- the proposal that runs at a position is to offer
 abbrev pub offers : ProposerPart → Action → Option Proposal → ProposerPart
 offers part own None = part
-offers part own (Some p) = record part { proposals = with_proposal part.proposals (once_offered part.nodes own p) }
+offers part own (Some p) =
+    record part { proposals = with_proposal part.proposals (once_offered part.nodes own p) }
 
--- A refusal of the proposal that runs at the position, in its ballot: the proposal ends, and each other of the
--- ballot that gathers promises, and the bound counts.
+-- A refusal of the proposal that runs at the position, in its ballot: the proposal ends, and each
+-- other of the ballot that gathers promises, and the bound counts.
 abbrev pub notes_refusal : ProposerPart → ℕ → ℕ → ℕ → ProposerPart
 notes_refusal part i b bound =
     if is_in b (proposal_at part.proposals i)

@@ -16,9 +16,10 @@ own_count p = if has_own p then 1 else 0
 abbrev pub own_actions_of : List Proposal → ℕ
 own_actions_of proposals = length (filter has_own proposals)
 
--- it is of 3 to 7 nodes, its proposals run at different positions, no more than may run, there is room for as
--- many, and own_actions is how many of them have an action of their own
-pub record IsWithin (nodes : ℕ) (proposals : List Proposal) (capacity own_actions : ℕ) : Type 0 where
+-- it is of 3 to 7 nodes, its proposals run at different positions, no more than may run, there is
+-- room for as many, and own_actions is how many of them have an action of their own
+pub record IsWithin (nodes : ℕ) (proposals : List Proposal) (capacity own_actions : ℕ)
+    : Type 0 where
   pub size : (3 ≤ nodes) × (nodes ≤ 7)
   pub apart : IsSet (map (λ p. p.position) proposals)
   pub few : length proposals ≤ most_running

@@ -21,23 +21,27 @@ abbrev pub cut_disk : ℕ → Disk → Option Rec → Disk
 cut_disk kept disk None = disk
 cut_disk kept disk (Some rec) = stopped kept (appended (record_text rec) disk)
 
--- The node stopped within a turn that writes this record, or none: its device holds n bytes of it, and so what a cut
--- leaves of the node's part.
-pub record Cuts {S : Type 0} (written : Option Rec) (kept : ℕ) (old : ReplicaState S) (disk : Disk) : Type 0 where
+-- The node stopped within a turn that writes this record, or none: its device holds n bytes of it,
+-- and so what a cut leaves of the node's part.
+pub record Cuts {S : Type 0} (written : Option Rec) (kept : ℕ) (old : ReplicaState S) (disk : Disk)
+    : Type 0 where
   pub disk_is : disk ≡ cut_disk kept old.disk written
   pub holds : HoldsCut kept old disk written
   pub working : old.failed ≡ false
 
 -- the device failed while the record was written: it holds some cut of the turn
-pub record FailsInCut {S : Type 0} (written : Option Rec) (old : ReplicaState S) (disk : Disk) : Type 0 where
+pub record FailsInCut {S : Type 0} (written : Option Rec) (old : ReplicaState S) (disk : Disk)
+    : Type 0 where
   pub rec : Rec
   pub is : written ≡ Some rec
   pub disk_is : AppendFailed (record_text rec) old.disk disk
   pub holds : (kept : ℕ) × HoldsCut kept old disk written
   pub working : old.failed ≡ false
 
--- why the turn is not cut, and what that leaves: the device alone where it failed, else the replica as it was
-abbrev pub IsNotCut : {S D P : Type 0} → (D → Disk) → Option Rec → ReplicaState S → NotCut S D P → Type 0
+-- why the turn is not cut, and what that leaves: the device alone where it failed, else the replica
+-- as it was
+abbrev pub IsNotCut : {S D P : Type 0} → (D → Disk) → Option Rec → ReplicaState S → NotCut S D P
+    → Type 0
 IsNotCut disk written old (DeviceFailed device) = FailsInCut written old (disk device)
 IsNotCut disk written old (Refused fault new) = Stops written old new fault × (new ≡ old)
 
@@ -47,7 +51,8 @@ CutsIf (Ok turn) kept old disk = Cuts turn.written kept old disk
 CutsIf (Err refusal) kept old disk = ⊥
 
 -- why the result of an input is not cut
-abbrev pub IsNotCutIf : {S D P : Type 0} → (D → Disk) → Result Turn Fault → ReplicaState S → NotCut S D P → Type 0
+abbrev pub IsNotCutIf : {S D P : Type 0} → (D → Disk) → Result Turn Fault → ReplicaState S
+    → NotCut S D P → Type 0
 IsNotCutIf disk (Ok turn) old refused = IsNotCut disk turn.written old refused
 IsNotCutIf disk (Err refusal) old (DeviceFailed device) = ⊥
 IsNotCutIf disk (Err refusal) old (Refused fault new) = IsRefused refusal old new fault

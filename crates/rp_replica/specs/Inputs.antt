@@ -9,7 +9,8 @@ use Rattle.rp_rules.specs.Inputs as rules
 use Rattle.rp_rules.specs.declared.input.Input.{Input}
 use Rattle.rp_replica.specs.State.{ReplicaState, server_of}
 
-module _ {S : Type 0} (next : S → Action → S) (answers : S → Action → List Answer) (replica : ReplicaState S) where
+module _ {S : Type 0} (next : S → Action → S) (answers : S → Action → List Answer)
+    (replica : ReplicaState S) where
   -- the result of an input for a replica, or its refusal
   abbrev pub effect_of : NodeInput → Result Turn Fault
   effect_of input = rules.effect_of next answers (server_of replica) input

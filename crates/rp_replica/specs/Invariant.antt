@@ -5,8 +5,9 @@ use Rattle.rp_store.specs.Disk.{Disk}
 use Rattle.rp_store.specs.Records.{AreRecordsOf}
 use Rattle.rp_model.specs.Parts.{records_in_log}
 
--- The device holds all records of the node in order, of which those within the log count, in front, and after them
--- what is torn: nothing, unless it has failed. All records are stable, and nothing else unless it has failed.
+-- The device holds all records of the node in order, of which those within the log count, in front,
+-- and after them what is torn: nothing, unless it has failed. All records are stable, and nothing
+-- else unless it has failed.
 pub record IsOnDisk (most : ℕ) (disk : Disk) (failed : Bool) (records : List Rec) : Type 0 where
   pub all : List Rec
   pub front : List ℕ

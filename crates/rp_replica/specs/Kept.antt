@@ -8,8 +8,8 @@ use Rattle.rp_model.specs.Parts.{records_in_log}
 use Rattle.rp_model.specs.Effect.{cut_part}
 use Rattle.rp_replica.specs.State.{ReplicaState, part_of}
 
--- The device holds the records of the part, and those above the log, which do not count; the torn bytes are after
--- them.
+-- The device holds the records of the part, and those above the log, which do not count; the torn
+-- bytes are after them.
 pub record HoldsPart (most : ℕ) (disk : Disk) (part : NodePart) : Type 0 where
   pub all : List Rec
   pub torn : List ℕ
@@ -27,8 +27,9 @@ pub record HoldsOnly (disk : Disk) (part : NodePart) : Type 0 where
 abbrev pub HoldsItsRecords : {S : Type 0} → ReplicaState S → Type 0
 HoldsItsRecords replica = AreTextsOf replica.records replica.disk.contents
 
--- The device holds what a stop within the write of this record, or of none, leaves of the node's part, and
--- no other records where it held no others before.
-pub record HoldsCut {S : Type 0} (kept : ℕ) (old : ReplicaState S) (disk : Disk) (written : Option Rec) : Type 0 where
+-- The device holds what a stop within the write of this record, or of none, leaves of the node's
+-- part, and no other records where it held no others before.
+pub record HoldsCut {S : Type 0} (kept : ℕ) (old : ReplicaState S) (disk : Disk)
+    (written : Option Rec) : Type 0 where
   pub left : HoldsPart old.config.max_positions disk (cut_part kept (part_of old) written)
   pub only : HoldsItsRecords old → HoldsOnly disk (cut_part kept (part_of old) written)

@@ -13,8 +13,8 @@ use Rattle.rp_model.specs.Effect.{Setting}
 use Rattle.rp_model.specs.Parts.{with_record}
 use Rattle.rp_server.specs.State.{ServerState}
 
--- Its node, the configuration and the start of the machine; the records that count and what it knows
--- while it runs; what its device holds, and whether that has failed since it was opened.
+-- Its node, the configuration and the start of the machine; the records that count and what it
+-- knows while it runs; what its device holds, and whether that has failed since it was opened.
 pub record ReplicaState (S : Type 0) : Type 0 where
   pub me : ℕ
   pub config : Config
@@ -51,7 +51,8 @@ abbrev pub part_of : {S : Type 0} → ReplicaState S → NodePart
 part_of replica = record { records = replica.records; torn = 0; running = Some replica.running }
 
 -- what it shares with the other nodes
-abbrev pub setting_of : {S : Type 0} → (S → Action → S) → (S → Action → List Answer) → ReplicaState S → Setting S
+abbrev pub setting_of : {S : Type 0} → (S → Action → S) → (S → Action → List Answer)
+    → ReplicaState S → Setting S
 setting_of next answers replica =
     record { config = replica.config; next = next; answers = answers; begin = replica.begin }
 

@@ -14,15 +14,16 @@ use Rattle.rp_outbox.specs.Packets.{texts_of}
 use Rattle.rp_replica.specs.Kept.{HoldsCut}
 use Rattle.rp_replica.specs.State.{ReplicaState, after_turn}
 
--- The turn took effect: its record is written and stable, and the bytes are the texts of its packets.
+-- The turn took effect: its record is written and stable, and the bytes are the texts of its
+-- packets.
 pub record Turns {S : Type 0} (turn : Turn) (old new : ReplicaState S) (sent : Sent) : Type 0 where
   pub goes : new ≡ after_turn old turn
   pub bytes : sent.bytes.items ≡ texts_of turn.sent
   pub packets : sent.packets ≡ length turn.sent
   pub dropped : sent.dropped ≡ turn.dropped
 
--- The device failed while this record was written: some beginning of its text may be after the others, and so it
--- holds what some cut of the turn leaves of the node's part.
+-- The device failed while this record was written: some beginning of its text may be after the
+-- others, and so it holds what some cut of the turn leaves of the node's part.
 pub record FailsAt {S : Type 0} (written : Option Rec) (old new : ReplicaState S) : Type 0 where
   pub rec : Rec
   pub is : written ≡ Some rec
@@ -40,33 +41,41 @@ Stops written old new _ = ⊥
 -- a refusal changes nothing; after a failure it is reported in its place
 abbrev pub IsRefused : {S : Type 0} → Fault → ReplicaState S → ReplicaState S → Fault → Type 0
 IsRefused refusal old new fault =
-    (new ≡ old) × (((fault ≡ refusal) × (old.failed ≡ false)) ⊎ ((fault ≡ Failed) × (old.failed ≡ true)))
+    (new ≡ old)
+    × (((fault ≡ refusal) × (old.failed ≡ false)) ⊎ ((fault ≡ Failed) × (old.failed ≡ true)))
 
 -- why the result of an input did not take effect
-abbrev pub StopsIf : {S : Type 0} → Result Turn Fault → ReplicaState S → ReplicaState S → Fault → Type 0
+abbrev pub StopsIf : {S : Type 0} → Result Turn Fault → ReplicaState S → ReplicaState S → Fault
+    → Type 0
 StopsIf (Ok turn) old new fault = Stops turn.written old new fault
 StopsIf (Err refusal) old new fault = IsRefused refusal old new fault
 
 -- it took effect
-abbrev pub TurnsIf : {S : Type 0} → Result Turn Fault → ReplicaState S → ReplicaState S → Sent → Type 0
+abbrev pub TurnsIf : {S : Type 0} → Result Turn Fault → ReplicaState S → ReplicaState S → Sent
+    → Type 0
 TurnsIf (Ok turn) old new sent = Turns turn old new sent × (old.failed ≡ false)
 TurnsIf (Err refusal) old new sent = ⊥
 
--- The result of an input: its turn took effect, and these are its packets; or it did not take effect, for this
--- reason, and that leaves the replica as it was, or with a device that failed within that turn.
-abbrev pub Answers : {S : Type 0} → Result Turn Fault → ReplicaState S → ReplicaState S → Result Sent Fault → Type 0
+-- The result of an input: its turn took effect, and these are its packets; or it did not take
+-- effect, for this reason, and that leaves the replica as it was, or with a device that failed
+-- within that turn.
+abbrev pub Answers : {S : Type 0} → Result Turn Fault → ReplicaState S → ReplicaState S
+    → Result Sent Fault → Type 0
 Answers effect old new (Ok sent) = TurnsIf effect old new sent
 Answers effect old new (Err fault) = StopsIf effect old new fault
 
 -- it took effect, and its packets are after those that were sent before
-abbrev pub TurnsOnto : {S : Type 0} → Result Turn Fault → ReplicaState S → ReplicaState S → List Message → List Message
+abbrev pub TurnsOnto : {S : Type 0} → Result Turn Fault → ReplicaState S → ReplicaState S
+    → List Message → List Message
     → Dropped → Type 0
 TurnsOnto (Ok turn) old new before after dropped =
     Commits turn old new before after × (dropped ≡ turn.dropped) × (old.failed ≡ false)
 TurnsOnto (Err refusal) old new before after dropped = ⊥
 
 -- The same result, where the packets are put after others: if it did not take effect, none is.
-abbrev pub AnswersOnto : {S : Type 0} → Result Turn Fault → ReplicaState S → ReplicaState S → List Message
+abbrev pub AnswersOnto : {S : Type 0} → Result Turn Fault → ReplicaState S → ReplicaState S
+    → List Message
     → List Message → Result Dropped Fault → Type 0
 AnswersOnto effect old new before after (Ok dropped) = TurnsOnto effect old new before after dropped
-AnswersOnto effect old new before after (Err fault) = StopsIf effect old new fault × (after ≡ before)
+AnswersOnto effect old new before after (Err fault) =
+    StopsIf effect old new fault × (after ≡ before)

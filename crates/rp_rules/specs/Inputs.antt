@@ -14,7 +14,8 @@ use Rattle.rp_model.specs.Parts.{Turn}
 use Rattle.rp_model.specs.Effect.{NodeInput, Setting, running_effect}
 use Rattle.rp_model.specs.Effect as nodes
 use Rattle.rp_rules.specs.declared.input.Input.{Input}
-use Rattle.rp_rules.specs.declared.input.Input.TheVariants.{Receive, Lead, LeadRange, Interrupt, Tick, Report}
+use Rattle.rp_rules.specs.declared.input.Input.TheVariants.{Receive, Lead, LeadRange, Interrupt}
+use Rattle.rp_rules.specs.declared.input.Input.TheVariants.{Tick, Report}
 use Rattle.rp_server.specs.State.{ServerState}
 
 -- an interrupt's source is 1 to 8, and its occurrence from 1
@@ -22,7 +23,8 @@ abbrev pub IsRightInput : Input → Type 0
 IsRightInput (Interrupt source occurrence) = IsRight (actions.Interrupt source occurrence)
 IsRightInput _ = Unit {0}
 
--- bytes are the packet of which they are the text, all of them; there is a reason where they are none's
+-- bytes are the packet of which they are the text, all of them; there is a reason where they are
+-- none's
 abbrev pub packet_given : Result Message PacketReason → Result NodeInput Fault
 packet_given (Ok message) = Ok (nodes.NodeInput.Receive message)
 packet_given (Err reason) = Err (BadPacket reason)
@@ -36,10 +38,12 @@ given_by (Interrupt source occurrence) = Ok (nodes.NodeInput.Interrupt source oc
 given_by (Tick now) = Ok (nodes.NodeInput.Tick now)
 given_by (Report first) = Ok (nodes.NodeInput.Report first)
 
-module _ {S : Type 0} (next : S → Action → S) (answers : S → Action → List Answer) (server : ServerState S) where
+module _ {S : Type 0} (next : S → Action → S) (answers : S → Action → List Answer)
+    (server : ServerState S) where
   -- what it shares with the other nodes
   abbrev pub setting_of : Setting S
-  setting_of = record { config = server.config; next = next; answers = answers; begin = server.begin }
+  setting_of =
+      record { config = server.config; next = next; answers = answers; begin = server.begin }
 
   -- the result of an input for a node, or its refusal
   abbrev pub effect_of : NodeInput → Result Turn Fault
@@ -59,7 +63,8 @@ abbrev pub IsLong : Input → Type 0
 IsLong (Receive bytes) = IsLongText bytes.now
 IsLong _ = ⊥
 
--- why there is no plan: the refusal of the input; where it has a result, the memory that a long packet takes
+-- why there is no plan: the refusal of the input; where it has a result, the memory that a long
+-- packet takes
 abbrev pub Refuses : Type 0 → Result Turn Fault → Fault → Type 0
 Refuses long (Ok turn) fault = (fault ≡ OutOfMemory) × long
 Refuses long (Err refusal) fault = fault ≡ refusal

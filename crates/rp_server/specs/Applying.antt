@@ -15,15 +15,18 @@ use Rattle.rp_outbox.specs.Packets.{Sending, longest_text}
 
 -- the packets that go before the replies: the other nodes are informed where this one informs them
 abbrev pub decided_packets : ℕ → ℕ → ℕ → Action → Bool → List Message
-decided_packets nodes me i v announces = if announces then says_to_others nodes me (Decided i v) else []
+decided_packets nodes me i v announces =
+    if announces then says_to_others nodes me (Decided i v) else []
 
 module _ {S : Type 0} (next : S → Action → S) (answers : S → Action → List Answer) where
   -- the turn of a server that learns an action at a position, with no packet but the replies
   abbrev pub learns_alone : ServerState S → ℕ → Action → Turn
-  learns_alone server i v = learns next answers server.begin server.me server.records server.running i v [] []
+  learns_alone server i v =
+      learns next answers server.begin server.me server.records server.running i v [] []
 
   -- what the log took is applied, and nothing is learned; these answers resulted
-  pub record AppliesMore (before after : Contents) (old new : Applied S) (more : List Answer) : Type 0 where
+  pub record AppliesMore (before after : Contents) (old new : Applied S) (more : List Answer)
+      : Type 0 where
     pub begin : new.begin ≡ old.begin
     pub taken : new.actions ≡ after.taken
     pub places : after.places ≡ before.places
@@ -31,7 +34,8 @@ module _ {S : Type 0} (next : S → Action → S) (answers : S → Action → Li
     pub given : (outcome next answers new).given ≡ (outcome next answers old).given ++ more
 
   -- the answers whose call is pending are among the packets, one for each pending item at most
-  pub record HasReplied (me : ℕ) (pending : List Action) (before after : Contents) (old new : Applied S)
+  pub record HasReplied (me : ℕ) (pending : List Action) (before after : Contents)
+      (old new : Applied S)
       (out said : Sending) : Type 0 where
     pub more : List Answer
     pub applies : AppliesMore before after old new more

@@ -4,7 +4,8 @@ use Rattle.std.specs.Prelude.{length, map, filter}
 use Rattle.std.specs.List.{AllByRecursion}
 use Rattle.rp_base.specs.declared.config.Config.{Config}
 use Rattle.rp_base.specs.declared.record.Rec.{Rec}
-use Rattle.rp_base.specs.declared.record.Rec.TheVariants.{Started, Promised, Voted, Learned, PromisedRange}
+use Rattle.rp_base.specs.declared.record.Rec.TheVariants.{Started, Promised, Voted, Learned}
+use Rattle.rp_base.specs.declared.record.Rec.TheVariants.{PromisedRange}
 use Rattle.rp_base.specs.Action.{IsRight}
 use Rattle.rp_base.specs.Config.{IsRightConfig}
 use Rattle.rp_base.specs.Right.{IsRightVote, IsRightRecord}
@@ -30,15 +31,17 @@ pub record IsRightProposal (p : Proposal) : Type 0 where
   pub own : IfSome p.own IsRight
   pub promises : AllByRecursion IsRightPromise p.promises
 
--- The proposer is that of the node and its records. Its proposals run at different unlearned positions of the
--- window above the applied list.
-pub record IsProposer (me : ℕ) (config : Config) (records : List Rec) (taken : ℕ) (proposer : ProposerPart)
+-- The proposer is that of the node and its records. Its proposals run at different unlearned
+-- positions of the window above the applied list.
+pub record IsProposer (me : ℕ) (config : Config) (records : List Rec) (taken : ℕ)
+    (proposer : ProposerPart)
     : Type 0 where
   pub node : proposer.node ≡ me
   pub nodes : proposer.nodes ≡ config.nodes
   pub started : proposer.started ≡ started_of records
   pub window : AreInWindow (suc taken) proposer.proposals
-  pub unlearned : (i : ℕ) → Has i (map (λ p. p.position) proposer.proposals) → learned_at records i ≡ None
+  pub unlearned : (i : ℕ) → Has i (map (λ p. p.position) proposer.proposals)
+      → learned_at records i ≡ None
   pub right : AllByRecursion IsRightProposal proposer.proposals
 
 -- the vote was heard at an unlearned position of the learner's window
@@ -47,8 +50,8 @@ pub record IsOpenVote (records : List Rec) (learner : Learning) (vote : HeardVot
   pub within : vote.1 < learner.first + window
   pub unlearned : learned_at records vote.1 ≡ None
 
--- The learner's window is above the applied list. It heard these votes, as a set, each at an unlearned
--- position of the window, and up to the window's end it settled what the records learn.
+-- The learner's window is above the applied list. It heard these votes, as a set, each at an
+-- unlearned position of the window, and up to the window's end it settled what the records learn.
 pub record IsLearner (config : Config) (records : List Rec) (taken : ℕ) (learner : Learning)
     (votes : List HeardVote) : Type 0 where
   pub nodes : learner.nodes ≡ config.nodes
@@ -56,31 +59,37 @@ pub record IsLearner (config : Config) (records : List Rec) (taken : ℕ) (learn
   pub first : learner.first ≡ suc taken
   pub heard : SameMembers learner.heard votes
   pub open_votes : (vote : HeardVote) → Has vote votes → IsOpenVote records learner vote
-  pub settled : (i : ℕ) → 1 ≤ i → i < learner.first + window → is_settled learner i ≡ is_some (learned_at records i)
+  pub settled : (i : ℕ) → 1 ≤ i → i < learner.first + window
+      → is_settled learner i ≡ is_some (learned_at records i)
 
 -- up to the end of its window the learner settled what the log learned
 abbrev pub IsSettledAlike : Learning → Contents → Type 0
 IsSettledAlike learner log =
     (i : ℕ) → 1 ≤ i → i < learner.first + window → is_settled learner i ≡ is_some (action_at log i)
 
--- The learner's window moved on to the position after those that the log took; the votes heard within it stay.
+-- The learner's window moved on to the position after those that the log took; the votes heard
+-- within it stay.
 pub record Follows (before : Learning) (log : Contents) (after : Learning) : Type 0 where
   pub nodes : after.nodes ≡ before.nodes
   pub positions : after.max_positions ≡ before.max_positions
   pub first : after.first ≡ next_to_take log
-  pub heard : SameMembers after.heard (filter (λ vote. nat_le (next_to_take log) vote.1) before.heard)
+  pub heard : SameMembers after.heard
+      (filter (λ vote. nat_le (next_to_take log) vote.1) before.heard)
   pub settled : IsSettledAlike after log
 
 -- the log learned what the records say, nothing is ready, and what was taken is applied
-pub record IsApplied {S : Type 0} (records : List Rec) (log : Contents) (applied : Applied S) : Type 0 where
+pub record IsApplied {S : Type 0} (records : List Rec) (log : Contents) (applied : Applied S)
+    : Type 0 where
   pub learned : LearnedAlike records log
   pub ordered : IsTakenInOrder log
   pub none : action_at log (next_to_take log) ≡ None
   pub taken : applied.actions ≡ log.taken
 
 -- what holds of a server's parts between its calls
-pub record IsServer {S : Type 0} (me : ℕ) (config : Config) (records : List Rec) (proposer : ProposerPart)
-    (learner : Learning) (votes : List HeardVote) (log : Contents) (applied : Applied S) : Type 0 where
+pub record IsServer {S : Type 0} (me : ℕ) (config : Config) (records : List Rec)
+    (proposer : ProposerPart)
+    (learner : Learning) (votes : List HeardVote) (log : Contents) (applied : Applied S)
+    : Type 0 where
   pub sizes : IsRightConfig config
   pub member : me ≤ config.nodes
   pub right : AllByRecursion IsRightRecord records

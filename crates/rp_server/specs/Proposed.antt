@@ -12,8 +12,8 @@ promised_running nodes running b promise None = running
 promised_running nodes running b promise (Some p) =
     record running { proposals = with_proposal running.proposals (once_noted nodes b p promise) }
 
--- the proposal at its position, if a prepared one runs there, offers: this is its own action where no promise reports
--- a vote
+-- the proposal at its position, if a prepared one runs there, offers: this is its own action where
+-- no promise reports a vote
 abbrev pub offered_running : ℕ → Running → Action → Option Proposal → Running
 offered_running nodes running own None = running
 offered_running nodes running own (Some p) =

@@ -4,7 +4,8 @@ use Rattle.rp_base.specs.declared.config.Config.{Config}
 use Rattle.rp_base.specs.declared.record.Rec.{Rec}
 use Rattle.rp_model.specs.Parts.{Running, Turn, with_record}
 
--- Its node, the configuration and the start of the machine; the records that count and what it knows while it runs.
+-- Its node, the configuration and the start of the machine; the records that count and what it
+-- knows while it runs.
 pub record ServerState (S : Type 0) : Type 0 where
   pub me : ℕ
   pub config : Config

@@ -1,6 +1,7 @@
--- What a device holds, and what its calls do to it. A device only appends: what it was given is there in order, and
--- only a cut takes bytes away, from the end.
-use Rattle.std.specs.Prelude.{◌≡◌, ℕ, suc, ◌+◌, ◌<◌, ◌≤◌, min, nat_lt, if◌then◌else◌, List, [], ◌++◌, length, take}
+-- What a device holds, and what its calls do to it. A device only appends: what it was given is
+-- there in order, and only a cut takes bytes away, from the end.
+use Rattle.std.specs.Prelude.{◌≡◌, ℕ, suc, ◌+◌, ◌<◌, ◌≤◌, min, nat_lt, if◌then◌else◌, List, []}
+use Rattle.std.specs.Prelude.{◌++◌, length, take}
 
 -- Its bytes, how many of them a stop leaves for sure, how many calls failed so far, and how many
 -- of each kind succeeded. The counts have no greatest value.
@@ -60,7 +61,8 @@ read_once d = record d { reads = suc d.reads }
 
 -- after a cut: n bytes from the front are left
 abbrev pub cut_to : ℕ → Disk → Disk
-cut_to len d = record d { contents = take len d.contents; stable = min d.stable len; cuts = suc d.cuts }
+cut_to len d =
+    record d { contents = take len d.contents; stable = min d.stable len; cuts = suc d.cuts }
 
 -- after a stop: what was stable, and n of the bytes after it, or all if there are no more
 abbrev pub stopped : ℕ → Disk → Disk
@@ -74,8 +76,8 @@ pub record ReadFailed (old new : Disk) : Type 0 where
   pub appends : new.appends ≡ old.appends
   pub cuts : new.cuts ≡ old.cuts
 
--- after an append, or the sync after one, that failed: the old contents and some beginning of the bytes; no sync
--- succeeded, and nothing was read or cut
+-- after an append, or the sync after one, that failed: the old contents and some beginning of the
+-- bytes; no sync succeeded, and nothing was read or cut
 pub record AppendFailed (bytes : List ℕ) (old new : Disk) : Type 0 where
   pub cause : old.failures < new.failures
   pub contents : (kept : ℕ) × (new.contents ≡ old.contents ++ take kept bytes)

@@ -21,13 +21,14 @@ pub record IsPut {D : Type 0} (disk : D → Disk) (text : List ℕ) (old new : S
   pub working : new.failed ≡ false
 
 -- some beginning of the text may be after the old contents, and the device has failed
-pub record FailsInPut {D : Type 0} (disk : D → Disk) (text : List ℕ) (old new : Stored D) : Type 0 where
+pub record FailsInPut {D : Type 0} (disk : D → Disk) (text : List ℕ) (old new : Stored D)
+    : Type 0 where
   pub disk_is : AppendFailed text (disk old.device) (disk new.device)
   pub worked : old.failed ≡ false
   pub failed : new.failed ≡ true
 
--- Why a text is not put, and what that leaves: nothing changed where memory ran out or the device had
--- failed before. There is no other reason.
+-- Why a text is not put, and what that leaves: nothing changed where memory ran out or the device
+-- had failed before. There is no other reason.
 abbrev pub IsNotPut : {D : Type 0} → (D → Disk) → List ℕ → Stored D → Fault → Stored D → Type 0
 IsNotPut disk text old OutOfMemory new = IsUnchanged disk old new × (old.failed ≡ false)
 IsNotPut disk text old Device new = FailsInPut disk text old new

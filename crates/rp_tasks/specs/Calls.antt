@@ -15,7 +15,8 @@ pub record Calls : Type 0 where
 abbrev pub no_calls : ℕ → Calls
 no_calls task = record { task = task; made = 0; outstanding = None }
 
--- why the next call is refused, if it is: while one is outstanding, and else once the numbers are exhausted
+-- why the next call is refused, if it is: while one is outstanding, and else once the numbers are
+-- exhausted
 abbrev pub refusal_of : Calls → Option Fault
 refusal_of calls =
     if is_some calls.outstanding then Some TaskBusy

@@ -134,8 +134,8 @@ module _ {P : Type 0} (nodes : ℕ) (calls : List TaskCall) where
     pub hears : IsHeard turn old heard new.line new.so_far
     pub refused : IsRefused (asked_in nodes calls turn new.so_far) heard new.seat fault
 
--- Why the turn with this number was not made: memory ran out for the packet that was fetched, or for
--- the one that the link passed on; or what the task asks is refused.
+-- Why the turn with this number was not made: memory ran out for the packet that was fetched, or
+-- for the one that the link passed on; or what the task asks is refused.
 pub data IsUnmadeTurn {P : Type 0} (nodes : ℕ) (calls : List TaskCall) (turn : ℕ)
     (old new : TaskAt P) (fault : Fault) : Type 0 where
   untaken : IsLost (Node (node_at nodes turn)) (Task old.seat.number)

@@ -1,6 +1,6 @@
 -- The lines of a text.
-use Rattle.std.specs.Prelude.{ℕ, ◌+◌, ◌==◌, ◌||◌, ◌&&◌, Bool, List, [], ◌∷◌, ◌++◌, Option, Some, None, option_to_list}
-use Rattle.std.specs.Prelude.{if◌then◌else◌}
+use Rattle.std.specs.Prelude.{ℕ, ◌+◌, ◌==◌, ◌||◌, ◌&&◌, Bool, List, [], ◌∷◌, ◌++◌, Option, Some}
+use Rattle.std.specs.Prelude.{None, option_to_list, if◌then◌else◌}
 use Rattle.rp_words.specs.Words.{begins_with, is_at_end, first_word, after_word}
 
 abbrev pub is_line_feed : ℕ → Bool
@@ -11,7 +11,8 @@ abbrev pub in_front : ℕ → List (List ℕ) → List (List ℕ)
 in_front byte [] = (byte ∷ []) ∷ []
 in_front byte (line ∷ lines) = (byte ∷ line) ∷ lines
 
--- The lines: each ends by a line feed, which the last one may lack. A return right before it is dropped.
+-- The lines: each ends by a line feed, which the last one may lack. A return right before it is
+-- dropped.
 abbrev pub lines_of : List ℕ → List (List ℕ)
 lines_of [] = []
 lines_of (byte ∷ rest) =
@@ -38,4 +39,5 @@ text_at number line =
 -- the lines that are not skipped, where the first has this number
 abbrev pub texts_from : ℕ → List (List ℕ) → List LineText
 texts_from number [] = []
-texts_from number (line ∷ lines) = option_to_list (text_at number line) ++ texts_from (number + 1) lines
+texts_from number (line ∷ lines) =
+    option_to_list (text_at number line) ++ texts_from (number + 1) lines

@@ -1,14 +1,16 @@
--- How words are read from left to right. Each reader takes the bytes of a line that are still to be read, and returns
--- what it read and the bytes after that, or the reason of the first word that is missing or wrong.
+-- How words are read from left to right. Each reader takes the bytes of a line that are still to be
+-- read, and returns what it read and the bytes after that, or the reason of the first word that is
+-- missing or wrong.
 use Rattle.std.specs.Prelude.{◌≡◌, ℕ, ◌==◌, nat_lt, not, ℤ, Bool, List, take, drop, position}
 use Rattle.std.specs.Prelude.{Option, Some, None, Result, Ok, Err, if◌then◌else◌}
 use Rattle.rp_base.specs.declared.fault.DeckReason.{DeckReason}
-use Rattle.rp_base.specs.declared.fault.DeckReason.TheVariants.{WrongNumberOfWords, BadNumber, BadName, DuplicateName}
-use Rattle.rp_base.specs.declared.fault.DeckReason.TheVariants.{TooMany}
+use Rattle.rp_base.specs.declared.fault.DeckReason.TheVariants.{WrongNumberOfWords, BadNumber}
+use Rattle.rp_base.specs.declared.fault.DeckReason.TheVariants.{BadName, DuplicateName, TooMany}
 use Rattle.rp_words.specs.declared.line_error.LineError.{LineError}
 use Rattle.rp_words.specs.declared.line_error.LineError.TheVariants.{OutOfMemory, Bad}
 use Rattle.rp_words.specs.Tables.{is_declared}
-use Rattle.rp_words.specs.Words.{is_at_end, first_word, after_word, is_name, number_of, number_within}
+use Rattle.rp_words.specs.Words.{is_at_end, first_word, after_word, is_name, number_of}
+use Rattle.rp_words.specs.Words.{number_within}
 
 -- one reader after another, up to the first reason
 infixl 10 ◌>>=◌
@@ -51,7 +53,8 @@ Makes view (Err e) read = Fails e read
 
 -- the next word
 unfoldable pub word_at : List ℕ → Result (List ℕ × List ℕ) DeckReason
-word_at bytes = if is_at_end bytes then Err WrongNumberOfWords else Ok (first_word bytes, after_word bytes)
+word_at bytes = if is_at_end bytes then Err WrongNumberOfWords
+    else Ok (first_word bytes, after_word bytes)
 
 -- no word
 unfoldable pub end_at : List ℕ → Result (Unit {0}) DeckReason

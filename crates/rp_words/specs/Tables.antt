@@ -1,5 +1,6 @@
 -- Names in declared order. What they denote is a list beside them.
-use Rattle.std.specs.Prelude.{ℕ, Bool, List, map, Option, Some, None, position, slice_get, String, string_bytes}
+use Rattle.std.specs.Prelude.{ℕ, Bool, List, map, Option, Some, None, position, slice_get, String}
+use Rattle.std.specs.Prelude.{string_bytes}
 use Rattle.std.specs.List.{list_any}
 use Rattle.std.specs.Map.{keys_of}
 use Rattle.std.specs.Str.{bytes_eq}

@@ -1,7 +1,7 @@
 -- The words of a line, which of them are names, and which are numbers.
-use Rattle.std.specs.Prelude.{ℕ, ◌==◌, ◌||◌, ◌&&◌, Bool, true, false, not, List, [], ◌∷◌, take, drop, length, IsTrue}
-use Rattle.std.specs.Prelude.{nat_le, if◌then◌else◌}
-use Rattle.std.specs.Prelude.{◌-◌, ◌^◌, ℤ, pos, negsuc, neg_ℤ, int_le, codes, Option, Some, None}
+use Rattle.std.specs.Prelude.{ℕ, ◌==◌, ◌||◌, ◌&&◌, Bool, true, false, not, List, [], ◌∷◌, take}
+use Rattle.std.specs.Prelude.{drop, length, IsTrue, nat_le, if◌then◌else◌, ◌-◌, ◌^◌, ℤ, pos, negsuc}
+use Rattle.std.specs.Prelude.{neg_ℤ, int_le, codes, Option, Some, None}
 use Rattle.std.specs.List.{prefix_len, list_all}
 use Rattle.std.specs.Char.{is_ascii_digit, is_ascii_alphabetic}
 use Rattle.std.specs.Str.{bytes_eq}
@@ -27,11 +27,13 @@ is_at_end bytes = length (without_blanks bytes) == 0
 
 -- the bytes up to the first blank
 abbrev pub first_word : List ℕ → List ℕ
-first_word bytes = take (prefix_len (λ byte. not (is_blank byte)) (without_blanks bytes)) (without_blanks bytes)
+first_word bytes =
+    take (prefix_len (λ byte. not (is_blank byte)) (without_blanks bytes)) (without_blanks bytes)
 
 -- the bytes from that blank on
 abbrev pub after_word : List ℕ → List ℕ
-after_word bytes = drop (prefix_len (λ byte. not (is_blank byte)) (without_blanks bytes)) (without_blanks bytes)
+after_word bytes =
+    drop (prefix_len (λ byte. not (is_blank byte)) (without_blanks bytes)) (without_blanks bytes)
 
 -- the bytes that are still to be read
 abbrev pub unread : Words → List ℕ
@@ -43,7 +45,8 @@ is_of_name byte = is_ascii_alphabetic byte || is_ascii_digit byte || byte == 95
 
 -- a letter, and then at most 15 letters, digits or underscores
 abbrev pub is_name : List ℕ → Bool
-is_name word = nat_le (length word) 16 && begins_with is_ascii_alphabetic word && list_all is_of_name word
+is_name word =
+    nat_le (length word) 16 && begins_with is_ascii_alphabetic word && list_all is_of_name word
 
 -- the same as a fact
 abbrev pub IsName : List ℕ → Type 0
@@ -70,7 +73,8 @@ fits_64 number = int_le (negsuc (2 ^ 63 - 1)) number && int_le number (pos (2 ^ 
 -- the number that a word is: an optional `-` and decimal digits, within 64 signed bits
 abbrev pub number_of : List ℕ → Option ℤ
 number_of word =
-    if is_digits (without_minus word) && fits_64 (number_written word) then Some (number_written word)
+    if is_digits (without_minus word) && fits_64 (number_written word)
+    then Some (number_written word)
     else None
 
 -- the number, where it is from low to high

@@ -5,7 +5,8 @@ use Rattle.rp_base.specs.declared.fault.Fault.{Fault}
 use Rattle.rp_base.specs.declared.fault.Fault.TheVariants.{Device}
 use Rattle.rp_model.specs.Effect.{Setting, NodeInput}
 use Rattle.rp_model.specs.Events.{Step}
-use Rattle.rp_model.specs.World.{World, part_at, cut_step, node_is_cut, node_writes, step_effect, step_writes, stepping}
+use Rattle.rp_model.specs.World.{World, part_at, cut_step, node_is_cut, node_writes, step_effect}
+use Rattle.rp_model.specs.World.{step_writes, stepping}
 use Rattle.rp_rules.specs.Inputs.{given_by}
 use Rattle.rp_rules.specs.declared.input.Input.{Input}
 use Rattle.rp_store.specs.Disk.{Disk}
@@ -14,7 +15,8 @@ use Rattle.rp_world.specs.Shape.{IsWorld, part_by}
 use Rattle.rp_world.specs.declared.node.Node.{Node}
 
 -- the nodes are those of the world, in a cluster whose machine starts so
-pub record AreNodesOf {S D P : Type 0} (disk : D → Disk) (begin : S) (nodes : List (Node S D P)) (w : World)
+pub record AreNodesOf {S D P : Type 0} (disk : D → Disk) (begin : S) (nodes : List (Node S D P))
+    (w : World)
     : Type 0 where
   pub config : Config
   pub tasks : List Caller
@@ -27,7 +29,8 @@ module _ {S : Type 0} (s : Setting S) (w : World) (step : Step) where
     pub given : NodeInput
     pub gives : given_by input ≡ Ok given
     pub within : me ≤ length w.nodes
-    pub cut : (kept : ℕ) → cut_step s w step kept ≡ node_is_cut s w me given kept (part_at w.nodes me)
+    pub cut : (kept : ℕ)
+        → cut_step s w step kept ≡ node_is_cut s w me given kept (part_at w.nodes me)
     pub writes : step_writes s w step ≡ node_writes s me given (part_at w.nodes me)
     pub node : stepping w step ≡ Some me
 

@@ -22,7 +22,8 @@ abbrev pub RisesOnly : Option ℕ → List ℕ → List ℕ → Type 0
 RisesOnly None old new = ⊥
 RisesOnly (Some me) old new = RisesAt me old new
 
--- After an answer the counts are as before; where it is a fault of a device, that of this node alone rose.
+-- After an answer the counts are as before; where it is a fault of a device, that of this node
+-- alone rose.
 abbrev pub AreCounted : {A : Type 0} → Option ℕ → List ℕ → List ℕ → Result A Fault → Type 0
 AreCounted me old new (Ok stated) = new ≡ old
 AreCounted me old new (Err Device) = RisesOnly me old new

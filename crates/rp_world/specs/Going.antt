@@ -1,27 +1,33 @@
 -- The result of a call of a cluster's parts (no public clause names it).
-use Rattle.std.specs.Prelude.{◌≡◌, ◌⊎◌, ℕ, Option, None, Some, Result, Ok, Err, List, length, IsSome}
+use Rattle.std.specs.Prelude.{◌≡◌, ◌⊎◌, ℕ, Option, None, Some, Result, Ok, Err, List, length}
+use Rattle.std.specs.Prelude.{IsSome}
 use Rattle.rp_base.specs.declared.reply.Reply.{Reply}
 use Rattle.rp_codec.specs.declared.packet.Body.{Body}
-use Rattle.rp_codec.specs.declared.packet.Body.TheVariants.{Call, Prepare, Promise, Accept, Accepted, Decided, Ask}
-use Rattle.rp_codec.specs.declared.packet.Body.TheVariants.{Nack, Reply as Answer, Report, PrepareRange, PromiseRange}
+use Rattle.rp_codec.specs.declared.packet.Body.TheVariants.{Call, Prepare, Promise, Accept}
+use Rattle.rp_codec.specs.declared.packet.Body.TheVariants.{Accepted, Decided, Ask, Nack}
+use Rattle.rp_codec.specs.declared.packet.Body.TheVariants.{Reply as Answer, Report, PrepareRange}
+use Rattle.rp_codec.specs.declared.packet.Body.TheVariants.{PromiseRange}
 use Rattle.rp_base.specs.declared.fault.Fault.{Fault}
 use Rattle.rp_base.specs.declared.fault.Fault.TheVariants.{OutOfMemory, Device, NotRunning}
 use Rattle.rp_model.specs.Answers.{Describes, IsLeft}
 use Rattle.rp_model.specs.Events.{Restart}
 use Rattle.rp_model.specs.Effect.{Setting}
-use Rattle.rp_model.specs.World.{World, Transition, part_at, delivers, delivery_is_cut, delivery_writes, receiver_of}
+use Rattle.rp_model.specs.World.{World, Transition, part_at, delivers, delivery_is_cut}
+use Rattle.rp_model.specs.World.{delivery_writes, receiver_of}
 use Rattle.rp_model.specs.declared.effect.Effect.{Effect}
 use Rattle.rp_world.specs.Failures.{RisesOnly}
 
 -- it happened, and was reported
-pub record Goes (w : World) (effect : Result Transition Fault) (new : World) (stated : Effect) : Type 0 where
+pub record Goes (w : World) (effect : Result Transition Fault) (new : World) (stated : Effect)
+    : Type 0 where
   pub transition : Transition
   pub resulted : effect ≡ Ok transition
   pub world : new ≡ transition.world
   pub describes : Describes (length w.sent) transition stated
 
 -- memory ran out for it, and nothing changed
-pub record RunsOut (w : World) (effect : Result Transition Fault) (new : World) (fault : Fault) : Type 0 where
+pub record RunsOut (w : World) (effect : Result Transition Fault) (new : World) (fault : Fault)
+    : Type 0 where
   pub memory : fault ≡ OutOfMemory
   pub intended : Transition
   pub resulted : effect ≡ Ok intended
@@ -36,36 +42,43 @@ pub record Fails (cut : ℕ → Result Transition Fault) (new : World) (fault : 
   pub world : new ≡ transition.world
 
 -- it is refused so, and nothing changed
-pub record Refuses (w : World) (effect : Result Transition Fault) (new : World) (fault : Fault) : Type 0 where
+pub record Refuses (w : World) (effect : Result Transition Fault) (new : World) (fault : Fault)
+    : Type 0 where
   pub resulted : effect ≡ Err fault
   pub unchanged : new ≡ w
 
 -- what a call answers that has an effect, where a failing device cuts it so
-abbrev pub Answers : World → Result Transition Fault → (ℕ → Result Transition Fault) → World → Result Effect Fault
+abbrev pub Answers : World → Result Transition Fault → (ℕ → Result Transition Fault) → World
+    → Result Effect Fault
     → Type 0
 Answers w effect cut new (Ok stated) = Goes w effect new stated
-Answers w effect cut new (Err fault) = Refuses w effect new fault ⊎ (RunsOut w effect new fault ⊎ Fails cut new fault)
+Answers w effect cut new (Err fault) =
+    Refuses w effect new fault ⊎ (RunsOut w effect new fault ⊎ Fails cut new fault)
 
 -- what a stop answers, which takes no memory and has no device: it happened, or was refused
 abbrev pub AnswersStop : World → Result Transition Fault → World → Result Effect Fault → Type 0
 AnswersStop w effect new (Ok stated) = Goes w effect new stated
 AnswersStop w effect new (Err fault) = Refuses w effect new fault
 
--- after an answer the counts of failures are as before; where it is a fault of a device, this is so, and the
--- count of this node alone rose
+-- after an answer the counts of failures are as before; where it is a fault of a device, this is
+-- so, and the count of this node alone rose
 abbrev pub Counts : {A : Type 0} → Type 0 → Option ℕ → List ℕ → List ℕ → Result A Fault → Type 0
 Counts why me old new (Ok stated) = new ≡ old
 Counts why me old new (Err Device) = why × RisesOnly me old new
 Counts why me old new (Err _) = new ≡ old
 
 -- what a delivery answers of the message of this number
-abbrev pub AnswersDelivery : {S : Type 0} → Setting S → World → ℕ → World → Result Effect Fault → Type 0
+abbrev pub AnswersDelivery : {S : Type 0} → Setting S → World → ℕ → World → Result Effect Fault
+    → Type 0
 AnswersDelivery setting w number new result =
     let message = part_at w.sent number in
-    Answers w (delivers setting w message) (λ kept. delivery_is_cut setting w message kept) new result
+    Answers w (delivers setting w message) (λ kept. delivery_is_cut setting w message kept) new
+    result
 
--- after it the counts of failures are as before, but where the device failed of its node, that writes a record then
-abbrev pub CountsDelivery : {S A : Type 0} → Setting S → World → ℕ → List ℕ → List ℕ → Result A Fault → Type 0
+-- after it the counts of failures are as before, but where the device failed of its node, that
+-- writes a record then
+abbrev pub CountsDelivery : {S A : Type 0} → Setting S → World → ℕ → List ℕ → List ℕ
+    → Result A Fault → Type 0
 CountsDelivery setting w number old new result =
     let message = part_at w.sent number in
     Counts (IsSome (delivery_writes setting w message)) (receiver_of message) old new result
@@ -87,9 +100,11 @@ pub record StartsNot (w : World) (me : ℕ) (effect : Result Transition Fault) (
   pub resulted : effect ≡ Ok intended
   pub left : IsLeft w (Restart me) new
 
-abbrev pub AnswersRestart : World → ℕ → Result Transition Fault → World → Result Effect Fault → Type 0
+abbrev pub AnswersRestart : World → ℕ → Result Transition Fault → World → Result Effect Fault
+    → Type 0
 AnswersRestart w me effect new (Ok stated) = Goes w effect new stated
-AnswersRestart w me effect new (Err fault) = Refuses w effect new fault ⊎ StartsNot w me effect new fault
+AnswersRestart w me effect new (Err fault) =
+    Refuses w effect new fault ⊎ StartsNot w me effect new fault
 
 -- the number and the reply in a body, if it is a reply
 abbrev pub reply_in : Body → Option (ℕ × Reply)

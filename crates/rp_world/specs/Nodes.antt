@@ -1,7 +1,7 @@
--- A node of a cluster: a replica that runs, or the device of a stopped node. A replica whose device failed is stopped
--- too.
-use Rattle.std.specs.Prelude.{◌≡◌, ◌⊎◌, ℕ, ◌+◌, ◌<◌, min, Bool, true, false, Option, None, IsSome, Result, Ok, Err}
-use Rattle.std.specs.Prelude.{List, ◌++◌, length}
+-- A node of a cluster: a replica that runs, or the device of a stopped node. A replica whose device
+-- failed is stopped too.
+use Rattle.std.specs.Prelude.{◌≡◌, ◌⊎◌, ℕ, ◌+◌, ◌<◌, min, Bool, true, false, Option, None, IsSome}
+use Rattle.std.specs.Prelude.{Result, Ok, Err, List, ◌++◌, length}
 use Rattle.rp_base.specs.declared.action.Action.{Action}
 use Rattle.rp_base.specs.declared.reply.Answer.{Answer}
 use Rattle.rp_base.specs.declared.fault.Fault.TheVariants.{OutOfMemory, Device}
@@ -31,7 +31,8 @@ abbrev pub member_of : {S : Type 0} → ℕ → Config → S → Member S
 member_of me config begin = record { me = me; config = config; begin = begin }
 
 -- a replica that runs is the part of the member, and its device holds nothing but its records
-pub record RunsAs {S : Type 0} (member : Member S) (replica : ReplicaState S) (part : NodePart) : Type 0 where
+pub record RunsAs {S : Type 0} (member : Member S) (replica : ReplicaState S) (part : NodePart)
+    : Type 0 where
   pub node : replica.me ≡ member.me
   pub config : replica.config ≡ member.config
   pub begin : replica.begin ≡ member.begin
@@ -46,13 +47,17 @@ pub record RestsAs (most : ℕ) (disk : Disk) (part : NodePart) : Type 0 where
   pub stopped : part.running ≡ None
 
 -- what all nodes of its cluster share
-abbrev pub setting_at : {S : Type 0} → (S → Action → S) → (S → Action → List Answer) → Member S → Setting S
-setting_at next answers member = record { config = member.config; next = next; answers = answers; begin = member.begin }
+abbrev pub setting_at : {S : Type 0} → (S → Action → S) → (S → Action → List Answer) → Member S
+    → Setting S
+setting_at next answers member =
+    record { config = member.config; next = next; answers = answers; begin = member.begin }
 
 -- the result of an input for its part
-abbrev pub node_step : {S : Type 0} → (S → Action → S) → (S → Action → List Answer) → Member S → NodeInput → NodePart
+abbrev pub node_step : {S : Type 0} → (S → Action → S) → (S → Action → List Answer) → Member S
+    → NodeInput → NodePart
     → Result (Done NodePart) Fault
-node_step next answers member input part = node_effect (setting_at next answers member) member.me part input
+node_step next answers member input part =
+    node_effect (setting_at next answers member) member.me part input
 
 -- the result of a step is no refusal
 abbrev pub IsNotRefused : Result (Done NodePart) Fault → Type 0
@@ -67,26 +72,31 @@ RepresentsWhile member replica part true = RestsAs member.config.max_positions r
 -- the node is the part of the member
 abbrev pub Represents : {S D P : Type 0} → (D → Disk) → Member S → Node S D P → NodePart → Type 0
 Represents disk member (Running replica) part = RepresentsWhile member replica part replica.failed
-Represents disk member (Stopped device) part = RestsAs member.config.max_positions (disk device) part
+Represents disk member (Stopped device) part =
+    RestsAs member.config.max_positions (disk device) part
 
 module _ {S D P : Type 0} (disk : D → Disk) (member : Member S) (old new : Node S D P) where
   -- a step of the node is this effect on its part, and is reported
-  abbrev pub GoesBy : {A : Type 0} → (NodePart → Result (Done NodePart) Fault) → (A → Done NodePart → Type 0) → A
+  abbrev pub GoesBy : {A : Type 0} → (NodePart → Result (Done NodePart) Fault)
+      → (A → Done NodePart → Type 0) → A
       → Type 0
   GoesBy effect describes answer =
       (part : NodePart) → Represents disk member old part
-      → (done : Done NodePart) × (effect part ≡ Ok done) × Represents disk member new done.part × describes answer done
+      → (done : Done NodePart) × (effect part ≡ Ok done) × Represents disk member new done.part
+      × describes answer done
 
   -- a step of the node is a cut of this effect, where n bytes of its record are kept
   abbrev pub IsCutBy : ℕ → (NodePart → Result (Done NodePart) Fault) → Type 0
   IsCutBy kept effect =
       (part : NodePart) → Represents disk member old part
-      → (done : Done NodePart) × (effect part ≡ Ok done) × Represents disk member new (cut_part kept part done.written)
+      → (done : Done NodePart) × (effect part ≡ Ok done)
+      × Represents disk member new (cut_part kept part done.written)
 
   -- or the effect refuses it, and nothing changes
   abbrev pub RefusedBy : (NodePart → Result (Done NodePart) Fault) → Fault → Type 0
   RefusedBy effect fault =
-      (part : NodePart) → Represents disk member old part → (effect part ≡ Err fault) × Represents disk member new part
+      (part : NodePart) → Represents disk member old part → (effect part ≡ Err fault)
+      × Represents disk member new part
 
   -- or some of the torn bytes are gone, from the end
   abbrev pub IsLeftTorn : Type 0
@@ -94,8 +104,9 @@ module _ {S D P : Type 0} (disk : D → Disk) (member : Member S) (old new : Nod
       (part : NodePart) → Represents disk member old part
       → (kept : ℕ) × Represents disk member new (record part { torn = min kept part.torn })
 
-  -- Or the step was not taken: it is refused, and nothing changes; or memory ran out for it, and nothing changes; or
-  -- the device failed, and the step, which writes a record, is cut with some of the record's bytes kept.
+  -- Or the step was not taken: it is refused, and nothing changes; or memory ran out for it, and
+  -- nothing changes; or the device failed, and the step, which writes a record, is cut with some of
+  -- the record's bytes kept.
   abbrev pub NotTaken : (NodePart → Result (Done NodePart) Fault) → Fault → Type 0
   NotTaken effect fault =
       (part : NodePart) → Represents disk member old part
@@ -121,7 +132,8 @@ IsCounted old new (Err _) = new ≡ old
 
 -- the node is stopped
 abbrev pub IsResting : {S D P : Type 0} → (D → Disk) → Member S → Node S D P → Type 0
-IsResting disk member node = (part : NodePart) → Represents disk member node part → part.running ≡ None
+IsResting disk member node =
+    (part : NodePart) → Represents disk member node part → part.running ≡ None
 
 -- nothing else is reported
 abbrev pub DescribesNothing : Unit {0} → Done NodePart → Type 0
@@ -132,7 +144,8 @@ abbrev pub DescribesOpened : Option (ℕ × ℕ) → Done NodePart → Type 0
 DescribesOpened opened done = opened ≡ done.opened
 
 -- the packets that the step sends are after those that were sent before
-pub record DescribesSending (before after : List Message) (dropped : Dropped) (done : Done NodePart) : Type 0 where
+pub record DescribesSending (before after : List Message) (dropped : Dropped) (done : Done NodePart)
+    : Type 0 where
   pub sent : after ≡ before ++ done.sends
   pub is_dropped : dropped ≡ done.dropped
   pub nothing : (done.taken ≡ None) × (done.opened ≡ None)

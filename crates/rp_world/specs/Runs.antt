@@ -11,13 +11,16 @@ use Rattle.rp_world.specs.Failures.{AreCounted}
 use Rattle.rp_world.specs.Steps.{Setup, IsSameSetup, setting_of}
 use Rattle.rp_world.specs.declared.effect.Refused.{Refused}
 
-module _ {S P : Type 0} (next : S → Action → S) (answers : S → Action → List Answer) (start : P → S) where
+module _ {S P : Type 0} (next : S → Action → S) (answers : S → Action → List Answer) (start : P
+    → S) where
   -- the events happen, and lead to this world
   abbrev pub LeadsTo : Setup P → List Event → World → Type 0
-  LeadsTo old events world = Happen (setting_of next answers start old) old.world (map event_of events) world
+  LeadsTo old events world =
+      Happen (setting_of next answers start old) old.world (map event_of events) world
 
   -- The events before a place happen, and the event there is answered by a fault.
-  pub record StopsAt (old : Setup P) (events : List Event) (left : World) (place : ℕ) (fault : Fault) : Type 0 where
+  pub record StopsAt (old : Setup P) (events : List Event) (left : World) (place : ℕ)
+      (fault : Fault) : Type 0 where
     pub stopped : World
     pub event : Event
     pub before : LeadsTo old (take place events) stopped
@@ -29,18 +32,21 @@ module _ {S P : Type 0} (next : S → Action → S) (answers : S → Action → 
   ResultsIn old events new (Ok all) = LeadsTo old events new
   ResultsIn old events new (Err refused) = StopsAt old events new refused.place refused.fault
 
-  -- The counts of failures after a run: as before, but that of one node where its device failed, at the event
-  -- where the run stopped.
-  abbrev pub AreCountedBy : (old : Setup P) (events : List Event) (new : Setup P) (answer : Result Unit Refused)
+  -- The counts of failures after a run: as before, but that of one node where its device failed, at
+  -- the event where the run stopped.
+  abbrev pub AreCountedBy : (old : Setup P) (events : List Event) (new : Setup P)
+      (answer : Result Unit Refused)
       → ResultsIn old events new.world answer → Type 0
   AreCountedBy old events new (Ok all) resulted = new.failures ≡ old.failures
   AreCountedBy old events new (Err refused) resulted =
       let fault : Result Unit Fault = Err refused.fault in
-      AreCounted (node_of resulted.stopped (event_of resulted.event)) old.failures new.failures fault
+      AreCounted (node_of resulted.stopped (event_of resulted.event)) old.failures new.failures
+      fault
 
-  -- A run of a cluster: its world goes by the events; the counts of failures stay, but where a device failed;
-  -- and all else stays.
-  pub record IsRun (old : Setup P) (events : List Event) (new : Setup P) (answer : Result Unit Refused) : Type 0 where
+  -- A run of a cluster: its world goes by the events; the counts of failures stay, but where a
+  -- device failed; and all else stays.
+  pub record IsRun (old : Setup P) (events : List Event) (new : Setup P)
+      (answer : Result Unit Refused) : Type 0 where
     pub world : ResultsIn old events new.world answer
     pub setup : IsSameSetup old new
     pub failures : AreCountedBy old events new answer world

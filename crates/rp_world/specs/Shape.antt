@@ -1,6 +1,6 @@
 -- How memory holds a cluster, and what is true of its fields.
-use Rattle.std.specs.Prelude.{◌≡◌, ℕ, zero, suc, ◌-◌, Bool, true, false, nat_lt, if◌then◌else◌, IfSome, None, Ok, Err}
-use Rattle.std.specs.Prelude.{List, [], ◌∷◌, length, map, slice_get}
+use Rattle.std.specs.Prelude.{◌≡◌, ℕ, zero, suc, ◌-◌, Bool, true, false, nat_lt, if◌then◌else◌}
+use Rattle.std.specs.Prelude.{IfSome, None, Ok, Err, List, [], ◌∷◌, length, map, slice_get}
 use Rattle.rp_base.specs.Config.{IsRightConfig}
 use Rattle.rp_base.specs.declared.config.Config.{Config}
 use Rattle.rp_base.specs.declared.record.Rec.{Rec}
@@ -67,22 +67,26 @@ module _ {S D P : Type 0} (disk : D → Disk) (most : ℕ) where
       record { nodes = map part_by nodes; tasks = map (λ t. t.part) tasks; sent = messages.sent }
 
 -- Each node is one of this cluster, in order, and each of the eight tasks is the one of its number.
-pub record IsWorld {S D P : Type 0} (disk : D → Disk) (config : Config) (begin : S) (nodes : List (Node S D P))
+pub record IsWorld {S D P : Type 0} (disk : D → Disk) (config : Config) (begin : S)
+    (nodes : List (Node S D P))
     (tasks : List Caller) : Type 0 where
   pub right : IsRightConfig config
   pub size : length nodes ≡ config.nodes
   pub members : (place : ℕ)
       → IfSome (slice_get nodes place)
-      (λ node. Represents disk (member_of (suc place) config begin) node (part_by disk config.max_positions node))
+      (λ node. Represents disk (member_of (suc place) config begin) node
+      (part_by disk config.max_positions node))
   pub eight : length tasks ≡ 8
   pub numbered : (place : ℕ) → IfSome (slice_get tasks place) (λ t. t.task ≡ suc place)
 
 -- each node is a fresh one of this cluster, and there are as many as nodes
-pub record AreFresh {S D P : Type 0} (disk : D → Disk) (config : Config) (begin : S) (nodes : List (Node S D P))
+pub record AreFresh {S D P : Type 0} (disk : D → Disk) (config : Config) (begin : S)
+    (nodes : List (Node S D P))
     : Type 0 where
   pub size : length nodes ≡ config.nodes
   pub each : (place : ℕ)
-      → IfSome (slice_get nodes place) (λ node. Represents disk (member_of (suc place) config begin) node fresh_node)
+      → IfSome (slice_get nodes place)
+      (λ node. Represents disk (member_of (suc place) config begin) node fresh_node)
 
 -- the eight tasks, which called nothing
 pub record AreFreshTasks (tasks : List Caller) : Type 0 where
@@ -91,8 +95,8 @@ pub record AreFreshTasks (tasks : List Caller) : Type 0 where
       → IfSome (slice_get tasks place)
       (λ t. let fresh : Caller = record { task = suc place; part = fresh_task } in t ≡ fresh)
 
--- Its world satisfies the invariant by which nodes agree and replies are the order's, and its numbers are within
--- their ranges.
+-- Its world satisfies the invariant by which nodes agree and replies are the order's, and its
+-- numbers are within their ranges.
 pub record IsCluster {S : Type 0} (s : Setting S) (world : World) : Type 0 where
   pub right : IsRightConfig s.config
   pub kept : IsKeptWorld s world

@@ -1,6 +1,7 @@
 -- A cluster as one value, and what a step of it answers.
 use Rattle.std.specs.Borrow.{Bor}
-use Rattle.std.specs.Prelude.{◌≡◌, ◌⊎◌, Result, Ok, Err, ℕ, Option, Some, None, List, IsOkAnd, IsSome}
+use Rattle.std.specs.Prelude.{◌≡◌, ◌⊎◌, Result, Ok, Err, ℕ, Option, Some, None, List, IsOkAnd}
+use Rattle.std.specs.Prelude.{IsSome}
 use Rattle.rp_base.specs.declared.action.Action.{Action}
 use Rattle.rp_base.specs.declared.config.Config.{Config}
 use Rattle.rp_base.specs.declared.fault.Fault.{Fault}
@@ -19,8 +20,8 @@ use Rattle.rp_replica.specs.State.{ReplicaState}
 use Rattle.rp_world.specs.Failures.{AreCounted}
 use Rattle.rp_world.specs.Nodes.{stored_length}
 
--- a cluster: its configuration, the program that its nodes run, its world, and how often the device of each
--- node has failed, in order of nodes
+-- a cluster: its configuration, the program that its nodes run, its world, and how often the device
+-- of each node has failed, in order of nodes
 pub record Setup (P : Type 0) : Type 0 where
   pub config : Config
   pub program : P
@@ -32,29 +33,36 @@ pub record IsSameSetup {P : Type 0} (old new : Setup P) : Type 0 where
   pub config : new.config ≡ old.config
   pub program : new.program ≡ old.program
 
-module _ {S P : Type 0} (next : S → Action → S) (answers : S → Action → List Answer) (start : P → S) where
+module _ {S P : Type 0} (next : S → Action → S) (answers : S → Action → List Answer) (start : P
+    → S) where
   -- what the nodes of a cluster share
   abbrev pub setting_of : Setup P → Setting S
-  setting_of c = record { config = c.config; next = next; answers = answers; begin = start c.program }
+  setting_of c =
+      record { config = c.config; next = next; answers = answers; begin = start c.program }
 
-  -- A step of a cluster: its world goes by the event; the counts of failures stay, but that of the event's node
-  -- where a device failed; and all else stays.
-  pub record IsStep (old : Setup P) (event : Event) (new : Setup P) (answer : Result Effect Fault) : Type 0 where
+  -- A step of a cluster: its world goes by the event; the counts of failures stay, but that of the
+  -- event's node where a device failed; and all else stays.
+  pub record IsStep (old : Setup P) (event : Event) (new : Setup P) (answer : Result Effect Fault)
+      : Type 0 where
     pub world : Steps (setting_of old) old.world (event_of event) new.world answer
     pub setup : IsSameSetup old new
     pub failures : AreCounted (node_of old.world (event_of event)) old.failures new.failures answer
 
 -- the same of a part that runs or is stopped
-abbrev pub IsRunningQueryAnswer : {A : Type 0} → Result A Fault → (A → List Rec → Type 0) → List Rec → Option Running
+abbrev pub IsRunningQueryAnswer : {A : Type 0} → Result A Fault → (A → List Rec → Type 0) → List Rec
+    → Option Running
     → Type 0
 IsRunningQueryAnswer answer describes records None = answer ≡ Err NotRunning
-IsRunningQueryAnswer answer describes records (Some running) = IsOkAnd answer (λ a. describes a records)
+IsRunningQueryAnswer answer describes records (Some running) =
+    IsOkAnd answer (λ a. describes a records)
 
--- A question about a node's records: answered for a running node, refused by NotRunning at a stopped one and by
--- BadConfig where there is no such node.
-abbrev pub IsQueryAnswer : {A : Type 0} → Result A Fault → (A → List Rec → Type 0) → Option NodePart → Type 0
+-- A question about a node's records: answered for a running node, refused by NotRunning at a
+-- stopped one and by BadConfig where there is no such node.
+abbrev pub IsQueryAnswer : {A : Type 0} → Result A Fault → (A → List Rec → Type 0) → Option NodePart
+    → Type 0
 IsQueryAnswer answer describes None = answer ≡ Err BadConfig
-IsQueryAnswer answer describes (Some part) = IsRunningQueryAnswer answer describes part.records part.running
+IsQueryAnswer answer describes (Some part) =
+    IsRunningQueryAnswer answer describes part.records part.running
 
 -- there is such a node, and it runs
 abbrev pub Runs : Option NodePart → Type 0
@@ -62,7 +70,8 @@ Runs None = ⊥
 Runs (Some part) = IsSome part.running
 
 -- the same, but for a node that runs memory may run out
-abbrev pub IsQueryAnswerUnlessMemory : {A : Type 0} → Result A Fault → (A → List Rec → Type 0) → Option NodePart
+abbrev pub IsQueryAnswerUnlessMemory : {A : Type 0} → Result A Fault → (A → List Rec → Type 0)
+    → Option NodePart
     → Type 0
 IsQueryAnswerUnlessMemory answer describes part =
     ((answer ≡ Err OutOfMemory) × Runs part) ⊎ IsQueryAnswer answer describes part
@@ -72,7 +81,10 @@ abbrev pub IsStored : Result ℕ Fault → Option NodePart → Type 0
 IsStored answer None = answer ≡ Err BadConfig
 IsStored answer (Some part) = answer ≡ Ok (stored_length part)
 
--- the replica of a node that runs: refused by NotRunning at a stopped one, and by BadConfig where there is none
-abbrev pub IsReplicaOf : {S : Type 0} → Config → S → Result (Bor (ReplicaState S)) Fault → Option NodePart → Type 0
+-- the replica of a node that runs: refused by NotRunning at a stopped one, and by BadConfig where
+-- there is none
+abbrev pub IsReplicaOf : {S : Type 0} → Config → S → Result (Bor (ReplicaState S)) Fault
+    → Option NodePart → Type 0
 IsReplicaOf config begin answer part =
-    IsQueryAnswer answer (λ replica records. (replica.now.begin ≡ begin) × (replica.now.records ≡ records)) part
+    IsQueryAnswer answer (λ replica records. (replica.now.begin ≡ begin)
+    × (replica.now.records ≡ records)) part

@@ -11,7 +11,8 @@ pub set_of_mapped : {A B : Type 0} (f : A → B) (xs : List A) → IsSet (map f 
 set_of_mapped f [] s = tt
 set_of_mapped f (x ∷ xs) s = ((λ h. s.0 (has_mapped f x xs h)), set_of_mapped f xs s.1)
 
-pub set_right : {A B : Type 0} (f : A → B) (xs ys : List A) → IsSet (map f (xs ++ ys)) → IsSet (map f ys)
+pub set_right : {A B : Type 0} (f : A → B) (xs ys : List A) → IsSet (map f (xs ++ ys))
+    → IsSet (map f ys)
 set_right f [] ys s = s
 set_right f (x ∷ xs) ys s = set_right f xs ys s.1
 

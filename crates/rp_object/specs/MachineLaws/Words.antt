@@ -1,6 +1,6 @@
 -- Numbers in a text: where a number ends at a blank or at the end of a line, it can be read off.
-use Rattle.std.proofs.Common.{◌≡◌, ◌⊎◌, inl, inr, ℕ, suc, ◌<◌, ◌^◌, ℤ, pos, negsuc, List, [], ◌∷◌, ◌++◌, decimal}
-use Rattle.std.proofs.Common.{FitsSigned, w64, refl, sym, ◌∙◌, subst, arith}
+use Rattle.std.proofs.Common.{◌≡◌, ◌⊎◌, inl, inr, ℕ, suc, ◌<◌, ◌^◌, ℤ, pos, negsuc, List, [], ◌∷◌}
+use Rattle.std.proofs.Common.{◌++◌, decimal, FitsSigned, w64, refl, sym, ◌∙◌, subst, arith}
 use Rattle.std.proofs.lemmas.List.{append_assoc}
 use Rattle.std.proofs.lemmas.Fmt.{decimal_is_IsNumeral, decimal_injective, signed_decimal_injective}
 use Rattle.std.specs.List.{AllByRecursion}
@@ -27,7 +27,8 @@ abbrev IsWord : List ℕ → Type 0
 IsWord text = AllByRecursion (λ c. ¬ IsGap c) text
 
 -- where words end, equal texts have equal first words
-split_word : (xs ys s t : List ℕ) → IsWord xs → IsWord ys → EndsWord s → EndsWord t → xs ++ s ≡ ys ++ t
+split_word : (xs ys s t : List ℕ) → IsWord xs → IsWord ys → EndsWord s → EndsWord t
+    → xs ++ s ≡ ys ++ t
     → (xs ≡ ys) × (s ≡ t)
 split_word [] [] s t p q u v e = (refl, e)
 split_word [] (y ∷ ys) [] t p q u v e = absurd u
@@ -62,7 +63,8 @@ signed_word (pos n) small = decimal_word n (omega (arith, small))
 signed_word (negsuc n) small = (minus_no_gap, decimal_word (suc n) (omega (arith, small)))
 
 -- a number that fits 64 signed bits
-pub read_signed : (x y : ℤ) (s t : List ℕ) → FitsSigned w64 x → FitsSigned w64 y → EndsWord s → EndsWord t
+pub read_signed : (x y : ℤ) (s t : List ℕ) → FitsSigned w64 x → FitsSigned w64 y → EndsWord s
+    → EndsWord t
     → signed_decimal x ++ s ≡ signed_decimal y ++ t → (x ≡ y) × (s ≡ t)
 read_signed x y s t p q u v e =
     let both = split_word (signed_decimal x) (signed_decimal y) s t (signed_word x p.sfits)
@@ -75,7 +77,8 @@ pub read_count : (m n : ℕ) (s t : List ℕ) → m < 2 ^ 32 → n < 2 ^ 32 → 
 read_count m n s t p q u v e =
     let small : m < 2 ^ 64 = omega (arith, p) in
     let too : n < 2 ^ 64 = omega (arith, q) in
-    let both = split_word (decimal m) (decimal n) s t (decimal_word m small) (decimal_word n too) u v e in
+    let both =
+    split_word (decimal m) (decimal n) s t (decimal_word m small) (decimal_word n too) u v e in
     (decimal_injective m n small too both.0, both.1)
 
 -- brackets moved to the right

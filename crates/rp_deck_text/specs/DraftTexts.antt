@@ -15,5 +15,5 @@ at_object d before o = record d { drafts = before ++ o ∷ [] }
 abbrev pub Declares : DraftText → List (List (List ℕ)) → DraftText → Type 0
 Declares d lines after =
     (last number : ℕ) (rest : List LineText)
-    → declarations_from last d (numbered_lines number lines ++ rest) ≡ declarations_from last after
-    rest
+    → declarations_from last d (numbered_lines number lines ++ rest)
+    ≡ declarations_from last after rest

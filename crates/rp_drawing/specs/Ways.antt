@@ -62,8 +62,8 @@ module _ (rows : List Row) where
     pub row : Row
     pub there : slice_get rows way.sent ≡ Some row
     pub after : row.moment.before < number
-    pub sending_is : slice_get row.moment.sends.items (number - suc row.moment.before) ≡ Some
-        way.sending
+    pub sending_is : slice_get row.moment.sends.items (number - suc row.moment.before)
+        ≡ Some way.sending
     pub line_is : way.line ≡ row.line
 
   -- no moment among the first ones settles the message of this number

@@ -98,8 +98,8 @@ module _ {S : Type 0} (s : Setting S) (stage : Stage) where
   -- the packets that a moment sends are the messages after those that were sent before it
   pub record IsStepFrom (w : World) (step : HistoryStep) : Type 0 where
     pub before : step.moment.before ≡ length w.sent
-    pub sends : step.moment.sends.items ≡ map (sending_of stage)
-        (drop (length w.sent) step.after.sent)
+    pub sends : step.moment.sends.items
+        ≡ map (sending_of stage) (drop (length w.sent) step.after.sent)
     pub happens : HappensBy w step.event step.after step.moment.ending
 
   -- steps lead from one world to another

@@ -202,5 +202,5 @@ abbrev pub Decides : {S : Type 0} → (S → Action → S) → (S → Action →
     → List ℕ → Plan → Plan → Bool → Type 0
 Decides next answers server bytes before after false = after ≡ before
 Decides next answers server bytes before after true = MayCommit server after
-    × (Ok (turn_of next answers server after) ≡ effect_if_given next answers server
-    (packet_given (all_of bytes)))
+    × (Ok (turn_of next answers server after)
+    ≡ effect_if_given next answers server (packet_given (all_of bytes)))

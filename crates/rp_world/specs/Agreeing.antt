@@ -46,8 +46,8 @@ pub record Agree {S : Type 0} (next : S → Action → S) (answers : S → Actio
   pub applied : EachTwo now later
       (λ one other. AreAlike (applied_of one.records) (applied_of other.records))
   pub states : EachTwo now later (λ one other. AreLevel one other
-      → replay_of next answers begin (applied_of one.records) ≡ replay_of next answers begin
-      (applied_of other.records))
+      → replay_of next answers begin (applied_of one.records)
+      ≡ replay_of next answers begin (applied_of other.records))
   pub images : EachTwo now later (λ one other. AreLevel one other
       → image (replay_state next answers begin (applied_of one.records))
       ≡ image (replay_state next answers begin (applied_of other.records)))

@@ -18,5 +18,5 @@ caller_of task calls replies =
 -- The stub is the task's own, and has made the calls that have replies and the one that waits.
 pub record IsInStep (task : ℕ) (calls : Calls) (replies : List Answer) : Type 0 where
   pub own : calls.task ≡ task
-  pub made : calls.made ≡ calls_so_far
-      (record { outstanding = calls.outstanding; replies = replies })
+  pub made : calls.made
+      ≡ calls_so_far (record { outstanding = calls.outstanding; replies = replies })

@@ -72,8 +72,8 @@ abbrev pub AnswersDelivery : {S : Type 0} → Setting S → World → ℕ → Wo
     → Type 0
 AnswersDelivery setting w number new result =
     let message = part_at w.sent number in
-    Answers w (delivers setting w message) (λ kept. delivery_is_cut setting w message kept) new
-    result
+    Answers w (delivers setting w message)
+    (λ kept. delivery_is_cut setting w message kept) new result
 
 -- after it the counts of failures are as before, but where the device failed of its node, that
 -- writes a record then

@@ -61,10 +61,6 @@ module _ {P : Type 0} where
   pub later_same : (old new : SeatState P) → new ≡ old → IsLater old new 0
   later_same old new is = later_part old new old.part is refl refl
 
-  fetch_later : (fetched : Option (List ℕ)) (from to : Party) (old new : SeatState P) → MayFetch fetched from to old new → IsLater old new 0
-  fetch_later None from to old new f = later_same old new f
-  fetch_later (Some text) from to old new f = later_part old new (with_got f.packet old.part) f.after refl refl
-
   -- ---- one after the other
 
   pub later_on : (a b c : SeatState P) (m n : ℕ) → IsLater a b m → IsLater b c n → IsLater a c (m + n)
@@ -96,6 +92,10 @@ module _ {P : Type 0} where
   refused_later old new fault refuses (inr (inr (inr refused))) = refused.1
 
 module _ {S P : Type 0} (next : S → Action → S) (answers : S → Action → List Answer) (begin : P → S) where
+  fetch_later : (fetched : Option (List ℕ)) (from to : Party) (old new : SeatState P) → MayFetch next answers begin fetched from to old new → IsLater old new 0
+  fetch_later None from to old new f = later_same old new f.0
+  fetch_later (Some text) from to old new f = later_part old new (with_got f.packet old.part) f.after refl refl
+
   -- ---- one step
 
   stepped_runs : (old stepped new : SeatState P) (input : Input) (sent : Sent) → IsTurn next answers begin old input stepped sent → HasOnlyPut stepped new → Runs new.part

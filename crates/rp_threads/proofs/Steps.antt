@@ -129,7 +129,7 @@ module _ {S P : Type 0} (next : S → Action → S) (answers : S → Action → 
 
   -- ---- what was brought, and the work after it
 
-  module _ (from : Party) (lead : Bool) (old new : SeatState P) (line after : Line) (between : SeatState P) (full : Line) (brought : IsBrought from (Node old.number) old between line full)
+  module _ (from : Party) (lead : Bool) (old new : SeatState P) (line after : Line) (between : SeatState P) (full : Line) (brought : IsBrought next answers begin from (Node old.number) old between line full)
       (gives : after ≡ line_after full) where
     pub is_turn : (result : Result TurnResult Fault) → IfOk result (λ turned. turned.turn ≡ turn_of (given_on full) lead)
         → IfOk result (λ turned. Works next answers begin (given_on full) lead between new turned.packets)

@@ -54,8 +54,8 @@ module _ {S P : Type 0} (next : S → Action → S) (answers : S → Action → 
   stays_on : (old new : SeatState P) (so_far : Calls) → new ≡ old → IsMadeOn old new so_far so_far
   stays_on old new so_far is = (same_seat old new is, subst (λ (c : SeatState P). HasMade calls c so_far.made so_far.waits) (sym is))
 
-  fetch_made : (fetched : Option (List ℕ)) (from to : Party) (old new : SeatState P) (so_far : Calls) → MayFetch fetched from to old new → IsMadeOn old new so_far so_far
-  fetch_made None from to old new so_far f = stays_on old new so_far f
+  fetch_made : (fetched : Option (List ℕ)) (from to : Party) (old new : SeatState P) (so_far : Calls) → MayFetch next answers begin fetched from to old new → IsMadeOn old new so_far so_far
+  fetch_made None from to old new so_far f = stays_on old new so_far f.0
   fetch_made (Some text) from to old new so_far f =
       (same_part old new _ f.after, fetched_made calls old new f.packet so_far.made so_far.waits f.after)
 
@@ -74,7 +74,7 @@ module _ {S P : Type 0} (next : S → Action → S) (answers : S → Action → 
   made_then a b c x y z ab bc = (same_on a b c ab.0 bc.0, λ made. bc.1 (ab.1 made))
 
   module _ (nodes : ℕ) where
-    hears_on : (turn : ℕ) (old : TaskAt P) (new : SeatState P) (line : Line) (so_far : Calls) → IsHeard nodes calls turn old new line so_far
+    hears_on : (turn : ℕ) (old : TaskAt P) (new : SeatState P) (line : Line) (so_far : Calls) → IsHeard next answers begin nodes calls turn old new line so_far
         → IsMadeOn old.seat new old.so_far so_far
     hears_on turn old new line so_far h =
         subst (λ (c : Calls). IsMadeOn old.seat new old.so_far c) (sym h.counts)
@@ -205,7 +205,7 @@ module _ {S P : Type 0} (next : S → Action → S) (answers : S → Action → 
     IsUnmadeOn first new fault = IsSameSeat first new.seat × HasMade calls new.seat new.so_far.made new.so_far.waits × IsTaskFault nodes calls first new.so_far.made fault
 
     module _ (turn : ℕ) (first : SeatState P) (old new : TaskAt P) (fault : Fault) (same : IsSameSeat first old.seat) (h : HasMade calls old.seat old.so_far.made old.so_far.waits) where
-      fetched_on : (fetched : Option (List ℕ)) → MayFetch fetched (Node (node_at nodes turn)) (Task old.seat.number) old.seat new.seat → new.so_far ≡ old.so_far → fault ≡ OutOfMemory → IsUnmadeOn first new fault
+      fetched_on : (fetched : Option (List ℕ)) → MayFetch next answers begin fetched (Node (node_at nodes turn)) (Task old.seat.number) old.seat new.seat → new.so_far ≡ old.so_far → fault ≡ OutOfMemory → IsUnmadeOn first new fault
       fetched_on fetched f counts memory =
           let on = fetch_made fetched (Node (node_at nodes turn)) (Task old.seat.number) old.seat new.seat old.so_far f in (
             same_on first old.seat new.seat same on.0,
@@ -213,7 +213,7 @@ module _ {S P : Type 0} (next : S → Action → S) (answers : S → Action → 
             memory_fault first new.so_far.made fault memory,
           )
 
-      pub unmade_on : 1 ≤ nodes → IsUnmadeTurn nodes calls turn old new fault → IsUnmadeOn first new fault
+      pub unmade_on : 1 ≤ nodes → IsUnmadeTurn next answers begin nodes calls turn old new fault → IsUnmadeOn first new fault
       unmade_on some (untaken lost counts) = fetched_on (Some lost.packet) lost.fetch counts lost.memory
       unmade_on some (unheard u) = fetched_on u.brought.fetched u.brought.fetch u.counts u.memory
       unmade_on some (unasked u) =
@@ -263,7 +263,7 @@ module _ {S P : Type 0} (next : S → Action → S) (answers : S → Action → 
           }
 
       pub task_ended : (done : ℕ) (before last : TaskAt P) (fault : Fault) → 1 ≤ nodes → AreTaskTurns next answers begin gate_heard nodes calls (before_calls seat line) done before → done < turns
-          → gate_heard before.seat.number (suc done) → IsUnmadeTurn nodes calls (suc done) before last fault → IsEnd (task_end_of last (Some fault))
+          → gate_heard before.seat.number (suc done) → IsUnmadeTurn next answers begin nodes calls (suc done) before last fault → IsEnd (task_end_of last (Some fault))
       task_ended done before last fault some are within heard unmade =
           let on = turns_on gate_heard (before_calls seat line) done before are in
           let left = unmade_on (suc done) seat before last fault on.0 (on.1 (none_made calls seat fresh)) some unmade in
@@ -284,13 +284,13 @@ module _ {S P : Type 0} (next : S → Action → S) (answers : S → Action → 
 -- ---- one turn, by its steps
 
 module _ {S P : Type 0} (next : S → Action → S) (answers : S → Action → List Answer) (begin : P → S) (nodes : ℕ) (calls : List TaskCall) (turn : ℕ) (old new : TaskAt P) where
-  module _ (between : SeatState P) (full : Line) (node : ℕ) (is : node ≡ node_at nodes turn) (brought : IsBrought (Node node) (Task old.seat.number) old.seat between old.line full)
+  module _ (between : SeatState P) (full : Line) (node : ℕ) (is : node ≡ node_at nodes turn) (brought : IsBrought next answers begin (Node node) (Task old.seat.number) old.seat between old.line full)
       (heard : SeatState P) (so_far : Calls) (answered : Bool) (hears : Hears (given_on full) between heard answered) (gives : new.line ≡ line_after full) (counts : so_far ≡ heard_by answered turn old.so_far) where
-    is_heard : IsHeard nodes calls turn old heard new.line so_far
+    is_heard : IsHeard next answers begin nodes calls turn old heard new.line so_far
     is_heard = record {
       between = between;
       full = full;
-      brought = subst (λ (n : ℕ). IsBrought (Node n) (Task old.seat.number) old.seat between old.line full) is brought;
+      brought = subst (λ (n : ℕ). IsBrought next answers begin (Node n) (Task old.seat.number) old.seat between old.line full) is brought;
       answered = answered;
       hears = hears;
       gives = gives;
@@ -301,16 +301,16 @@ module _ {S P : Type 0} (next : S → Action → S) (answers : S → Action → 
         → IsTaskTurnOf next answers begin nodes calls turn old new
     turn_made lost asks made = record { heard = heard; so_far = so_far; hears = is_heard; lost = lost; asks = asks; counts = made }
 
-    pub turn_unmade : (fault : Fault) → new.so_far ≡ so_far → IsRefused (asked_in nodes calls turn so_far) heard new.seat fault → IsUnmadeTurn nodes calls turn old new fault
+    pub turn_unmade : (fault : Fault) → new.so_far ≡ so_far → IsRefused (asked_in nodes calls turn so_far) heard new.seat fault → IsUnmadeTurn next answers begin nodes calls turn old new fault
     turn_unmade fault stays refused = unasked (record {
       heard = heard;
-      hears = subst (λ (c : Calls). IsHeard nodes calls turn old heard new.line c) (sym stays) is_heard;
+      hears = subst (λ (c : Calls). IsHeard next answers begin nodes calls turn old heard new.line c) (sym stays) is_heard;
       refused = subst (λ (c : Calls). IsRefused (asked_in nodes calls turn c) heard new.seat fault) (sym stays) refused;
     })
 
   -- the packet that was fetched is lost
   pub turn_lost : (node : ℕ) (fault : Fault) → node ≡ node_at nodes turn → IsLost (Node node) (Task old.seat.number) old.seat new.seat old.line new.line fault → new.so_far ≡ old.so_far
-      → IsUnmadeTurn nodes calls turn old new fault
+      → IsUnmadeTurn next answers begin nodes calls turn old new fault
   turn_lost node fault is lost stays = untaken (subst (λ (n : ℕ). IsLost (Node n) (Task old.seat.number) old.seat new.seat old.line new.line fault) is lost) stays
 
 -- ---- what is asked, once a task waits for none

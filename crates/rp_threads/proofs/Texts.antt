@@ -2,12 +2,15 @@
 use Rattle.std.proofs.Common.{◌≡◌, ◌≢◌, ◌⊎◌, ℕ, Option, Some, None, Vec, Global, Result, Ok, Err, List, [], ◌∷◌, ◌++◌, inl, inr, refl, sym, ap, subst, ◌∙◌}
 use Rattle.std.specs.Prelude.{OnOk, OnErr, IfSome, IfNone, IsSome, option_map}
 use Rattle.rp_base.specs.Sets.{Has}
+use Rattle.rp_base.specs.declared.action.Action.{Action}
 use Rattle.rp_base.specs.declared.fault.Fault.{Fault}
 use Rattle.rp_base.specs.declared.fault.Fault.TheVariants.{OutOfMemory}
+use Rattle.rp_base.specs.declared.reply.Answer.{Answer}
 use Rattle.rp_base.proofs.Members.{has_left}
 use Rattle.rp_codec.specs.Message.{Message}
 use Rattle.rp_codec.specs.declared.packet.Party.{Party}
 use Rattle.rp_tasks.specs.Line.{Line, word_of, drawn, accepted, picked, released}
+use Rattle.rp_boxes.specs.Moments.{WasNotFull}
 use Rattle.rp_boxes.specs.Seats.{SeatState, IsFetched}
 use Rattle.rp_threads.specs.Lines.{IsTextAmong, HoldsTextsOf, line_with, given_on, left_of}
 use Rattle.rp_threads.specs.Turns.{MayFetch, IsBrought, IsLost}
@@ -75,21 +78,25 @@ abbrev pub fetched_text : Option (Vec ℕ Global) → Option (List ℕ)
 fetched_text = option_map (λ (packet : Vec ℕ Global). packet.items)
 
 module _ {P : Type 0} (from to : Party) (old new : SeatState P) where
-  may_fetch : (found : Option (Vec ℕ Global)) → IfSome found (λ packet. IsFetched from to packet.items old new) → IfNone found (new ≡ old) → MayFetch (fetched_text found) from to old new
-  may_fetch (Some packet) some none = some
-  may_fetch None some none = none
-
   pub fetched_held : (found : Option (Vec ℕ Global)) → IfSome found (λ packet. IsFetched from to packet.items old new) → IfNone found (new ≡ old) → {A : Type 0} (line after : Line) (result : Result A Fault)
       → OnOk result (after ≡ line_with (fetched_text found) line) → OnErr result (after ≡ line) → KeepsAccepted → HoldsTextsOf old.part.got line → HoldsTextsOf new.part.got after
   fetched_held (Some packet) f none line after result ok err keeps holds = accepted_holds from to packet.items old new line f holds after result keeps ok err
   fetched_held None some same line after (Ok x) ok err keeps holds = got_holds same ok holds
   fetched_held None some same line after (Err e) ok err keeps holds = got_holds same err holds
 
-module _ {P : Type 0} {from to : Party} {old new : SeatState P} where
-  pub is_brought : (found : Option (Vec ℕ Global)) → IfSome found (λ packet. IsFetched from to packet.items old new) → IfNone found (new ≡ old) → (line after : Line)
-      → after ≡ line_with (fetched_text found) line → IsBrought from to old new line after
-  is_brought found some none line after takes = record { fetched = fetched_text found; fetch = may_fetch from to old new found some none; takes = takes }
+-- the party is that of the seat's number
+module _ {S P : Type 0} (next : S → Action → S) (answers : S → Action → List Answer) (begin : P → S) (party : ℕ → Party) {from : Party} {old new : SeatState P} where
+  may_fetch : (found : Option (Vec ℕ Global)) → IfSome found (λ packet. IsFetched from (party old.number) packet.items old new) → IfNone found (new ≡ old)
+      → IfNone found (WasNotFull next answers begin from (party new.number) new) → MayFetch next answers begin (fetched_text found) from (party old.number) old new
+  may_fetch (Some packet) some none missed = some
+  may_fetch None some none missed = (none, subst (λ (k : ℕ). WasNotFull next answers begin from (party k) new) (ap (λ (seat : SeatState P). seat.number) none) missed)
 
+  pub is_brought : (found : Option (Vec ℕ Global)) → IfSome found (λ packet. IsFetched from (party old.number) packet.items old new) → IfNone found (new ≡ old)
+      → IfNone found (WasNotFull next answers begin from (party new.number) new) → (line after : Line)
+      → after ≡ line_with (fetched_text found) line → IsBrought next answers begin from (party old.number) old new line after
+  is_brought found some none missed line after takes = record { fetched = fetched_text found; fetch = may_fetch found some none missed; takes = takes }
+
+module _ {P : Type 0} {from to : Party} {old new : SeatState P} where
   pub is_lost : (found : Option (Vec ℕ Global)) → IfSome found (λ packet. IsFetched from to packet.items old new) → (line after : Line) (fault : Fault) → after ≡ line → IsSome found → fault ≡ OutOfMemory
       → IsLost from to old new line after fault
   is_lost None some line after fault same found only = absurd (cc)

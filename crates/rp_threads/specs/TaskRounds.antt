@@ -106,14 +106,15 @@ IsTaskFault nodes calls seat made BadConfig =
     (seat.config.nodes < nodes) ⊎ IsBadCall seat.config seat.number calls made
 IsTaskFault nodes calls seat made _ = ⊥
 
-module _ {P : Type 0} (nodes : ℕ) (calls : List TaskCall) where
+module _ {S P : Type 0} (next : S → Action → S) (answers : S → Action → List Answer)
+    (begin : P → S) (nodes : ℕ) (calls : List TaskCall) where
   -- What a task fetches and takes in a turn: it fetches from the next node in rotation.
   pub record IsHeard (turn : ℕ) (old : TaskAt P) (new : SeatState P) (line : Line)
       (so_far : Calls) : Type 0 where
     pub between : SeatState P
     pub full : Line
-    pub brought : IsBrought (Node (node_at nodes turn)) (Task old.seat.number)
-        old.seat between old.line full
+    pub brought : IsBrought next answers begin (Node (node_at nodes turn))
+        (Task old.seat.number) old.seat between old.line full
     pub answered : Bool
     pub hears : Hears (given_on full) between new answered
     pub gives : line ≡ line_after full
@@ -122,8 +123,8 @@ module _ {P : Type 0} (nodes : ℕ) (calls : List TaskCall) where
   -- The turn was not made: the packet that the link passed on is lost, because memory ran out.
   pub record IsUnheard (turn : ℕ) (old new : TaskAt P) (fault : Fault) : Type 0 where
     pub full : Line
-    pub brought : IsBrought (Node (node_at nodes turn)) (Task old.seat.number)
-        old.seat new.seat old.line full
+    pub brought : IsBrought next answers begin (Node (node_at nodes turn))
+        (Task old.seat.number) old.seat new.seat old.line full
     pub gives : new.line ≡ line_after full
     pub memory : fault ≡ OutOfMemory
     pub counts : new.so_far ≡ old.so_far
@@ -134,23 +135,20 @@ module _ {P : Type 0} (nodes : ℕ) (calls : List TaskCall) where
     pub hears : IsHeard turn old heard new.line new.so_far
     pub refused : IsRefused (asked_in nodes calls turn new.so_far) heard new.seat fault
 
--- Why the turn with this number was not made: memory ran out for the packet that was fetched, or
--- for the one that the link passed on; or what the task asks is refused.
-pub data IsUnmadeTurn {P : Type 0} (nodes : ℕ) (calls : List TaskCall) (turn : ℕ)
-    (old new : TaskAt P) (fault : Fault) : Type 0 where
-  untaken : IsLost (Node (node_at nodes turn)) (Task old.seat.number)
-      old.seat new.seat old.line new.line fault
-      → new.so_far ≡ old.so_far → IsUnmadeTurn nodes calls turn old new fault
-  unheard : IsUnheard nodes calls turn old new fault → IsUnmadeTurn nodes calls turn old new fault
-  unasked : IsUnasked nodes calls turn old new fault → IsUnmadeTurn nodes calls turn old new fault
+  -- Why the turn with this number was not made: memory ran out for the packet that was fetched, or
+  -- for the one that the link passed on; or what the task asks is refused.
+  pub data IsUnmadeTurn (turn : ℕ) (old new : TaskAt P) (fault : Fault) : Type 0 where
+    untaken : IsLost (Node (node_at nodes turn)) (Task old.seat.number)
+        old.seat new.seat old.line new.line fault
+        → new.so_far ≡ old.so_far → IsUnmadeTurn turn old new fault
+    unheard : IsUnheard turn old new fault → IsUnmadeTurn turn old new fault
+    unasked : IsUnasked turn old new fault → IsUnmadeTurn turn old new fault
 
-module _ {S P : Type 0} (next : S → Action → S) (answers : S → Action → List Answer)
-    (begin : P → S) (nodes : ℕ) (calls : List TaskCall) where
   -- The turn with this number.
   pub record IsTaskTurnOf (turn : ℕ) (old new : TaskAt P) : Type 0 where
     pub heard : SeatState P
     pub so_far : Calls
-    pub hears : IsHeard nodes calls turn old heard new.line so_far
+    pub hears : IsHeard turn old heard new.line so_far
     pub lost : ℕ
     pub asks : Asks next answers begin (asked_in nodes calls turn so_far) heard new.seat lost
     pub counts : new.so_far ≡ with_lost lost (asked_for calls so_far)
@@ -174,4 +172,4 @@ module _ {S P : Type 0} (next : S → Action → S) (answers : S → Action → 
     pub before : TaskAt P
     pub made : AreTaskTurns first done before
     pub heard : gate_heard before.seat.number (suc done)
-    pub unmade : IsUnmadeTurn nodes calls (suc done) before last fault
+    pub unmade : IsUnmadeTurn next answers begin nodes calls (suc done) before last fault

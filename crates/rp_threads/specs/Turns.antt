@@ -16,7 +16,7 @@ use Rattle.rp_rules.specs.declared.input.Input.TheVariants.{Receive, Lead, LeadR
 use Rattle.rp_rules.specs.declared.input.Input.TheVariants.{Tick, Report}
 use Rattle.rp_replica.specs.declared.sent.Sent.{Sent}
 use Rattle.rp_tasks.specs.Line.{Line}
-use Rattle.rp_boxes.specs.Moments.{WasPut, WasInUse}
+use Rattle.rp_boxes.specs.Moments.{WasPut, WasInUse, WasNotFull}
 use Rattle.rp_boxes.specs.Parts.{Part}
 use Rattle.rp_boxes.specs.Seats.{SeatState, IsFetched, IsPut, IsTurn, IsCutTurn, IsNoTurn}
 use Rattle.rp_threads.specs.Lines.{line_with, given_on, line_after}
@@ -27,18 +27,18 @@ use Rattle.rp_threads.specs.declared.turns.TurnResult.{TurnResult}
 
 -- ---- what arrives
 
--- a packet with this text was fetched, or none was
-abbrev pub MayFetch : {P : Type 0} → Option (List ℕ) → Party → Party → SeatState P → SeatState P
-    → Type 0
-MayFetch None from to old new = new ≡ old
-MayFetch (Some text) from to old new = IsFetched from to text old new
+module _ {S P : Type 0} (next : S → Action → S) (answers : S → Action → List Answer)
+    (begin : P → S) where
+  -- a packet with this text was fetched; or none was, and the box was not full
+  abbrev pub MayFetch : Option (List ℕ) → Party → Party → SeatState P → SeatState P → Type 0
+  MayFetch None from to old new = (new ≡ old) × WasNotFull next answers begin from to new
+  MayFetch (Some text) from to old new = IsFetched from to text old new
 
--- The link took the packet that was fetched, if one was.
-pub record IsBrought {P : Type 0} (from to : Party) (old new : SeatState P) (line after : Line)
-    : Type 0 where
-  pub fetched : Option (List ℕ)
-  pub fetch : MayFetch fetched from to old new
-  pub takes : after ≡ line_with fetched line
+  -- The link took the packet that was fetched, if one was.
+  pub record IsBrought (from to : Party) (old new : SeatState P) (line after : Line) : Type 0 where
+    pub fetched : Option (List ℕ)
+    pub fetch : MayFetch fetched from to old new
+    pub takes : after ≡ line_with fetched line
 
 -- A packet was fetched, and the link was out of memory for it: the packet is lost, and the link
 -- does not change.
@@ -189,7 +189,7 @@ module _ {S P : Type 0} (next : S → Action → S) (answers : S → Action → 
       (turned : TurnResult) : Type 0 where
     pub between : SeatState P
     pub full : Line
-    pub brought : IsBrought from (Node old.number) old between line full
+    pub brought : IsBrought next answers begin from (Node old.number) old between line full
     pub turn : turned.turn ≡ turn_of (given_on full) lead
     pub works : Works (given_on full) lead between new turned.packets
     pub gives : after ≡ line_after full
@@ -200,6 +200,6 @@ module _ {S P : Type 0} (next : S → Action → S) (answers : S → Action → 
       (line after : Line) (fault : Fault) : Type 0 where
     pub between : SeatState P
     pub full : Line
-    pub brought : IsBrought from (Node old.number) old between line full
+    pub brought : IsBrought next answers begin from (Node old.number) old between line full
     pub fails : Fails (given_on full) lead between new fault
     pub gives : after ≡ line_after full

@@ -224,7 +224,7 @@ impl<M: Machine> Caller<M> {
         ensures held { HoldsTextsOf self.new.seat.part.got self.new.link }
         ensures ok { OnOk result (IsTaskTurnOf M.next M.answers M.begin nodes calls.now turn
             (caller_at self.old) (caller_at self.new)) }
-        ensures err { IfErr result (IsUnmadeTurn nodes calls.now turn
+        ensures err { IfErr result (IsUnmadeTurn M.next M.answers M.begin nodes calls.now turn
             (caller_at self.old) (caller_at self.new)) }
     {
         gives_what_it_took();

@@ -41,7 +41,7 @@ returns-in-Err g c =
     let after = c.turn.new.self in
     let before : TaskAt g.row.M-Program.Denot = caller_at caller in
     let last : TaskAt g.row.M-Program.Denot = caller_at after in
-    let unmade = subst (λ (n : ℕ). IsUnmadeTurn a.nodes a.calls.now n before last c.in-Err.fault) (add-one done) c.in-Err.ensures.err in
+    let unmade = subst (λ (n : ℕ). IsUnmadeTurn m.next m.answers m.begin a.nodes a.calls.now n before last c.in-Err.fault) (add-one done) c.in-Err.ensures.err in
     subst (IsTaskLooped m.next m.answers m.begin heard a.nodes a.options.turns a.calls.now a.seat a.line) (sym c.ended.ensures)
     (task_ended m.next m.answers m.begin a.calls.now a.nodes heard a.options.turns a.seat a.line c.requires.fresh done before last c.in-Err.fault c.requires.nodes.0 c.loop-done.invariant.turns
     (omega (arith, c.loop-done-test.true)) (subst (heard before.seat.number) (add-one done) (subst (λ (k : ℕ). heard k (done + 1)) c.number.ensures c.before_task.ensures)) unmade)

@@ -22,7 +22,7 @@ returns-clause-ok g c =
     let w = c.work in
     let line = c.take_fetched.new.line in
     is_turn m.next m.answers m.begin c.args.from c.args.lead c.args.seat.now w.new.seat c.args.line.now w.new.line f.new.self line
-    (is_brought f.result f.ensures.some f.ensures.none c.args.line.now line c.in_ok-take_fetched.ensures.ok) w.ensures.line w.result w.ensures.turn w.ensures.ok
+    (is_brought m.next m.answers m.begin Node f.result f.ensures.some f.ensures.none f.ensures.missed c.args.line.now line c.in_ok-take_fetched.ensures.ok) w.ensures.line w.result w.ensures.turn w.ensures.ok
 
 pub returns-clause-err : goal.returns-clause-err
 returns-clause-err g c =
@@ -31,7 +31,7 @@ returns-clause-err g c =
     let w = c.work in
     let line = c.take_fetched.new.line in
     is_stopped m.next m.answers m.begin c.args.from c.args.lead c.args.seat.now w.new.seat c.args.line.now w.new.line f.new.self line
-    (is_brought f.result f.ensures.some f.ensures.none c.args.line.now line c.in_ok-take_fetched.ensures.ok) w.ensures.line w.result w.ensures.err
+    (is_brought m.next m.answers m.begin Node f.result f.ensures.some f.ensures.none f.ensures.missed c.args.line.now line c.in_ok-take_fetched.ensures.ok) w.ensures.line w.result w.ensures.err
 
 pub returns-in_err-take_fetched-clause-held : goal.returns-in_err-take_fetched-clause-held
 returns-in_err-take_fetched-clause-held g c =

@@ -20,7 +20,7 @@ returns-clause-ok g c =
     let line = c.take_fetched.new.line in
     let lost = c.in_ok-lost.lost in
     turn_made m.next m.answers m.begin a.nodes a.calls.now a.turn old new f.new.self line c.node_in_turn.result c.node_in_turn.ensures
-    (is_brought f.result f.ensures.some f.ensures.none self.link line c.in_ok-take_fetched.ensures.ok) c.hear.new.seat c.hear-2.new.self c.in_ok-answered.answered c.in_ok-answered.ensures.ok
+    (is_brought m.next m.answers m.begin Task f.result f.ensures.some f.ensures.none f.ensures.missed self.link line c.in_ok-take_fetched.ensures.ok) c.hear.new.seat c.hear-2.new.self c.in_ok-answered.answered c.in_ok-answered.ensures.ok
     (c.ask.ensures.link ∙ c.hear.ensures.line) c.hear-2.ensures lost c.in_ok-lost.ensures.ok (c.lose.ensures ∙ ap (with_lost lost) c.in_ok-lost.ensures.made)
 
 pub returns-in_err-lost-clause-err : goal.returns-in_err-lost-clause-err
@@ -34,9 +34,9 @@ returns-in_err-lost-clause-err g c =
     let line = c.take_fetched.new.line in
     let fault = c.in_err-lost.field-0.0 in
     let refused = c.in_err-lost.ensures.err in
-    at_fault (λ (e : Fault). IsUnmadeTurn a.nodes a.calls.now a.turn old new e) fault c.from_residual-in_err-lost.result c.from_residual-in_err-lost.ensures.1
+    at_fault (λ (e : Fault). IsUnmadeTurn m.next m.answers m.begin a.nodes a.calls.now a.turn old new e) fault c.from_residual-in_err-lost.result c.from_residual-in_err-lost.ensures.1
     (turn_unmade m.next m.answers m.begin a.nodes a.calls.now a.turn old new f.new.self line c.node_in_turn.result c.node_in_turn.ensures
-    (is_brought f.result f.ensures.some f.ensures.none self.link line c.in_ok-take_fetched.ensures.ok) c.hear.new.seat c.hear-2.new.self c.in_ok-answered.answered c.in_ok-answered.ensures.ok
+    (is_brought m.next m.answers m.begin Task f.result f.ensures.some f.ensures.none f.ensures.missed self.link line c.in_ok-take_fetched.ensures.ok) c.hear.new.seat c.hear-2.new.self c.in_ok-answered.answered c.in_ok-answered.ensures.ok
     (c.ask.ensures.link ∙ c.hear.ensures.line) c.hear-2.ensures fault refused.0 refused.1)
 
 pub hear-requires : goal.hear-requires

@@ -5,20 +5,28 @@ use Rattle.rp_base.specs.declared.fault.Fault.{Fault}
 use Rattle.rp_base.specs.declared.fault.Fault.TheVariants.{OutOfMemory}
 use Rattle.rp_base.specs.declared.reply.Answer.{Answer}
 use Rattle.rp_base.specs.declared.reply.Reply.{Reply}
+use Rattle.rp_codec.specs.Message.{Message, IsPacket}
+use Rattle.rp_codec.specs.Reading.{all_of}
+use Rattle.rp_codec.specs.Text.{text_of}
 use Rattle.rp_codec.specs.declared.packet.Party.{Party}
+use Rattle.rp_codec.proofs.Decoded.{whole_again}
 use Rattle.rp_model.specs.declared.effect.Dropped.TheVariants.{No}
 use Rattle.rp_model.specs.declared.effect.Effect.{Effect}
 use Rattle.rp_model.specs.Parts.{TaskPart}
 use Rattle.rp_model.specs.Tasks.{takes_reply}
 use Rattle.rp_model.specs.World.{World, with_part}
 use Rattle.rp_world.specs.Callers.{Caller}
-use Rattle.rp_world.specs.Going.{AnswersDelivery, reply_in}
+use Rattle.rp_world.specs.Going.{AnswersDelivery, reply_in, reply_read}
 use Rattle.rp_world.proofs.Fields.{Fields, as_seen, first_seen, setting, world, world_with, setting_by}
 use Rattle.rp_world.proofs.Hearing.{no_reply, reply_results, takes_it}
 use Rattle.rp_world.proofs.Messages.{SentTo}
 use Rattle.rp_world.proofs.Moving.{task_at, task_here, number_here, tasks_moved, tasks_stay}
 use Rattle.rp_world.proofs.Placing.{Found}
 use Rattle.rp_world.proofs.Reports.{stated_of}
+
+-- what is read of a packet's text is the packet's reply
+pub reply_of_text : (text : List ℕ) (m : Message) (read : Option (ℕ × Reply)) → IsPacket m → text ≡ text_of m → read ≡ reply_read (all_of text) → read ≡ reply_in m.body
+reply_of_text text m read packet is from = from ∙ ap (λ (bytes : List ℕ). reply_read (all_of bytes)) is ∙ ap reply_read (whole_again m packet)
 
 -- it is no reply, and changes nothing
 pub heard_no_reply : {S D P : Type 0} (f : Fields S D P) {number task : ℕ} (m : SentTo f.messages.sent number (Party.Task task)) → (1 ≤ task) × (task ≤ 8) → reply_in m.packet.body ≡ None

@@ -1,11 +1,14 @@
 -- What nodes have in common.
 use Rattle.std.specs.Prelude.{◌≡◌, ◌≤◌, ℕ, suc, Bool, true, false, nat_lt, Some, List, length}
-use Rattle.std.specs.Prelude.{slice_get}
+use Rattle.std.specs.Prelude.{slice_get, Option, ⊥}
 use Rattle.rp_base.specs.Records.{applied_of}
 use Rattle.rp_base.specs.Sets.{Has}
 use Rattle.rp_base.specs.declared.action.Action.{Action}
 use Rattle.rp_base.specs.declared.record.Rec.{Rec}
+use Rattle.rp_base.specs.declared.record.Vote.{Vote}
 use Rattle.rp_base.specs.declared.reply.Answer.{Answer}
+use Rattle.rp_codec.specs.declared.packet.Body.{Body}
+use Rattle.rp_codec.specs.declared.packet.Body.TheVariants.{Prepare, Accept, PrepareRange}
 use Rattle.rp_machine.specs.Calls.{CallName}
 use Rattle.rp_machine.specs.Places.{IsPlace, IsOnlyPlace, HasReply}
 use Rattle.rp_machine.specs.Replay.{replay_of, replay_state, kept_of}
@@ -15,6 +18,7 @@ use Rattle.rp_model.specs.Parts.{NodePart}
 use Rattle.rp_model.specs.Parts.{TaskPart}
 use Rattle.rp_agreement.specs.Answered.{named, calls_so_far, AreItsCalls}
 use Rattle.rp_agreement.specs.Justified as justified
+use Rattle.rp_agreement.specs.Justified.{Reports}
 use Rattle.rp_agreement.specs.Order.{IsPrefix, AreAlike}
 
 -- a node now and one later
@@ -36,6 +40,18 @@ HasWritten w x rec = (part : NodePart) × (part_at w.nodes x ≡ Some part) × H
 abbrev pub HasWrittenPromise : World → ℕ → ℕ → ℕ → Type 0
 HasWrittenPromise w x i b =
     (part : NodePart) × (part_at w.nodes x ≡ Some part) × justified.HasWritten part.records i b
+
+-- the records of the node of this number say so of its last vote at a position, below a ballot
+abbrev pub HasReported : World → ℕ → ℕ → ℕ → Option Vote → Type 0
+HasReported w x i b last =
+    (part : NodePart) × (part_at w.nodes x ≡ Some part) × Reports part.records i b last
+
+-- the packet asks in this ballot: for promises, at a position or a range, or for votes
+abbrev pub AsksIn : ℕ → Body → Type 0
+AsksIn b (Prepare position ballot) = ballot ≡ b
+AsksIn b (PrepareRange range ballot) = ballot ≡ b
+AsksIn b (Accept position ballot action) = ballot ≡ b
+AsksIn b _ = ⊥
 
 -- Of what two nodes have applied, the one now and the other later, one is a prefix of the other;
 -- and where they have applied equally many actions they are in one state, with the same answers

@@ -2,12 +2,14 @@
 use Rattle.std.specs.Prelude.{◌≡◌, ◌⊎◌, ℕ, Option, None, Some, Result, Ok, Err, List, length}
 use Rattle.std.specs.Prelude.{IsSome}
 use Rattle.rp_base.specs.declared.reply.Reply.{Reply}
+use Rattle.rp_codec.specs.Message.{Message}
 use Rattle.rp_codec.specs.declared.packet.Body.{Body}
 use Rattle.rp_codec.specs.declared.packet.Body.TheVariants.{Call, Prepare, Promise, Accept}
 use Rattle.rp_codec.specs.declared.packet.Body.TheVariants.{Accepted, Decided, Ask, Nack}
 use Rattle.rp_codec.specs.declared.packet.Body.TheVariants.{Reply as Answer, Report, PrepareRange}
 use Rattle.rp_codec.specs.declared.packet.Body.TheVariants.{PromiseRange}
 use Rattle.rp_base.specs.declared.fault.Fault.{Fault}
+use Rattle.rp_base.specs.declared.fault.PacketReason.{PacketReason}
 use Rattle.rp_base.specs.declared.fault.Fault.TheVariants.{OutOfMemory, Device, NotRunning}
 use Rattle.rp_model.specs.Answers.{Describes, IsLeft}
 use Rattle.rp_model.specs.Events.{Restart}
@@ -120,3 +122,8 @@ reply_in (Answer number reply) = Some (number, reply)
 reply_in (Report first applied actions) = None
 reply_in (PrepareRange range ballot) = None
 reply_in (PromiseRange range ballot votes) = None
+
+-- the same of bytes: of the packet that they encode, if they encode one
+abbrev pub reply_read : Result Message PacketReason → Option (ℕ × Reply)
+reply_read (Ok packet) = reply_in packet.body
+reply_read (Err reason) = None

@@ -9,15 +9,17 @@ ghost use Rattle.rp_machine.specs.Replay.{replay_state};
 ghost use Rattle.rp_base.specs.declared.action.Action.{Action};
 ghost use Rattle.rp_base.specs.declared.record.Rec.TheVariants as records;
 ghost use Rattle.rp_base.specs.declared.record.Vote.{Vote};
+ghost use Rattle.rp_codec.specs.declared.packet.Body.{Body};
 ghost use Rattle.rp_codec.specs.declared.packet.Body.TheVariants.{Decided};
 ghost use Rattle.rp_model.specs.Facts.{HasPromised, HasVoted, IsOffered, IsDecided, IsOrder};
-ghost use Rattle.rp_model.specs.Parts.{NodePart};
+ghost use Rattle.rp_model.specs.Parts.{NodePart, TaskPart};
 ghost use Rattle.rp_model.specs.World.{opening_world, part_at};
 ghost use Rattle.rp_agreement.specs.Decided.{IsCast};
+ghost use Rattle.rp_agreement.specs.Justified.{IsJustified};
 ghost use Rattle.rp_agreement.specs.Order.{AllSent, IsPrefix};
 ghost use Rattle.rp_agreement.specs.Asked.{Says};
 ghost use Rattle.rp_agreement.specs.Worlds.{node_in};
-ghost use Rattle.rp_world.specs.Agreeing.{Agree, HasWritten, HasWrittenPromise, IsOrdered};
+ghost use Rattle.rp_world.specs.Agreeing.{Agree, AsksIn, HasReported, HasWritten, HasWrittenPromise, IsOrdered};
 ghost use Rattle.rp_world.specs.Failures.{SomeHasFailed};
 ghost use Rattle.rp_world.specs.Going.{stated};
 ghost use Rattle.rp_world.specs.Runs.{IsRun};
@@ -28,9 +30,9 @@ use crate::effect::{Refused, no_effect};
 use crate::world::World;
 use rp_agreement::{
     applied_lists_are_alike, applied_lists_are_prefixes, calls_count_in_order, decisions_are_one,
-    decisions_stay, events_keep_ranges, events_keep_replies, offers_are_one, only_made_calls_count,
-    packets_say_so, replies_answer_calls_that_count, replies_follow_the_order, states_are_alike,
-    the_order_exists,
+    decisions_stay, events_keep_ranges, events_keep_replies, offers_are_one,
+    offers_follow_decisions, only_made_calls_count, packets_say_so,
+    replies_answer_calls_that_count, replies_follow_the_order, states_are_alike, the_order_exists,
 };
 use rp_base::{Answer, Config, Fault, NodeId, TaskId};
 use rp_machine::{Machine, a_call_has_one_place};
@@ -221,14 +223,18 @@ impl<M: Machine, D: CutDevice> Cluster<M, D> {
 
     /// What holds of every cluster, whatever happened to it: at most one action is decided at a
     /// position, whether votes are counted in what was sent or in what nodes wrote; in one ballot
-    /// at most one action is offered at a position; what a node has applied is a prefix of the
-    /// order; and a node has written the promise, the vote and the decision that it sent. It does
-    /// nothing: its contract is for the callers' proofs.
+    /// at most one action is offered at a position, in a higher ballot than one in which it was
+    /// decided the same (P2b), and only if a majority's promises justify it (P2c); what a node has
+    /// applied is a prefix of the order; and a node has written the ballot, the promise, the vote
+    /// and the decision that it sent, and its last vote was what it reported. It does nothing: its
+    /// contract is for the callers' proofs. Lamport, "Paxos Made Simple", section 2.2.
     pub fn agrees(&self)
         // claim: Of every cluster, at any moment: at a position one action at most is decided,
-        //   counted in packets or in records, and in one ballot one is offered; each node applied a
-        //   prefix of the order; a node has the record of each promise, vote and decision that it
-        //   sent
+        //   counted in packets or in records, and in one ballot one is offered; above a ballot in
+        //   which an action is decided it alone is; each offer is justified by the promises of a
+        //   majority; each node applied a prefix of the order; a node has the record of the ballot
+        //   of each proposal, of each promise, vote and decision that it sent, and a promise
+        //   reports its last vote
         ensures decided { (i : ℕ) (v w : Action)
             → IsDecided self.now.config.nodes self.now.world.sent i v
             → IsDecided self.now.config.nodes self.now.world.sent i w → v ≡ w }
@@ -237,13 +243,23 @@ impl<M: Machine, D: CutDevice> Cluster<M, D> {
             → IsCast self.now.config.nodes node i c w → v ≡ w }
         ensures offered { (i b : ℕ) (v w : Action) → IsOffered self.now.world.sent i b v
             → IsOffered self.now.world.sent i b w → v ≡ w }
+        ensures follows { let node = node_in self.now.world.nodes in (i b c : ℕ) (v w : Action)
+            → IsCast self.now.config.nodes node i b v → b < c
+            → IsOffered self.now.world.sent i c w → w ≡ v }
+        ensures justified { (i b : ℕ) (v : Action) → IsOffered self.now.world.sent i b v
+            → IsJustified self.now.config.nodes self.now.world.sent i b v }
         ensures applied { (order : List Action)
             → IsOrder self.now.config.nodes self.now.world.sent order
             → (x : ℕ) (part : NodePart) → part_at self.now.world.nodes x ≡ Some part
             → IsPrefix (applied_of part.records) order }
+        ensures started { (x b : ℕ) (body : Body) → Says self.now.world.sent x body
+            → AsksIn b body → HasWritten self.now.world x (records.Started b) }
         ensures promised { (x i b : ℕ) (last : Option Vote)
             → HasPromised self.now.world.sent x i b last
             → HasWrittenPromise self.now.world x i b }
+        ensures reported { (x i b : ℕ) (last : Option Vote)
+            → HasPromised self.now.world.sent x i b last
+            → HasReported self.now.world x i b last }
         ensures voted { (x i b : ℕ) (v : Action) → HasVoted self.now.world.sent x i b v
             → HasWritten self.now.world x (records.Voted i b v) }
         ensures learned { (x i : ℕ) (v : Action)
@@ -253,6 +269,7 @@ impl<M: Machine, D: CutDevice> Cluster<M, D> {
         self.is_kept();
         decisions_are_one();
         offers_are_one();
+        offers_follow_decisions();
         applied_lists_are_prefixes();
         packets_say_so();
     }
@@ -285,7 +302,8 @@ impl<M: Machine, D: CutDevice> Cluster<M, D> {
     /// The replies that a task got, in order.
     pub fn replies(&self, task: TaskId) -> &[Answer]
         // claim: The replies that a task got are returned, in order
-        ensures { IfSome (part_at self.now.world.tasks task) (λ part. result.now ≡ part.replies) }
+        ensures { (part : TaskPart) × (part_at self.now.world.tasks task ≡ Some part)
+            × (result.now ≡ part.replies) }
     {
         self.world.replies(task)
     }

@@ -7,6 +7,7 @@ ghost use Rattle.rp_base.specs.Sets.{Has};
 ghost use Rattle.rp_codec.specs.Message.{Message, IsPacket};
 ghost use Rattle.rp_codec.specs.declared.packet.Party.TheVariants.{Node, Task};
 ghost use Rattle.rp_codec.specs.Decoding.{IsLongText};
+ghost use Rattle.rp_codec.specs.Reading.{all_of};
 ghost use Rattle.rp_codec.specs.Text.{text_of};
 ghost use Rattle.rp_model.specs.Effect.{Done, NodeInput, Setting, node_effect};
 ghost use Rattle.rp_model.specs.Parts.{NodePart};
@@ -17,7 +18,7 @@ ghost use Rattle.rp_model.specs.World.{part_at, node_takes, node_is_cut, step_ef
 ghost use Rattle.rp_agreement.specs.Ranges.{IsRangedWorld};
 ghost use Rattle.rp_rules.specs.Inputs.{IsRightInput, given_by};
 ghost use Rattle.rp_world.specs.Choosing.{AreNodesOf, Chosen, IsRefused};
-ghost use Rattle.rp_world.specs.Going.{Answers, AnswersDelivery, Counts, CountsDelivery, reply_in, stated};
+ghost use Rattle.rp_world.specs.Going.{Answers, AnswersDelivery, Counts, CountsDelivery, reply_read, stated};
 ghost use Rattle.rp_world.specs.Steps.{IsStep, IsSameSetup, setting_of};
 
 use crate::effect::{no_effect, of_step, taken};
@@ -375,9 +376,9 @@ impl<M: Machine, D: CutDevice> World<M, D> {
 /// Decodes the number and the reply of a packet, if it is a reply. Only the text of a report or of
 /// a promise for a range takes memory.
 pub fn decode_reply(alloc: Global, text: &[u8]) -> Result<Option<(u32, Reply)>, AllocError>
-    // claim: The reply that a packet carries is read from its text; none is read where it carries none
-    ensures reply { IfOk result (λ stated. (m : Message) → IsPacket m → text.now ≡ text_of m
-        → stated ≡ reply_in m.body) }
+    // claim: The reply of a packet is read from its text of version 1 or 2; none is read where the
+    //   packet is no reply, or the bytes are no packet's
+    ensures reply { IfOk result (λ stated. stated ≡ reply_read (all_of text.now)) }
     ensures memory { OnErr result (IsLongText text.now) }
 {
     if let Ok(sent) = usual_reply(text) {

@@ -4,6 +4,7 @@ ghost use Rattle.std.specs.Prelude.{◌≡◌, ℕ, slice_get, ◌<◌, ◌≤�
 ghost use Rattle.rp_base.specs.Config.{IsRightConfig};
 ghost use Rattle.rp_base.specs.declared.fault.Fault.TheVariants as faults;
 ghost use Rattle.rp_codec.specs.Text.{text_of};
+ghost use Rattle.rp_model.specs.Parts.{TaskPart};
 ghost use Rattle.rp_model.specs.World.{opening_world, part_at};
 ghost use Rattle.rp_world.specs.Failures.{SomeHasFailed};
 ghost use Rattle.rp_world.specs.Nodes.{failures_in};
@@ -154,7 +155,8 @@ impl<M: Machine, D: CutDevice> World<M, D> {
 
     /// The replies that a task got, in order.
     pub(crate) fn replies(&self, task: TaskId) -> &[Answer]
-        ensures { IfSome (part_at self.now.world.tasks task) (λ part. result.now ≡ part.replies) }
+        ensures { (part : TaskPart) × (part_at self.now.world.tasks task ≡ Some part)
+            × (result.now ≡ part.replies) }
     {
         self.tasks[usize::from(task.get()) - 1].replies()
     }

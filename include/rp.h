@@ -4,7 +4,7 @@
  * Two threads may be in two calls at once, but not with one handle.
  *
  * A null pointer is refused by RP_NULL, and nothing has changed; rp_node_close and rp_task_close do
- * nothing then. Bytes of which there are none, and a buffer of no bytes, may be null. The inline functions
+ * nothing then. A pointer to bytes or to a buffer may be null if its length is 0. The inline functions
  * of this header look for that before they call the library's, which take no null.
  *
  * What a caller owes, for every call:
@@ -48,7 +48,7 @@ enum rp_status {
   RP_NULL = 69           /* a pointer is null; nothing has changed */
 };
 
-/* Why bytes are no packet. Exactly one of these is so of bytes that are none. */
+/* Why bytes are no packet. If they are not one, exactly one of these applies. */
 enum rp_packet_reason {
   RP_PACKET_SHORT = 1,   /* right fields, and then fewer bytes than the next field has */
   RP_PACKET_LONG = 2,    /* a packet, and then one byte or more */

@@ -72,7 +72,7 @@ impl Acceptor {
     }
 
     /// The acceptor that notes these records in order, with room at each position at which one of
-    /// them counts. `OutOfMemory` comes only if one of them is a promise or a vote, and then
+    /// them counts. `OutOfMemory` is returned only if one of them is a promise or a vote, and then
     /// there is no acceptor.
     pub fn restore(alloc: Global, records: &[Rec]) -> Result<Self, AllocError>
         // claim (restored): An acceptor that is restored is the one that noted the records in order
@@ -126,7 +126,7 @@ impl Acceptor {
     }
 
     /// Makes room, so that votes at this position can be noted, however many; it takes none for
-    /// promises. `OutOfMemory` comes only if there was no room yet, and then nothing has
+    /// promises. `OutOfMemory` is returned only if there was no room yet, and then nothing has
     /// changed.
     #[inline(always)]
     pub fn reserve_vote(&mut self, position: Position) -> Result<(), AllocError>
@@ -141,7 +141,7 @@ impl Acceptor {
     }
 
     /// Makes room, so that promises for this range can be noted, however many: two levels at most.
-    /// `OutOfMemory` comes only if there was no room yet, and then nothing has changed.
+    /// `OutOfMemory` is returned only if there was no room yet, and then nothing has changed.
     pub fn reserve_range(&mut self, range: PositionRange) -> Result<(), AllocError>
         // claim as Acceptor::reserve
         ensures ok { OnOk result (self.new ≡ reserves_range self.old range) }

@@ -1,4 +1,4 @@
-//! What a deck declares so far, and the lines by which it goes on.
+//! What a deck declares so far, and what each further line adds to it.
 
 ghost use Rattle.std.specs.Prelude.{◌≡◌, ◌≤◌, ◌<◌, ◌∷◌, ◌++◌, [], All, true, false, length, option_map, IfSome, IfOk, IfErr, OnOk};
 ghost use Rattle.indexmap.specs.IndexMap.{index_map_len};

@@ -2,7 +2,7 @@
 //!
 //! In reading order:
 //! - `declarations`: reads the declarations of a deck
-//! - `draft`: what a deck declares so far, and the lines by which it goes on
+//! - `draft`: what a deck declares so far, and what each further line adds to it
 //! - `program`: makes the program of what a deck declares
 //! - `deck_program`: what the tasks of a deck call
 #![tactic(auto)]

@@ -184,7 +184,7 @@ impl Learner {
         }
     }
 
-    /// Marks a position as settled, and lets go of the votes heard there. Above the window nothing
+    /// Marks a position as settled, and frees the votes counted there. Above the window nothing
     /// is marked.
     pub fn settled(&mut self, position: Position)
         ensures settled { Settles self.old position self.new }

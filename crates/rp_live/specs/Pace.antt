@@ -2,11 +2,11 @@
 use Rattle.std.specs.Prelude.{ℕ, Bool, not}
 use Rattle.rp_threads.specs.Loops.{is_to_lead}
 
--- in all but those in which it is to lead: it leads by its patience alone
+-- in all but those in which it is to lead: it leads only by its patience
 abbrev pub paced : ℕ → ℕ → Bool
 paced number turn = not (is_to_lead number turn)
 
--- what the gate hears of a turn of a node, and of a task, it keeps to itself
+-- of its calls after a turn of a node, and before one of a task, the gate states nothing
 abbrev pub heard : ℕ → ℕ → ℕ → Type 0
 heard number turn sent = Unit {0}
 

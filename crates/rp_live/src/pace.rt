@@ -21,7 +21,7 @@ const NODES: usize = MOST_NODES as usize;
 /// How many tasks there are.
 const TASKS: usize = MOST_TASKS as usize;
 
-/// The gate of a run. A node leads by its patience alone: the turns in which its loop would have it
+/// The gate of a run. A node leads only by its patience: the turns in which its loop would have it
 /// lead at the least position that is free for it are skipped. The threads of all nodes and tasks
 /// keep pace, so that none has made all its turns while another needs it. Each publishes the number
 /// of its turn in every eighth turn, and one that is more than 16 turns ahead of the slowest yields

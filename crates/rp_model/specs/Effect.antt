@@ -44,14 +44,14 @@ pub record Done (P : Type 0) : Type 0 where
   pub taken : Option Answer
   pub opened : Option (ℕ × ℕ)
 
--- the part goes on so, and nothing else results
+-- the part becomes this one, and nothing else results
 abbrev pub goes_on_as : {P : Type 0} → P → Done P
 goes_on_as part =
     record { part = part; written = None; sends = []; dropped = No; taken = None; opened = None }
 
 -- what a node may be given: a packet, the command to lead at a position or the least free one, the
--- command to lead at n positions from one on, an interrupt of a source, a tick, or the wish to
--- report
+-- command to lead at n positions from one on, an interrupt of a source, a tick, or a
+-- request to report
 pub data NodeInput : Type 0 where
   Receive : Message → NodeInput
   Lead : Option ℕ → NodeInput
@@ -82,8 +82,8 @@ running_effect s me records running (Tick now) = Ok (on_tick running now)
 running_effect s me records running (Report first) =
     Ok (sends running (report_of me first (applied_of records) ∷ []))
 
--- a turn takes effect: its record is written, then its packets are sent, and the node knows what it
--- knows
+-- a turn takes effect: its record is written, then its packets are sent, and the running part is
+-- updated
 abbrev pub turn_done : NodePart → Turn → Done NodePart
 turn_done part turn = record {
   part =

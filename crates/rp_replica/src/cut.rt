@@ -21,7 +21,7 @@ use std::alloc::Global;
 /// A step that was not cut short.
 #[derive(Drop)]
 pub enum NotCut<M: Machine, D: Device> {
-    /// The device failed. Some beginning of the step's record may be at its end.
+    /// The device failed. A prefix of the step's record may be at its end.
     Failed(D),
     /// Nothing has changed, and the step would be refused with this fault too.
     Refused(Fault, Replica<M, D>),

@@ -32,7 +32,7 @@ fn skip(records: &mut Vec<Rec>, max_positions: u16)
     records.retain(|rec| is_in_log(max_positions, rec));
 }
 
-/// What opening a device gives.
+/// The result of opening a device.
 #[derive(Drop)]
 pub struct Opening<M: Machine, D: Device> {
     pub replica: Replica<M, D>,

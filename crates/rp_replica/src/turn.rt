@@ -109,7 +109,7 @@ impl<M: Machine, D: Device> Replica<M, D> {
         Ok(plan.dropped())
     }
 
-    /// The packet of a place, from 0, among those that were sent comes: it is read where it lies, and
+    /// Handles the packet of a place, from 0, among those that were sent: it is read in place, and
     /// the packets of the step are put after the others.
     #[inline(always)]
     pub fn deliver(
@@ -133,7 +133,7 @@ impl<M: Machine, D: Device> Replica<M, D> {
         Ok(plan.dropped())
     }
 
-    /// A packet comes, as its text. Refused with `BadPacket` if the bytes are no packet's text, and
+    /// Handles a packet, given as its text. Refused with `BadPacket` if the bytes are no packet's text, and
     /// otherwise as `Replica` says. A packet that is for another node, from a node or for a position
     /// beyond the configuration, or in a ballot that its sender does not own, is dropped, and nothing
     /// happens.

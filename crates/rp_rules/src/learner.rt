@@ -1,4 +1,4 @@
-//! What a server decides that is asked what was decided, or hears of votes and decisions (Lamport,
+//! What a server decides that is asked what was decided, or gets votes and decisions (Lamport,
 //! "Paxos Made Simple", section 2.3).
 
 ghost use Rattle.std.specs.Prelude.{◌≡◌, ◌≤◌};

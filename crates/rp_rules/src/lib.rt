@@ -1,4 +1,4 @@
-//! The rules: what a server decides of an input. They read alone, and make a plan of it, which says all
+//! The rules: what a server decides of an input. They change nothing and make a plan of it, which says all
 //! that the step does.
 //!
 //! In reading order:

@@ -30,7 +30,7 @@ use rp_model::Dropped;
 use rp_server::Server;
 use std::alloc::Global;
 
-/// A packet comes, as its text: `BadPacket` if the bytes are no packet's, or `OutOfMemory` if a
+/// Handles a packet, given as its text: `BadPacket` if the bytes are no packet's, or `OutOfMemory` if a
 /// report or a promise for a range is read. Each usual kind has its function, in which reading the
 /// packet and the rule for it are compiled for that kind alone.
 #[inline(always)]

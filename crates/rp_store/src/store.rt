@@ -31,7 +31,7 @@ impl<D: Device> Model for Store<D> {
     ghost view = { λ s. record { device = s.device; failed = s.failed } };
 }
 
-/// What opening a device gives.
+/// The result of opening a device.
 #[derive(Drop)]
 pub struct Opened<D: Device> {
     pub store: Store<D>,

@@ -1,4 +1,4 @@
--- A faulty link, which loses, repeats and reorders packets as its words say. The words are the
+-- A faulty link, which loses, repeats and reorders packets by its random words. The words are the
 -- stream of ChaCha20 (RFC 8439, with a counter and a nonce of 64 bits each).
 use Rattle.std.specs.Prelude.{ℕ, ◌+◌, ◌-◌, ◌%◌, ◌^◌, min, nat_eq, nat_lt, Option, List, [], ◌++◌}
 use Rattle.std.specs.Prelude.{length, take, replicate, remove, slice_get, if◌then◌else◌}

@@ -22,7 +22,7 @@ const CASES: u32 = 16;
 const MOST_SPARES: usize = 4;
 
 /// A faulty link over the texts of packets. It holds at most 16. A random word of 32 bits decides
-/// whether a packet that it takes is lost or duplicated, and another which packet it gives out. The
+/// whether a packet that it takes is lost or duplicated, and another which packet it passes on. The
 /// words come from a seed, so the same faults can be produced again. The next word is computed
 /// before it is used, so memory for a second copy is asked for only if that word makes one.
 #[derive(Drop)]

@@ -79,7 +79,7 @@ impl Stub {
     }
 
     /// The task's next call, numbered one more than the last, which is outstanding from now on. The
-    /// caller sees to it that the object is 1 to 8 and the operation right. `TaskBusy` while a call
+    /// caller ensures that the object is 1 to 8 and the operation right. `TaskBusy` while a call
     /// is outstanding, or else `NumbersSpent` after number 2^32 - 1; both leave the stub as it was.
     pub fn call(&mut self, object: u8, operation: Operation, arg: i64) -> Result<Action, Fault>
         requires object { IsIndex object }

@@ -122,7 +122,7 @@ impl<M: Machine, D: CutDevice> Cluster<M, D> {
     }
 
     /// The same, but writes the effect to `effect`, so that none is copied; if the step is refused,
-    /// what is there has no meaning. Refused, it changes nothing:
+    /// its content is unspecified. Refused, it changes nothing:
     /// `NotRunning` for a stopped node, or if a cut delivery goes to no running node, `NoSuchMessage` for a number above the
     /// last, `TaskBusy` while the task's last call has no answer, `LogFull` and `BallotsSpent` for
     /// a leader, `NumbersSpent` for a task's last number, `BadConfig` for a node above the last, a
@@ -199,7 +199,7 @@ impl<M: Machine, D: CutDevice> Cluster<M, D> {
         ran
     }
 
-    /// The same, without the consequences; what was sent before the run is sent after it.
+    /// The same, without `agree` and `ordered`; what was sent before the run is sent after it.
     fn run_all(&mut self, alloc: Global, events: &[Event]) -> Result<(), Refused>
         ensures run { IsRun M.next M.answers M.begin self.old events.now self.new result }
         ensures sent { AllSent self.old.world.sent self.new.world.sent }

@@ -102,7 +102,7 @@ impl Task {
         self.replies.as_slice()
     }
 
-    /// A reply comes: it is taken where the call of this number waits, and ends it. Refused for memory,
+    /// Takes a reply where the call of this number waits, which ends it. Refused for memory,
     /// nothing changes.
     pub fn take(&mut self, number: u32, reply: Reply) -> Result<Option<Answer>, AllocError>
         ensures part { IfOk result (λ taken. self.new ≡ record self.old {

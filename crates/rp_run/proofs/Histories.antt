@@ -1,135 +1,192 @@
 -- The lines of a script lead from world to world by events.
 use Rattle.std.specs.Prelude.{All, nat_le, take}
-use Rattle.std.proofs.Common.{◌≡◌, ◌≤◌, ℕ, zero, suc, Bool, true, false, cond, ◌&&◌, length, arith, Option, Some, None, Result, Ok, Err, List, [], ◌∷◌, ◌++◌, inl, inr, refl, sym, subst}
+use Rattle.std.proofs.Common.{◌≡◌, ◌≢◌, ◌≤◌, ◌⊎◌, ℕ, zero, suc, Bool, true, false, cond, ◌&&◌, length, arith, Option, Some, None, Result, Ok, Err, List, [], ◌∷◌, ◌++◌, inl, inr, refl, sym, subst}
 use Rattle.rp_base.proofs.Members.{has_split}
 use Rattle.rp_base.specs.Config.{IsRightConfig}
 use Rattle.rp_base.specs.Sets.{Has}
+use Rattle.rp_base.specs.declared.action.Action.{Action}
+use Rattle.rp_base.specs.declared.action.Action.TheVariants as actions
+use Rattle.rp_base.specs.declared.action.Action.TheVariants.{Noop, Call}
 use Rattle.rp_base.specs.declared.fault.Fault.{Fault}
 use Rattle.rp_model.specs.Answers.{Happen}
 use Rattle.rp_model.specs.Effect.{Setting}
-use Rattle.rp_model.specs.Events.{Event, IsEvent, event_of}
+use Rattle.rp_model.specs.Events.{Event, IsEvent, Makes, Step, Deliver, Interrupt, Tick, event_of}
 use Rattle.rp_model.specs.World.{World, Transition, opening_world, event_effect}
 use Rattle.rp_model.specs.declared.event.Event.{Event as TakenEvent}
 use Rattle.rp_model.specs.declared.event.Event.TheVariants.{Node}
-use Rattle.rp_model.specs.declared.event.Step.TheVariants.{Deliver}
+use Rattle.rp_model.specs.declared.event.Step.TheVariants as TakenStep
 use Rattle.rp_agreement.specs.History.{IsHistory, AreMoments}
-use Rattle.rp_run.specs.Agreeing.{world_after}
+use Rattle.rp_agreement.specs.Noted.{IsNoted}
+use Rattle.rp_run.specs.Agreeing.{world_after, IsAskedIn, IsNotedIn}
 use Rattle.rp_run.specs.Output.{RunSetting, Play, Said, least_unsettled, effect_of, effect_said, event_said, drain_from, command_said, script_said, opening_play}
 use Rattle.rp_deck.specs.Script.{KeepsRanges}
 use Rattle.rp_deck.specs.declared.deck.Command.{Command}
 use Rattle.rp_deck.specs.declared.deck.Command.TheVariants.{Take, Lose, Drain, Show}
 use Rattle.rp_deck.specs.declared.deck.Line.{Line}
 
--- right events lead from one world to another
-record Reaches {S : Type 0} (s : Setting S) (from to : World) : Type 0 where
+-- right events of a kind lead from one world to another
+record Reaches {S : Type 0} (Is : Event → Type 0) (s : Setting S) (from to : World) : Type 0 where
   pub events : List Event
   pub right : (event : Event) → Has event events → IsEvent event
+  pub are : (event : Event) → Has event events → Is event
   pub happened : Happen s from events to
 
-module _ {S : Type 0} (s : Setting S) where
+module _ {S : Type 0} (Is : Event → Type 0) (s : Setting S) where
   joined : (events more : List Event) (from middle to : World) → Happen s from events middle → Happen s middle more to → Happen s from (events ++ more) to
   joined [] more from middle to first second = subst (λ (w : World). Happen s w more to) first second
   joined (event ∷ rest) more from middle to first second = (first.0, first.1, joined rest more first.0.world middle to first.2 second)
 
-  all_right : (events more : List Event) → ((event : Event) → Has event events → IsEvent event) → ((event : Event) → Has event more → IsEvent event)
-      → (event : Event) → Has event (events ++ more) → IsEvent event
-  all_right events more first second event h = elim (has_split event events more h) [ inl left ↦ first event left | inr right ↦ second event right ]
+  all_are : (P : Event → Type 0) (events more : List Event) → ((event : Event) → Has event events → P event) → ((event : Event) → Has event more → P event)
+      → (event : Event) → Has event (events ++ more) → P event
+  all_are P events more first second event h = elim (has_split event events more h) [ inl left ↦ first event left | inr right ↦ second event right ]
 
-  stays : (w : World) → Reaches s w w
-  stays w = record { events = []; right = λ event h. absurd h; happened = refl }
+  one_is : (P : Event → Type 0) (event : Event) → P event → (other : Event) → Has other (event ∷ []) → P other
+  one_is P event is other h = elim h [ inl same ↦ subst P (sym same) is | inr none ↦ absurd none ]
 
-  results : (w : World) (event : Event) (transition : Transition) → IsEvent event → event_effect s w event ≡ Ok transition → Reaches s w transition.world
-  results w event transition right is = record {
+  stays : (w : World) → Reaches Is s w w
+  stays w = record { events = []; right = λ event h. absurd h; are = λ event h. absurd h; happened = refl }
+
+  results : (w : World) (event : Event) (transition : Transition) → IsEvent event → Is event → event_effect s w event ≡ Ok transition → Reaches Is s w transition.world
+  results w event transition right such is = record {
     events = event ∷ [];
-    right = λ other h. elim h [ inl same ↦ subst IsEvent (sym same) right | inr none ↦ absurd none ];
+    right = one_is IsEvent event right;
+    are = one_is Is event such;
     happened = (transition, is, refl);
   }
 
-  goes_on : (from middle to : World) → Reaches s from middle → Reaches s middle to → Reaches s from to
+  goes_on : (from middle to : World) → Reaches Is s from middle → Reaches Is s middle to → Reaches Is s from to
   goes_on from middle to first second = record {
     events = first.events ++ second.events;
-    right = all_right first.events second.events first.right second.right;
+    right = all_are IsEvent first.events second.events first.right second.right;
+    are = all_are Is first.events second.events first.are second.are;
     happened = joined first.events second.events from middle to first.happened second.happened;
   }
 
-module _ {S : Type 0} (s : RunSetting S) where
+-- the event is asked for by one of these lines, or delivers a packet
+abbrev IsOfLines : List Line → Event → Type 0
+IsOfLines lines event = IsAskedIn lines event ⊎ ((message : ℕ) × (event ≡ Makes (Deliver message)))
+
+module _ {S : Type 0} (s : RunSetting S) (all : List Line) where
+  -- by events of these lines
+  abbrev Leads : World → World → Type 0
+  Leads = Reaches (IsOfLines all) s.setting
+
+  rests : (w : World) → Leads w w
+  rests = stays (IsOfLines all) s.setting
+
+  leads_on : (from middle to : World) → Leads from middle → Leads middle to → Leads from to
+  leads_on = goes_on (IsOfLines all) s.setting
+
   -- ---- an event, a drain, a line, lines
 
-  effect_leads : (line : ℕ) (play : Play) (event : TakenEvent) (answer : Result Transition Fault) → IsEvent (event_of event)
-      → effect_of s play.world event ≡ answer → Reaches s.setting play.world (effect_said s line play event answer).play.world
-  effect_leads line play event (Ok transition) right is = results s.setting play.world (event_of event) transition right is
-  effect_leads line play event (Err refusal) right is = stays s.setting play.world
+  effect_leads : (line : ℕ) (play : Play) (event : TakenEvent) (answer : Result Transition Fault) → IsEvent (event_of event) → IsOfLines all (event_of event)
+      → effect_of s play.world event ≡ answer → Leads play.world (effect_said s line play event answer).play.world
+  effect_leads line play event (Ok transition) right such is = results (IsOfLines all) s.setting play.world (event_of event) transition right such is
+  effect_leads line play event (Err refusal) right such is = rests play.world
 
-  event_leads : (line : ℕ) (play : Play) (event : TakenEvent) → IsEvent (event_of event) → Reaches s.setting play.world (event_said s line play event).play.world
+  event_leads : (line : ℕ) (play : Play) (event : TakenEvent) → IsEvent (event_of event) → IsOfLines all (event_of event) → Leads play.world (event_said s line play event).play.world
   unfolding event_said
-  event_leads line play event right = effect_leads line play event (effect_of s play.world event) right refl
+  event_leads line play event right such = effect_leads line play event (effect_of s play.world event) right such refl
 
-  drain_leads : (line : ℕ) (play : Play) (message : Option ℕ) (most : ℕ) → Reaches s.setting play.world (drain_from s line play message most).play.world
+  drain_leads : (line : ℕ) (play : Play) (message : Option ℕ) (most : ℕ) → Leads play.world (drain_from s line play message most).play.world
   unfolding drain_from
-  drain_leads line play None most = stays s.setting play.world
-  drain_leads line play (Some message) zero = stays s.setting play.world
+  drain_leads line play None most = rests play.world
+  drain_leads line play (Some message) zero = rests play.world
   drain_leads line play (Some message) (suc most) =
-      let after = (event_said s line play (Node (Deliver message))).play in
-      goes_on s.setting play.world after.world (drain_from s line after (least_unsettled after) most).play.world
-      (event_leads line play (Node (Deliver message)) tt) (drain_leads line after (least_unsettled after) most)
+      let after = (event_said s line play (Node (TakenStep.Deliver message))).play in
+      leads_on play.world after.world (drain_from s line after (least_unsettled after) most).play.world
+      (event_leads line play (Node (TakenStep.Deliver message)) tt (inr (message, refl))) (drain_leads line after (least_unsettled after) most)
 
   said_stays : (b : Bool) (one other : Said) (w : World) → one.play.world ≡ w → other.play.world ≡ w → (cond b one other).play.world ≡ w
   said_stays true one other w left right = left
   said_stays false one other w left right = right
 
-  command_leads : (most line : ℕ) (play : Play) (command : Command) → KeepsRanges command → Reaches s.setting play.world (command_said s most line play command).play.world
-  command_leads most line play (Take event) right = event_leads line play event right
-  command_leads most line play (Lose first last) right =
-      subst (λ (w : World). Reaches s.setting play.world w)
-      (sym (said_stays (nat_le first (length play.world.sent) && nat_le last (length play.world.sent)) _ _ play.world refl refl)) (stays s.setting play.world)
-  command_leads most line play Drain right = drain_leads line play (least_unsettled play) most
-  command_leads most line play Show right = stays s.setting play.world
+  command_leads : (most : ℕ) (play : Play) (line : Line) → Has line all → KeepsRanges line.command → (command : Command) → line.command ≡ command
+      → Leads play.world (command_said s most line.number play command).play.world
+  command_leads most play line has right (Take event) is =
+      event_leads line.number play event (subst KeepsRanges is right) (inl (record { line = line; has = has; taken = event; takes = is; is = refl }))
+  command_leads most play line has right (Lose first last) is =
+      subst (λ (w : World). Leads play.world w)
+      (sym (said_stays (nat_le first (length play.world.sent) && nat_le last (length play.world.sent)) _ _ play.world refl refl)) (rests play.world)
+  command_leads most play line has right Drain is = drain_leads line.number play (least_unsettled play) most
+  command_leads most play line has right Show is = rests play.world
 
   rest_ranges : (line : Line) (rest : List Line) → All (λ (l : Line). KeepsRanges l.command) (line ∷ rest) → All (λ (l : Line). KeepsRanges l.command) rest
   rest_ranges line rest right = λ k d below. right (suc k) d (omega (arith, below))
 
-  lines_lead : (most : ℕ) (play : Play) (lines : List Line) → All (λ (l : Line). KeepsRanges l.command) lines → (count : ℕ)
-      → Reaches s.setting play.world (script_said s most play (take count lines)).play.world
+  -- these lines are among them
+  abbrev AreAmong : List Line → Type 0
+  AreAmong lines = (line : Line) → Has line lines → Has line all
+
+  lines_lead : (most : ℕ) (play : Play) (lines : List Line) → All (λ (l : Line). KeepsRanges l.command) lines → (count : ℕ) → AreAmong (take count lines)
+      → Leads play.world (script_said s most play (take count lines)).play.world
   unfolding script_said
-  lines_lead most play lines right zero = stays s.setting play.world
-  lines_lead most play [] right (suc count) = stays s.setting play.world
-  lines_lead most play (line ∷ rest) right (suc count) =
+  lines_lead most play lines right zero among = rests play.world
+  lines_lead most play [] right (suc count) among = rests play.world
+  lines_lead most play (line ∷ rest) right (suc count) among =
       let after = (command_said s most line.number play line.command).play in
-      goes_on s.setting play.world after.world (script_said s most after (take count rest)).play.world
-      (command_leads most line.number play line.command (right 0 line (omega arith))) (lines_lead most after rest (rest_ranges line rest right) count)
+      leads_on play.world after.world (script_said s most after (take count rest)).play.world
+      (command_leads most play line (among line (inl refl)) (right 0 line (omega arith)) line.command refl)
+      (lines_lead most after rest (rest_ranges line rest right) count (λ l has. among l (inr has)))
 
   -- on from some lines to as many or more
-  lines_go_on : (most : ℕ) (play : Play) (lines : List Line) → All (λ (l : Line). KeepsRanges l.command) lines → (i j : ℕ) → i ≤ j
-      → Reaches s.setting (script_said s most play (take i lines)).play.world (script_said s most play (take j lines)).play.world
+  lines_go_on : (most : ℕ) (play : Play) (lines : List Line) → All (λ (l : Line). KeepsRanges l.command) lines → (i j : ℕ) → i ≤ j → AreAmong (take j lines)
+      → Leads (script_said s most play (take i lines)).play.world (script_said s most play (take j lines)).play.world
   unfolding script_said
-  lines_go_on most play lines right zero j up = lines_lead most play lines right j
-  lines_go_on most play lines right (suc i) zero up = absurd (omega (arith, up))
-  lines_go_on most play [] right (suc i) (suc j) up = stays s.setting play.world
-  lines_go_on most play (line ∷ rest) right (suc i) (suc j) up =
-      lines_go_on most (command_said s most line.number play line.command).play rest (rest_ranges line rest right) i j (omega (arith, up))
+  lines_go_on most play lines right zero j up among = lines_lead most play lines right j among
+  lines_go_on most play lines right (suc i) zero up among = absurd (omega (arith, up))
+  lines_go_on most play [] right (suc i) (suc j) up among = rests play.world
+  lines_go_on most play (line ∷ rest) right (suc i) (suc j) up among =
+      lines_go_on most (command_said s most line.number play line.command).play rest (rest_ranges line rest right) i j (omega (arith, up)) (λ l has. among l (inr has))
 
   -- ---- a run
 
-  history : IsRightConfig s.setting.config → (world : World) → (reached : Reaches s.setting (opening_world s.setting.config.nodes) world) → IsHistory s.setting reached.events world
+  history : IsRightConfig s.setting.config → (world : World) → (reached : Leads (opening_world s.setting.config.nodes) world) → IsHistory s.setting reached.events world
   history config world reached = record { config = config; right = reached.right; happened = reached.happened }
 
-  pub run_is_history : IsRightConfig s.setting.config → (most : ℕ) (lines : List Line) → All (λ (l : Line). KeepsRanges l.command) lines → (i : ℕ)
-      → (events : List Event) × IsHistory s.setting events (world_after s most lines i)
-  run_is_history config most lines right i =
-      let reached = lines_lead most (opening_play s) lines right i in
-      (reached.events, history config (world_after s most lines i) reached)
+module _ {S : Type 0} (s : RunSetting S) (config : IsRightConfig s.setting.config) (most : ℕ) (lines : List Line) (right : All (λ (l : Line). KeepsRanges l.command) lines) where
+  -- the events of a run's first lines are of these lines
+  pub run_is_history : (i : ℕ) → (events : List Event) × IsHistory s.setting events (world_after s most lines i) × ((event : Event) → Has event events → IsOfLines (take i lines) event)
+  run_is_history i =
+      let reached = lines_lead s (take i lines) most (opening_play s) lines right i (λ line has. has) in
+      (reached.events, history s (take i lines) config (world_after s most lines i) reached, reached.are)
 
-  pub run_has_moments : IsRightConfig s.setting.config → (most : ℕ) (lines : List Line) → All (λ (l : Line). KeepsRanges l.command) lines → (i j : ℕ) → i ≤ j
-      → AreMoments s.setting (world_after s most lines i) (world_after s most lines j)
+  pub run_has_moments : (i j : ℕ) → i ≤ j → AreMoments s.setting (world_after s most lines i) (world_after s most lines j)
   unfolding goes_on
-  run_has_moments config most lines right i j up =
+  run_has_moments i j up =
       let opening = opening_world s.setting.config.nodes in
-      let first = lines_lead most (opening_play s) lines right i in
-      let second = lines_go_on most (opening_play s) lines right i j up in
-      let both = goes_on s.setting opening (world_after s most lines i) (world_after s most lines j) first second in
+      let all = take j lines in
+      let first = lines_lead s all most (opening_play s) lines right i (λ line has. take_more i j lines up line has) in
+      let second = lines_go_on s all most (opening_play s) lines right i j up (λ line has. has) in
+      let both = leads_on s all opening (world_after s most lines i) (world_after s most lines j) first second in
       record {
         events = first.events;
         more = second.events;
-        before = history config (world_after s most lines i) first;
-        after = history config (world_after s most lines j) both;
+        before = history s all config (world_after s most lines i) first;
+        after = history s all config (world_after s most lines j) both;
       }
+    where
+      take_more : (i j : ℕ) (lines : List Line) → i ≤ j → (line : Line) → Has line (take i lines) → Has line (take j lines)
+      take_more zero j lines up line has = absurd has
+      take_more (suc i) zero lines up line has = absurd (omega (arith, up))
+      take_more (suc i) (suc j) [] up line has = absurd has
+      take_more (suc i) (suc j) (l ∷ rest) up line (inl same) = inl same
+      take_more (suc i) (suc j) (l ∷ rest) up line (inr has) = inr (take_more i j rest (omega (arith, up)) line has)
+
+-- ---- what these lines noted
+
+noted_by : (events : List Event) (lines : List Line) → ((event : Event) → Has event events → IsOfLines lines event) → (step : Step) → ((message : ℕ) → step ≢ Deliver message)
+    → Has (Makes step) events → IsAskedIn lines (Makes step)
+noted_by events lines are step other has = elim (are (Makes step) has) [
+  | inl asked ↦ asked
+  | inr delivers ↦ absurd (other delivers.0 (made delivers.1))
+]
+  where
+    made : {one two : Step} → Makes one ≡ Makes two → one ≡ two
+    made is = cc
+
+pub noted_in : (events : List Event) (lines : List Line) → ((event : Event) → Has event events → IsOfLines lines event) → (v : Action) → IsNoted events v → IsNotedIn lines v
+noted_in events lines are Noop noted = tt
+noted_in events lines are (Call task number object operation arg) noted = tt
+noted_in events lines are (actions.Interrupt source occurrence) noted = (noted.0, noted_by events lines are (Interrupt noted.0 source occurrence) (λ message e. cc) noted.1)
+noted_in events lines are (actions.Tick now) noted = (noted.0, noted_by events lines are (Tick noted.0 now) (λ message e. cc) noted.1)

@@ -4,18 +4,21 @@ use Rattle.std.specs.Io.KnownBytes.{Appends}
 use Rattle.rp_base.specs.Records.{applied_of}
 use Rattle.rp_base.specs.Sets.{Has}
 use Rattle.rp_base.specs.declared.action.Action.{Action}
-use Rattle.rp_base.specs.declared.action.Action.TheVariants.{Call}
+use Rattle.rp_base.specs.declared.action.Action.TheVariants.{Noop, Call, Interrupt, Tick}
 use Rattle.rp_base.specs.declared.reply.Answer.{Answer}
 use Rattle.rp_machine.specs.Calls.{call_of}
 use Rattle.rp_machine.specs.Places.{HasReply}
 use Rattle.rp_machine.specs.Replay.{replay_state}
+use Rattle.rp_model.specs.Events as events
+use Rattle.rp_model.specs.Events.{Event, Makes, event_of}
 use Rattle.rp_model.specs.Parts.{NodePart, Running, TaskPart}
 use Rattle.rp_model.specs.World.{World, part_at}
+use Rattle.rp_model.specs.declared.event.Event.{Event as TakenEvent}
 use Rattle.rp_world.specs.Agreeing.{Agree, IsOrdered}
 use Rattle.rp_run.specs.Items.{Item, Replied, Shown, Asked, asked_by, replies_by, items_text}
 use Rattle.rp_run.specs.Output.{RunSetting, run_said}
 use Rattle.rp_output.specs.Trace.{task_name}
-use Rattle.rp_deck.specs.declared.deck.Command.TheVariants.{Show}
+use Rattle.rp_deck.specs.declared.deck.Command.TheVariants.{Take, Show}
 use Rattle.rp_deck.specs.declared.deck.Line.{Line}
 
 -- the call of a task, with this number, that asks for this
@@ -29,6 +32,22 @@ pub record HasApplied (w : World) (node applied : ℕ) : Type 0 where
   pub running : Running
   pub runs : part.running ≡ Some running
   pub applied_is : applied ≡ length (applied_of part.records)
+
+-- One of these lines asks for the event.
+pub record IsAskedIn (lines : List Line) (event : Event) : Type 0 where
+  pub line : Line
+  pub has : Has line lines
+  pub taken : TakenEvent
+  pub takes : line.command ≡ Take taken
+  pub is : event_of taken ≡ event
+
+-- the action, if it is an interrupt or a tick, was noted at some node by one of these lines
+abbrev pub IsNotedIn : List Line → Action → Type 0
+IsNotedIn lines Noop = Unit {0}
+IsNotedIn lines (Call task number object operation arg) = Unit {0}
+IsNotedIn lines (Interrupt source occurrence) =
+    (me : ℕ) × IsAskedIn lines (Makes (events.Interrupt me source occurrence))
+IsNotedIn lines (Tick now) = (me : ℕ) × IsAskedIn lines (Makes (events.Tick me now))
 
 module _ {S : Type 0} (s : RunSetting S) where
   abbrev pub HasReplyIn : List Action → Answer → Type 0
@@ -94,13 +113,16 @@ module _ {S : Type 0} (s : RunSetting S) where
     abbrev pub RunIsPrinted : Type 0
     RunIsPrinted = IsPrinted (run_said s most lines).play.world (run_said s most lines).items
 
-    -- After any number of lines one order gives all that they print; nodes agree, one after some
-    -- lines and the other after as many or more; and each line shows the nodes as they are then.
+    -- After any number of lines one order gives all that they print, and each interrupt and tick in
+    -- it was noted by one of them; nodes agree, one after some lines and the other after as many or
+    -- more; and each line shows the nodes as they are then.
     pub record RunAgrees : Type 0 where
       pub agree : (i j : ℕ) → i ≤ j
           → Agree s.setting.next s.setting.answers s.image s.setting.begin
           (world_after i) (world_after j)
       pub printed : (i : ℕ) → IsPrinted (world_after i) (items_after i)
+      pub noted : (i k : ℕ) (v : Action) → slice_get (printed i).ordered.order k ≡ Some v
+          → IsNotedIn (take i lines) v
       pub shows : (i : ℕ) → ShowsNodes (world_after i) (slice_get lines i)
           (items_after i) (items_after (suc i))
 

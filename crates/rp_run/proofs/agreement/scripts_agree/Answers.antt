@@ -1,10 +1,10 @@
 -- A script's lines are events one after another.
-use Rattle.std.proofs.Common.{List, ◌≤◌, arith, length, take, subst}
+use Rattle.std.proofs.Common.{ℕ, suc, List, ◌≤◌, arith, length, take, subst}
 use Rattle.std.proofs.Math.Seq.{take-length}
 use Rattle.rp_base.specs.Records.{applied_of}
-use Rattle.rp_run.specs.Agreeing.{RunIsPrinted, world_after}
+use Rattle.rp_run.specs.Agreeing.{IsPrinted, RunIsPrinted, items_after, world_after}
 use Rattle.rp_run.specs.Runs.{run_setting, opening_setup}
-use Rattle.rp_run.proofs.Histories.{run_is_history, run_has_moments}
+use Rattle.rp_run.proofs.Histories.{run_is_history, run_has_moments, noted_in}
 use Rattle.rp_run.specs.Output.{opening_play}
 use Rattle.rp_run.proofs.Printing.{run_is_printed}
 use Rattle.rp_run.proofs.Showing.{lines_show}
@@ -20,12 +20,16 @@ returns-clause-agrees g c = λ program.
     let lines = options.lines.now in
     let right = c.lines_keep_ranges.ensures in
     let laws = c.histories_are_ordered.ensures in
+    let printed : (i : ℕ) → IsPrinted s (world_after s options.most lines i) (items_after s options.most lines i) = λ i.
+    let history = run_is_history s options.right options.most lines right i in
+    let world = world_after s options.most lines i in
+    run_is_printed s options.most (take i lines) options.right (laws.ordered config program history.0 world history.1) (c.records_stay_in_the_log.ensures.applied s.setting history.0 world history.1) in
     record {
       agree = λ i j up. laws.agree config program (world_after s options.most lines i) (world_after s options.most lines j) (run_has_moments s options.right options.most lines right i j up);
-      printed = λ i.
+      printed = printed;
+      noted = λ i k v at.
           let history = run_is_history s options.right options.most lines right i in
-          let world = world_after s options.most lines i in
-          run_is_printed s options.most (take i lines) options.right (laws.ordered config program history.0 world history.1) (c.records_stay_in_the_log.ensures.applied s.setting history.0 world history.1);
+          noted_in history.0 (take i lines) history.2 v (laws.noted config program history.0 (world_after s options.most lines i) history.1 (suc k) v ((printed i).ordered.decided.decided k v at));
       shows = λ i.
           let history = run_is_history s options.right options.most lines right i in
           let world = world_after s options.most lines i in

@@ -1,6 +1,6 @@
 -- What nodes have in common.
 use Rattle.std.specs.Prelude.{◌≡◌, ◌≤◌, ℕ, suc, Bool, true, false, nat_lt, Some, List, length}
-use Rattle.std.specs.Prelude.{slice_get, Option, ⊥}
+use Rattle.std.specs.Prelude.{slice_get, Option}
 use Rattle.rp_base.specs.Records.{applied_of}
 use Rattle.rp_base.specs.Sets.{Has}
 use Rattle.rp_base.specs.declared.action.Action.{Action}

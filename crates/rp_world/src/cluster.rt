@@ -115,10 +115,8 @@ impl<M: Machine, D: CutDevice> Cluster<M, D> {
         ensures step { IsStep M.next M.answers M.begin self.old event.now self.new result }
     {
         let mut effect = no_effect(0);
-        match self.step_into(alloc, event, &mut effect) {
-            Ok(()) => Ok(effect),
-            Err(fault) => Err(fault),
-        }
+        self.step_into(alloc, event, &mut effect)?;
+        Ok(effect)
     }
 
     /// The same, but writes the effect to `effect`, so that none is copied; if the step is refused,

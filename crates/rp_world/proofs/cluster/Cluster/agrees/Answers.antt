@@ -37,7 +37,7 @@ returns g c =
       cast = c.decisions_are_one.ensures.cast n node sent sound;
       offered = c.offers_are_one.ensures n node sent sound;
       follows = c.offers_follow_decisions.ensures n node sent sound;
-      justified = λ i b v offer. (c.packets_say_so.ensures.said n node sent sound offer.0 (Accept i b v) (Node offer.1, offer.2)).1.0;
+      justified = λ i b v offer. (c.packets_say_so.ensures.said n node sent sound offer.0 (Accept i b v) (Node offer.1, offer.2)).1;
       applied = λ order is x part here.
           subst (λ (a : NodePart). IsPrefix (applied_of a.records) order) (ap (λ (o : Option NodePart). unwrap_or o fresh_node) here)
           (c.applied_lists_are_prefixes.ensures n node sent sound order is x);

@@ -22,7 +22,7 @@ returns-in_default-reply-clause-answer g c =
     let m = seen_to f c.args.number c.requires.to in
     let packet = c.requires.ranged.packets m.packet (has_at f.was.world.sent c.args.number m.packet c.requires.to.1) in
     let text = text_is c.text.result c.unwrap-text.result (part_at f.was.world.sent c.args.number) m.packet c.unwrap-text.ensures c.text.ensures c.requires.to.1 in
-    let none : reply_in m.packet.body ≡ None = sym (reply_of_text c.unwrap-text.result m.packet c.in-Ok.reply packet text c.in-Ok.ensures.reply) ∙ c.in_default-reply.is in
+    let none : reply_in m.packet.body ≡ None = sym (reply_of_text c.unwrap-text.result.now m.packet c.in-Ok.reply packet text c.in-Ok.ensures.reply) ∙ c.in_default-reply.is in
     heard_no_reply f m (subst IsParty c.requires.to.2 packet.ranges.to) none c.messages-first.ensures.value c.no_effect.ensures
 
 pub invariant_of-self : goal.invariant_of-self
@@ -39,7 +39,7 @@ returns-clause-answer g c =
     let m = seen_to f c.args.number c.requires.to in
     let packet = c.requires.ranged.packets m.packet (has_at f.was.world.sent c.args.number m.packet c.requires.to.1) in
     let text = text_is c.text.result c.unwrap-text.result (part_at f.was.world.sent c.args.number) m.packet c.unwrap-text.ensures c.text.ensures c.requires.to.1 in
-    let is_reply : reply_in m.packet.body ≡ Some (c.in-Some.number, c.in-Some.reply) = sym (reply_of_text c.unwrap-text.result m.packet c.in-Ok.reply packet text c.in-Ok.ensures.reply) ∙ c.in-Some.is in
+    let is_reply : reply_in m.packet.body ≡ Some (c.in-Some.number, c.in-Some.reply) = sym (reply_of_text c.unwrap-text.result.now m.packet c.in-Ok.reply packet text c.in-Ok.ensures.reply) ∙ c.in-Some.is in
     let stated_is = λ (r : Result Unit Fault). stated r c.match-take.effect in
     elim c.match-take.branch [
       | in-Ok-take b ↦

@@ -1,15 +1,18 @@
 //! What every event keeps, at any machine.
 
-ghost use Rattle.std.specs.Prelude.{◌≡◌, ◌≢◌, ℕ, Some, Ok, Err, List, [], ◌++◌, length};
+ghost use Rattle.std.specs.Prelude.{◌≡◌, ◌≢◌, ◌↔◌, ◌⊎◌, ℕ, Some, None, Ok, Err, List, [], ◌++◌};
+ghost use Rattle.std.specs.Prelude.{length};
 ghost use Rattle.rp_base.specs.Records.{applied_of};
 ghost use Rattle.rp_base.specs.declared.action.Action.{Action};
-ghost use Rattle.rp_base.specs.declared.fault.Fault.TheVariants.{Device};
+ghost use Rattle.rp_base.specs.declared.fault.Fault.{Fault};
+ghost use Rattle.rp_base.specs.declared.fault.Fault.TheVariants.{Device, NotRunning};
 ghost use Rattle.rp_base.specs.declared.record.Rec.{Rec};
-ghost use Rattle.rp_model.specs.Effect.{Setting, NodeInput, running_effect};
+ghost use Rattle.rp_model.specs.Effect.{Setting, Done, NodeInput, running_effect, node_effect};
+ghost use Rattle.rp_model.specs.Effect.{stop_effect, cut_effect, restart_part};
 ghost use Rattle.rp_model.specs.Events.{Event};
 ghost use Rattle.rp_model.specs.World.{World, Transition, event_effect};
 ghost use Rattle.rp_model.specs.Forgetting.{KnowsAlike, AreAlikeAnswers};
-ghost use Rattle.rp_model.specs.Parts.{Running};
+ghost use Rattle.rp_model.specs.Parts.{Running, NodePart, fresh_running};
 ghost use Rattle.rp_model.specs.Facts.{IsOrder};
 ghost use Rattle.rp_model.specs.Growing.{Grows};
 
@@ -38,6 +41,56 @@ pub fn no_event_is_refused_by_a_device<M: Machine>()
     // claim: No event is refused as a fault of a device
     ensures { (setting : Setting M) (before : World) (event : Event)
         → event_effect setting before event ≢ Err Device }
+{}
+
+/// A stop is refused exactly to a node that is stopped. A node that stops runs no more, its records
+/// stay, and it sends nothing.
+pub fn stops_leave_the_records()
+    // claim: A node that stops runs no more and has the records that it had; one that is stopped is
+    //   not stopped again
+    ensures refused { (part : NodePart) (fault : Fault) → (stop_effect part ≡ Err fault)
+        ↔ (part.running ≡ None) × (fault ≡ NotRunning) }
+    ensures stopped { (part : NodePart) (done : Done NodePart) → stop_effect part ≡ Ok done
+        → done.part.running ≡ None }
+    ensures records { (part : NodePart) (done : Done NodePart) → stop_effect part ≡ Ok done
+        → done.part.records ≡ part.records }
+    ensures sends { (part : NodePart) (done : Done NodePart) → stop_effect part ≡ Ok done
+        → done.sends ≡ [] }
+{}
+
+/// A stop within a step is refused as the step is. The node runs no more and sends nothing, and its
+/// records are those from before the step or those after the whole step.
+pub fn cuts_send_nothing<M: Machine>()
+    // claim: A node that stops within a step runs no more, sends nothing, and has the records from
+    //   before the step or from after it
+    ensures refused { (setting : Setting M) (me : ℕ) (part : NodePart) (input : NodeInput) (kept : ℕ)
+        (fault : Fault) → (cut_effect setting me part input kept ≡ Err fault)
+        ↔ (node_effect setting me part input ≡ Err fault) }
+    ensures stopped { (setting : Setting M) (me : ℕ) (part : NodePart) (input : NodeInput) (kept : ℕ)
+        (done : Done NodePart) → cut_effect setting me part input kept ≡ Ok done
+        → done.part.running ≡ None }
+    ensures records { (setting : Setting M) (me : ℕ) (part : NodePart) (input : NodeInput) (kept : ℕ)
+        (whole done : Done NodePart) → node_effect setting me part input ≡ Ok whole
+        → cut_effect setting me part input kept ≡ Ok done
+        → (done.part.records ≡ part.records) ⊎ (done.part.records ≡ whole.part.records) }
+    ensures sends { (setting : Setting M) (me : ℕ) (part : NodePart) (input : NodeInput) (kept : ℕ)
+        (done : Done NodePart) → cut_effect setting me part input kept ≡ Ok done
+        → done.sends ≡ [] }
+{}
+
+/// A node that is stopped runs again over its records and knows nothing else; no torn bytes remain,
+/// and it returns how many of both it found. One that runs goes on as it was. Neither sends.
+pub fn restarts_begin_with_the_records()
+    // claim: A stopped node that starts again has its records, no torn bytes, and knows nothing else;
+    //   one that runs goes on as it was
+    ensures runs { (part : NodePart) → part.running ≡ None
+        → (restart_part part).part
+        ≡ record { records = part.records; torn = 0; running = Some fresh_running } }
+    ensures opened { (part : NodePart) → part.running ≡ None
+        → (restart_part part).opened ≡ Some (length part.records, part.torn) }
+    ensures goes_on { (part : NodePart) (running : Running) → part.running ≡ Some running
+        → (restart_part part).part ≡ part }
+    ensures sends { (part : NodePart) → (restart_part part).sends ≡ [] }
 {}
 
 /// The order of a world in which nothing was sent is empty.

@@ -18,7 +18,8 @@ pub use effect::{Dropped, Effect};
 pub use event::{Event, Step};
 pub use interrupt::Interrupt;
 pub use laws::{
-    applied_grows, no_event_is_refused_by_a_device, nothing_is_decided_at_first,
-    old_votes_change_nothing, worlds_grow,
+    applied_grows, cuts_send_nothing, no_event_is_refused_by_a_device, nothing_is_decided_at_first,
+    old_votes_change_nothing, restarts_begin_with_the_records, stops_leave_the_records,
+    worlds_grow,
 };
 pub use right::RightAction;

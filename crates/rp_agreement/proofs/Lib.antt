@@ -22,6 +22,7 @@ pub mod EventWalk
 pub mod WorldKeeping
 pub mod EventLists
 pub mod Playing
+pub mod PlayedNotes
 pub mod AnswerTurns
 pub mod AnswersGrow
 pub mod NodeReplies

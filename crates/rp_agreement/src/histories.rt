@@ -3,7 +3,7 @@
 ghost use Rattle.std.specs.Prelude.{◌≡◌, ℕ, pos, Some, List, [], ◌∷◌, length};
 ghost use Rattle.rp_base.specs.Records.{applied_of};
 ghost use Rattle.rp_base.specs.declared.action.Action.{Action};
-ghost use Rattle.rp_base.specs.declared.action.Action.TheVariants.{Call};
+ghost use Rattle.rp_base.specs.declared.action.Action.TheVariants.{Call, Interrupt, Tick};
 ghost use Rattle.rp_base.specs.declared.action.Operation.TheVariants.{Procedure};
 ghost use Rattle.rp_base.specs.declared.reply.Answer.{Answer};
 ghost use Rattle.rp_base.specs.declared.reply.Reply.{Reply};
@@ -16,7 +16,8 @@ ghost use Rattle.rp_model.specs.Facts.{IsDecided};
 ghost use Rattle.rp_model.specs.World.{World, part_at};
 ghost use Rattle.rp_model.specs.Parts.{NodePart};
 ghost use Rattle.rp_agreement.specs.Computed.{order_of};
-ghost use Rattle.rp_agreement.specs.History.{IsHistory, AreMoments, IsReplied, three_nodes};
+ghost use Rattle.rp_agreement.specs.History.{IsHistory, AreMoments, IsReplied, IsNotedAndApplied};
+ghost use Rattle.rp_agreement.specs.History.{three_nodes};
 ghost use Rattle.rp_agreement.specs.Noted.{IsNoted};
 ghost use Rattle.rp_agreement.specs.Order.{IsPrefix, AreAlike};
 ghost use Rattle.rp_agreement.specs.Worlds.{IsSoundWorld};
@@ -77,7 +78,7 @@ pub fn only_noted_actions_are_decided<M: Machine>()
 pub fn some_history_decides<M: Machine>()
     // claim: Some history decides a call: with three nodes nine right events do
     ensures { (begin : M) → (events : List Event) × (world : World)
-        × IsHistory (three_nodes M.next M.answers begin) events world
+        × IsHistory (three_nodes 1 M.next M.answers begin) events world
         × IsDecided 3 world.sent 1 (Call 1 1 1 (Procedure 1) (pos 5)) }
 {}
 
@@ -89,7 +90,18 @@ pub fn some_history_replies<M: Machine>()
     ensures any { (begin : M) (reply : Reply)
         → let answer : Answer = record { task = 1; number = 1; reply = reply } in
         M.answers begin (Call 1 1 1 (Procedure 1) (pos 5)) ≡ answer ∷ []
-        → IsReplied (three_nodes M.next M.answers begin) answer }
+        → IsReplied (three_nodes 1 M.next M.answers begin) answer }
     ensures tally { let answer : Answer = record { task = 1; number = 1; reply = Value (pos 5) } in
-        IsReplied (three_nodes tally_next tally_answers (pos 0 ∷ [])) answer }
+        IsReplied (three_nodes 1 tally_next tally_answers (pos 0 ∷ [])) answer }
+{}
+
+/// Nor of clocks and handlers that never move: with three nodes, whatever the machine, in some
+/// history a tick that a node noted is decided and applied, and in some history an interrupt is.
+pub fn some_history_notes<M: Machine>()
+    // claim: In some history a tick that a node noted is decided and applied, and in some history an
+    //   interrupt is: with three nodes ten right events do
+    ensures tick { (begin : M)
+        → IsNotedAndApplied (three_nodes 1 M.next M.answers begin) (Tick 7) }
+    ensures interrupt { (begin : M)
+        → IsNotedAndApplied (three_nodes 1 M.next M.answers begin) (Interrupt 2 1) }
 {}

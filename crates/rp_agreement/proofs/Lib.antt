@@ -23,6 +23,8 @@ pub mod WorldKeeping
 pub mod EventLists
 pub mod Playing
 pub mod PlayedNotes
+pub mod PlayedRestarts
+pub mod PlayedRanges
 pub mod AnswerTurns
 pub mod AnswersGrow
 pub mod NodeReplies

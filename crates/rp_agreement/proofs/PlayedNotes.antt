@@ -8,7 +8,7 @@ use Rattle.rp_model.specs.Effect.{Setting}
 use Rattle.rp_model.specs.Events as events
 use Rattle.rp_model.specs.Events.{Step, Event, IsStep, Makes}
 use Rattle.rp_model.specs.World.{World, opening_world}
-use Rattle.rp_agreement.specs.History.{HasApplied, IsNotedAndApplied, three_nodes}
+use Rattle.rp_agreement.specs.Possible.{HasApplied, IsNotedAndApplied, three_nodes}
 use Rattle.rp_agreement.specs.Noted.{IsNoted}
 use Rattle.rp_agreement.proofs.Playing.{deciding, learning, right_on, right_deciding, right_learning, history_of, two_decide, Votes}
 

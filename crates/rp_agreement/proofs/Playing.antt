@@ -17,7 +17,8 @@ use Rattle.rp_model.specs.Events.{Event, IsEvent, Submit, Makes, Deliver, Lead}
 use Rattle.rp_model.specs.Facts.{HasVoted, IsDecided}
 use Rattle.rp_model.specs.Effect.{Setting}
 use Rattle.rp_model.specs.World.{World, Transition, opening_world, part_at, event_effect}
-use Rattle.rp_agreement.specs.History.{IsHistory, HasReply, IsReplied, three_nodes}
+use Rattle.rp_agreement.specs.History.{IsHistory}
+use Rattle.rp_agreement.specs.Possible.{HasOnlyReply, IsReplied, three_nodes}
 use Rattle.rp_agreement.proofs.PartPlaces.{part_has}
 
 -- ---- events
@@ -101,7 +102,7 @@ happen_on s (event ∷ rest) more before middle after happened on = (happened.0,
 pub record GetsReply {S : Type 0} (s : Setting S) (w : World) (number : ℕ) (answer : Answer) : Type 0 where
   pub transition : Transition
   pub effect : event_effect s w (Makes (Deliver number)) ≡ Ok transition
-  pub replied : HasReply transition.world answer
+  pub replied : HasOnlyReply transition.world answer
 
 module _ {S : Type 0} (positions : ℕ) (right : (1 ≤ positions) × (positions < 2 ^ 16)) (next : S → Action → S) (answers : S → Action → List Answer) (begin : S) where
   pub history_of : (events : List Event) (w : World) → AllRight events → Happen (three_nodes positions next answers begin) (opening_world 3) events w

@@ -10,4 +10,5 @@ pub mod Order
 pub mod Computed
 pub mod History
 pub mod Noted
+pub mod Possible
 pub mod Answered

@@ -16,11 +16,13 @@ ghost use Rattle.rp_model.specs.Facts.{IsDecided};
 ghost use Rattle.rp_model.specs.World.{World, part_at};
 ghost use Rattle.rp_model.specs.Parts.{NodePart};
 ghost use Rattle.rp_agreement.specs.Computed.{order_of};
-ghost use Rattle.rp_agreement.specs.History.{IsHistory, AreMoments, IsReplied, IsNotedAndApplied};
-ghost use Rattle.rp_agreement.specs.History.{three_nodes};
+ghost use Rattle.rp_agreement.specs.History.{IsHistory, AreMoments};
 ghost use Rattle.rp_agreement.specs.Noted.{IsNoted};
 ghost use Rattle.rp_agreement.specs.Order.{IsPrefix, AreAlike};
+ghost use Rattle.rp_agreement.specs.Possible.{three_nodes, IsReplied, IsNotedAndApplied};
+ghost use Rattle.rp_agreement.specs.Possible.{IsRepliedAfterRestart, IsRepliedInRange};
 ghost use Rattle.rp_agreement.specs.Worlds.{IsSoundWorld};
+ghost use Rattle.rp_base.specs.Ranges.{Range};
 
 use crate::opening::the_opening_is_sound;
 use rp_machine::Machine;
@@ -104,4 +106,33 @@ pub fn some_history_notes<M: Machine>()
         → IsNotedAndApplied (three_nodes 1 M.next M.answers begin) (Tick 7) }
     ensures interrupt { (begin : M)
         → IsNotedAndApplied (three_nodes 1 M.next M.answers begin) (Interrupt 2 1) }
+{}
+
+/// Nor of stops after which nothing goes on: with three nodes, whatever the machine, if it answers
+/// that call at once, in some history a node stops within a step, starts again, and the task gets
+/// its reply.
+pub fn some_history_restarts<M: Machine>()
+    // claim: In some history a node stops within a step that writes a record, starts again, and then
+    //   a call is decided and its task gets the reply: with three nodes sixteen right events do
+    ensures { (begin : M) (reply : Reply)
+        → let call : Action = Call 1 1 1 (Procedure 1) (pos 5) in
+        let answer : Answer = record { task = 1; number = 1; reply = reply } in
+        M.answers begin call ≡ answer ∷ []
+        → IsRepliedAfterRestart (three_nodes 1 M.next M.answers begin) call answer }
+{}
+
+/// Nor of ranges that nobody leads: with three nodes, whatever the machine, if it answers that call
+/// at once, in some history a node leads a range of two positions, two calls are decided there with
+/// no further question for promises, and the task gets its reply.
+pub fn some_history_leads_a_range<M: Machine>()
+    // claim: In some history a node leads a range of two positions, a call is decided at each with no
+    //   further question for promises, and a task gets its reply: with three nodes eighteen right
+    //   events do
+    ensures { (begin : M) (reply : Reply)
+        → let range : Range = record { first = 1; count = 2 } in
+        let call : Action = Call 1 1 1 (Procedure 1) (pos 5) in
+        let other : Action = Call 2 1 1 (Procedure 1) (pos 7) in
+        let answer : Answer = record { task = 1; number = 1; reply = reply } in
+        M.answers begin call ≡ answer ∷ []
+        → IsRepliedInRange (three_nodes 2 M.next M.answers begin) range call other answer }
 {}

@@ -34,7 +34,7 @@ pub use decisions::{
 };
 pub use histories::{
     histories_agree, histories_are_sound, only_noted_actions_are_decided, some_history_decides,
-    some_history_notes, some_history_replies,
+    some_history_leads_a_range, some_history_notes, some_history_replies, some_history_restarts,
 };
 pub use invariant::{events_keep, histories_keep, node_events_keep, task_events_keep};
 pub use offers::{offers_are_one, offers_follow_decisions};

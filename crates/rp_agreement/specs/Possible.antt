@@ -1,0 +1,105 @@
+-- Histories in which something happens, so that the laws do not speak of nothing: a call is decided
+-- and its task gets the reply, a tick is applied, a stopped node starts again, a range is led.
+use Rattle.std.specs.Prelude.{◌≡◌, ℕ, Bool, false, true, Some, IsSome, List, [], ◌∷◌, ◌++◌, filter}
+use Rattle.rp_base.specs.Ranges.{Range}
+use Rattle.rp_base.specs.Records.{applied_of}
+use Rattle.rp_base.specs.Sets.{Has}
+use Rattle.rp_base.specs.declared.action.Action.{Action}
+use Rattle.rp_base.specs.declared.reply.Answer.{Answer}
+use Rattle.rp_codec.specs.declared.packet.Body.{Body}
+use Rattle.rp_codec.specs.declared.packet.Body.TheVariants.{Prepare, PrepareRange}
+use Rattle.rp_model.specs.Answers.{IsStopped}
+use Rattle.rp_model.specs.Effect.{Setting}
+use Rattle.rp_model.specs.Events.{Event, Step, Makes, Cut, Restart, LeadRange}
+use Rattle.rp_model.specs.Facts.{IsDecided}
+use Rattle.rp_model.specs.Parts.{NodePart, TaskPart}
+use Rattle.rp_model.specs.Says.{says_to_all}
+use Rattle.rp_model.specs.World.{World, part_at, step_writes}
+use Rattle.rp_agreement.specs.Computed.{order_of}
+use Rattle.rp_agreement.specs.History.{IsHistory}
+use Rattle.rp_agreement.specs.Noted.{IsNoted}
+
+-- three nodes, a log of n positions, and this machine
+abbrev pub three_nodes : {S : Type 0} → ℕ → (S → Action → S) → (S → Action → List Answer) → S
+    → Setting S
+three_nodes positions next answers begin =
+    record {
+      config = record { nodes = 3; max_positions = positions };
+      next = next;
+      answers = answers;
+      begin = begin;
+    }
+
+-- task 1 got this reply, and no other
+abbrev pub HasOnlyReply : World → Answer → Type 0
+HasOnlyReply w answer =
+    (part : TaskPart) × (part_at w.tasks 1 ≡ Some part) × (part.replies ≡ answer ∷ [])
+
+-- node 1 has applied this action, and no other
+abbrev pub HasApplied : World → Action → Type 0
+HasApplied w v =
+    (part : NodePart) × (part_at w.nodes 1 ≡ Some part) × (applied_of part.records ≡ v ∷ [])
+
+-- Some history brings task 1 this reply, and no other.
+pub record IsReplied {S : Type 0} (s : Setting S) (answer : Answer) : Type 0 where
+  pub events : List Event
+  pub world : World
+  pub history : IsHistory s events world
+  pub replied : HasOnlyReply world answer
+
+-- In some history a node notes this action, it is decided, and node 1 applies it.
+pub record IsNotedAndApplied {S : Type 0} (s : Setting S) (v : Action) : Type 0 where
+  pub events : List Event
+  pub world : World
+  pub history : IsHistory s events world
+  pub noted : IsNoted events v
+  pub decided : IsDecided s.config.nodes world.sent 1 v
+  pub applied : HasApplied world v
+
+-- node 1 runs
+abbrev pub IsRunning : World → Type 0
+IsRunning w = (part : NodePart) × (part_at w.nodes 1 ≡ Some part) × IsSome part.running
+
+-- In some history node 1 stops within a step that writes a record, before anything is decided; it
+-- starts again, the call is decided, and task 1 gets this reply while node 1 runs.
+pub record IsRepliedAfterRestart {S : Type 0} (s : Setting S) (call : Action) (answer : Answer)
+    : Type 0 where
+  pub before : List Event
+  pub step : Step
+  pub kept : ℕ
+  pub after : List Event
+  pub first : World
+  pub stopped : World
+  pub last : World
+  pub begins : IsHistory s before first
+  pub writes : IsSome (step_writes s first step)
+  pub stops : IsHistory s (before ++ Cut step kept ∷ []) stopped
+  pub is_stopped : IsStopped stopped 1
+  pub undecided : order_of s.config.nodes stopped.sent ≡ []
+  pub history : IsHistory s (before ++ Cut step kept ∷ Restart 1 ∷ after) last
+  pub runs : IsRunning last
+  pub decided : IsDecided s.config.nodes last.sent 1 call
+  pub replied : HasOnlyReply last answer
+
+-- the body asks for promises
+abbrev pub is_prepare : Body → Bool
+is_prepare (Prepare position ballot) = true
+is_prepare (PrepareRange range ballot) = true
+is_prepare body = false
+
+-- In some history node 1 leads a range of positions; each packet that asks for promises asks for
+-- those of this range in one ballot, one packet a node; two calls are decided, at the positions 1
+-- and 2, and task 1 gets this reply.
+pub record IsRepliedInRange {S : Type 0} (s : Setting S) (range : Range) (call other : Action)
+    (answer : Answer)
+    : Type 0 where
+  pub events : List Event
+  pub world : World
+  pub history : IsHistory s events world
+  pub leads : Has (Makes (LeadRange 1 range.first range.count)) events
+  pub ballot : ℕ
+  pub prepares : filter (λ m. is_prepare m.body) world.sent
+      ≡ says_to_all s.config.nodes 1 (PrepareRange range ballot)
+  pub decided : IsDecided s.config.nodes world.sent 1 call
+  pub other_decided : IsDecided s.config.nodes world.sent 2 other
+  pub replied : HasOnlyReply world answer

@@ -1,10 +1,9 @@
 -- Histories in which a tick or an interrupt that a node noted is decided and applied.
-use Rattle.std.proofs.Common.{◌≡◌, ℕ, List, [], ◌∷◌, ◌++◌, inl, refl, arith}
+use Rattle.std.proofs.Common.{List, ◌∷◌, ◌++◌, inl, refl, arith}
 use Rattle.rp_base.specs.declared.action.Action.{Action}
 use Rattle.rp_base.specs.declared.action.Action.TheVariants.{Interrupt, Tick}
 use Rattle.rp_base.specs.declared.reply.Answer.{Answer}
 use Rattle.rp_model.specs.Answers.{Happen}
-use Rattle.rp_model.specs.Effect.{Setting}
 use Rattle.rp_model.specs.Events as events
 use Rattle.rp_model.specs.Events.{Step, Event, IsStep, Makes}
 use Rattle.rp_model.specs.World.{World, opening_world}

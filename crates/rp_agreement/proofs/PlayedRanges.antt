@@ -1,5 +1,5 @@
 -- A history in which a node leads a range, two calls are decided there, and a task gets its reply.
-use Rattle.std.proofs.Common.{◌≡◌, ℕ, pos, Ok, Some, List, [], ◌∷◌, ◌++◌, filter, inl, inr, refl, sym, subst, arith}
+use Rattle.std.proofs.Common.{◌≡◌, pos, Some, List, [], ◌∷◌, ◌++◌, filter, inl, inr, refl, sym, subst, arith}
 use Rattle.rp_base.specs.Ranges.{Range}
 use Rattle.rp_base.specs.declared.action.Action.{Action}
 use Rattle.rp_base.specs.declared.action.Action.TheVariants.{Call}
@@ -8,7 +8,6 @@ use Rattle.rp_base.specs.declared.reply.Answer.{Answer}
 use Rattle.rp_base.specs.declared.reply.Reply.{Reply}
 use Rattle.rp_codec.specs.declared.packet.Body.TheVariants.{PrepareRange}
 use Rattle.rp_model.specs.Answers.{Happen}
-use Rattle.rp_model.specs.Effect.{Setting}
 use Rattle.rp_model.specs.Events.{Event, Submit, Makes, Deliver, Lead, LeadRange}
 use Rattle.rp_model.specs.Says.{says_to_all}
 use Rattle.rp_model.specs.World.{World, opening_world}

@@ -1,11 +1,10 @@
 -- A history in which a node stops within a step, starts again, and a task gets its reply.
-use Rattle.std.proofs.Common.{◌≡◌, ℕ, Ok, Some, IsSome, List, [], ◌∷◌, ◌++◌, refl, sym, subst, arith}
+use Rattle.std.proofs.Common.{◌≡◌, Some, IsSome, List, [], ◌∷◌, ◌++◌, refl, sym, subst, arith}
 use Rattle.rp_base.specs.declared.action.Action.{Action}
 use Rattle.rp_base.specs.declared.reply.Answer.{Answer}
 use Rattle.rp_base.specs.declared.reply.Reply.{Reply}
 use Rattle.rp_codec.specs.Text.{number_text}
 use Rattle.rp_model.specs.Answers.{Happen, IsStopped}
-use Rattle.rp_model.specs.Effect.{Setting}
 use Rattle.rp_model.specs.Events.{Event, Makes, Again, Cut, Restart, Deliver, Lead}
 use Rattle.rp_model.specs.World.{World, opening_world, step_writes}
 use Rattle.rp_agreement.specs.Computed.{order_of}

@@ -2,7 +2,6 @@
 -- call is decided and its task gets the reply.
 use Rattle.std.proofs.Common.{◌≡◌, ℕ, ◌+◌, ◌<◌, ◌≤◌, pos, Ok, Some, List, [], ◌∷◌, ◌++◌, inl, inr, refl, sym, subst, arith}
 use Rattle.std.specs.Prelude.{◌^◌}
-use Rattle.rp_base.specs.Config.{IsRightConfig}
 use Rattle.rp_base.specs.Sets.{Has}
 use Rattle.rp_base.specs.declared.action.Action.{Action}
 use Rattle.rp_base.specs.declared.action.Action.TheVariants.{Call}

@@ -1,6 +1,7 @@
 //! Nodes agree in every history, whatever stops, is cut within a step or starts again.
 
 ghost use Rattle.std.specs.Prelude.{◌≡◌, ℕ, pos, Some, List, [], ◌∷◌, length};
+ghost use Rattle.rp_base.specs.Ranges.{Range};
 ghost use Rattle.rp_base.specs.Records.{applied_of};
 ghost use Rattle.rp_base.specs.declared.action.Action.{Action};
 ghost use Rattle.rp_base.specs.declared.action.Action.TheVariants.{Call, Interrupt, Tick};
@@ -22,7 +23,6 @@ ghost use Rattle.rp_agreement.specs.Order.{IsPrefix, AreAlike};
 ghost use Rattle.rp_agreement.specs.Possible.{three_nodes, IsReplied, IsNotedAndApplied};
 ghost use Rattle.rp_agreement.specs.Possible.{IsRepliedAfterRestart, IsRepliedInRange};
 ghost use Rattle.rp_agreement.specs.Worlds.{IsSoundWorld};
-ghost use Rattle.rp_base.specs.Ranges.{Range};
 
 use crate::opening::the_opening_is_sound;
 use rp_machine::Machine;
@@ -75,7 +75,7 @@ pub fn only_noted_actions_are_decided<M: Machine>()
     the_opening_is_sound();
 }
 
-/// The laws do not speak of nothing: with three nodes, whatever the machine, some history leads to
+/// The laws are not vacuous: with three nodes, whatever the machine, some history leads to
 /// a world in which a task's call is decided.
 pub fn some_history_decides<M: Machine>()
     // claim: Some history decides a call: with three nodes nine right events do
@@ -84,7 +84,7 @@ pub fn some_history_decides<M: Machine>()
         × IsDecided 3 world.sent 1 (Call 1 1 1 (Procedure 1) (pos 5)) }
 {}
 
-/// Nor of replies that never come: with three nodes, whatever the machine, if it answers that call
+/// Replies do occur: with three nodes, whatever the machine, if it answers that call
 /// at once, some history brings the task its reply. So task 1 of a tally adds 5 to 0 and gets 5.
 pub fn some_history_replies<M: Machine>()
     // claim: Some history brings a task the reply to its call: with three nodes twelve right events
@@ -100,8 +100,8 @@ pub fn some_history_replies<M: Machine>()
 /// Nor of clocks and handlers that never move: with three nodes, whatever the machine, in some
 /// history a tick that a node noted is decided and applied, and in some history an interrupt is.
 pub fn some_history_notes<M: Machine>()
-    // claim: In some history a tick that a node noted is decided and applied, and in some history an
-    //   interrupt is: with three nodes ten right events do
+    // claim: In some history a tick that a node noted is decided and applied, and in some history
+    //   an interrupt is: with three nodes ten right events do
     ensures tick { (begin : M)
         → IsNotedAndApplied (three_nodes 1 M.next M.answers begin) (Tick 7) }
     ensures interrupt { (begin : M)
@@ -112,8 +112,9 @@ pub fn some_history_notes<M: Machine>()
 /// that call at once, in some history a node stops within a step, starts again, and the task gets
 /// its reply.
 pub fn some_history_restarts<M: Machine>()
-    // claim: In some history a node stops within a step that writes a record, starts again, and then
-    //   a call is decided and its task gets the reply: with three nodes sixteen right events do
+    // claim: In some history a node stops within a step that writes a record, starts again, and
+    //   then a call is decided and its task gets the reply: with three nodes sixteen right events
+    //   do
     ensures { (begin : M) (reply : Reply)
         → let call : Action = Call 1 1 1 (Procedure 1) (pos 5) in
         let answer : Answer = record { task = 1; number = 1; reply = reply } in
@@ -125,9 +126,9 @@ pub fn some_history_restarts<M: Machine>()
 /// at once, in some history a node leads a range of two positions, two calls are decided there with
 /// no further question for promises, and the task gets its reply.
 pub fn some_history_leads_a_range<M: Machine>()
-    // claim: In some history a node leads a range of two positions, a call is decided at each with no
-    //   further question for promises, and a task gets its reply: with three nodes eighteen right
-    //   events do
+    // claim: In some history a node leads a range of two positions, a call is decided at each with
+    //   no further question for promises, and a task gets its reply: with three nodes eighteen
+    //   right events do
     ensures { (begin : M) (reply : Reply)
         → let range : Range = record { first = 1; count = 2 } in
         let call : Action = Call 1 1 1 (Procedure 1) (pos 5) in

@@ -63,26 +63,26 @@ pub fn stops_leave_the_records()
 pub fn cuts_send_nothing<M: Machine>()
     // claim: A node that stops within a step runs no more, sends nothing, and has the records from
     //   before the step or from after it
-    ensures refused { (setting : Setting M) (me : ℕ) (part : NodePart) (input : NodeInput) (kept : ℕ)
-        (fault : Fault) → (cut_effect setting me part input kept ≡ Err fault)
+    ensures refused { (setting : Setting M) (me : ℕ) (part : NodePart) (input : NodeInput)
+        (kept : ℕ) (fault : Fault) → (cut_effect setting me part input kept ≡ Err fault)
         ↔ (node_effect setting me part input ≡ Err fault) }
-    ensures stopped { (setting : Setting M) (me : ℕ) (part : NodePart) (input : NodeInput) (kept : ℕ)
-        (done : Done NodePart) → cut_effect setting me part input kept ≡ Ok done
+    ensures stopped { (setting : Setting M) (me : ℕ) (part : NodePart) (input : NodeInput)
+        (kept : ℕ) (done : Done NodePart) → cut_effect setting me part input kept ≡ Ok done
         → done.part.running ≡ None }
-    ensures records { (setting : Setting M) (me : ℕ) (part : NodePart) (input : NodeInput) (kept : ℕ)
-        (whole done : Done NodePart) → node_effect setting me part input ≡ Ok whole
+    ensures records { (setting : Setting M) (me : ℕ) (part : NodePart) (input : NodeInput)
+        (kept : ℕ) (whole done : Done NodePart) → node_effect setting me part input ≡ Ok whole
         → cut_effect setting me part input kept ≡ Ok done
         → (done.part.records ≡ part.records) ⊎ (done.part.records ≡ whole.part.records) }
-    ensures sends { (setting : Setting M) (me : ℕ) (part : NodePart) (input : NodeInput) (kept : ℕ)
-        (done : Done NodePart) → cut_effect setting me part input kept ≡ Ok done
+    ensures sends { (setting : Setting M) (me : ℕ) (part : NodePart) (input : NodeInput)
+        (kept : ℕ) (done : Done NodePart) → cut_effect setting me part input kept ≡ Ok done
         → done.sends ≡ [] }
 {}
 
 /// A node that is stopped runs again over its records and knows nothing else; no torn bytes remain,
 /// and it returns how many of both it found. One that runs goes on as it was. Neither sends.
 pub fn restarts_begin_with_the_records()
-    // claim: A stopped node that starts again has its records, no torn bytes, and knows nothing else;
-    //   one that runs goes on as it was
+    // claim: A stopped node that starts again has its records, no torn bytes, and knows nothing
+    //   else; one that runs goes on as it was
     ensures runs { (part : NodePart) → part.running ≡ None
         → (restart_part part).part
         ≡ record { records = part.records; torn = 0; running = Some fresh_running } }

@@ -1,4 +1,4 @@
--- Histories in which something happens, so that the laws do not speak of nothing: a call is decided
+-- Histories in which something happens, so that the laws are not vacuous: a call is decided
 -- and its task gets the reply, a tick is applied, a stopped node starts again, a range is led.
 use Rattle.std.specs.Prelude.{◌≡◌, ℕ, Bool, false, true, Some, IsSome, List, [], ◌∷◌, ◌++◌, filter}
 use Rattle.rp_base.specs.Ranges.{Range}

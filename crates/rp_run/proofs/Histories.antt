@@ -152,7 +152,7 @@ module _ {S : Type 0} (s : RunSetting S) (config : IsRightConfig s.setting.confi
       (reached.events, history s (take i lines) config (world_after s most lines i) reached, reached.are)
 
   pub run_has_moments : (i j : ℕ) → i ≤ j → AreMoments s.setting (world_after s most lines i) (world_after s most lines j)
-  unfolding goes_on
+  unfolding goes_on leads_on
   run_has_moments i j up =
       let opening = opening_world s.setting.config.nodes in
       let all = take j lines in

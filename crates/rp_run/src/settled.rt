@@ -58,12 +58,17 @@ impl Settled {
         Ok(())
     }
 
-    /// Settles the messages from the first to the last.
+    /// Settles the messages from the first to the last. Out of memory, some of them are settled,
+    /// and every other message is as it was.
     pub fn settle_all(&mut self, first: u64, last: u64) -> Result<(), AllocError>
         requires from_one { 1 ≤ first }
         requires not_last { last + 1 < 2 ^ 64 }
-        ensures { OnOk result ((m : ℕ) → is_settled self.new m
+        ensures ok { OnOk result ((m : ℕ) → is_settled self.new m
             ≡ (is_among (from_to first last) m || is_settled self.old m)) }
+        ensures kept { OnErr result ((m : ℕ)
+            → is_settled self.old m ≡ true → is_settled self.new m ≡ true) }
+        ensures others { OnErr result ((m : ℕ) → is_among (from_to first last) m ≡ false
+            → is_settled self.new m ≡ is_settled self.old m) }
     {
         for message in first..last + 1 {
             self.settle(message)?;
@@ -75,8 +80,9 @@ impl Settled {
     #[inline(always)]
     pub fn settle_any(&mut self, message: Option<u64>) -> Result<(), AllocError>
         requires { IfSome message (λ m. (1 ≤ m) × (m < 2 ^ 63)) }
-        ensures { OnOk result ((m : ℕ)
+        ensures ok { OnOk result ((m : ℕ)
             → is_settled self.new m ≡ (is_among (listed message) m || is_settled self.old m)) }
+        ensures err { OnErr result ((m : ℕ) → is_settled self.new m ≡ is_settled self.old m) }
     {
         match message {
             Some(message) => self.settle(message),

@@ -49,7 +49,7 @@ returns-in_ok-packets-in-Ok-clause-reached g c =
     λ play follows.
     follows_of c.step.new.self.world c.settle_any.new.self (event_said s c.args.line play c.args.event.now) c.happen.result
     (happened s c.args.line play c.args.event.now old.world c.args.self.now.settled follows c.step.new.self.world c.settle_any.new.self c.in-Ok.effect None None c.happen.result
-    done (c.worlds_grow.ensures s.setting old.world (event_of c.args.event.now) done.transition done.resulted) (settled_alike c.args.self.now.settled c.settle_any.new.self _ _ c.settled_by.ensures.value c.in_ok-settle_any-in-Ok.ensures) (writes_none _ c.happen.result))
+    done (c.worlds_grow.ensures s.setting old.world (event_of c.args.event.now) done.transition done.resulted) (settled_alike c.args.self.now.settled c.settle_any.new.self _ _ c.settled_by.ensures.value c.in_ok-settle_any-in-Ok.ensures.ok) (writes_none _ c.happen.result))
 
 pub returns-in_ok-packets-in-Ok-clause-charted : goal.returns-in_ok-packets-in-Ok-clause-charted
 returns-in_ok-packets-in-Ok-clause-charted g c =

@@ -27,7 +27,7 @@ returns-in_ok-settle_any-in-Ok-clause-printed g c =
     let done = c.in-Ok.ensures.step.world in
     λ play follows.
     happened s c.args.line play c.args.event.now old.world c.args.self.now.settled follows c.step_into.new.self.world c.settle_any.new.self c.step_into.new.effect _ _ c.print_effect.result
-    done (c.worlds_grow.ensures s.setting old.world (event_of c.args.event.now) done.transition done.resulted) (settled_alike c.args.self.now.settled c.settle_any.new.self _ _ c.settled_by-settled.ensures.value c.in_ok-settle_any-in-Ok.ensures) c.print_effect.ensures.printed
+    done (c.worlds_grow.ensures s.setting old.world (event_of c.args.event.now) done.transition done.resulted) (settled_alike c.args.self.now.settled c.settle_any.new.self _ _ c.settled_by-settled.ensures.value c.in_ok-settle_any-in-Ok.ensures.ok) c.print_effect.ensures.printed
 
 pub returns-in_err-settle_any-in-Ok-clause-printed : goal.returns-in_err-settle_any-in-Ok-clause-printed
 returns-in_err-settle_any-in-Ok-clause-printed g c =

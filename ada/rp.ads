@@ -41,7 +41,7 @@ package RP is
    Short_Answer  : constant Status := 64;  --  the answer is longer than its array; nothing but its length
                                            --  is written
    Bad_Request   : constant Status := 65;  --  the bytes are no request; nothing has changed
-   No_Objects    : constant Status := 66;  --  the deck declares a tally, and no protected objects
+   No_Objects    : constant Status := 66;  --  the deck has such a node, but declares a tally, and no objects
    Long_Answer   : constant Status := 67;  --  the step was made, and its answer is longer than the array
    Wrong_Handle  : constant Status := 68;  --  the handle is closed, or of the other kind; nothing has
                                            --  changed

@@ -42,7 +42,7 @@ enum rp_status {
   RP_IO = 13,            /* the deck has more than 1,048,576 bytes; nothing has changed */
   RP_SHORT_ANSWER = 64,  /* the answer is longer than its buffer; nothing but its length is written */
   RP_BAD_REQUEST = 65,   /* the bytes are no request; nothing has changed */
-  RP_NO_OBJECTS = 66,    /* the deck declares a tally, and no protected objects */
+  RP_NO_OBJECTS = 66,    /* the deck has such a node, but declares a tally, and no objects */
   RP_LONG_ANSWER = 67,   /* the step was made, and its answer is longer than the buffer */
   RP_WRONG_HANDLE = 68,  /* the handle is closed, or of the other kind; nothing has changed */
   RP_NULL = 69           /* a pointer is null; nothing has changed */

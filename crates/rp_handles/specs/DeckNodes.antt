@@ -39,11 +39,12 @@ IsNoDeck text (refusals.Fault (faults.BadDeck line reason)) =
     meaning_of Script text ≡ Err (record { line = line; reason = reason })
 IsNoDeck text _ = ⊥
 
--- Why a node is not opened: the bytes mean no deck, or the deck of a tally, or a deck without a
--- node of this number; or memory ran out.
+-- Why a node is not opened: the bytes mean no deck, or a deck without a node of this number, or the
+-- deck of a tally with such a node; or memory ran out.
 abbrev pub OpensNoNode : List ℕ → ℕ → Refusal → Type 0
 OpensNoNode text number (refusals.Fault faults.BadConfig) =
     (deck : Deck) × MeansDeck text deck × (¬ (IsNode number × (number ≤ deck.config.nodes)))
 OpensNoNode text number refusals.NoObjects =
-    (deck : Deck) × (tally : ℕ) × MeansDeck text deck × (deck.program ≡ Tally tally)
+    (deck : Deck) × (tally : ℕ) × MeansDeck text deck
+    × (IsNode number × (number ≤ deck.config.nodes)) × (deck.program ≡ Tally tally)
 OpensNoNode text number refusal = IsNoDeck text refusal

@@ -25,9 +25,9 @@ pub struct Found {
 }
 
 /// Opens a node of a deck over the bytes of its device, which are copied; the deck's script is not
-/// run. What the handle kept before is closed. Refused with `BadDeck`, with `NoObjects` if the deck
-/// declares a tally, with `BadConfig` if it has no such node, or with `OutOfMemory`: then the
-/// handle keeps what it kept.
+/// run. What the handle kept before is closed. Refused with `BadDeck`, with `BadConfig` if the deck
+/// has no such node, with `NoObjects` if it has one and declares a tally, or with `OutOfMemory`:
+/// then the handle keeps what it kept.
 pub fn open_node(
     alloc: Global,
     deck: &[u8],
@@ -40,8 +40,8 @@ pub fn open_node(
     //   records that the device's bytes begin with
     ensures ok { IfOk result (λ found. KeepsNode deck.now number bytes.now handle.new.kept
         found.records found.kept) }
-    // claim (err): A node of a deck is refused for the reason that holds: the deck's first bad line,
-    //   a tally, a node that it does not have; or memory ran out
+    // claim (err): A node of a deck is refused for the one reason that holds: the deck's first bad
+    //   line; a node that it does not have; or, for a node that it has, a tally; or memory ran out
     ensures err { IfErr result (OpensNoNode deck.now number) }
     // claim (same): A handle that is refused a node or a task keeps what it kept
     ensures same { OnErr result (handle.new.kept ≡ handle.old.kept) }

@@ -13,8 +13,8 @@ use rp_requests::{Node, Opened, Refusal};
 use std::alloc::Global;
 
 /// Opens a node of a deck over the bytes of its device. The deck's script is not run. Refused with
-/// `BadDeck`, with `NoObjects` if the deck declares a tally, with `BadConfig` if it has no such
-/// node, or with `OutOfMemory`.
+/// `BadDeck`, with `BadConfig` if the deck has no such node, with `NoObjects` if it has one and
+/// declares a tally, or with `OutOfMemory`.
 pub(crate) fn node_of_deck(
     alloc: Global,
     deck: &[u8],
@@ -52,7 +52,7 @@ fn deck_of(alloc: Global, bytes: &[u8]) -> Result<Deck, Refusal>
 
 /// The node of this number, if there are n nodes.
 fn node_of(nodes: u8, number: u8) -> Result<NodeId, Refusal>
-    ensures ok { IfOk result (λ node. (node ≡ number) × (node ≤ nodes)) }
+    ensures ok { IfOk result (λ node. (node ≡ number) × (IsNode number × (number ≤ nodes))) }
     ensures err { IfErr result (λ refusal. (refusal ≡ refusals.Fault faults.BadConfig)
         × (¬ (IsNode number × (number ≤ nodes)))) }
 {

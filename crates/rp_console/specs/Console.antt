@@ -1,7 +1,6 @@
 -- What the program does with the words of the command line, and how it ends.
 use Rattle.std.specs.Prelude.{◌≡◌, ◌⊎◌, ℕ, true, false, Option, Some, None, Result, Ok, Err, List}
-use Rattle.std.specs.Prelude.{[], codes, option_map, IfOk, OnOk, IfErr, OnErr}
-use Rattle.std.specs.Io.KnownBytes.{Appends}
+use Rattle.std.specs.Prelude.{[], codes, option_map, IfOk, IfErr, OnErr}
 use Rattle.clap.specs.Kinds.{IsAmong}
 use Rattle.clap.specs.Words.{Text, fault_of, subcommand_of}
 use Rattle.clap.specs.declared.error.kind.ErrorKind.{ErrorKind}
@@ -18,6 +17,7 @@ use Rattle.rp_script.specs.Given.{IsMeant}
 use Rattle.rp_script.specs.LiveRun.{LiveBegins, LivePrints}
 use Rattle.rp_output.specs.Endings.{RefusesAs, status_after}
 use Rattle.rp_output.specs.FaultMessage.{fault_message_of, with_line_feed}
+use Rattle.rp_output.specs.Stream.{Writes}
 use Rattle.rp_console.specs.declared.args.Args.{Args}
 use Rattle.rp_console.specs.declared.args.Args.TheVariants.{Script, Live}
 use Rattle.rp_output.specs.declared.ending.Ending.{Ending}
@@ -64,7 +64,9 @@ report_of (Err fault) = with_line_feed (fault_message_of fault)
 -- output of such a run, or a fault ended it after a prefix of that. If the bytes mean no deck,
 -- nothing is printed, and the fault has the first bad line and the first reason on it. The status
 -- is 0 without a fault, and otherwise that of the fault, which is reported. The figures of a live
--- run are reported as well, and are those of the run that it printed.
+-- run are reported as well, and are those of the run that it printed. A report that could not be
+-- written whole is a prefix of its line; with nothing to report, nothing is written on standard
+-- error.
 pub record RunsAs (args : Args) (given output output_after errors errors_after : Content)
     (ending : Ending) : Type 0 where
   pub ran : Result (Option FiguresLine) Fault
@@ -74,7 +76,8 @@ pub record RunsAs (args : Args) (given output output_after errors errors_after :
   pub bad : IfErr ran (λ fault. IsBadDeck fault → output_after ≡ output)
   pub fault : IfErr ran IsProgramFault
   pub status : ending.status ≡ status_after ran
-  pub reported : OnOk ending.reported (Appends errors errors_after (report_of ran))
+  pub reported : Writes errors errors_after (report_of ran) ending.reported
+  pub silent : report_of ran ≡ [] → errors_after ≡ errors
 
 -- The words ask for a run, which was made; or they are wrong or memory ran out, and that was
 -- reported.

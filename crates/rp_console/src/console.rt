@@ -1,15 +1,15 @@
 //! Does what the words of the command line ask for, and reports its faults.
 
-ghost use Rattle.std.specs.Prelude.{◌≡◌, IfErr, IfOk, OnErr, OnOk, map};
-ghost use Rattle.std.specs.Io.KnownBytes.{Appends};
+ghost use Rattle.std.specs.Prelude.{◌≡◌, [], IfErr, IfOk, OnErr, map};
 ghost use Rattle.rp_console.specs.Console.{FollowsWords, HasBegun, Prints, mode_of, report_of};
 ghost use Rattle.rp_output.specs.Endings.{status_after};
+ghost use Rattle.rp_output.specs.Stream.{Writes};
 ghost use Rattle.rp_script.specs.Faults.{IsBadDeck, IsProgramFault};
 ghost use Rattle.rp_script.specs.Given.{IsMeant};
 
 use crate::args::{Args, read_args};
 use rp_base::Fault;
-use rp_output::{Ending, Streams, fail, refuse_words};
+use rp_output::{Ending, Streams, fail, refuse_words, report};
 use rp_script::{FiguresLine, run_live, run_script};
 use std::alloc::Global;
 use std::convert::AsStr;
@@ -31,8 +31,9 @@ pub fn obey<T: Threads + Wait + Clock, S: AsStr, R: Read + Drop, W: Write + Drop
     //   fault. A fault is reported on standard error by its line, that of a bad deck with the first
     //   bad line that the deck's bytes mean and the first reason on it. A live run without a fault
     //   leaves there the line of the figures of the run that it printed, with a time or without
-    //   one; a script without a fault leaves standard error as it was; wrong words print nothing,
-    //   and help reports nothing; if help cannot be printed the fault is `Io`
+    //   one. A line that could not be written whole is left there as a prefix of it. A script
+    //   without a fault leaves standard error as it was; wrong words print nothing, and help
+    //   reports nothing; if help cannot be printed the fault is `Io`
     ensures obeyed { FollowsWords (map S.text words.now) (R.remaining streams.old.reader)
         (W.contents streams.old.writer) (W.contents streams.new.writer)
         (E.contents streams.old.errors) (E.contents streams.new.errors) result }
@@ -79,8 +80,9 @@ fn run_as<T: Threads + Wait + Clock, R: Read, W: Write>(
 /// Reports a run's figures or its fault, if it has any.
 fn end<E: Write>(errors: &mut E, ran: Result<Option<FiguresLine>, Fault>) -> Ending
     ensures status { result.status ≡ status_after ran }
-    ensures reported { OnOk result.reported
-        (Appends (E.contents errors.old) (E.contents errors.new) (report_of ran)) }
+    ensures reported { Writes (E.contents errors.old) (E.contents errors.new) (report_of ran)
+        result.reported }
+    ensures silent { report_of ran ≡ [] → E.contents errors.new ≡ E.contents errors.old }
 {
     match ran {
         Ok(None) => Ending {
@@ -89,7 +91,7 @@ fn end<E: Write>(errors: &mut E, ran: Result<Option<FiguresLine>, Fault>) -> End
         },
         Ok(Some(figures)) => Ending {
             status: 0,
-            reported: writeln!(errors, "{figures}"),
+            reported: report(errors, figures),
         },
         Err(fault) => fail(errors, fault),
     }

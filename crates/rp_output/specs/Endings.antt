@@ -1,11 +1,11 @@
 -- The status that a program ends with, and what it reports if its words ask for no run.
-use Rattle.std.specs.Prelude.{◌≡◌, ◌≢◌, ◌⊎◌, ℕ, Option, Result, Ok, Err, List, OnOk}
-use Rattle.std.specs.Io.KnownBytes.{Appends}
+use Rattle.std.specs.Prelude.{◌≡◌, ◌≢◌, ◌⊎◌, ℕ, Option, Result, Ok, Err, List}
 use Rattle.clap.specs.declared.error.kind.ErrorKind.{ErrorKind}
 use Rattle.clap.specs.declared.error.kind.ErrorKind.TheVariants as kinds
 use Rattle.rp_base.specs.declared.fault.Fault.{Fault}
 use Rattle.rp_base.specs.declared.fault.Fault.TheVariants as faults
 use Rattle.rp_output.specs.FaultMessage.{fault_message_of, with_line_feed}
+use Rattle.rp_output.specs.Stream.{Writes}
 use Rattle.rp_output.specs.declared.ending.Ending.{Ending}
 use Rattle.rp_output.specs.declared.ending.NoRun.{NoRun}
 use Rattle.rp_output.specs.declared.ending.NoRun.TheVariants.{OutOfMemory, Help, Mistake}
@@ -26,10 +26,10 @@ no_run_status OutOfMemory = 4
 no_run_status Help = 0
 no_run_status Mistake = 2
 
--- the fault was reported
+-- the line of the fault was reported; or a prefix of it, if it could not be written whole
 abbrev pub ReportsFault : Fault → Option (List ℕ) → Option (List ℕ) → Ending → Type 0
 ReportsFault fault errors errors_after ending =
-    OnOk ending.reported (Appends errors errors_after (with_line_feed (fault_message_of fault)))
+    Writes errors errors_after (with_line_feed (fault_message_of fault)) ending.reported
 
 -- Wrong words were reported, or help or the version was printed and nothing else. The status is the
 -- one for why there is no run; if help or the version could not be printed it is that of `Io`,

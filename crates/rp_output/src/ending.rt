@@ -2,14 +2,12 @@
 
 ghost use Rattle.std.specs.Prelude.{◌≡◌, IfSome, OnOk};
 ghost use Rattle.std.specs.Io.KnownBytes.{Appends};
-ghost use Rattle.rp_output.specs.Endings.{RefusesFor, no_run_status, status_of};
-ghost use Rattle.rp_output.specs.FaultMessage.{fault_message_of, with_line_feed};
+ghost use Rattle.rp_output.specs.Endings.{RefusesFor, ReportsFault, no_run_status, status_of};
 
 use crate::fault_message::tell;
 use crate::stream::write_out;
 use rp_base::Fault;
 use std::fmt::Display;
-use std::io;
 use std::io::Write;
 
 /// The streams from which a program reads its deck, to which it prints, and on which it reports its
@@ -27,7 +25,7 @@ pub struct Ending {
     /// The status that it ends with.
     pub status: u8,
     /// Whether the program's report was written.
-    pub reported: io::Result<()>,
+    pub reported: Result<(), Fault>,
 }
 
 /// Why the words of the command line ask for no run.
@@ -71,7 +69,7 @@ pub fn refuse<D: Display, R: Drop, W: Write + Drop, E: Write + Drop>(
 {
     let reported = match why {
         NoRun::OutOfMemory => return fail(&mut streams.errors, Fault::OutOfMemory),
-        NoRun::Mistake => write!(streams.errors, "{text}"),
+        NoRun::Mistake => explain(&mut streams.errors, text),
         NoRun::Help => {
             if write!(streams.writer, "{text}").is_err()
                 || write_out(&mut streams.writer).is_err()
@@ -87,11 +85,21 @@ pub fn refuse<D: Display, R: Drop, W: Write + Drop, E: Write + Drop>(
     }
 }
 
-/// Reports a fault.
+/// Writes why the words are wrong.
+fn explain<D: Display, E: Write>(errors: &mut E, text: &D) -> Result<(), Fault>
+    ensures { IfSome (D.output text.now) (λ bytes. OnOk result
+        (Appends (E.contents errors.old) (E.contents errors.new) bytes)) }
+{
+    match write!(errors, "{text}") {
+        Ok(()) => Ok(()),
+        Err(_) => Err(Fault::Io),
+    }
+}
+
+/// Reports a fault. If its line cannot be written whole, a prefix of it is.
 pub fn fail<E: Write>(errors: &mut E, fault: Fault) -> Ending
     ensures status { result.status ≡ status_of fault }
-    ensures reported { OnOk result.reported (Appends (E.contents errors.old)
-        (E.contents errors.new) (with_line_feed (fault_message_of fault))) }
+    ensures reported { ReportsFault fault (E.contents errors.old) (E.contents errors.new) result }
 {
     let reported = tell(&fault, errors);
     Ending {

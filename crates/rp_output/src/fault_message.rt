@@ -1,13 +1,14 @@
 //! The line that is printed for a fault.
 
-ghost use Rattle.std.specs.Prelude.{◌≡◌, ◌≤◌, ◌↔◌, IsTrue, OnOk, Some};
+ghost use Rattle.std.specs.Prelude.{◌≡◌, ◌≤◌, ◌↔◌, IfErr, IsTrue, Some};
 ghost use Rattle.rp_base.specs.Fault.{code_of};
-ghost use Rattle.std.specs.Io.KnownBytes.{Appends};
 ghost use Rattle.rp_output.specs.FaultMessage.{reason_text_of, fault_message_of, with_line_feed};
+ghost use Rattle.rp_output.specs.Stream.{IsWriteFault, Writes};
 
+use crate::stream::report;
 use rp_base::{DeckReason, Fault};
+use std::fmt;
 use std::io::Write;
-use std::{fmt, io};
 
 /// Whether the fault refuses only one step, after which the script continues.
 pub fn is_refusal(fault: &Fault) -> bool
@@ -24,13 +25,14 @@ pub fn is_refusal(fault: &Fault) -> bool
     )
 }
 
-/// Writes the line for a fault: where and why the deck is bad, or the fault's number and name.
-pub fn tell<W: Write>(fault: &Fault, writer: &mut W) -> io::Result<()>
-    ensures { OnOk result (Appends (W.contents writer.old) (W.contents writer.new)
-        (with_line_feed (fault_message_of fault.now))) }
+/// Writes the line for a fault: where and why the deck is bad, or the fault's number and name. `Io`
+/// if a write fails, and then a prefix of the line was written.
+pub fn tell<W: Write>(fault: &Fault, writer: &mut W) -> Result<(), Fault>
+    ensures written { Writes (W.contents writer.old) (W.contents writer.new)
+        (with_line_feed (fault_message_of fault.now)) result }
+    ensures fault { IfErr result IsWriteFault }
 {
-    let line = FaultMessage { fault: *fault };
-    writeln!(writer, "{line}")
+    report(writer, FaultMessage { fault: *fault })
 }
 
 /// The words for a reason.

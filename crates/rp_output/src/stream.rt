@@ -7,11 +7,14 @@ ghost use Rattle.rp_output.specs.Stream.{IsReadFault, IsWriteFault, Writes};
 
 use rp_base::Fault;
 use std::alloc::Global;
-use std::fmt::Display;
+use std::fmt::{Display, InlineText, Write as _};
 use std::io::Write;
 
 /// The length of most lines, with their ends, is at most this.
 const USUAL_LINE: usize = 80;
+
+/// The length of each line that is reported, with its end, is at most this.
+const MOST_REPORTED: usize = 256;
 
 /// Writes all bytes. `Io` if a write fails or writes nothing, and then a prefix of them was
 /// written.
@@ -54,4 +57,18 @@ pub fn print<W: Write, D: Display + Drop>(
     let mut text = String::with_capacity(alloc, USUAL_LINE)?;
     writeln!(text, "{line}")?;
     write_whole(writer, text.as_bytes())
+}
+
+/// As `print`, but takes no memory, for a line of at most 256 bytes with its end. `Io` if a write
+/// fails or the line is longer.
+pub fn report<W: Write, D: Display + Drop>(writer: &mut W, line: D) -> Result<(), Fault>
+    ensures printed { IfSome (D.output line) (λ text.
+        Writes (W.contents writer.old) (W.contents writer.new) (text ++ 10 ∷ []) result) }
+    ensures fault { IfErr result IsWriteFault }
+{
+    let mut text = InlineText::<MOST_REPORTED>::new();
+    match writeln!(text, "{line}") {
+        Ok(()) => write_whole(writer, text.as_str().as_bytes()),
+        Err(_) => Err(Fault::Io),
+    }
 }

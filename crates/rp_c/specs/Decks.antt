@@ -1,5 +1,5 @@
 -- The result of running a deck.
-use Rattle.std.specs.Prelude.{◌≡◌, ◌⊎◌, ◌<◌, ℕ, Bool, Some, Err, List, [], ◌++◌, length, drop}
+use Rattle.std.specs.Prelude.{◌≡◌, ◌⊎◌, ◌<◌, ◌≤◌, ℕ, Bool, Some, Err, List, [], ◌++◌, length, drop}
 use Rattle.rp_base.specs.declared.fault.Fault.TheVariants as faults
 use Rattle.rp_base.specs.declared.fault.DeckReason.{DeckReason}
 use Rattle.rp_deck.specs.Meaning.{meaning_of}
@@ -15,10 +15,11 @@ use Rattle.rp_c.specs.declared.status.Status.TheVariants.{ShortAnswer}
 abbrev pub IsOutput : Bool → List ℕ → List ℕ → Type 0
 IsOutput traced bytes text = ScriptPrints traced (Some bytes) (Some []) (Some text)
 
--- The bytes mean no deck, and the text is the line that reports the first bad line and its first
--- reason.
+-- The bytes, no more than a deck may have, mean no deck, and the text is the line that reports the
+-- first bad line and its first reason.
 abbrev pub IsBadLine : List ℕ → List ℕ → Type 0
 IsBadLine bytes text = (line : ℕ) × (reason : DeckReason)
+    × (length bytes ≤ most_bytes)
     × (meaning_of Script bytes ≡ Err (record { line = line; reason = reason }))
     × (text ≡ with_line_feed (fault_message_of (faults.BadDeck line reason)))
 
@@ -43,7 +44,8 @@ RunsDeck traced bytes old new before used BadDeck =
 RunsDeck traced bytes old new before used ShortAnswer =
     (text : List ℕ) × (IsOutput traced bytes text ⊎ IsBadLine bytes text)
     × IsTooLong text old new used
-RunsDeck traced bytes old new before used OutOfMemory = (new ≡ old) × (used ≡ before)
+RunsDeck traced bytes old new before used OutOfMemory =
+    (length bytes ≤ most_bytes) × (new ≡ old) × (used ≡ before)
 RunsDeck traced bytes old new before used Io =
     (most_bytes < length bytes) × (new ≡ old) × (used ≡ before)
 RunsDeck traced bytes old new before used BadPacket = ⊥

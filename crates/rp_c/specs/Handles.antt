@@ -1,5 +1,6 @@
 -- What a C caller gets when it opens or calls a handle.
-use Rattle.std.specs.Prelude.{◌≡◌, ◌<◌, ◌⊎◌, ℕ, Option, Some, None, Result, Ok, Err, List, length}
+use Rattle.std.specs.Prelude.{◌≡◌, ◌<◌, ◌≤◌, ◌⊎◌, ℕ, Option, Some, None, Result, Ok, Err, List}
+use Rattle.std.specs.Prelude.{length}
 use Rattle.rp_base.specs.declared.fault.Fault.TheVariants as faults
 use Rattle.rp_handles.specs.DeckNodes.{OpensNoNode}
 use Rattle.rp_handles.specs.Handles.{ChangesNothing, Exchange, HandleAnswers, IsNoTask}
@@ -19,18 +20,18 @@ abbrev pub opening_code : Option Refusal → ℕ
 opening_code None = 0
 opening_code (Some refusal) = refusal_code refusal
 
--- Why a node is not opened: the deck is too long, or has no such node, or memory ran out.
+-- Why a node is not opened: the deck is too long; or it is not, and `OpensNoNode` says why.
 abbrev pub IsNoNode : List ℕ → ℕ → Refusal → Type 0
 IsNoNode text number refusal =
     ((refusal ≡ refusals.Fault faults.Io) × (most_bytes < length text))
-    ⊎ OpensNoNode text number refusal
+    ⊎ ((length text ≤ most_bytes) × OpensNoNode text number refusal)
 
--- The handle keeps the node, and what it found on its device was written; or nothing changed, for a
--- reason that holds.
+-- The handle keeps the node of a deck that is not too long, and what it found on its device was
+-- written; or nothing changed, for a reason that holds.
 abbrev pub OpensByHandle : List ℕ → ℕ → List ℕ → Option Actor → Option Actor → Found → Found
     → Option Refusal → Type 0
 OpensByHandle text number bytes old new before found None =
-    KeepsNode text number bytes new found.records found.kept
+    (length text ≤ most_bytes) × KeepsNode text number bytes new found.records found.kept
 OpensByHandle text number bytes old new before found (Some refusal) =
     (new ≡ old) × (found ≡ before) × IsNoNode text number refusal
 

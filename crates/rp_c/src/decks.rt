@@ -22,9 +22,9 @@ pub extern "C" fn rp_run_deck(
     answer: &mut [u8],
     used: &mut usize,
 ) -> u8
-    // claim: A C caller gets the output of the deck that its bytes mean, or the line of the first
-    //   bad line and its first reason; if that does not fit, its length and nothing else; out of
-    //   memory, or with too long a deck, nothing has changed
+    // claim: A C caller gets the output of the deck that its bytes, at most 1,048,576, mean, or the
+    //   line of the first bad line and its first reason; if that does not fit, its length and
+    //   nothing else; out of memory, or with too long a deck, nothing has changed
     ensures { (status : Status) × (result ≡ status_code status)
         × RunsDeck traced deck.now answer.old answer.new used.old used.new status }
 {

@@ -23,8 +23,9 @@ pub extern "C" fn rp_node_open(
     node: &mut Handle,
     found: &mut Found,
 ) -> u8
-    // claim: A C caller gets a handle of the node of its deck over its device's bytes; or the number of
-    //   the reason for which there is none, and then nothing has changed
+    // claim: A C caller gets a handle of the node of its deck, of at most 1,048,576 bytes, over its
+    //   device's bytes; or the number of the one reason for which there is none, and then nothing
+    //   has changed
     ensures { (refusal : Option RefusalOf) × (result ≡ opening_code refusal)
         × OpensByHandle deck.now number device.now node.old.kept node.new.kept
         found.old found.new refusal }

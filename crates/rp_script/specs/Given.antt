@@ -1,5 +1,5 @@
 -- The meaning of the bytes that a reader gives: a deck, or the first bad line and its first reason.
-use Rattle.std.specs.Prelude.{◌≡◌, ℕ, Option, Result, Ok, Err, List, IfSome}
+use Rattle.std.specs.Prelude.{◌≡◌, ◌≤◌, ℕ, Option, Result, Ok, Err, List, IfSome, length}
 use Rattle.rp_base.specs.declared.fault.Fault.{Fault}
 use Rattle.rp_base.specs.declared.fault.Fault.TheVariants.{BadDeck}
 use Rattle.rp_deck.specs.Deck.{IsRightDeck}
@@ -13,12 +13,13 @@ use Rattle.rp_deck.specs.declared.deck.Mode.{Mode}
 abbrev pub most_bytes : ℕ
 most_bytes = 1048576
 
--- Some bytes mean this in a mode, and they are all that the reader gives, if it is known what it
--- gives.
+-- Some bytes, no more than a deck may have, mean this in a mode, and they are all that the reader
+-- gives, if it is known what it gives.
 pub record Means (mode : Mode) (given : Option (List ℕ)) (meaning : Result DeckText BadLine)
     : Type 0 where
   pub bytes : List ℕ
   pub all : IfSome given (λ whole. bytes ≡ whole)
+  pub short : length bytes ≤ most_bytes
   pub meaning_is : meaning_of mode bytes ≡ meaning
 
 -- they mean this deck, which is right

@@ -21,11 +21,11 @@ const MOST_READS: u32 = 2_097_152;
 const CHUNK: usize = 4096;
 
 /// Reads the deck that the reader's bytes mean in a mode. If they mean none, the fault has the
-/// first bad line and the first reason on it.
+/// first bad line and the first reason on it. More than 1,048,576 bytes are never read as a deck.
 pub fn read_given<R: Read>(alloc: Global, reader: &mut R, mode: Mode) -> Result<Deck, Fault>
-    // claim: All bytes that the reader gives mean a deck, which is read and is right, or the fault
-    //   has the first bad line that they mean and the first reason on it, for a script and for live
-    //   mode
+    // claim: All bytes that the reader gives, at most 1,048,576, mean a deck, which is read and is
+    //   right, or the fault has the first bad line that they mean and the first reason on it, for a
+    //   script and for live mode; more bytes are neither a deck nor a bad one
     ensures deck { IfOk result (MeansDeck mode (R.remaining reader.old)) }
     ensures taken { IfOk result (IsDeckFor mode) }
     ensures meant { IfErr result (IsMeant mode (R.remaining reader.old)) }

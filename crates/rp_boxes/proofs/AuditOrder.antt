@@ -16,13 +16,15 @@ use Rattle.rp_agreement.specs.Computed.{order_of}
 use Rattle.rp_agreement.specs.Order.{IsPrefix}
 use Rattle.rp_agreement.specs.Sound.{IsReported, IsSound}
 use Rattle.rp_agreement.specs.Asked.{Says}
-use Rattle.rp_boxes.specs.Audits.{ReportSays, AreAllReported, known_of, report}
-use Rattle.rp_boxes.specs.Looks.{IsWorldOf, WasSent}
+use Rattle.rp_boxes.specs.Audits.{Audited, ReportSays, AreAllReported, known_of, report}
+use Rattle.rp_boxes.specs.Looks.{HasWorld, IsWorldOf, WasSent}
 use Rattle.rp_boxes.specs.OneOrder.{ReportOneOrder, AreOfOneOrder}
+use Rattle.rp_boxes.specs.OrderLaws.{OrderLaws}
 use Rattle.rp_boxes.specs.Parts.{Part, View}
 use Rattle.rp_boxes.specs.Rule.{node_among, all_sent}
 use Rattle.rp_boxes.specs.Seats.{SeatState, setting_at}
 use Rattle.rp_boxes.proofs.Listed.{at_taken, at_dropped, begins_by}
+use Rattle.rp_boxes.proofs.WorldOrder.{world_order}
 
 -- the laws of the order and of reports
 abbrev pub OrderExists : Type 0
@@ -33,11 +35,9 @@ ReportsFollow = (nodes : ℕ) (node : ℕ → NodePart) (sent : List Message) �
     → (x first applied : ℕ) (actions : List Action) → Says sent x (Report first applied actions) → IsReported order first applied actions
 
 -- each known list is a prefix of the list of what was reported
-pub begin_one : (part : Part) (known : List (List Action)) → AreAllReported part known → (one : ReportOneOrder part) → (node : ℕ) → IsPrefix (known_of known node) one.order
-begin_one part known are one node = begins_by (known_of known node) one.order (λ k action is. one.describes node k action (are.stated node k action is))
-
-pub of_one_order : (part : Part) (known : List (List Action)) → AreAllReported part known → ReportOneOrder part → AreOfOneOrder known
-of_one_order part known are one = record { order = one.order; begins = begin_one part known are one }
+begin_one : (part : Part) (known : List (List Action)) → AreAllReported part known → (order : List Action)
+    → ((node before : ℕ) (action : Action) → ReportSays part.got node before action → slice_get order before ≡ Some action) → (node : ℕ) → IsPrefix (known_of known node) order
+begin_one part known are order describes node = begins_by (known_of known node) order (λ k action is. describes node k action (are.stated node k action is))
 
 module _ {S : Type 0} (s : Setting S) (view : View) (parts : ℕ → Part) (world : IsWorldOf s view parts) where
   abbrev pub order : List Action
@@ -58,17 +58,28 @@ module _ {S : Type 0} (s : Setting S) (view : View) (parts : ℕ → Part) (worl
       let within : slice_get (take stated.applied order) (stated.first - 1 + stated.at) ≡ Some action = at_dropped (stated.first - 1) (take stated.applied order) stated.at action following in
       subst (λ (place : ℕ). slice_get order place ≡ Some action) (sym stated.place) (at_taken stated.applied order (stated.first - 1 + stated.at) action within)
 
-  pub one_order : OrderExists → ReportsFollow → (part : Part) → Has (0, part) view → ReportOneOrder part
-  one_order exists follow part here = record { order = order; describes = stated_at exists follow part here }
-
   -- each known list begins the order
   pub known_begins : OrderExists → ReportsFollow → (part : Part) → Has (0, part) view → (known : List (List Action)) → AreAllReported part known
       → (node : ℕ) → IsPrefix (known_of known node) order
-  known_begins exists follow part here known are = begin_one part known are (record { order = order; describes = stated_at exists follow part here })
+  known_begins exists follow part here known are = begin_one part known are order (stated_at exists follow part here)
 
--- once the audit got a packet, or none
-module _ {S P : Type 0} (next : S → Action → S) (answers : S → Action → List Answer) (begin : P → S) (exists : OrderExists) (follow : ReportsFollow) (from : Party) (old new : SeatState P) where
-  pub order_still : (found : Option (Vec ℕ Global)) → IfSome found (λ text. WasSent next answers begin from Audit text.items new) → IfNone found (new ≡ old)
-      → ReportOneOrder old.part → ReportOneOrder new.part
-  order_still None some none one = subst (λ (seat_state : SeatState P). ReportOneOrder seat_state.part) (sym none) one
-  order_still (Some text) some none one = one_order (setting_at next answers begin new) ((0, new.part) ∷ []) some.parts some.world exists follow new.part (inl refl)
+module _ {S P : Type 0} (next : S → Action → S) (answers : S → Action → List Answer) (begin : P → S) where
+  pub of_one_order : (audit : Audited P) → AreAllReported audit.seat.part audit.known → ReportOneOrder next answers begin audit.seat → AreOfOneOrder next answers begin audit
+  of_one_order audit are one = record { order = one.order; of_world = one.of_world; begins = begin_one audit.seat.part audit.known are one.order one.describes }
+
+  -- the order that a world of the audit shows
+  pub report_order : ReportsFollow → (seat : SeatState P) → OrderLaws (setting_at next answers begin seat) → HasWorld (setting_at next answers begin seat) ((0, seat.part) ∷ []) → ReportOneOrder next answers begin seat
+  report_order follow seat laws seen =
+      let s = setting_at next answers begin seat in
+      let view = (0, seat.part) ∷ [] in
+      record {
+        order = order s view seen.0 seen.1;
+        of_world = world_order s view seen.0 seen.1 laws;
+        describes = stated_at s view seen.0 seen.1 laws.exists follow seat.part (inl refl);
+      }
+
+  -- once the audit got a packet, or none
+  pub order_still : ReportsFollow → (from : Party) (old new : SeatState P) → OrderLaws (setting_at next answers begin new) → (found : Option (Vec ℕ Global))
+      → IfSome found (λ text. WasSent next answers begin from Audit text.items new) → IfNone found (new ≡ old) → ReportOneOrder next answers begin old → ReportOneOrder next answers begin new
+  order_still follow from old new laws None some none one = subst (ReportOneOrder next answers begin) (sym none) one
+  order_still follow from old new laws (Some text) some none one = report_order follow new laws (some.parts, some.world)

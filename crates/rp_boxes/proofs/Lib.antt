@@ -15,6 +15,7 @@ pub mod Listed
 pub mod Auditing
 pub mod WorldLooks
 pub mod TaskTurns
+pub mod WorldOrder
 pub mod TaskOrder
 pub mod Joining
 pub mod AuditOrder

@@ -1,27 +1,32 @@
 -- What the last look, of all seats as one, says of the audit, of nodes and of tasks.
-use Rattle.std.proofs.Common.{◌≡◌, ℕ, zero, suc, ◌+◌, All, Some, List, [], ◌∷◌, ◌++◌, length, map, slice_get, inl, inr, refl, sym, ap, subst, ◌∙◌, arith, append_assoc, append-nil}
+use Rattle.std.proofs.Common.{◌≡◌, ◌≤◌, ℕ, zero, suc, ◌+◌, All, Some, List, [], ◌∷◌, ◌++◌, length, map, slice_get, inl, inr, refl, sym, ap, subst, ◌∙◌, arith, append_assoc, append-nil}
 use Rattle.rp_base.specs.Records.{applied_of}
 use Rattle.rp_base.specs.Sets.{Has}
 use Rattle.rp_base.proofs.Members.{has_left, has_right, has_mapped}
 use Rattle.rp_base.specs.declared.action.Action.{Action}
 use Rattle.rp_base.specs.declared.reply.Answer.{Answer}
 use Rattle.rp_codec.specs.Message.{Message}
+use Rattle.rp_machine.specs.Places.{IsPlace}
 use Rattle.rp_model.specs.Effect.{Setting}
 use Rattle.rp_model.specs.Facts.{IsOrder}
 use Rattle.rp_model.specs.Parts.{NodePart}
+use Rattle.rp_agreement.specs.Answered.{calls_so_far, named}
 use Rattle.rp_agreement.specs.Computed.{order_of}
 use Rattle.rp_agreement.specs.Order.{IsPrefix}
 use Rattle.rp_agreement.specs.Sound.{IsSound}
 use Rattle.rp_boxes.specs.Audits.{Audited, ReportSays, AreAllReported, known_of, report}
 use Rattle.rp_boxes.specs.Looks.{IsWorldOf}
-use Rattle.rp_boxes.specs.Parts.{Part, View, node_of}
+use Rattle.rp_boxes.specs.OneOrder.{IsWorldOrder}
+use Rattle.rp_boxes.specs.OrderLaws.{OrderLaws}
+use Rattle.rp_boxes.specs.Parts.{Part, View, node_of, task_of}
 use Rattle.rp_boxes.specs.Plays.{Sight, alone}
 use Rattle.rp_boxes.specs.Rule.{IsGotInOrder, node_among, all_sent}
 use Rattle.rp_boxes.specs.Seats.{SeatState, setting_at}
 use Rattle.rp_boxes.specs.Together.{AreTogether, IsNodeOf, IsTaskOf, known_together, of_node, of_task}
 use Rattle.rp_boxes.proofs.Auditing.{says_among}
-use Rattle.rp_boxes.proofs.AuditOrder.{OrderExists, ReportsFollow, known_begins}
-use Rattle.rp_boxes.proofs.TaskOrder.{RepliesFollow, CallsCount, of_order}
+use Rattle.rp_boxes.proofs.AuditOrder.{ReportsFollow, known_begins}
+use Rattle.rp_boxes.proofs.TaskOrder.{of_order}
+use Rattle.rp_boxes.proofs.WorldOrder.{world_order}
 use Rattle.rp_boxes.proofs.Worlds.{is_sent}
 
 -- ---- places are taken in, one after the other
@@ -57,17 +62,23 @@ module _ {S P : Type 0} (next : S → Action → S) (answers : S → Action → 
   abbrev view : View
   view = known_together audit.seat nodes tasks
 
-  module _ (parts : ℕ → Part) (world : IsWorldOf s view parts) (exists : OrderExists) (follow : ReportsFollow) where
+  node_here : (seat : SeatState P) → Has seat nodes → Has (seat.number, seat.part) view
+  node_here seat has =
+      has_left (seat.number, seat.part) ((0, audit.seat.part) ∷ map of_node nodes) (map of_task tasks) (inr (has_mapped of_node seat nodes has))
+
+  task_here : (seat : SeatState P) → Has seat tasks → Has (7 + seat.number, seat.part) view
+  task_here seat has =
+      has_right (7 + seat.number, seat.part) ((0, audit.seat.part) ∷ map of_node nodes) (map of_task tasks) (has_mapped of_task seat tasks has)
+
+  -- a call of a task of the world that takes effect is one that its seat made
+  pub made_at : (order : List Action) → IsWorldOrder s view order → (seat : SeatState P) → Has seat tasks → (n place : ℕ)
+      → IsPlace next answers (begin audit.seat.program) order (named seat.number n) place → n ≤ calls_so_far (task_of seat.part.role)
+  made_at order of_world seat has n place at =
+      subst (λ (p : Part). n ≤ calls_so_far (task_of p.role)) (of_world.world.knows (7 + seat.number) seat.part (task_here seat has)).0 (of_world.made seat.number n place at).2
+
+  module _ (parts : ℕ → Part) (world : IsWorldOf s view parts) (laws : OrderLaws s) (follow : ReportsFollow) where
     abbrev order : List Action
     order = order_of s.config.nodes (all_sent parts 16)
-
-    node_here : (seat : SeatState P) → Has seat nodes → Has (seat.number, seat.part) view
-    node_here seat has =
-        has_left (seat.number, seat.part) ((0, audit.seat.part) ∷ map of_node nodes) (map of_task tasks) (inr (has_mapped of_node seat nodes has))
-
-    task_here : (seat : SeatState P) → Has seat tasks → Has (7 + seat.number, seat.part) view
-    task_here seat has =
-        has_right (7 + seat.number, seat.part) ((0, audit.seat.part) ∷ map of_node nodes) (map of_task tasks) (has_mapped of_task seat tasks has)
 
     -- what is known of a node is what it has reported
     has_reported : AreAllReported audit.seat.part audit.known → (seat : SeatState P) → Has seat nodes → (before : ℕ) (action : Action)
@@ -82,16 +93,17 @@ module _ {S P : Type 0} (next : S → Action → S) (answers : S → Action → 
         let own = (world.knows seat.number seat.part (node_here seat has)).0 in
         says_among stated (subst (λ (p : Part). Has packet p.sent) own sent)
 
-    pub together : AppliedBegin → RepliesFollow s → CallsCount s → AreAllReported audit.seat.part audit.known → AreTogether next answers begin audit nodes tasks
-    together applied replies calls are = record {
+    pub together : AppliedBegin → AreAllReported audit.seat.part audit.known → AreTogether next answers begin audit nodes tasks
+    together applied are = record {
       order = order;
-      known = known_begins s view parts world exists follow audit.seat.part (inl refl) audit.known are;
+      of_world = world_order s view parts world laws;
+      known = known_begins s view parts world laws.exists follow audit.seat.part (inl refl) audit.known are;
       nodes_are = all_members (IsNodeOf order audit.known) nodes (λ seat has. record {
         applied = subst (λ (p : Part). IsPrefix (applied_of (node_of p.role).records) order) (world.knows seat.number seat.part (node_here seat has)).0
-            (applied s.config.nodes (node_among parts) (all_sent parts 16) world.is.good.kept.sound order (exists s.config.nodes (all_sent parts 16)) seat.number);
+            (applied s.config.nodes (node_among parts) (all_sent parts 16) world.is.good.kept.sound order (laws.exists s.config.nodes (all_sent parts 16)) seat.number);
         reported = has_reported are seat has;
       });
-      tasks_are = all_members (IsTaskOf next answers (begin audit.seat.program) order) tasks (λ seat has. of_order s view parts world seat.number seat.part (task_here seat has) replies calls);
+      tasks_are = all_members (IsTaskOf next answers (begin audit.seat.program) order) tasks (λ seat has. of_order s view parts world seat.number seat.part (task_here seat has) laws);
       carried = λ x y sender receiver there here.
           let from = world.knows x sender there in
           let to = world.knows y receiver here in

@@ -1,31 +1,26 @@
 -- What a task learns of the order from a world.
-use Rattle.std.proofs.Common.{◌≡◌, ◌↔◌, ℕ, ◌+◌, suc, ◌<◌, Some, List, [], ◌∷◌, slice_get, inl, sym, ap, subst}
+use Rattle.std.proofs.Common.{◌≡◌, ◌↔◌, ℕ, ◌+◌, suc, ◌<◌, Some, List, [], ◌∷◌, slice_get, inl, refl, sym, ap, subst}
 use Rattle.rp_base.specs.Sets.{Has}
 use Rattle.rp_base.specs.declared.action.Action.{Action}
 use Rattle.rp_base.specs.declared.reply.Answer.{Answer}
-use Rattle.rp_codec.specs.Message.{Message}
 use Rattle.rp_machine.specs.Places.{HasReply}
 use Rattle.rp_machine.specs.Replay.{kept_of}
 use Rattle.rp_model.specs.Effect.{Setting}
-use Rattle.rp_model.specs.Parts.{NodePart, TaskPart}
+use Rattle.rp_model.specs.Parts.{TaskPart}
 use Rattle.rp_model.specs.Tasks.{asks}
-use Rattle.rp_agreement.specs.Answered.{IsKept, AreItsCalls, named}
+use Rattle.rp_agreement.specs.Answered.{AreItsCalls, named}
 use Rattle.rp_agreement.specs.Computed.{order_of}
 use Rattle.rp_agreement.specs.Asked.{Asks}
-use Rattle.rp_boxes.specs.Looks.{IsWorldOf}
-use Rattle.rp_boxes.specs.Parts.{Part, View, task_of, part_in, actor_in}
+use Rattle.rp_boxes.specs.Looks.{HasWorld, IsWorldOf}
+use Rattle.rp_boxes.specs.OneOrder.{HasOneOrder}
+use Rattle.rp_boxes.specs.OrderLaws.{OrderLaws}
+use Rattle.rp_boxes.specs.Parts.{Part, View, task_of}
+use Rattle.rp_boxes.specs.Plays.{Sight, alone}
 use Rattle.rp_boxes.specs.Rule.{node_among, task_among, all_sent}
-use Rattle.rp_boxes.specs.TaskSeats.{HasOneOrder, IsOfOrder}
+use Rattle.rp_boxes.specs.Seats.{SeatState, setting_at}
+use Rattle.rp_boxes.specs.TaskSeats.{IsOfOrder}
+use Rattle.rp_boxes.proofs.WorldOrder.{world_order}
 use Rattle.rp_boxes.proofs.Worlds.{sent_by, is_sent}
-
--- the laws of replies and of calls, at a setting
-abbrev pub RepliesFollow : {S : Type 0} → Setting S → Type 0
-RepliesFollow s = (node : ℕ → NodePart) (task : ℕ → TaskPart) (sent : List Message) → IsKept s node task sent
-    → (t k : ℕ) (answer : Answer) → slice_get (task t).replies k ≡ Some answer → HasReply s.next s.answers s.begin (order_of s.config.nodes sent) (named t (suc k)) answer
-
-abbrev pub CallsCount : {S : Type 0} → Setting S → Type 0
-CallsCount s = (node : ℕ → NodePart) (task : ℕ → TaskPart) (sent : List Message) → IsKept s node task sent
-    → (t : ℕ) → AreItsCalls sent t (task t) (kept_of s.next s.answers s.begin (order_of s.config.nodes sent))
 
 module _ {S : Type 0} (s : Setting S) (view : View) (parts : ℕ → Part) (world : IsWorldOf s view parts) (number : ℕ) (part : Part) (known : Has (7 + number, part) view) where
   was : parts (7 + number) ≡ part
@@ -59,21 +54,29 @@ module _ {S : Type 0} (s : Setting S) (view : View) (parts : ℕ → Part) (worl
     all_but_last = are.all_but_last;
   }
 
-  -- the task is of the order of what was sent
-  pub of_order : RepliesFollow s → CallsCount s → IsOfOrder s.next s.answers s.begin (order_of s.config.nodes (all_sent parts 16)) number part
-  of_order replies calls =
+  -- the task follows the order of what was sent
+  pub of_order : OrderLaws s → IsOfOrder s.next s.answers s.begin (order_of s.config.nodes (all_sent parts 16)) number part
+  of_order laws =
       let task : task_among parts number ≡ task_of part.role = ap (λ (p : Part). task_of p.role) was in
       let order = order_of s.config.nodes (all_sent parts 16) in
       record {
         replies = subst (λ (t : TaskPart). (k : ℕ) (answer : Answer) → slice_get t.replies k ≡ Some answer → HasReply s.next s.answers s.begin order (named number (suc k)) answer) task
-            (replies (node_among parts) (task_among parts) (all_sent parts 16) world.is.good.kept number);
+            (laws.replies (node_among parts) (task_among parts) (all_sent parts 16) world.is.good.kept number);
         calls = own_calls (task_of part.role) (kept_of s.next s.answers s.begin order)
-            (subst (λ (t : TaskPart). AreItsCalls (all_sent parts 16) number t (kept_of s.next s.answers s.begin order)) task (calls (node_among parts) (task_among parts) (all_sent parts 16) world.is.good.kept number));
+            (subst (λ (t : TaskPart). AreItsCalls (all_sent parts 16) number t (kept_of s.next s.answers s.begin order)) task (laws.calls (node_among parts) (task_among parts) (all_sent parts 16) world.is.good.kept number));
       }
 
-  pub world_orders : RepliesFollow s → CallsCount s → HasOneOrder s.next s.answers s.begin number part
-  world_orders replies calls = record { order = order_of s.config.nodes (all_sent parts 16); task = of_order replies calls }
+-- the order that a task's place shows
+module _ {S P : Type 0} (next : S → Action → S) (answers : S → Action → List Answer) (begin : P → S) (seat : SeatState P) where
+  abbrev its_setting : Setting S
+  its_setting = setting_at next answers begin seat
 
--- what a seat knows that knows one actor
-pub knows_itself : (k n : ℕ) (p : Part) (view : View) → view ≡ (k, p) ∷ [] → actor_in view ≡ 7 + n → Has (7 + n, part_in view) view
-knows_itself k n p view is = subst (λ (v : View). actor_in v ≡ 7 + n → Has (7 + n, part_in v) v) (sym is) (λ e. inl (λ i. (sym e i, p)))
+  pub one_order : (s : Setting S) (me : Sight) → s ≡ its_setting → me ≡ alone (7 + seat.number) seat.part → HasWorld s me.0 → OrderLaws its_setting → HasOneOrder next answers begin seat
+  one_order s me same is seen laws =
+      let view = (7 + seat.number, seat.part) ∷ [] in
+      let world : IsWorldOf its_setting view seen.0 = subst (λ (z : Setting S × Sight). IsWorldOf z.0 z.1.0 seen.0) (λ i. (same i, is i)) seen.1 in
+      record {
+        order = order_of seat.config.nodes (all_sent seen.0 16);
+        of_world = world_order its_setting view seen.0 world laws;
+        task = of_order its_setting view seen.0 world seat.number seat.part (inl refl) laws;
+      }

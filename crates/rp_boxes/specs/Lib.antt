@@ -10,5 +10,6 @@ pub mod Audits
 pub mod TaskSeats
 pub mod Looks
 pub mod OneOrder
+pub mod OrderLaws
 pub mod Moments
 pub mod Together

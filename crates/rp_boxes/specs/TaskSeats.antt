@@ -94,9 +94,3 @@ pub record IsOfOrder {S : Type 0} (next : S → Action → S) (answers : S → A
   pub replies : (k : ℕ) (answer : Answer) → slice_get (task_of part.role).replies k ≡ Some answer
       → HasReply next answers begin order (named number (suc k)) answer
   pub calls : AreItsCalls part.sent number (task_of part.role) (kept_of next answers begin order)
-
--- there is such an order
-pub record HasOneOrder {S : Type 0} (next : S → Action → S) (answers : S → Action → List Answer)
-    (begin : S) (number : ℕ) (part : Part) : Type 0 where
-  pub order : List Action
-  pub task : IsOfOrder next answers begin order number part

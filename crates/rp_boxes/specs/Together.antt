@@ -6,9 +6,10 @@ use Rattle.rp_base.specs.declared.action.Action.{Action}
 use Rattle.rp_base.specs.declared.reply.Answer.{Answer}
 use Rattle.rp_agreement.specs.Order.{IsPrefix}
 use Rattle.rp_boxes.specs.Audits.{Audited, ReportSays, known_of}
+use Rattle.rp_boxes.specs.OneOrder.{IsWorldOrder}
 use Rattle.rp_boxes.specs.Parts.{Part, View, node_of}
 use Rattle.rp_boxes.specs.Rule.{IsGotInOrder}
-use Rattle.rp_boxes.specs.Seats.{SeatState}
+use Rattle.rp_boxes.specs.Seats.{SeatState, setting_at}
 use Rattle.rp_boxes.specs.TaskSeats.{IsOfOrder}
 
 -- what the place of a node's seat knows, and of a task's
@@ -37,13 +38,15 @@ abbrev pub IsTaskOf : {S P : Type 0} → (S → Action → S) → (S → Action 
     → List Action → SeatState P → Type 0
 IsTaskOf next answers begin order seat = IsOfOrder next answers begin order seat.number seat.part
 
--- There is one list of actions for all: what the audit knows of each node is a prefix of it, what
--- each node has applied is a prefix of it, and it answers the calls of all tasks. Of any two of the
--- actors, what one got from the other is what the other put for it, in order: all of it, or all but
--- the last packet.
+-- There is one order for all, that of a world that contains the parts of all of them. What the
+-- audit knows of each node is a prefix of it, what each node has applied is a prefix of it, and all
+-- tasks follow it. Of any two of the actors, what one got from the other is what the other put for
+-- it, in order: all of it, or all but the last packet.
 pub record AreTogether {S P : Type 0} (next : S → Action → S) (answers : S → Action → List Answer)
     (begin : P → S) (audit : Audited P) (nodes tasks : List (SeatState P)) : Type 0 where
   pub order : List Action
+  pub of_world : IsWorldOrder (setting_at next answers begin audit.seat)
+      (known_together audit.seat nodes tasks) order
   pub known : (node : ℕ) → IsPrefix (known_of audit.known node) order
   pub nodes_are : All (IsNodeOf order audit.known) nodes
   pub tasks_are : All (IsTaskOf next answers (begin audit.seat.program) order) tasks

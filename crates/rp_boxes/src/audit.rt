@@ -12,11 +12,9 @@ ghost use Rattle.rp_boxes.specs.OneOrder.{AreOfOneOrder, ShareOneOrder};
 ghost use Rattle.rp_boxes.specs.Seats.{IsFetched};
 
 use crate::audit_seat::AuditSeat;
+use crate::laws::order_laws;
 use crate::task_seat::TaskSeat;
-use rp_agreement::{
-    calls_count_in_order, replies_answer_calls_that_count, reports_follow_the_order,
-    the_order_exists,
-};
+use rp_agreement::reports_follow_the_order;
 use rp_base::{Action, Fault, MOST_NODES, NodeId, Position};
 use rp_codec::{Body, Party, decode};
 use rp_machine::Machine;
@@ -48,7 +46,7 @@ impl<M: Machine> Model for Audit<M> {
     ghost view = { λ a. record { seat = a.seat; known = map (λ list. list.items) a.known } };
 
     ghost invariant = { λ a. AreAllReported a.seat.part (map (λ list. list.items) a.known)
-        × ReportOneOrder a.seat.part };
+        × ReportOneOrder M.next M.answers M.begin a.seat };
 }
 
 /// Replaces the actions of the list from a position on by these, if that makes the list longer.
@@ -73,7 +71,7 @@ impl<M: Machine> Audit<M> {
     pub fn new(alloc: Global, seat: AuditSeat<M>) -> Self
         ensures { result ≡ record { seat = seat; known = replicate 7 [] } }
     {
-        the_order_exists();
+        order_laws::<M>();
         reports_follow_the_order();
         let mut seat = seat;
         seat.look();
@@ -108,7 +106,7 @@ impl<M: Machine> Audit<M> {
             → IsGotReport self.new.seat.part text }
         ensures known { self.new.known ≡ self.old.known }
     {
-        the_order_exists();
+        order_laws::<M>();
         reports_follow_the_order();
         self.seat.fetch(from)
     }
@@ -117,16 +115,17 @@ impl<M: Machine> Audit<M> {
     /// its node. If its first position is greater than n + 1, it leaves a gap, and nothing changes.
     /// Otherwise the list of known actions is overwritten with the report's actions from that
     /// position on, if that makes the list longer. Then the actions known of any two nodes are
-    /// prefixes of one list. If memory runs out, nothing changes.
+    /// prefixes of one order. If memory runs out, nothing changes.
     pub fn add(&mut self, alloc: Global, packet: &[u8]) -> Result<Added, Fault>
         requires { IsGotReport self.old.seat.part packet.now }
         // claim (ok, err, only): A report that the audit got makes what is known of its node the
         //   longer of itself and of what the report has, or leaves a gap and changes nothing; out
         //   of memory changes nothing
         ensures ok { IfOk result (λ added. IsAdded self.old packet.now self.new added) }
-        // claim (one): What the audit knows of each of any two nodes is a prefix of one list of
-        //   actions, at every moment
-        ensures one { AreOfOneOrder self.new.known }
+        // claim (one): What the audit knows of each node is a prefix of one order, at every moment.
+        //   It is the order of a world that contains the audit's part: its action at each position
+        //   is decided there, and no call takes effect in it that no task of that world made
+        ensures one { AreOfOneOrder M.next M.answers M.begin self.new }
         ensures err { OnErr result (self.new ≡ self.old) }
         ensures only { IsOkUnless result faults.OutOfMemory }
     {
@@ -155,7 +154,7 @@ impl<M: Machine> Audit<M> {
             × IsPacket (report node first applied actions.now) }
         ensures ok { IfOk result (λ added. IsJoined self.old node first actions.now
             self.new added) }
-        ensures one { AreOfOneOrder self.new.known }
+        ensures one { AreOfOneOrder M.next M.answers M.begin self.new }
         ensures err { OnErr result (self.new ≡ self.old) }
     {
         let place = usize::from(node.get()) - 1;
@@ -176,41 +175,43 @@ impl<M: Machine> Audit<M> {
     }
 
     /// The actions that are known of a node, in order. Each was in a report that the audit got. The
-    /// lists of any two nodes are prefixes of one list of actions.
+    /// lists of any two nodes are prefixes of one order.
     pub fn known(&self, node: NodeId) -> &[Action]
         // claim (value, stated): Each action that is known of a node was in a report that the audit
         //   got
         ensures value { result.now ≡ known_of self.now.known node }
         ensures stated { AreAllReported self.now.seat.part self.now.known }
         // claim as Audit::add (one)
-        ensures one { AreOfOneOrder self.now.known }
+        ensures one { AreOfOneOrder M.next M.answers M.begin self.now }
     {
         self.known[usize::from(node.get()) - 1].as_slice()
     }
 
-    /// Looks at the table: the actions known of any two nodes are prefixes of one list. Nothing
+    /// Looks at the table: the actions known of any two nodes are prefixes of one order. Nothing
     /// changes.
     pub fn look(&mut self)
         ensures unchanged { self.new ≡ self.old }
-        ensures one { AreOfOneOrder self.new.known }
+        ensures one { AreOfOneOrder M.next M.answers M.begin self.new }
     {
-        the_order_exists();
+        order_laws::<M>();
         reports_follow_the_order();
         self.seat.look();
     }
 
     /// The audit and a task of the same table look at it together: the actions known of each node
-    /// are a prefix of one list, and in that list each reply of the task answers its call. Nothing
-    /// changes.
+    /// are a prefix of one order, and in that order each reply of the task answers its call.
+    /// Nothing changes.
     pub fn meet(self, task: TaskSeat<M>) -> (Self, TaskSeat<M>)
         requires { self.seat.table ≡ task.table }
         ensures same { (result.0 ≡ self) × (result.1 ≡ task) }
-        ensures one { ShareOneOrder M.next M.answers M.begin result.0.known result.1 }
+        // claim (one): The audit and a task of one table share one order, in a world that contains
+        //   the parts of both: its action at each position is decided there, and no call takes
+        //   effect in it that no task of that world made. What the audit knows of each node is a
+        //   prefix of it, and it has the replies and calls of the task as for its seat alone
+        ensures one { ShareOneOrder M.next M.answers M.begin result.0 result.1 }
     {
-        the_order_exists();
         reports_follow_the_order();
-        replies_answer_calls_that_count::<M>();
-        calls_count_in_order::<M>();
+        order_laws::<M>();
         let Audit { seat, known } = self;
         let (seat, task) = seat.look_with_task(task);
         (Audit { seat, known }, task)

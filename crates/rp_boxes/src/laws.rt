@@ -3,12 +3,14 @@
 ghost use Rattle.rp_agreement.specs.Answered.{setting_for};
 ghost use Rattle.rp_base.specs.declared.config.Config.{Config};
 ghost use Rattle.rp_boxes.specs.Laws.{EventsKeep};
+ghost use Rattle.rp_boxes.specs.OrderLaws.{OrderLaws};
 
 use rp_agreement::{
-    node_events_keep_replies, nodes_send_right_packets, task_events_keep_replies,
-    tasks_send_right_packets,
+    calls_count_in_order, node_events_keep_replies, nodes_send_right_packets,
+    only_made_calls_count, replies_answer_calls_that_count, task_events_keep_replies,
+    tasks_send_right_packets, the_order_exists,
 };
-use rp_machine::Machine;
+use rp_machine::{Machine, a_call_has_one_place};
 
 /// An event of an actor preserves the invariant, and the packets that the actor sends name it as
 /// their sender.
@@ -20,4 +22,16 @@ pub(crate) fn events_keep<M: Machine>()
     task_events_keep_replies::<M>();
     nodes_send_right_packets::<M>();
     tasks_send_right_packets();
+}
+
+/// What follows from the invariant for the order of a world.
+pub(crate) fn order_laws<M: Machine>()
+    ensures { (config : Config) (program : M.Program)
+        → OrderLaws (setting_for M.next M.answers M.begin config program) }
+{
+    the_order_exists();
+    replies_answer_calls_that_count::<M>();
+    calls_count_in_order::<M>();
+    only_made_calls_count::<M>();
+    a_call_has_one_place::<M>();
 }

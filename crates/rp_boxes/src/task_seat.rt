@@ -10,21 +10,21 @@ ghost use Rattle.rp_codec.specs.declared.packet.Party.TheVariants as parties;
 ghost use Rattle.rp_model.specs.Tasks.{Submit, Again};
 ghost use Rattle.rp_boxes.specs.Looks.{WasSent};
 ghost use Rattle.rp_boxes.specs.Moments.{WasInUse, WasNotFull, WasPut};
+ghost use Rattle.rp_boxes.specs.OneOrder.{HasOneOrder};
 ghost use Rattle.rp_boxes.specs.Parts.{task_of};
 ghost use Rattle.rp_boxes.specs.Seats.{IsFetched, IsGotText, IsPut, IsSentText};
-ghost use Rattle.rp_boxes.specs.TaskSeats.{IsTaskTurn, IsNoTaskTurn, IsReplyTurn, HasOneOrder};
+ghost use Rattle.rp_boxes.specs.TaskSeats.{IsTaskTurn, IsNoTaskTurn, IsReplyTurn};
 ghost use Rattle.rp_boxes.specs.TaskSeats.{asked_of, DescribesPackets, reply_effect};
 
 use crate::actors::{actor_of, receiver};
 use crate::board::{Board, Place};
 use crate::boxes::{empty, fill};
 use crate::input::node_keeps_range;
+use crate::laws::order_laws;
 use crate::look::look;
 use crate::spares::{keep, keep_left, spare_buffer};
 use crate::task_events::{note_asking, note_reply};
-use rp_agreement::{
-    calls_count_in_order, replies_answer_calls_that_count, tasks_send_right_packets,
-};
+use rp_agreement::tasks_send_right_packets;
 use rp_base::{Action, Answer, Config, Fault, NodeId, Operation, Reply, TaskId};
 use rp_codec::{Party, encode_onto};
 use rp_machine::Machine;
@@ -137,24 +137,24 @@ impl<M: Machine> TaskSeat<M> {
 
     /// A packet that the seat got, given as its text, arrives at the task. It is one event. A reply
     /// to the call that waits is taken, and completes that call; any other packet changes neither
-    /// calls nor replies. There is then one order of actions which all replies of the task follow.
-    /// If memory runs out, nothing has happened.
+    /// calls nor replies. There is then one order of decided actions, which all replies of the task
+    /// follow. If memory runs out, nothing has happened.
     pub fn reply(&mut self, alloc: Global, packet: &[u8]) -> Result<Option<Answer>, Fault>
         requires got { IsGotText self.old.part packet.now }
         // claim (ok, err): A packet that is given to a task's seat is exactly one event of its
         //   part, and its reply is taken if it is to the call that waits
         ensures ok { IfOk result (λ taken. IsReplyTurn self.old packet.now self.new taken) }
-        // claim (stated): After a packet was given to a task's seat there is one order of actions
-        //   in which each reply of the task answers its call, which takes effect at one place, and
-        //   the calls of the task that count there are those that its seat sent, in order: all of
-        //   them, or all but the one that waits
+        // claim (stated): After a packet was given to a task's seat there is one order, in a world
+        //   that contains the task's part: its action at each position is decided there, and no
+        //   call takes effect in it that no task of that world made. Each reply of the task
+        //   answers its call, which takes effect at one place, and the calls of the task that
+        //   count there are those that its seat sent, in order: all of them, or all but the one
+        //   that waits
         ensures stated { IfOk result
-            (λ taken. HasOneOrder M.next M.answers (M.begin self.new.program)
-            self.new.number self.new.part) }
+            (λ taken. HasOneOrder M.next M.answers M.begin self.new) }
         ensures err { IfErr result (λ fault. (fault ≡ OutOfMemory) × (self.new ≡ self.old)) }
     {
-        replies_answer_calls_that_count::<M>();
-        calls_count_in_order::<M>();
+        order_laws::<M>();
         let stated = decode_reply(alloc, packet)?;
         let taken = take(&mut self.task, stated)?;
         note_reply::<M, Brand>(&self.board.shared, &mut self.place, self.number, &self.task);

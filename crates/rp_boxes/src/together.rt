@@ -11,13 +11,11 @@ use crate::audit::Audit;
 use crate::audit_look::Both;
 use crate::audit_seat::AuditSeat;
 use crate::board::{Place, Slots};
+use crate::laws::order_laws;
 use crate::look::look;
 use crate::node_seat::NodeSeat;
 use crate::task_seat::TaskSeat;
-use rp_agreement::{
-    applied_lists_are_prefixes, calls_count_in_order, replies_answer_calls_that_count,
-    reports_follow_the_order, the_order_exists,
-};
+use rp_agreement::{applied_lists_are_prefixes, reports_follow_the_order};
 use rp_machine::Machine;
 use rp_store::Device;
 use std::marker::Brand;
@@ -126,26 +124,27 @@ impl<M: Machine> AuditSeat<M> {
 
 impl<M: Machine> Audit<M> {
     /// The audit, nodes and tasks of one table look at it together, and their seats end. There is
-    /// one list of actions: what the audit knows of each node is a prefix of it, what each of the
-    /// nodes has applied is a prefix of it, and it answers the calls of all of the tasks. What the
-    /// audit knows of one of the nodes is what that node has reported. Each of them has got what
-    /// the others put for it, except for packets that are still in their boxes.
+    /// one order of decided actions: what the audit knows of each node is a prefix of it, what each
+    /// of the nodes has applied is a prefix of it, and it answers the calls of all of the tasks.
+    /// What the audit knows of one of the nodes is what that node has reported. Each of them has
+    /// got what the others put for it, except for packets that are still in their boxes.
     pub fn look_together<D: Device>(self, nodes: Vec<NodeSeat<M, D>>, tasks: Vec<TaskSeat<M>>)
         requires nodes { All (λ seat. seat.table ≡ self.seat.table) nodes.items }
         requires tasks { All (λ seat. seat.table ≡ self.seat.table) tasks.items }
-        // claim: All seats of one table together have one order: what the audit knows of each node
-        //   and what each node has applied is a prefix of it; each action known of a node was
+        // claim (result): All seats of one table together have one order, in a world that contains
+        //   their parts: its action at each position is decided there, no call takes effect in it
+        //   that no task of that world made, and none at two places. What the audit knows of each
+        //   node and what each node has applied is a prefix of it; each action known of a node was
         //   reported by that node's own seat; each reply of each task is the answer there, at one
-        //   place, and the task's calls that count are its own. Of any two of these actors, the
-        //   packets that one got from the other are those that the other put for it, in order: all
-        //   of them, or all but the last, so no box loses, repeats, reorders or changes a packet
+        //   place, and the task's calls that count are its own
+        // claim (result): Of any two of the actors of one table that look together, the packets
+        //   that one got from the other are those that the other put for it, in order: all of
+        //   them, or all but the last, so no box loses, repeats, reorders or changes a packet
         ensures { AreTogether M.next M.answers M.begin self nodes.items tasks.items }
     {
-        the_order_exists();
         reports_follow_the_order();
         applied_lists_are_prefixes();
-        replies_answer_calls_that_count::<M>();
-        calls_count_in_order::<M>();
+        order_laws::<M>();
         let Audit {
             seat,
             known: _known,

@@ -7,7 +7,7 @@ use Rattle.rp_codec.specs.Text.{text_of}
 use Rattle.rp_codec.proofs.Decoded.{written_read, read_same}
 use Rattle.rp_codec.specs.declared.packet.Body.TheVariants.{Report}
 use Rattle.rp_codec.specs.declared.packet.Party.TheVariants.{Audit}
-use Rattle.rp_boxes.specs.Audits.{report}
+use Rattle.rp_boxes.specs.Audits.{Audited, report}
 use Rattle.rp_boxes.specs.OneOrder.{AreOfOneOrder}
 use Rattle.rp_boxes.proofs.AuditOrder.{of_one_order}
 use Rattle.rp_boxes.proofs.Auditing.{lists}
@@ -62,4 +62,6 @@ returns-clause-ok g c =
 
 pub returns-in_err-packet-clause-one : goal.returns-in_err-packet-clause-one
 returns-in_err-packet-clause-one g c =
-    subst (λ audit. AreOfOneOrder audit.known) c.self.view_is (of_one_order c.self.inside.seat.part (lists c.self.inside.known) c.self.invariant.0 c.self.invariant.1)
+    let m = g.M.Machine in
+    let audit : Audited g.row.M-Program.Denot = record { seat = c.self.inside.seat; known = lists c.self.inside.known } in
+    subst (AreOfOneOrder m.next m.answers m.begin) c.self.view_is (of_one_order m.next m.answers m.begin audit c.self.invariant.0 c.self.invariant.1)

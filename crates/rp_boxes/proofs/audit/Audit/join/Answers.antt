@@ -91,10 +91,12 @@ returns-clause-ok g c =
 
 pub returns-then-first-known-clause-one : goal.returns-then-first-known-clause-one
 returns-then-first-known-clause-one g c =
-    subst (λ audit. AreOfOneOrder audit.known) c.self.view_is (of_one_order c.self.inside.seat.part (lists c.self.inside.known) c.self.invariant.0 c.self.invariant.1)
+    let m = g.M.Machine in
+    let audit : Audited g.row.M-Program.Denot = record { seat = c.self.inside.seat; known = lists c.self.inside.known } in
+    subst (AreOfOneOrder m.next m.answers m.begin) c.self.view_is (of_one_order m.next m.answers m.begin audit c.self.invariant.0 c.self.invariant.1)
 
 pub returns-in_err-put_reported-clause-one : goal.returns-in_err-put_reported-clause-one
-returns-in_err-put_reported-clause-one g c = let after = invariant_of-self g c in of_one_order c.self.inside.seat.part _ after.0 after.1
+returns-in_err-put_reported-clause-one g c = let m = g.M.Machine in let after = invariant_of-self g c in of_one_order m.next m.answers m.begin _ after.0 after.1
 
 pub returns-clause-one : goal.returns-clause-one
-returns-clause-one g c = let after = invariant_of-self-2 g c in of_one_order c.self.inside.seat.part _ after.0 after.1
+returns-clause-one g c = let m = g.M.Machine in let after = invariant_of-self-2 g c in of_one_order m.next m.answers m.begin _ after.0 after.1

@@ -1,6 +1,6 @@
 -- The list at the node's place is what is known of it.
 use Rattle.std.proofs.Common.{◌-◌, sym, ap, subst, ◌∙◌, arith}
-use Rattle.rp_boxes.specs.Audits.{AreAllReported, known_of}
+use Rattle.rp_boxes.specs.Audits.{Audited, AreAllReported, known_of}
 use Rattle.rp_boxes.specs.OneOrder.{AreOfOneOrder}
 use Rattle.rp_boxes.proofs.AuditOrder.{of_one_order}
 use Rattle.rp_boxes.proofs.Auditing.{IsListAt, lists, known_at}
@@ -18,4 +18,6 @@ returns-clause-stated g c = subst (λ audit. AreAllReported audit.seat.part audi
 
 pub returns-clause-one : goal.returns-clause-one
 returns-clause-one g c =
-    subst (λ audit. AreOfOneOrder audit.known) c.self.view_is (of_one_order c.self.inside.seat.part (lists c.self.inside.known) c.self.invariant.0 c.self.invariant.1)
+    let m = g.M.Machine in
+    let audit : Audited g.row.M-Program.Denot = record { seat = c.self.inside.seat; known = lists c.self.inside.known } in
+    subst (AreOfOneOrder m.next m.answers m.begin) c.self.view_is (of_one_order m.next m.answers m.begin audit c.self.invariant.0 c.self.invariant.1)

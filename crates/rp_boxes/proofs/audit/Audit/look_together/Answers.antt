@@ -19,6 +19,5 @@ returns g c =
     let audit : Audited g.row.M-Program.Denot = record { seat = seat; known = lists c.self.inside.known } in
     let seen = c.look_with.ensures in
     subst (λ (a : Audited g.row.M-Program.Denot). AreTogether m.next m.answers m.begin a c.args.nodes.items c.args.tasks.items) c.self.view_is
-    (together m.next m.answers m.begin audit c.args.nodes.items c.args.tasks.items seen.0 seen.1 c.the_order_exists.ensures c.reports_follow_the_order.ensures
-    c.applied_lists_are_prefixes.ensures (c.replies_answer_calls_that_count.ensures seat.config seat.program) (c.calls_count_in_order.ensures seat.config seat.program)
-    c.self.invariant.0)
+    (together m.next m.answers m.begin audit c.args.nodes.items c.args.tasks.items seen.0 seen.1 (c.order_laws.ensures seat.config seat.program) c.reports_follow_the_order.ensures
+    c.applied_lists_are_prefixes.ensures c.self.invariant.0)

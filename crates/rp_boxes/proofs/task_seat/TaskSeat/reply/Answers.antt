@@ -6,11 +6,11 @@ use Rattle.rp_model.specs.Tasks.{Take}
 use Rattle.rp_agreement.specs.Inputs.{IsTaskInput}
 use Rattle.rp_world.specs.Callers.{Caller}
 use Rattle.rp_boxes.specs.Parts.{part_in}
-use Rattle.rp_boxes.specs.Plays.{Sight, IsNoted}
+use Rattle.rp_boxes.specs.Plays.{Sight, IsNoted, alone}
 use Rattle.rp_boxes.specs.Seats.{SeatState, IsGotText, setting_of}
 use Rattle.rp_boxes.specs.TaskSeats.{reply_effect, IsReplyTurn}
 use Rattle.rp_boxes.proofs.SeatBoxes.{same_party}
-use Rattle.rp_boxes.proofs.TaskOrder.{world_orders, knows_itself}
+use Rattle.rp_boxes.proofs.TaskOrder.{one_order}
 use Rattle.rp_boxes.proofs.TaskTurns.{TaskEvent, reply_results, reply_quiet, BecomesPart, state, state_at, task_event, replied_state}
 use Rattle.rp_boxes.proofs.task_seat.TaskSeat.reply.Given as given
 use Rattle.rp_boxes.proofs.task_seat.TaskSeat.reply.Goals as goal
@@ -51,13 +51,7 @@ note_reply-requires-clause-event g c =
     task_event (event g at) c.take.new.task.part [] (now g at) (quiet g at) g.M.Machine _ c.deref.ensures (is_given g at)
 
 pub look-requires-clause-follows : goal.look-requires-clause-follows
-look-requires-clause-follows g c =
-    let view = c.note_reply.new.place.me.0 in
-    let noted = c.note_reply.ensures.noted in
-    let key = c.deref-2.result.now.shared.key in
-    λ parts world n here.
-    world_orders (setting_of g.M.Machine key) view parts world n (part_in view) (knows_itself (7 + c.self.inside.number) n noted.part view (ap (λ (me : Sight). me.0) noted.is) here)
-    (c.replies_answer_calls_that_count.ensures key.config key.program.value) (c.calls_count_in_order.ensures key.config key.program.value)
+look-requires-clause-follows g c = λ parts world. (parts, world)
 
 pub returns-clause-ok : goal.returns-clause-ok
 returns-clause-ok g c =
@@ -67,3 +61,13 @@ returns-clause-ok g c =
     let noted = subst (IsNoted (BecomesPart (part_in c.self.inside.place.me.0) new.part []) (7 + c.self.inside.number)) (sym c.look.ensures.place) c.note_reply.ensures.noted in
     subst (λ (seat : SeatState g.row.M-Program.Denot). IsReplyTurn seat c.args.packet.now (state_at c.self.inside place) c.in_ok-taken.taken) c.self.view_is
     (replied_state (event g at) place (c.look.ensures.table ∙ c.note_reply.ensures.table) new [] noted (now g at) (quiet g at) (got g at).0 c.args.packet.now c.in_ok-taken.taken refl (got g at).1 (got g at).2 (taken g at))
+
+pub returns-clause-stated : goal.returns-clause-stated
+returns-clause-stated g c =
+    let m = g.M.Machine in
+    let seat = state_at c.self.inside c.look.new.place in
+    let key = c.deref-2.result.now.shared.key in
+    let me = c.note_reply.new.place.me in
+    let here : me ≡ alone (7 + seat.number) (part_in me.0) = subst (λ (sight : Sight). sight ≡ alone (7 + seat.number) (part_in sight.0)) (sym c.note_reply.ensures.noted.is) refl in
+    one_order m.next m.answers m.begin seat (setting_of m key) me (ap (λ board. setting_of m board.shared.key) c.deref-2.ensures)
+    (here ∙ ap (λ (sight : Sight). alone (7 + seat.number) (part_in sight.0)) (sym c.look.ensures.place)) c.look.ensures.picked (c.order_laws.ensures seat.config seat.program)

@@ -1,7 +1,8 @@
--- What is said of the task's part once it got a packet, and what a look at the table shows then.
-use Rattle.std.proofs.Common.{◌≡◌, ℕ, ◌+◌, []}
-use Rattle.rp_boxes.specs.Parts.{part_in, actor_in}
-use Rattle.rp_boxes.specs.TaskSeats.{HasOneOrder}
+-- What is said of the task's part once it got a packet, and that a look at the table shows a world.
+use Rattle.std.proofs.Common.{[]}
+use Rattle.rp_boxes.specs.Looks.{HasWorld}
+use Rattle.rp_boxes.specs.Parts.{part_in}
+use Rattle.rp_boxes.specs.Seats.{setting_of}
 use Rattle.rp_boxes.proofs.TaskTurns.{BecomesPart}
 use Rattle.rp_boxes.proofs.task_seat.TaskSeat.reply.Given as goal
 
@@ -11,7 +12,4 @@ ghosts-note_reply g a = record {
 }
 
 abbrev pub ghosts-look : goal.ghosts-look
-ghosts-look g a = record {
-  says = λ part. (number : ℕ) → actor_in a.place.now.me.0 ≡ 7 + number
-      → HasOneOrder g.M.Machine.next g.M.Machine.answers (g.M.Machine.begin a.slots.now.key.program.value) number part;
-}
+ghosts-look g a = record { says = λ part. HasWorld (setting_of g.M.Machine a.slots.now.key) a.place.now.me.0 }

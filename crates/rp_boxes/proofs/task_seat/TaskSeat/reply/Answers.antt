@@ -5,6 +5,7 @@ use Rattle.rp_codec.specs.declared.packet.Party.TheVariants as parties
 use Rattle.rp_model.specs.Tasks.{Take}
 use Rattle.rp_agreement.specs.Inputs.{IsTaskInput}
 use Rattle.rp_world.specs.Callers.{Caller}
+use Rattle.rp_world.proofs.Replied.{reply_of_text}
 use Rattle.rp_boxes.specs.Parts.{part_in}
 use Rattle.rp_boxes.specs.Plays.{Sight, IsNoted, alone}
 use Rattle.rp_boxes.specs.Seats.{SeatState, IsGotText, setting_of}
@@ -28,7 +29,7 @@ module _ (g : given.Over) (c : In_ok-taken g) where
     input = Take got.0;
     done = reply_effect c.self.inside.number c.self.inside.task.part c.in_ok-stated.stated;
     results = reply_results (state c.self.inside).config c.self.inside.number c.self.inside.task.part got.0 c.in_ok-stated.stated
-        (c.in_ok-stated.ensures.reply got.0 (c.self.invariant.0.own.got got.0 got.1).0 got.2);
+        (reply_of_text c.args.packet.now got.0 c.in_ok-stated.stated (c.self.invariant.0.own.got got.0 got.1).0 got.2 c.in_ok-stated.ensures.reply);
   }
 
   is_given : IsTaskInput (state c.self.inside).part.got c.self.inside.number event.input

@@ -54,7 +54,7 @@ module _ {P : Type 0} (calls : List TaskCall) (seat : SeatState P) (made : ℕ) 
   so_far_by false task count waiting =
       ap (λ (o : Option Action). if is_some o then suc (length task.replies) else length task.replies) waiting ∙ (let e : length task.replies ≡ made = omega (arith, count) in e)
 
-  so_far : calls_so_far (task_of seat.part.role) ≡ made
+  pub so_far : calls_so_far (task_of seat.part.role) ≡ made
   so_far = ap calls_so_far task_is ∙ so_far_by waits h.task h.count h.waiting
 
   module _ (actions : List Action) (are : AreMade seat.part.sent seat.number (task_of seat.part.role) actions) where

@@ -1,9 +1,10 @@
 -- The same seats, whatever happened at them since.
-use Rattle.std.proofs.Common.{◌≡◌, ◌⊎◌, Result, Ok, Err, inl, inr, ℕ, zero, suc, ◌+◌, ◌<◌, ◌≤◌, Bool, false, nat_eq, nat_lt, if◌then◌else◌, Option, Some, None, List, [], ◌∷◌, ◌++◌, length, map, slice_get, refl, sym, ap, ◌∙◌, arith}
+use Rattle.std.proofs.Common.{◌≡◌, ◌⊎◌, Result, Ok, Err, inl, inr, ℕ, zero, suc, ◌+◌, ◌<◌, ◌≤◌, Bool, false, nat_eq, nat_lt, if◌then◌else◌, Option, Some, None, List, [], ◌∷◌, ◌++◌, length, map, slice_get, refl, sym, ap, subst, ◌∙◌, arith}
 use Rattle.std.proofs.lemmas.Grind.{common_steps}
 use Rattle.std.proofs.lemmas.List.{append_assoc, map-append}
 use Rattle.std.specs.List.{AllZip}
 use Rattle.std.specs.Prelude.{All, IfErr, IfSome, IsErrOf, IsOkUnless, slice_index}
+use Rattle.rp_base.specs.Sets.{Has}
 use Rattle.rp_base.specs.declared.fault.Fault.{Fault}
 use Rattle.rp_base.specs.declared.fault.Fault.TheVariants.{BadConfig, Device, OutOfMemory}
 use Rattle.rp_store.specs.Disk.{disk_of}
@@ -31,6 +32,18 @@ pub all_within : {A : Type 0} (Q : A → Type 0) (xs : List A) → ((k : ℕ) �
 all_within Q [] each k d within = absurd (omega (arith, within))
 all_within Q (x ∷ xs) each zero d within = each zero (omega (arith, within))
 all_within Q (x ∷ xs) each (suc k) d within = all_within Q xs (λ j less. each (suc j) (omega (arith, less))) k d (omega (arith, within))
+
+-- what is so of each is so of a member
+pub all_has : {A : Type 0} (Q : A → Type 0) (xs : List A) → All Q xs → (x : A) → Has x xs → Q x
+all_has Q [] all x has = absurd has
+all_has Q (y ∷ ys) all x (inl same) = subst Q (sym same) (all 0 y (omega arith))
+all_has Q (y ∷ ys) all x (inr later) = all_has Q ys (λ k d within. all (suc k) d (omega (arith, within))) x later
+
+-- the member at a place
+pub member_at : {A : Type 0} (Q : A → Type 0) (xs : List A) (k : ℕ) → k < length xs → IfSome (slice_get xs k) Q → (x : A) × Has x xs × Q x
+member_at Q [] k within is = absurd (omega (arith, within))
+member_at Q (x ∷ xs) zero within is = (x, inl refl, is)
+member_at Q (x ∷ xs) (suc k) within is = let later = member_at Q xs k (omega (arith, within)) is in (later.0, inr later.1, later.2)
 
 -- ---- at first
 

@@ -1,13 +1,18 @@
 -- A whole run, by its parts.
-use Rattle.std.proofs.Common.{◌≡◌, ◌+◌, ℕ, suc, Bool, List, [], All, length, map, slice_get, sym, ap, subst, ◌∙◌, arith}
+use Rattle.std.proofs.Common.{◌≡◌, ◌≤◌, ◌+◌, ◌-◌, ℕ, suc, Bool, List, [], All, length, map, slice_get, sym, ap, subst, ◌∙◌, arith}
 use Rattle.std.specs.Prelude.{IfSome, slice_index}
 use Rattle.std.specs.List.{AllZip}
+use Rattle.rp_base.specs.Number.{IsTask}
+use Rattle.rp_base.specs.Sets.{Has}
+use Rattle.rp_base.proofs.Members.{has_mapped}
 use Rattle.rp_base.specs.declared.action.Action.{Action}
 use Rattle.rp_base.specs.declared.config.Config.{Config}
 use Rattle.rp_base.specs.declared.reply.Answer.{Answer}
 use Rattle.rp_codec.specs.declared.packet.Party.TheVariants.{Node, Task}
+use Rattle.rp_machine.specs.Places.{IsPlace}
 use Rattle.rp_machine.specs.Replay.{kept_of}
 use Rattle.rp_model.specs.declared.event.Event.{Event}
+use Rattle.rp_agreement.specs.Answered.{named}
 use Rattle.rp_store.specs.Disk.{Memory}
 use Rattle.rp_tasks.specs.Line.{Line}
 use Rattle.rp_boxes.specs.FirstSeats.{first_seat}
@@ -27,10 +32,11 @@ use Rattle.rp_live.specs.LiveOutcome.{HasRun, IsLiveRun, IsAudited, IsNodeEnd, I
 use Rattle.rp_live.specs.Pace.{paced, heard, heard_task}
 use Rattle.rp_live.specs.Seats.{AreNumbered, HasAppliedAt, HasReportedSince, IsEndOfRun, StillRuns}
 use Rattle.rp_live.specs.declared.run.LiveOutcome.{LiveOutcome}
-use Rattle.rp_live.proofs.Counting.{counts_calls}
+use Rattle.rp_boxes.proofs.OneWorld.{made_at}
+use Rattle.rp_live.proofs.Counting.{counts_calls, so_far}
 use Rattle.rp_threads.proofs.Chains.{all_turned}
 use Rattle.rp_live.proofs.Noting.{all_noted}
-use Rattle.rp_live.proofs.Seating.{all_mapped, first_tables, some_then, zip_length}
+use Rattle.rp_live.proofs.Seating.{all_has, all_mapped, first_tables, member_at, some_then, zip_length}
 use Rattle.rp_live.proofs.Zips.{all_both, zip_all, zip_kinds, zip_places}
 
 -- ---- the loops of a run
@@ -110,6 +116,17 @@ module _ {S P : Type 0} {next : S → Action → S} {answers : S → Action → 
       (λ seat end here ran. (ran.made.0, subst (λ (n : ℕ). HasMade (calls_at events n) end.seat end.made ran.made.0) (sym ran.same.number) ran.made.1)) whole.0.first_tasks tasks
       (first_tables audit.table config program 8 [] whole.0.first_tasks whole.0.seats.tasks_are) whole.0.task_loops
 
+  -- the task of each number has its end among them
+  end_of_task : (t : ℕ) → IsTask t → (end : TaskEnd S P) × Has end tasks × (end.seat.number ≡ t)
+  end_of_task t is =
+      let first : (place : ℕ) → IfSome (slice_get whole.0.first_tasks place) (IsOfNumber place) = λ place.
+      some_then (λ seat. seat ≡ first_seat audit.table config program (suc place) (8 + place) (slice_index [] place)) (IsOfNumber place)
+      (λ seat same. let e : seat.number ≡ suc place = ap (λ (c : SeatState P). c.number) same in omega (arith, e)) (slice_get whole.0.first_tasks place) (whole.0.seats.tasks_are place) in
+      let numbered = zip_places IsOfNumber (IsTaskEnd next answers begin config events seed turns) (λ place end. IsOfNumber place end.seat) (λ place seat end here ran. ran.same.number ∙ here) whole.0.first_tasks tasks first whole.0.task_loops in
+      let eight : length tasks ≡ 8 = zip_length (IsTaskEnd next answers begin config events seed turns) whole.0.first_tasks tasks whole.0.task_loops ∙ whole.0.seats.eight in
+      let found = member_at (λ end. IsOfNumber (t - 1) end.seat) tasks (t - 1) (omega (arith, eight, is.0, is.1)) (numbered (t - 1)) in
+      (found.0, found.1, (let number = found.2 in omega (arith, number, is.0)))
+
   pub outcome : (resulted : LiveOutcome) → IsAudited next answers begin audit nodes tasks resulted → IsLiveRun next answers begin config program events seed turns resulted
   outcome resulted stated =
       let order = stated.together.order in
@@ -128,4 +145,12 @@ module _ {S P : Type 0} {next : S → Action → S} {answers : S → Action → 
             (λ end. CountsCalls end.seat.number (calls_at events end.seat.number) end.made (kept_of next answers (begin program) order))
             (λ end has is. subst (λ (p : P). CountsCalls end.seat.number (calls_at events end.seat.number) end.made (kept_of next answers (begin p) order)) same
             (counts_calls (calls_at events end.seat.number) end.seat end.made has.0 has.1 (kept_of next answers (begin stated.known.seat.program) order) is.calls)) tasks tasks_made are;
+        made = λ t n place at.
+            let here = subst (λ (p : P). IsPlace next answers (begin p) order (named t n) place) (sym same) at in
+            let counted = stated.together.of_world.made t n place here in
+            let end = end_of_task t counted.0 in
+            let calls = all_has HasCalls tasks tasks_made end.0 end.1 in
+            let few = made_at next answers begin stated.known stated.last (map (λ (e : TaskEnd S P). e.seat) tasks) order stated.together.of_world end.0.seat
+            (has_mapped (λ (e : TaskEnd S P). e.seat) end.0 tasks end.1) n place (subst (λ (k : ℕ). IsPlace next answers (begin stated.known.seat.program) order (named k n) place) (sym end.2) here) in
+            (end.0, end.1, end.2, counted.1, subst (λ (k : ℕ). n ≤ k) (so_far (calls_at events end.0.seat.number) end.0.seat end.0.made calls.0 calls.1) few);
       }

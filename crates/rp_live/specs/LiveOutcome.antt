@@ -1,14 +1,17 @@
 -- The result of a run in threads.
-use Rattle.std.specs.Prelude.{◌≡◌, ◌↔◌, ℕ, suc, true, All, IfSome, List, length, flat_map}
+use Rattle.std.specs.Prelude.{◌≡◌, ◌↔◌, ◌≤◌, ℕ, suc, true, All, IfSome, List, length, flat_map}
 use Rattle.std.specs.Prelude.{map, slice_get}
 use Rattle.std.specs.List.{AllZip}
+use Rattle.rp_base.specs.Sets.{Has}
 use Rattle.rp_base.specs.declared.action.Action.{Action}
 use Rattle.rp_base.specs.declared.config.Config.{Config}
 use Rattle.rp_base.specs.declared.reply.Answer.{Answer}
 use Rattle.rp_codec.specs.declared.packet.Party.TheVariants.{Node, Task}
+use Rattle.rp_machine.specs.Places.{IsPlace}
 use Rattle.rp_machine.specs.Replay.{kept_of}
 use Rattle.rp_model.specs.declared.event.Event.{Event}
 use Rattle.rp_store.specs.Disk.{Memory}
+use Rattle.rp_agreement.specs.Answered.{named}
 use Rattle.rp_boxes.specs.Audits.{Audited, known_of}
 use Rattle.rp_boxes.specs.FirstSeats.{AreSeats}
 use Rattle.rp_boxes.specs.Parts.{task_of}
@@ -92,7 +95,7 @@ module _ {S P : Type 0} (next : S → Action → S) (answers : S → Action → 
     pub figures : outcome.figures ≡ figures_of nodes tasks
 
   -- A whole run. In the one order the counted calls of each task are the calls among the events, in
-  -- order, that it made.
+  -- order, that it made; and each call that takes effect there is one that a task of the run made.
   pub record IsLiveRun (config : Config) (program : P) (events : List Event) (seed turns : ℕ)
       (outcome : LiveOutcome) : Type 0 where
     pub audit : SeatState P
@@ -104,3 +107,6 @@ module _ {S P : Type 0} (next : S → Action → S) (answers : S → Action → 
     pub calls : All (λ end.
         CountsCalls end.seat.number (calls_at events end.seat.number) end.made
         (kept_of next answers (begin program) stated.together.order)) tasks
+    pub made : (t n place : ℕ)
+        → IsPlace next answers (begin program) stated.together.order (named t n) place
+        → (end : TaskEnd S P) × Has end tasks × (end.seat.number ≡ t) × (1 ≤ n) × (n ≤ end.made)

@@ -93,11 +93,12 @@ where
     //   from position 1 and each time after that from the position after those that the audit knows
     //   of it by then, until all is known or a report adds nothing; then all look at the table as
     //   one
-    // claim (outcome): After a run in threads there is one order, of which what is known of each
-    //   node and what it has applied are prefixes; each printed count is what that node has
-    //   applied; each reply is its task's and the answer to its call in that order, which takes
-    //   effect at one place; the calls of a task that count there are the first of its calls among
-    //   the events, all that it made, or all but the last
+    // claim (outcome): After a run in threads there is one order, whose action at each position is
+    //   decided there, and of which what is known of each node and what it has applied are
+    //   prefixes; each printed count is what that node has applied; each reply is its task's and
+    //   the answer to its call in that order, which takes effect at one place; the calls of a task
+    //   that count there are the first of its calls among the events, all that it made, or all but
+    //   the last; and no call takes effect there that no task of the run made
     // claim (outcome): The logs are reported to agree exactly if of each node as many actions are
     //   known as it has applied
     // claim (outcome): The figures of a run in threads are sums over the ends of the loops: calls

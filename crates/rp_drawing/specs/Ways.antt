@@ -1,9 +1,12 @@
 -- The ways of the messages of a run: each from the moment in which it was sent to the one in which
 -- it was settled, and none upwards.
-use Rattle.std.specs.Prelude.{◌≡◌, ℕ, zero, suc, ◌-◌, ◌<◌, ◌≤◌, Bool, true, false, nat_eq, Option}
-use Rattle.std.specs.Prelude.{Some, None, List, [], ◌∷◌, length, map, slice_get, unwrap_or}
+use Rattle.std.specs.Prelude.{◌≡◌, ℕ, zero, suc, ◌+◌, ◌-◌, ◌<◌, ◌≤◌, Bool, true, false, ◌||◌}
+use Rattle.std.specs.Prelude.{nat_eq, Option, Some, None, List, [], ◌∷◌, ◌++◌, length, map}
+use Rattle.std.specs.Prelude.{slice_get, unwrap_or, if◌then◌else◌}
+use Rattle.std.specs.List.{list_any}
 use Rattle.rp_drawing.specs.declared.sketch.Arrival.{Arrival}
 use Rattle.rp_drawing.specs.declared.sketch.Ending.{Ending}
+use Rattle.rp_drawing.specs.declared.sketch.Label.{Label}
 use Rattle.rp_drawing.specs.declared.sketch.Moment.{Moment}
 use Rattle.rp_drawing.specs.declared.sketch.Row.{Row}
 use Rattle.rp_drawing.specs.declared.sketch.Sending.{Sending}
@@ -55,6 +58,42 @@ is_way_drawn (Some way) = way.sending.is_drawn
 abbrev pub is_end_drawn : List Way → Option Ending → Bool
 is_end_drawn ways None = false
 is_end_drawn ways (Some e) = is_way_drawn (slice_get ways (e.message - 1))
+
+-- ---- a sketch of one moment more
+
+-- A moment has a line of the drawing exactly if its label is drawn, or the way that ends in it, or
+-- one that begins in it.
+abbrev pub is_row_drawn : Sketch → Moment → Label → Bool
+is_row_drawn sketch moment label =
+    label.is_drawn || (is_end_drawn sketch.ways.items moment.ending
+    || list_any (λ s. s.is_drawn) moment.sends.items)
+
+-- the row of a moment under this label: its line is the next one
+abbrev pub row_of : Sketch → Moment → Label → Row
+row_of sketch moment label = record {
+  moment = moment;
+  line = sketch.lines;
+  is_drawn = is_row_drawn sketch moment label;
+  label = label;
+}
+
+-- the ways after it: one may end in it, and those of the packets that it sends begin in it
+abbrev pub ways_after : Sketch → Moment → List Way
+ways_after sketch moment =
+    ended_ways sketch.ways.items moment.ending (length sketch.rows.items) sketch.lines
+    ++ sent_ways moment.sends.items (length sketch.rows.items) sketch.lines
+
+-- the lines after a moment: one more exactly if it has one
+abbrev pub lines_after : ℕ → Bool → ℕ
+lines_after lines is_drawn = if is_drawn then lines + 1 else lines
+
+-- The new sketch is the old one and this moment under this label, and nothing else.
+pub record AddsMoment (old new : Sketch) (moment : Moment) (label : Label) : Type 0 where
+  pub rows : new.rows.items ≡ old.rows.items ++ row_of old moment label ∷ []
+  pub ways : new.ways.items ≡ ways_after old moment
+  pub lines : new.lines ≡ lines_after old.lines (is_row_drawn old moment label)
+
+-- ---- what ways are
 
 module _ (rows : List Row) where
   -- The message of this number was sent in the moment at which its way begins.

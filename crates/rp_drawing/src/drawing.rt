@@ -1,7 +1,7 @@
 //! The drawing of a sketch.
 
-ghost use Rattle.std.specs.Prelude.{◌≡◌, ◌+◌, ◌*◌, ◌++◌, ◌≤◌, ◌<◌, ◌^◌, true, IfOk, OnOk, length, string_bytes, flat_map};
-ghost use Rattle.rp_drawing.specs.Drawings.{end_kind, way_curve, way_text, IsDrawnBy};
+ghost use Rattle.std.specs.Prelude.{◌≡◌, ◌+◌, ◌*◌, ◌++◌, ◌≤◌, ◌<◌, ◌^◌, true, IfErr, IfOk, OnOk, length, string_bytes, flat_map};
+ghost use Rattle.rp_drawing.specs.Drawings.{end_kind, page_text, way_curve, way_text, IsDrawnBy};
 ghost use Rattle.rp_drawing.specs.Lines.{effect_text, head_text, lane_text, lanes_text, mark_kind, mark_text, row_element, row_text, text_point, within_page};
 ghost use Rattle.rp_drawing.specs.Ways.{IsDown, AreDown};
 
@@ -29,10 +29,14 @@ pub fn draw(alloc: Global, sketch: &Sketch, lanes: &[Lane]) -> Result<String, Fa
     requires lanes { length lanes.now ≤ 16 }
     // claim: Each message whose way is drawn has its arrow in the drawing, from its sender's lane, in
     //   the line of the moment that sent it, to its receiver's, in the line of the moment that settled
-    //   it. The text is the page to the byte: a head, the lanes under their names, the arrows, and what
-    //   is beside each moment, and it has no other arrow. It has at most 300 bytes for each message,
-    //   moment and lane, and 9,300 besides
-    ensures { IfOk result (λ text. IsDrawnBy sketch.now (length lanes.now) (string_bytes text)) }
+    //   it. The text is the page to the byte: a head, the lanes that were given, under their names and
+    //   in their colours, the arrows, and what is beside each moment, and it has no other arrow. It has
+    //   at most 300 bytes for each message, moment and lane, and 9,300 besides. Only `OutOfMemory` is
+    //   returned in its place
+    ensures page { IfOk result (λ text. string_bytes text ≡ page_text lanes.now sketch.now) }
+    ensures drawn { IfOk result (λ text. IsDrawnBy sketch.now (length lanes.now)
+        (string_bytes text)) }
+    ensures fault { IfErr result (λ fault. fault ≡ Fault.OutOfMemory) }
 {
     let page = Page {
         lanes: lanes.len() as u32,
@@ -71,6 +75,7 @@ fn write_lanes(
         ≡ string_bytes text.old ++ lanes_text page.lanes end lanes.now) }
     ensures short { OnOk result (length (string_bytes text.new)
         ≤ length (string_bytes text.old) + 300 * length lanes.now) }
+    ensures fault { IfErr result (λ fault. fault ≡ Fault.OutOfMemory) }
 {
     for (place, lane) in lanes.iter().enumerate() {
         let element = lane_text(alloc, page, (place as u32, lane), end)?;
@@ -119,6 +124,7 @@ fn write_ways(
         ≡ string_bytes text.old ++ flat_map (way_text page.lanes) ways.now) }
     ensures short { OnOk result (length (string_bytes text.new)
         ≤ length (string_bytes text.old) + 300 * length ways.now) }
+    ensures fault { IfErr result (λ fault. fault ≡ Fault.OutOfMemory) }
 {
     for way in ways {
         write_way(alloc, text, page, lines, way)?;
@@ -140,6 +146,7 @@ fn write_way(
         ≡ string_bytes text.old ++ way_text page.lanes way.now) }
     ensures short { OnOk result (length (string_bytes text.new)
         ≤ length (string_bytes text.old) + 300) }
+    ensures fault { IfErr result (λ fault. fault ≡ Fault.OutOfMemory) }
 {
     if !way.sending.is_drawn {
         return Ok(());
@@ -197,6 +204,7 @@ fn write_rows(alloc: Global, text: &mut String, page: Page, rows: &[Row]) -> Res
         ≡ string_bytes text.old ++ flat_map (row_text page.lanes) rows.now) }
     ensures short { OnOk result (length (string_bytes text.new)
         ≤ length (string_bytes text.old) + 300 * length rows.now) }
+    ensures fault { IfErr result (λ fault. fault ≡ Fault.OutOfMemory) }
 {
     for row in rows {
         write_row(alloc, text, page, row)?;
@@ -210,6 +218,7 @@ fn write_row(alloc: Global, text: &mut String, page: Page, row: &Row) -> Result<
         ≡ string_bytes text.old ++ row_text page.lanes row.now) }
     ensures short { OnOk result (length (string_bytes text.new)
         ≤ length (string_bytes text.old) + 300) }
+    ensures fault { IfErr result (λ fault. fault ≡ Fault.OutOfMemory) }
 {
     if !row.is_drawn {
         return Ok(());

@@ -1,6 +1,6 @@
 //! The elements of a drawing, as text.
 
-ghost use Rattle.std.specs.Prelude.{◌≡◌, ◌+◌, ◌++◌, ◌∷◌, [], ◌≤◌, IfOk, OnOk, length, string_bytes};
+ghost use Rattle.std.specs.Prelude.{◌≡◌, ◌+◌, ◌++◌, ◌∷◌, [], ◌≤◌, IfErr, IfOk, OnOk, length, string_bytes};
 ghost use Rattle.rp_drawing.specs.Elements.{curve_text, dash_text, upright_text, words_text, most_bytes, most_head_bytes};
 
 use crate::words::Words;
@@ -131,6 +131,7 @@ pub fn add_element(text: &mut String, element: &str) -> Result<(), Fault>
         ≡ string_bytes text.old ++ (element.now ++ 10 ∷ [])) }
     ensures short { OnOk result (length (string_bytes text.new)
         ≤ length (string_bytes text.old) + most_bytes) }
+    ensures fault { IfErr result (λ fault. fault ≡ Fault.OutOfMemory) }
 {
     if element.len() >= MOST_BYTES {
         return Err(Fault::OutOfMemory);
@@ -144,6 +145,7 @@ pub fn add_head(text: &mut String, head: &str) -> Result<(), Fault>
     ensures added { OnOk result (string_bytes text.new ≡ string_bytes text.old ++ head.now) }
     ensures short { OnOk result (length (string_bytes text.new)
         ≤ length (string_bytes text.old) + most_head_bytes) }
+    ensures fault { IfErr result (λ fault. fault ≡ Fault.OutOfMemory) }
 {
     if head.len() > MOST_HEAD_BYTES {
         return Err(Fault::OutOfMemory);

@@ -2,7 +2,7 @@
 
 ghost use Rattle.std.specs.Prelude.{◌≡◌, ◌+◌, ◌<◌, ◌≤◌, ◌^◌, ◌||◌, true, ◌++◌, [], ◌∷◌, length, Some, IfOk, OnOk, IfErr};
 ghost use Rattle.std.specs.List.{list_any};
-ghost use Rattle.rp_drawing.specs.Ways.{AreWays, AreDown, ended_ways, is_end_drawn, moments_of, sent_ways, IsEndingWithin};
+ghost use Rattle.rp_drawing.specs.Ways.{AddsMoment, AreWays, AreDown, ended_ways, is_end_drawn, lines_after, moments_of, sent_ways, IsEndingWithin};
 
 use crate::words::Words;
 use rp_base::Fault;
@@ -126,6 +126,7 @@ impl Sketch {
         ensures count { result.ways.items ≡ [] }
         ensures ways { AreWays result.rows.items result.ways.items }
         ensures down { AreDown result.lines result.ways.items }
+        ensures lines { result.lines ≡ 0 }
         ensures few { result.lines ≤ 2 ^ 32 }
     {
         Sketch {
@@ -142,6 +143,10 @@ impl Sketch {
         requires ending { IsEndingWithin moment.before moment.ending }
         requires ways { AreWays self.old.rows.items self.old.ways.items }
         requires down { AreDown self.old.lines self.old.ways.items }
+        // claim: A moment that is added to a sketch is its last row, under its label as given, in the
+        //   next line. It is drawn, and takes that line, exactly if its label is to be drawn, or the
+        //   way that ends in it, or one that begins in it
+        ensures added { OnOk result (AddsMoment self.old self.new moment label) }
         ensures moments { OnOk result (moments_of self.new ≡ moments_of self.old ++ moment ∷ []) }
         ensures count { OnOk result (length self.new.ways.items
             ≡ moment.before + length moment.sends.items) }
@@ -230,6 +235,7 @@ fn is_one(one: bool, other: bool, third: bool) -> bool
 /// How many lines there are after a moment, by whether it has one.
 fn lines_after(lines: u64, is_drawn: bool) -> u64
     requires { lines < 2 ^ 32 }
+    ensures after { result ≡ lines_after lines is_drawn }
     ensures drawn { is_drawn ≡ true → result ≡ lines + 1 }
     ensures grows { lines ≤ result }
     ensures few { result ≤ 2 ^ 32 }

@@ -1,16 +1,18 @@
 -- One step more of a history.
-use Rattle.std.proofs.Common.{◌≡◌, ◌∙◌, ℕ, zero, suc, ◌+◌, ◌≤◌, ◌^◌, Option, Some, None, Result, Ok, Err, OnOk, List, [], ◌∷◌, ◌++◌, length, drop, arith, refl, sym, ap, subst}
+use Rattle.std.proofs.Common.{◌≡◌, ◌∙◌, ℕ, zero, suc, ◌+◌, ◌≤◌, ◌^◌, Option, Some, None, Result, Ok, Err, OnOk, List, [], ◌∷◌, ◌++◌, length, map, drop, arith, refl, sym, ap, subst}
 use Rattle.std.proofs.lemmas.List.{map-append, length-map, length-drop}
 use Rattle.std.proofs.lemmas.Option.{slice_get_within}
 use Rattle.rp_base.specs.declared.fault.Fault.{Fault}
 use Rattle.rp_codec.specs.Message.{Message}
-use Rattle.rp_drawing.specs.Ways.{AreDown, AreWays, moments_of, IsEndingWithin}
+use Rattle.rp_drawing.specs.Ways.{AddsMoment, AreDown, AreWays, moments_of, IsEndingWithin}
+use Rattle.rp_drawing.specs.declared.sketch.Ending.{Ending}
+use Rattle.rp_drawing.specs.declared.sketch.Label.{Label}
 use Rattle.rp_drawing.specs.declared.sketch.Moment.{Moment}
 use Rattle.rp_drawing.specs.declared.sketch.Sketch.{Sketch}
 use Rattle.rp_model.specs.Effect.{Setting}
 use Rattle.rp_model.specs.World.{World, opening_world, part_at}
 use Rattle.rp_model.specs.declared.event.Event.{Event}
-use Rattle.rp_history.specs.Histories.{HistoryStep, IsStepFrom, Leads, IsHistory, IsDrawable, IsSketchOf, ending_of, ending_at, ending_by, delivered_by}
+use Rattle.rp_history.specs.Histories.{HasMoment, HistoryStep, IsStepFrom, Leads, IsHistory, IsDrawable, IsSketchOf, ending_of, ending_at, ending_by, delivered_by}
 use Rattle.rp_history.specs.Views.{sending_of}
 use Rattle.rp_history.specs.declared.stage.Stage.{Stage}
 
@@ -69,3 +71,11 @@ module _ {S : Type 0} (s : Setting S) (stage : Stage) (old new : Sketch) (moment
         count = omega (arith, count, sends, step.before, grows);
       }
   sketch_more (Err fault) event is count step grows so_far drawable = tt
+
+-- what is added is a moment under this label
+pub moment_now : (answer : Result Unit Fault) (stage : Stage) (old new : Sketch) (moment : Moment) (packets : List Message) (ending : Option Ending) (label : Label)
+    → moment.before ≡ length old.ways.items → moment.sends.items ≡ map (sending_of stage) packets → moment.ending ≡ ending
+    → OnOk answer (AddsMoment old new moment label) → OnOk answer (HasMoment stage old new packets ending label)
+moment_now (Ok done) stage old new moment packets ending label before sends ends added =
+    record { moment = moment; before = before; sends = sends; ending_is = ends; added = added }
+moment_now (Err fault) stage old new moment packets ending label before sends ends added = tt

@@ -6,10 +6,11 @@ use Rattle.rp_codec.specs.Message.{Message}
 use Rattle.rp_codec.specs.declared.packet.Party.{Party}
 use Rattle.rp_codec.specs.declared.packet.Party.TheVariants.{Node, Task, Audit}
 use Rattle.rp_drawing.specs.Drawings.{IsDrawnBy}
-use Rattle.rp_drawing.specs.Ways.{AreDown, AreWays, moments_of}
+use Rattle.rp_drawing.specs.Ways.{AddsMoment, AreDown, AreWays, moments_of}
 use Rattle.rp_drawing.specs.declared.sketch.End.{End}
 use Rattle.rp_drawing.specs.declared.sketch.End.TheVariants.{Taken, Unheard, Lost}
 use Rattle.rp_drawing.specs.declared.sketch.Ending.{Ending}
+use Rattle.rp_drawing.specs.declared.sketch.Label.{Label}
 use Rattle.rp_drawing.specs.declared.sketch.Moment.{Moment}
 use Rattle.rp_drawing.specs.declared.sketch.Sketch.{Sketch}
 use Rattle.rp_model.specs.Effect.{Setting}
@@ -118,6 +119,17 @@ pub record IsDrawable (sketch : Sketch) : Type 0 where
   pub ways : AreWays sketch.rows.items sketch.ways.items
   pub down : AreDown sketch.lines sketch.ways.items
   pub few : sketch.lines ≤ 2 ^ 32
+
+-- The new sketch is the old one and a moment in which these packets are sent, and this way ends,
+-- under this label.
+pub record HasMoment (stage : Stage) (old new : Sketch) (packets : List Message)
+    (ending : Option Ending) (label : Label)
+    : Type 0 where
+  pub moment : Moment
+  pub before : moment.before ≡ length old.ways.items
+  pub sends : moment.sends.items ≡ map (sending_of stage) packets
+  pub ending_is : moment.ending ≡ ending
+  pub added : AddsMoment old new moment label
 
 -- The sketch is that of a history that leads to this world, and each message of the history has its
 -- way.

@@ -1,6 +1,7 @@
--- Which packets are drawn, on which lanes, and in which colour.
-use Rattle.std.specs.Prelude.{ℕ, ◌+◌, ◌-◌, ◌%◌, Bool, true, false, ◌&&◌, nat_eq, if◌then◌else◌}
-use Rattle.std.specs.Prelude.{Option, Some, None}
+-- Which packets are drawn, on which lanes, and in which colour; and what is drawn of an event
+-- beside the ways of packets.
+use Rattle.std.specs.Prelude.{ℕ, ◌+◌, ◌-◌, ◌%◌, Bool, true, false, ◌&&◌, ◌||◌, not, nat_eq}
+use Rattle.std.specs.Prelude.{nat_lt, if◌then◌else◌, Option, Some, None}
 use Rattle.rp_base.specs.Ballot.{owner_of, round_of}
 use Rattle.rp_base.specs.Ranges.{is_covered}
 use Rattle.rp_codec.specs.Message.{Message}
@@ -10,9 +11,21 @@ use Rattle.rp_codec.specs.declared.packet.Body.TheVariants.{Accepted, Decided, A
 use Rattle.rp_codec.specs.declared.packet.Body.TheVariants.{Report, PrepareRange, PromiseRange}
 use Rattle.rp_codec.specs.declared.packet.Party.{Party}
 use Rattle.rp_codec.specs.declared.packet.Party.TheVariants.{Node, Task, Audit}
+use Rattle.rp_drawing.specs.declared.sketch.Kind.{Kind}
+use Rattle.rp_drawing.specs.declared.sketch.Kind.TheVariants as kinds
+use Rattle.rp_drawing.specs.declared.sketch.Label.{Label}
+use Rattle.rp_drawing.specs.declared.sketch.Mark.{Mark}
+use Rattle.rp_drawing.specs.declared.sketch.Sending.{Sending}
+use Rattle.rp_drawing.specs.declared.words.Words.{Words}
+use Rattle.rp_history.specs.declared.happened.Happened.{Happened}
 use Rattle.rp_history.specs.declared.stage.Stage.{Stage}
 use Rattle.rp_history.specs.declared.view.View.{View}
-use Rattle.rp_drawing.specs.declared.sketch.Sending.{Sending}
+use Rattle.rp_model.specs.declared.effect.Dropped.{Dropped}
+use Rattle.rp_model.specs.declared.effect.Dropped.TheVariants.{No, Full, Foreign}
+use Rattle.rp_model.specs.declared.event.Event.{Event}
+use Rattle.rp_model.specs.declared.event.Event.TheVariants as events
+use Rattle.rp_model.specs.declared.event.Step.{Step}
+use Rattle.rp_model.specs.declared.event.Step.TheVariants as steps
 
 -- the party is this node
 abbrev pub is_node : Party → ℕ → Bool
@@ -88,4 +101,94 @@ sending_of stage m = record {
   to = lane_of stage.tasks m.to;
   colour = colour_of m.body;
   is_drawn = shows stage.view m;
+}
+
+-- ---- what is drawn of an event
+
+-- events that name no position are drawn too, if none is chosen
+abbrev pub shows_all : Option ℕ → Bool
+shows_all None = true
+shows_all (Some position) = false
+
+-- who makes a step: the receiver of the packet that it delivers, or its node
+abbrev pub actor_in : Step → Option Party → Option Party
+actor_in (steps.Deliver message) receiver = receiver
+actor_in (steps.Lead node position) receiver = Some (Node node)
+actor_in (steps.LeadRange node first count) receiver = Some (Node node)
+actor_in (steps.Interrupt node interrupt) receiver = Some (Node node)
+actor_in (steps.Tick node now) receiver = Some (Node node)
+actor_in (steps.Report node first) receiver = Some (Node node)
+
+-- who acts in an event
+abbrev pub actor_of : Event → Option Party → Option Party
+actor_of (events.Submit task node object operation arg) receiver = Some (Task task)
+actor_of (events.Again task node) receiver = Some (Task task)
+actor_of (events.Node step) receiver = actor_in step receiver
+actor_of (events.Cut step kept) receiver = actor_in step receiver
+actor_of (events.Stop node) receiver = Some (Node node)
+actor_of (events.Restart node) receiver = Some (Node node)
+
+-- the event's node wrote a record or a part of one: its device holds more bytes than before
+abbrev pub has_written : Happened → Bool
+has_written h = nat_lt h.before.stored h.after.stored
+
+-- the kind of an event's mark, by whether its node wrote
+abbrev pub kind_of : Event → Bool → Kind
+kind_of (events.Submit task node object operation arg) written = kinds.Act
+kind_of (events.Again task node) written = kinds.Act
+kind_of (events.Node step) written = if written then kinds.Record else kinds.Act
+kind_of (events.Cut step kept) written = if written then kinds.Torn else kinds.Stop
+kind_of (events.Stop node) written = kinds.Stop
+kind_of (events.Restart node) written = kinds.Restart
+
+-- the colour of the packet's ballot, 0 if there is no packet
+abbrev pub packet_colour : Option Message → ℕ
+packet_colour None = 0
+packet_colour (Some m) = colour_of m.body
+
+-- a mark of this colour and kind on the actor's lane, if somebody acts
+abbrev pub mark_on : Stage → ℕ → Kind → Option Party → Option Mark
+mark_on stage colour kind None = None
+mark_on stage colour kind (Some actor) =
+    Some (record { lane = lane_of stage.tasks actor; colour = colour; kind = kind })
+
+-- the mark of an event
+abbrev pub mark_of : Stage → Happened → Option Mark
+mark_of stage h =
+    mark_on stage (packet_colour h.packet) (kind_of h.event (has_written h)) h.actor
+
+-- the event is the delivery of a message
+abbrev pub is_delivery_step : Step → Bool
+is_delivery_step (steps.Deliver message) = true
+is_delivery_step _ = false
+
+abbrev pub is_delivery : Event → Bool
+is_delivery (events.Node step) = is_delivery_step step
+is_delivery _ = false
+
+-- a task takes a reply
+abbrev pub is_taken : {A : Type 0} → Option A → Bool
+is_taken None = false
+is_taken (Some answer) = true
+
+-- a pending item was dropped
+abbrev pub is_full : Dropped → Bool
+is_full No = false
+is_full Full = true
+is_full Foreign = false
+
+-- More is to be drawn of an event than the way of a packet: of a delivery only if a task takes a
+-- reply, a pending item is dropped, or the node is stopped.
+abbrev pub is_notable : Happened → Bool
+is_notable h =
+    not (is_delivery h.event)
+    || (is_taken h.effect.taken || (is_full h.effect.dropped || h.before.is_stopped))
+
+-- what is drawn of an event, with the words for it and for what its actor did
+abbrev pub label_of : Stage → Happened → Words → Words → Label
+label_of stage h cause effect = record {
+  cause = cause;
+  effect = effect;
+  mark = mark_of stage h;
+  is_drawn = shows_all stage.view.position && is_notable h;
 }

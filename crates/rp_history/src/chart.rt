@@ -1,7 +1,8 @@
 //! The chart of the run so far.
 
-ghost use Rattle.std.specs.Prelude.{◌≡◌, ◌≤◌, length, drop, IfErr, IfOk, OnOk, string_bytes};
-ghost use Rattle.rp_history.specs.Histories.{ending_by, IsDrawable, IsDrawingOf, IsSketchOf, lost_of};
+ghost use Rattle.std.specs.Prelude.{◌≡◌, ◌≤◌, [], length, drop, IfErr, IfOk, OnOk, string_bytes};
+ghost use Rattle.rp_drawing.specs.Drawings.{page_text};
+ghost use Rattle.rp_history.specs.Histories.{ending_by, HasMoment, IsDrawable, IsDrawingOf, IsSketchOf, lost_of};
 ghost use Rattle.rp_drawing.specs.Ways.{IsEndingWithin};
 ghost use Rattle.rp_model.specs.Answers.{ResultsIn};
 ghost use Rattle.rp_model.specs.Effect.{Setting};
@@ -51,9 +52,11 @@ impl Chart {
         requires ending { IsEndingWithin (length self.old.sketch.ways.items) ending }
         ensures stage { self.new.stage ≡ self.old.stage }
         ensures drawable { OnOk result (IsDrawable self.new.sketch) }
-        // claim: An event that happened is the last moment of the chart of its run: the messages that
-        //   it sent begin their ways there, and the one that it delivered ends there, taken or, at a
-        //   stopped node, not heard
+        // claim (moment, happened): An event that happened is the last moment of the chart of its run,
+        //   under its label: the messages that it sent begin their ways there, and the one that it
+        //   delivered ends there, taken or, at a stopped node, not heard
+        ensures moment { OnOk result (HasMoment self.old.stage self.old.sketch self.new.sketch
+            packets.now ending label) }
         ensures happened { (s : Setting M) (before after : World) (event : Event)
             → IsSketchOf s self.old.stage self.old.sketch before
             → ResultsIn s before (event_of event) after
@@ -83,8 +86,11 @@ impl Chart {
         requires lost { IsEndingWithin (length self.old.sketch.ways.items) (lost_of lost) }
         ensures stage { self.new.stage ≡ self.old.stage }
         ensures drawable { OnOk result (IsDrawable self.new.sketch) }
-        // claim: A line that was refused, a message that was lost and a node that was shown is a moment
-        //   of the chart in which the world stays
+        // claim (moment, stays): A line that was refused, a message that was lost and a node that was
+        //   shown is the last moment of the chart, under its label, in which the world stays. The way
+        //   of a message ends there exactly if it is the one that was lost
+        ensures moment { OnOk result (HasMoment self.old.stage self.old.sketch self.new.sketch
+            [] (lost_of lost) label) }
         ensures stays { (s : Setting M) (world : World)
             → IsSketchOf s self.old.stage self.old.sketch world
             → OnOk result (IsSketchOf s self.new.stage self.new.sketch world) }
@@ -112,11 +118,15 @@ impl Chart {
         requires lanes { length lanes.now ≤ 16 }
         // claim: The arrows of a chart are the messages of its run's history, each from its sender's
         //   lane, where it was sent, down to its receiver's, where it was taken, not heard or lost;
-        //   none goes upwards, there is no other arrow, and the drawing is short
+        //   none goes upwards, there is no other arrow, and the drawing is short. It is the page of the
+        //   chart under the lanes that were given. Only `OutOfMemory` is returned in its place
+        ensures page { IfOk result (λ text. string_bytes text
+            ≡ page_text lanes.now self.now.sketch) }
         ensures drawn { (s : Setting M) (last : World)
             → IsSketchOf s self.now.stage self.now.sketch last
             → IfOk result (λ text. IsDrawingOf s self.now.stage (length lanes.now) last
             (string_bytes text)) }
+        ensures fault { IfErr result (λ fault. fault ≡ Fault.OutOfMemory) }
     {
         draw(alloc, &self.sketch, lanes)
     }

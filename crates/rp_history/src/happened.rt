@@ -2,6 +2,7 @@
 
 ghost use Rattle.std.specs.Prelude.{◌≡◌};
 ghost use Rattle.rp_history.specs.Histories.{delivered_by};
+ghost use Rattle.rp_history.specs.Views.{actor_of, has_written, is_notable, kind_of, label_of, mark_of};
 
 use crate::stage::Stage;
 use crate::view::colour_of;
@@ -46,7 +47,9 @@ pub fn delivered_by(event: &Event) -> Option<u64>
 }
 
 /// Who acts in an event; the receiver is that of the packet that it delivers, if it delivers one.
-pub fn actor_of(event: &Event, receiver: Option<Party>) -> Option<Party> {
+pub fn actor_of(event: &Event, receiver: Option<Party>) -> Option<Party>
+    ensures { result ≡ actor_of event.now receiver }
+{
     match *event {
         Event::Submit { task, .. } | Event::Again { task, .. } => Some(Party::Task(task)),
         Event::Stop(node) | Event::Restart(node) => Some(Party::Node(node)),
@@ -63,13 +66,21 @@ pub fn actor_of(event: &Event, receiver: Option<Party>) -> Option<Party> {
 
 impl Happened {
     /// Whether the event's node wrote a record, or a part of one.
-    pub fn has_written(&self) -> bool {
+    pub fn has_written(&self) -> bool
+        ensures { result ≡ has_written self.now }
+    {
         self.after.stored > self.before.stored
     }
 
     /// The label that is drawn beside the ways of packets, with the words for the event and for
     /// what its actor then did.
-    pub fn label(&self, stage: &Stage, cause: Words, effect: Words) -> Label {
+    pub fn label(&self, stage: &Stage, cause: Words, effect: Words) -> Label
+        // claim: The label of an event has the words that it is given, and its mark is on the lane of
+        //   who acted, in the colour of its packet's ballot. The mark is that of a record exactly if a
+        //   node's step left more bytes on its device, and that of a torn one exactly if the node was
+        //   stopped within a step that did
+        ensures { result ≡ label_of stage.now self.now cause effect }
+    {
         Label {
             cause,
             effect,
@@ -79,7 +90,9 @@ impl Happened {
     }
 
     /// The mark of the event, if it has one.
-    fn mark(&self, stage: &Stage) -> Option<Mark> {
+    fn mark(&self, stage: &Stage) -> Option<Mark>
+        ensures { result ≡ mark_of stage.now self.now }
+    {
         let actor = self.actor?;
         let colour = match &self.packet {
             Some(packet) => colour_of(packet.body()),
@@ -93,7 +106,9 @@ impl Happened {
     }
 
     /// The kind of the mark: what it means.
-    fn kind(&self) -> Kind {
+    fn kind(&self) -> Kind
+        ensures { result ≡ kind_of self.now.event (has_written self.now) }
+    {
         match self.event {
             Event::Stop(_) => Kind::Stop,
             Event::Restart(_) => Kind::Restart,
@@ -106,7 +121,9 @@ impl Happened {
     }
 
     /// Whether more is to be drawn of the event than the way of a packet.
-    fn is_notable(&self) -> bool {
+    fn is_notable(&self) -> bool
+        ensures { result ≡ is_notable self.now }
+    {
         match self.event {
             Event::Node(Step::Deliver(_)) => {
                 self.effect.taken.is_some()

@@ -1,7 +1,7 @@
 //! Which part of a run is drawn.
 
 ghost use Rattle.std.specs.Prelude.{◌≡◌};
-ghost use Rattle.rp_history.specs.Views.{named_ballot, colour_of, is_about, is_node, is_to_itself, names_position, shows};
+ghost use Rattle.rp_history.specs.Views.{named_ballot, colour_of, is_about, is_node, is_to_itself, names_position, shows, shows_all};
 
 use rp_base::{Ballot, NodeId, Position};
 use rp_codec::{Body, Packet, Party};
@@ -37,7 +37,9 @@ impl View {
     }
 
     /// Whether events that name no position, as calls, are drawn.
-    pub fn shows_all(&self) -> bool {
+    pub fn shows_all(&self) -> bool
+        ensures { result ≡ shows_all self.now.position }
+    {
         self.position.is_none()
     }
 }

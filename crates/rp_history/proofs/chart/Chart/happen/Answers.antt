@@ -1,11 +1,11 @@
 -- The event is the last moment.
-use Rattle.std.proofs.Common.{◌∙◌, Some, List, map, length, length-append, arith, ap}
+use Rattle.std.proofs.Common.{◌∙◌, Some, List, map, length, length-append, arith, refl, ap}
 use Rattle.rp_codec.specs.Message.{Message}
 use Rattle.rp_drawing.specs.declared.sketch.Moment.{Moment}
 use Rattle.rp_model.specs.Events.{event_of}
 use Rattle.rp_model.specs.World.{World}
 use Rattle.rp_history.specs.Views.{sending_of}
-use Rattle.rp_history.proofs.HistoryLemmas.{drawable_now, sketch_more}
+use Rattle.rp_history.proofs.HistoryLemmas.{drawable_now, moment_now, sketch_more}
 use Rattle.rp_history.proofs.chart.Chart.happen.Goals as goal
 
 pub returns-clause-happened : goal.returns-clause-happened
@@ -23,3 +23,9 @@ returns-clause-happened g c = λ s before after event so_far results packets end
       happens = (results, ending);
     })
     (omega (arith, more, longer)) so_far (drawable_now c.add.result c.add.new.self c.add.ensures.ways c.add.ensures.down c.add.ensures.few)
+
+pub returns-clause-moment : goal.returns-clause-moment
+returns-clause-moment g c =
+    let moment : Moment = record { before = c.messages.result; sends = c.in_ok-sends_of.field-0; ending = c.args.ending } in
+    moment_now c.add.result c.args.self.now.stage c.args.self.now.sketch c.add.new.self moment c.args.packets.now c.args.ending c.args.label
+    c.messages.ensures c.in_ok-sends_of.ensures refl c.add.ensures.added

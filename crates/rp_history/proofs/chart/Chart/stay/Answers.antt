@@ -1,10 +1,11 @@
 -- The world stays.
-use Rattle.std.proofs.Common.{◌∙◌, None, List, map, length, arith, refl, sym, ap}
+use Rattle.std.proofs.Common.{◌∙◌, None, List, [], map, length, arith, refl, sym, ap}
 use Rattle.std.proofs.lemmas.List.{drop_all}
 use Rattle.rp_codec.specs.Message.{Message}
 use Rattle.rp_drawing.specs.declared.sketch.Moment.{Moment}
+use Rattle.rp_history.specs.Histories.{lost_of}
 use Rattle.rp_history.specs.Views.{sending_of}
-use Rattle.rp_history.proofs.HistoryLemmas.{drawable_now, sketch_more}
+use Rattle.rp_history.proofs.HistoryLemmas.{drawable_now, moment_now, sketch_more}
 use Rattle.rp_history.proofs.chart.Chart.stay.Goals as goal
 
 pub returns-clause-stays : goal.returns-clause-stays
@@ -18,3 +19,9 @@ returns-clause-stays g c = λ s world so_far.
       happens = (refl, c.args.lost, c.lost_of.ensures);
     })
     (omega arith) so_far (drawable_now c.add.result c.add.new.self c.add.ensures.ways c.add.ensures.down c.add.ensures.few)
+
+pub returns-clause-moment : goal.returns-clause-moment
+returns-clause-moment g c =
+    let moment : Moment = record { before = c.messages.result; sends = c.new.result; ending = c.lost_of.result } in
+    moment_now c.add.result c.args.self.now.stage c.args.self.now.sketch c.add.new.self moment [] (lost_of c.args.lost) c.args.label
+    c.messages.ensures c.new.ensures.items c.lost_of.ensures c.add.ensures.added

@@ -1,7 +1,6 @@
 -- What the program does with the words of the command line, and how it ends.
 use Rattle.std.specs.Prelude.{◌≡◌, ◌⊎◌, ℕ, true, false, Option, Some, None, Result, Ok, Err, List}
 use Rattle.std.specs.Prelude.{[], codes, OnOk, IfErr, OnErr}
-use Rattle.std.specs.Io.KnownBytes.{Appends}
 use Rattle.clap.specs.Kinds.{IsAmong}
 use Rattle.clap.specs.Words.{Text, fault_of}
 use Rattle.clap.specs.declared.error.kind.ErrorKind.{ErrorKind}
@@ -13,6 +12,7 @@ use Rattle.rp_deck.specs.declared.deck.Mode.TheVariants.{Script}
 use Rattle.rp_history.specs.declared.view.View.{View}
 use Rattle.rp_output.specs.Endings.{RefusesAs, status_after}
 use Rattle.rp_output.specs.FaultMessage.{fault_message_of, with_line_feed}
+use Rattle.rp_output.specs.Stream.{Writes}
 use Rattle.rp_output.specs.declared.ending.Ending.{Ending}
 use Rattle.rp_script.specs.Faults.{IsBadDeck, IsProgramFault}
 use Rattle.rp_script.specs.Given.{IsMeant}
@@ -37,7 +37,8 @@ report_of (Err fault) = with_line_feed (fault_message_of fault)
 -- The run of the deck that the bytes given mean was drawn, or a fault ended that after a prefix of
 -- the drawing. If the bytes mean no deck, nothing is written, and the fault has the first bad line
 -- and the first reason on it. The status is 0 without a fault, and otherwise that of the fault,
--- which is reported.
+-- which is reported. A report that could not be written whole is a prefix of its line; without a
+-- fault, nothing is written on standard error.
 pub record DrawsAs (view : View) (given output output_after errors errors_after : Content)
     (ending : Ending) : Type 0 where
   pub drawn : Result Unit Fault
@@ -47,7 +48,8 @@ pub record DrawsAs (view : View) (given output output_after errors errors_after 
   pub bad : IfErr drawn (λ fault. IsBadDeck fault → output_after ≡ output)
   pub fault : IfErr drawn IsProgramFault
   pub status : ending.status ≡ status_after drawn
-  pub reported : OnOk ending.reported (Appends errors errors_after (report_of drawn))
+  pub reported : Writes errors errors_after (report_of drawn) ending.reported
+  pub silent : report_of drawn ≡ [] → errors_after ≡ errors
 
 -- The words ask for a drawing, which was made; or they are wrong, ask for help or the version, or
 -- memory ran out, and that was reported.

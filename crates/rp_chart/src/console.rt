@@ -1,9 +1,9 @@
 //! Does what the words of the command line ask for, and reports its faults.
 
-ghost use Rattle.std.specs.Prelude.{◌≡◌, OnOk, map};
-ghost use Rattle.std.specs.Io.KnownBytes.{Appends};
+ghost use Rattle.std.specs.Prelude.{◌≡◌, [], map};
 ghost use Rattle.rp_chart.specs.Console.{FollowsWords, report_of};
 ghost use Rattle.rp_output.specs.Endings.{status_after};
+ghost use Rattle.rp_output.specs.Stream.{Writes};
 
 use crate::args::read_args;
 use crate::chart::draw_script;
@@ -24,7 +24,8 @@ pub fn obey<S: AsStr, R: Read + Drop, W: Write + Drop, E: Write + Drop>(
     //   wrong. The status is 0 exactly if the drawing was written or the words ask for help or the
     //   version, 3 at a bad deck, 2 at wrong words, and 4 at every other fault. A fault is reported
     //   on standard error by its line, that of a bad deck with the first bad line that the deck's
-    //   bytes mean and the first reason on it
+    //   bytes mean and the first reason on it; a line that could not be written whole is left there
+    //   as a prefix of it. Without a fault standard error is left as it was
     ensures obeyed { FollowsWords (map S.text words.now) (R.remaining streams.old.reader)
         (W.contents streams.old.writer) (W.contents streams.new.writer)
         (E.contents streams.old.errors) (E.contents streams.new.errors) result }
@@ -41,8 +42,9 @@ pub fn obey<S: AsStr, R: Read + Drop, W: Write + Drop, E: Write + Drop>(
 /// Reports the fault of a drawing, if it has any.
 fn end<E: Write>(errors: &mut E, drawn: Result<(), Fault>) -> Ending
     ensures status { result.status ≡ status_after drawn }
-    ensures reported { OnOk result.reported
-        (Appends (E.contents errors.old) (E.contents errors.new) (report_of drawn)) }
+    ensures reported { Writes (E.contents errors.old) (E.contents errors.new) (report_of drawn)
+        result.reported }
+    ensures silent { report_of drawn ≡ [] → E.contents errors.new ≡ E.contents errors.old }
 {
     match drawn {
         Ok(()) => Ending {

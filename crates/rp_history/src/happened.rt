@@ -76,9 +76,9 @@ impl Happened {
     /// what its actor then did.
     pub fn label(&self, stage: &Stage, cause: Words, effect: Words) -> Label
         // claim: The label of an event has the words that it is given, and its mark is on the lane of
-        //   who acted, in the colour of its packet's ballot. The mark is that of a record exactly if a
-        //   node's step left more bytes on its device, and that of a torn one exactly if the node was
-        //   stopped within a step that did
+        //   who acted, in the colour of its packet's ballot. The mark is that of a record exactly if more
+        //   bytes of the device are noted after a node's step than before it, and that of a torn one
+        //   exactly if they are after a step within which the node was stopped
         ensures { result ≡ label_of stage.now self.now cause effect }
     {
         Label {

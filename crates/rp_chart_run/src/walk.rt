@@ -49,7 +49,8 @@ pub fn draw_lines<M: Machine, D: CutDevice>(
         scene.now.options.now.lines.now }
     requires lanes { length scene.now.lanes.now ≤ 16 }
     // claim: The arrows of the drawing of a script, and it has no other, are the messages of its run,
-    //   each from where it was sent down to where it was settled
+    //   each from where it was sent down to where it was settled, in some history that leads to the
+    //   run's last world
     ensures drawing { IfOk result (λ text. let s = run_setting M.next M.answers M.begin M.image
         (opening_setup scene.now.options.now.config program) scene.now.options.now in
         IsDrawingOf s.setting scene.now.stage (length scene.now.lanes.now)

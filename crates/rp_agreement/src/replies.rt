@@ -154,7 +154,9 @@ pub fn calls_count_where_they_first_occur<M: Machine>()
         → slice_get order k ≡ Some action → calls_of action ≡ named t n ∷ []
         → ¬ Occurs (named t n) (take k order)
         → IsPlace M.next M.answers (M.begin program) order (named t n) (suc k) }
-{}
+{
+    M::laws();
+}
 
 /// At a program of a machine the calls of a task that count in the order are those that the task
 /// made, in order: all of them, or all but the one that it waits for.
@@ -166,7 +168,9 @@ pub fn calls_count_in_order<M: Machine>()
         → IsKept (setting_for M.next M.answers M.begin config program) node task sent
         → let order = order_of config.nodes sent in
         (t : ℕ) → AreItsCalls sent t (task t) (kept_of M.next M.answers (M.begin program) order) }
-{}
+{
+    M::laws();
+}
 
 /// At a program of a machine no call takes effect in the order but those that its task made.
 pub fn only_made_calls_count<M: Machine>()

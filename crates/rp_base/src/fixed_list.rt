@@ -47,7 +47,7 @@ impl<T: Copy, const MOST: usize> FixedList<T, MOST> {
         self.len == 0
     }
 
-    /// No item, in place of those that there are.
+    /// Removes all items.
     #[inline(always)]
     pub fn clear(&mut self)
         ensures { self.new ≡ [] }

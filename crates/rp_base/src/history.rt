@@ -1,12 +1,12 @@
-//! A list that memory does not hold.
+//! A list for contracts alone.
 
 ghost use Rattle.std.specs.Prelude.{◌≡◌, [], ◌∷◌, ◌++◌};
 
 use std::marker::Model;
 use std::snapshot::Snapshot;
 
-/// A list of what happened, oldest first, of which memory holds no item: they are in snapshots, which
-/// take no bytes, for contracts.
+/// A list of what happened, oldest first, for contracts alone: its items are snapshots, which take no
+/// bytes, so memory holds none of them.
 #[cycle(history)]
 #[derive(Drop)]
 pub struct History<T: Drop> {

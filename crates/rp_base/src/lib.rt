@@ -1,21 +1,22 @@
-//! The types that the whole project speaks in: who, where, in which ballot, and what is done.
+//! The types that all other crates use: nodes, tasks, positions, ballots, actions, records and
+//! faults.
 //!
 //! In reading order:
 //! - `number`: the numbers that name nodes, tasks and positions of the log
-//! - `ballot`: ballots, which order the attempts to decide a position
-//! - `majorities`: how many nodes decide
+//! - `ballot`: ballots, which order the proposals for a position
+//! - `majorities`: how many nodes are a majority
 //! - `action`: what the log holds: calls, interrupts and ticks
-//! - `reply`: what a call is answered
+//! - `reply`: the reply to a call
 //! - `fixed_list`: a list that takes no memory
 //! - `answers`: the answers of one action
 //! - `range`: ranges of positions
-//! - `record`: what a node writes down before it says it
-//! - `records`: what the records of a node say, with one more, and of its last vote
+//! - `record`: what a node writes before it sends
+//! - `records`: what one more record changes, and what the last vote is
 //! - `placed`: votes with their positions
-//! - `proposal`: how far a proposal is
-//! - `voting`: what an acceptor answers
+//! - `proposal`: the two phases of a proposal
+//! - `voting`: the answers of an acceptor
 //! - `senders`: a set of nodes, such as those that sent a promise or a vote
-//! - `history`: a list that memory does not hold
+//! - `history`: a list for contracts alone
 //! - `config`: the size of a cluster
 //! - `fault`: why a call was refused
 #![tactic(auto)]

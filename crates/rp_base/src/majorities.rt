@@ -1,4 +1,4 @@
-//! How many nodes decide.
+//! How many nodes are a majority.
 
 ghost use Rattle.std.specs.Prelude.{◌≡◌, ℕ, ◌≤◌, List, length};
 ghost use Rattle.rp_base.specs.Sets.{Has};

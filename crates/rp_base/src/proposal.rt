@@ -1,4 +1,4 @@
-//! How far a proposal is.
+//! The two phases of a proposal.
 
 /// The two phases of a proposal (Lamport, "Paxos Made Simple", section 2.2).
 #[derive(Clone, Copy, Debug, PartialEq, Eq)]

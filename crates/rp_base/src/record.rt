@@ -1,4 +1,4 @@
-//! What a node writes down before it says it.
+//! What a node writes before it sends.
 
 ghost use Rattle.std.specs.Prelude.{◌≡◌, ◌++◌, option_to_list};
 ghost use Rattle.rp_base.specs.Records.{highest};

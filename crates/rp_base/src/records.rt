@@ -1,4 +1,4 @@
-//! What the records of a node say, with one more, and of its last vote.
+//! What one more record changes, and what the last vote is.
 
 ghost use Rattle.std.specs.Prelude.{◌≡◌, ◌<◌, ◌++◌, [], ◌∷◌, ℕ, max, true, false, List, Some, None, option_to_list};
 ghost use Rattle.std.specs.List.{AllByRecursion};
@@ -10,7 +10,7 @@ ghost use Rattle.rp_base.specs.PlacedVotes.{placed_at, last_votes, AreReported};
 ghost use Rattle.rp_base.specs.Voting.{is_above_bounds};
 ghost use Rattle.rp_base.specs.Records.{started_in, started_of, bound_in, bound_at, highest, vote_in, last_vote_at, learned_in, learned_at, or_else};
 
-/// What one more record does to what the records say.
+/// What one more record changes.
 pub fn one_more_record()
     ensures started { (records : List Rec) (rec : Rec)
         → started_of (records ++ rec ∷ []) ≡ max (started_of records) (started_in rec) }

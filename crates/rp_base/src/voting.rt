@@ -1,4 +1,4 @@
-//! What an acceptor answers.
+//! The answers of an acceptor.
 
 use crate::ballot::Ballot;
 use crate::number::Position;

@@ -13,7 +13,7 @@ ghost use Rattle.rp_entry.specs.Actions.{Request, Acts};
 ghost use Rattle.rp_entry.specs.Results.{Acted, acted};
 ghost use Rattle.rp_entry.specs.Accounting.{KeepsAll};
 
-/// Servicing has an end from every state, and one alone, with the same answers given on the way.
+/// From every state servicing ends, in one state and with one list of answers.
 pub fn servicing_has_one_end()
     // claim: Servicing and every action have one end, from every state
     ensures an_end { (operations : Operations) (before : State)
@@ -24,8 +24,8 @@ pub fn servicing_has_one_end()
         → (replied ≡ heard) × (one ≡ other) }
 {}
 
-/// So has a protected action: a request at a state gives every replica the same answers and leaves
-/// the same state.
+/// A protected action ends so too: a request at a state gives every replica the same answers and
+/// leaves the same state.
 pub fn actions_have_one_end()
     // claim as servicing_has_one_end
     ensures an_end { (operations : Operations) (before : State) (request : Request)
@@ -47,8 +47,8 @@ pub fn actions_are_their_results()
         ↔ (acted operations before request ≡ result) }
 {}
 
-/// No action changes which whole numbers there are or a range, and values that lie in their ranges
-/// still do.
+/// No action changes which whole numbers are declared or their ranges, and values in range stay in
+/// range.
 pub fn actions_keep_ranges()
     // claim: No action changes a range, and values in range stay in range
     ensures { (operations : Operations) (before after : State) (request : Request)
@@ -57,7 +57,7 @@ pub fn actions_keep_ranges()
         → KeepsRanges before.store after.store }
 {}
 
-/// No action of operations that fit their components changes which Booleans there are.
+/// No action of operations that fit their components changes which Booleans are declared.
 pub fn actions_keep_booleans()
     // claim: No action changes which Booleans there are
     ensures { (limits : Limits) (operations : Operations) (before after : State)
@@ -67,9 +67,9 @@ pub fn actions_keep_booleans()
         → HasBoolsOf before.store after.store }
 {}
 
-/// Nobody who waits is forgotten or passed by at an entry that has its queue: of each entry, those
-/// that an action answers, and after them those that wait after it, are those that waited before,
-/// and the action's own call where it waits there.
+/// No caller that waits is lost or overtaken: at each entry that has a queue, the callers that an
+/// action answers, followed by those that wait after it, are those that waited before it, and the
+/// action's own call if it waits there.
 pub fn actions_account_for_callers()
     // claim: At each entry those that are answered, followed by those that still wait, are those
     //   that waited, in their order

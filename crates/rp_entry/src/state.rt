@@ -55,7 +55,7 @@ impl Done {
     }
 }
 
-/// The reply to the caller of a body that ended so.
+/// The reply to the caller of a body with this result.
 fn reply_of(outcome: Outcome) -> Reply
     ensures { result ≡ reply_of outcome }
 {

@@ -1,3 +1,2 @@
 pub mod Counter
-pub mod CounterLaws
 pub mod Mirrored

@@ -1,8 +1,7 @@
 //! A machine: a counter with a bound and a reset.
 
-ghost use Rattle.std.specs.Prelude.{◌≡◌, [], refl};
+ghost use Rattle.std.specs.Prelude.{◌≡◌, []};
 ghost use Rattle.rp_examples.specs.Counter.{begun, with_count, increased, called, counter_next, counter_answers, counter_image, Runs};
-ghost use Rattle.rp_examples.specs.CounterLaws.{Runs-begun, Runs-next, counter_image-injective, counter_accounts, counter_replies};
 
 use crate::program::CounterProgram;
 use rp_base::{Action, Answer, Answers, Operation, Reply};
@@ -102,15 +101,5 @@ impl Machine for BoundedCounter {
         Ok(text.into_bytes())
     }
 
-    ghost none_waits = { λ program. refl };
-
-    ghost starts = { Runs-begun };
-
-    ghost keeps = { Runs-next };
-
-    ghost shows = { counter_image-injective };
-
-    ghost accounts = { counter_accounts };
-
-    ghost replies = { counter_replies };
+    fn laws() {}
 }

@@ -4,7 +4,7 @@ use Rattle.std.proofs.lemmas.Int.{to_z-of_z}
 use Rattle.std.proofs.lemmas.Option.{slice_get_read}
 use Rattle.rp_base.specs.declared.reply.Reply.TheVariants.{Value, ConstraintError}
 use Rattle.rp_machine.specs.TallyRule.{fits_i64, sum_of, added, new_sum, with_sum, reply_to_add}
-use Rattle.rp_machine.specs.TallyLaws.{mag_fits}
+use Rattle.rp_machine.proofs.TallyLaws.{mag_fits}
 
 -- the code reads the object's sum, and both numbers fit
 pub record Reads (sums : List ℤ) (object : ℕ) (sum arg : ℤ) : Type 0 where

@@ -1,3 +1,5 @@
+pub mod AtOnce
+pub mod TallyLaws
 pub mod Adding
 pub mod Image
 pub mod Replaying

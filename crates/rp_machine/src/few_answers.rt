@@ -14,4 +14,6 @@ pub fn answers_are_few<M: Machine>()
     ensures { (program : M.Program) (actions : List Action)
         → ((action : Action) → Has action actions → IsRight action)
         → length (replay_answers M.next M.answers (M.begin program) actions) ≤ length actions }
-{}
+{
+    M::laws();
+}

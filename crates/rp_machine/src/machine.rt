@@ -55,28 +55,24 @@ pub trait Machine: Drop {
     fn image(&self, alloc: Global) -> Result<Vec<u8>, AllocError>
         ensures { IfOk result (λ text. text.items ≡ image self.now) };
 
-    /// No call waits at the start.
-    ghost none_waits: { (program : Self.Program) → waiting (begin program) ≡ [] };
-
-    /// The start is a state of the program.
-    ghost starts: { (program : Self.Program) → runs program (begin program) };
-
-    /// An action leads from a state of the program to one.
-    ghost keeps: { (program : Self.Program) (s : Self) (action : Action)
-        → runs program s → IsRight action → MayApply (waiting s) action
-        → runs program (next s action) };
-
-    /// Two states of one program that look the same are the same.
-    ghost shows: { (program : Self.Program) (s t : Self)
-        → runs program s → runs program t → image s ≡ image t → s ≡ t };
-
-    /// Who is answered and who waits.
-    ghost accounts: { (program : Self.Program) (s : Self) (action : Action)
-        → runs program s → IsRight action → MayApply (waiting s) action
-        → AccountsFor (waiting s) action (answers s action) (waiting (next s action)) };
-
-    /// The value of each reply has 64 signed bits.
-    ghost replies: { (program : Self.Program) (s : Self) (action : Action)
-        → runs program s → IsRight action → MayApply (waiting s) action
-        → (answer : Answer) → Has answer (answers s action) → IsReply answer.reply };
+    /// What every machine keeps. It does nothing: it is called for its contract alone.
+    ///
+    /// No call waits at the start, which is a state of the program; an action leads from a state of
+    /// the program to one; two states of one program that look the same are the same; an action
+    /// answers calls that wait or its own, and the others go on waiting; the value of each reply has
+    /// 64 signed bits.
+    fn laws()
+        ensures none_waits { (program : Self.Program) → waiting (begin program) ≡ [] }
+        ensures starts { (program : Self.Program) → runs program (begin program) }
+        ensures keeps { (program : Self.Program) (s : Self) (action : Action)
+            → runs program s → IsRight action → MayApply (waiting s) action
+            → runs program (next s action) }
+        ensures shows { (program : Self.Program) (s t : Self)
+            → runs program s → runs program t → image s ≡ image t → s ≡ t }
+        ensures accounts { (program : Self.Program) (s : Self) (action : Action)
+            → runs program s → IsRight action → MayApply (waiting s) action
+            → AccountsFor (waiting s) action (answers s action) (waiting (next s action)) }
+        ensures replies { (program : Self.Program) (s : Self) (action : Action)
+            → runs program s → IsRight action → MayApply (waiting s) action
+            → (answer : Answer) → Has answer (answers s action) → IsReply answer.reply };
 }

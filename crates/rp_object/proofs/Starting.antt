@@ -11,7 +11,7 @@ use Rattle.rp_object.specs.Program.{operations_of, DeclarationFits, IsProgram}
 use Rattle.rp_object.specs.State.{Running, first_object, unset, first_state}
 use Rattle.rp_object.specs.Step.{tasks_of}
 use Rattle.rp_object.specs.InMemory.{IsMade, AreObjects, tasks_at}
-use Rattle.rp_object.specs.MachineLaws.First.{nobody}
+use Rattle.rp_object.proofs.MachineLaws.First.{nobody}
 
 made_first : (declared : List ObjectDeclaration) → AllByRecursion DeclarationFits declared → AllZip IsMade declared (map first_object declared)
 made_first [] fits = tt

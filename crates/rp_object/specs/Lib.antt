@@ -6,4 +6,3 @@ pub mod Timers
 pub mod Step
 pub mod Image
 pub mod Reached
-pub mod MachineLaws

@@ -14,9 +14,9 @@ ghost use Rattle.rp_object.specs.State.{Running, first_state};
 ghost use Rattle.rp_object.specs.Timers.{due_from, sorted, InOrder};
 ghost use Rattle.rp_object.specs.Step.{objects_next, objects_answers, objects_waiting};
 
-/// Nobody who waits is forgotten or answered twice: where each declared object is there with a queue
-/// for each of its entries, and no call waits twice, the answers to an action are for distinct
-/// calls, its own or ones that waited, and exactly the others of these wait after it.
+/// No caller that waits is lost or answered twice: if each declared object is there with a queue for
+/// each of its entries, and no call waits twice, the answers to an action are for distinct calls, its
+/// own or ones that waited, and exactly the others of these wait after it.
 pub fn actions_account_for_callers()
     // claim: Nobody who waits is forgotten or answered twice
     ensures { (running : Running) (action : Action)
@@ -27,8 +27,8 @@ pub fn actions_account_for_callers()
         (objects_waiting (objects_next running action)) }
 {}
 
-/// Each tick's list of timing events is that of the events that are set for a time at or below the
-/// clock, none left out, in order of time and number.
+/// A tick fires the timing events that are set for a time at or below the clock, all of them, in
+/// order of time and number.
 pub fn due_events_are_due()
     // claim: A tick fires exactly the events that are due, in order of time and number
     ensures order { (clock : ℕ) (timers : List (Option ℤ))

@@ -6,7 +6,6 @@ ghost use Rattle.rp_object.specs.State.{first_state};
 ghost use Rattle.rp_object.specs.Step.{objects_next, objects_answers, objects_waiting};
 ghost use Rattle.rp_object.specs.Image.{objects_image};
 ghost use Rattle.rp_object.specs.Reached.{IsStateOf};
-ghost use Rattle.rp_object.specs.MachineLaws as laws;
 
 use crate::objects::Objects;
 use crate::program::Program;
@@ -29,17 +28,7 @@ impl Machine for Objects {
 
     ghost runs = { λ program running. IsStateOf (arc_value program.declarations) running };
 
-    ghost none_waits = { λ program. laws.none_waits (arc_value program.declarations) };
-
-    ghost starts = { λ program. laws.starts (arc_value program.declarations) program.right };
-
-    ghost keeps = { λ program. laws.keeps (arc_value program.declarations) program.right };
-
-    ghost shows = { λ program. laws.shows (arc_value program.declarations) program.right };
-
-    ghost accounts = { λ program. laws.accounts (arc_value program.declarations) };
-
-    ghost replies = { λ program. laws.replies (arc_value program.declarations) };
+    fn laws() {}
 
     fn start(alloc: Global, program: &Program) -> Result<Self, AllocError> {
         Objects::start(alloc, program)

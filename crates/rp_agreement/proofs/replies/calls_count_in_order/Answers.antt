@@ -7,7 +7,7 @@ use Rattle.rp_agreement.proofs.replies.calls_count_in_order.Goals as goal
 pub returns : goal.returns
 returns g c =
     let m = g.M.Machine in
-    let laws = g.met.M.Machine in
+    let laws = c.laws.ensures in
     λ config program node task sent kept t.
     counts_in_turn (setting_for m.next m.answers m.begin config program) node task sent kept
     (λ xs right call stated. (accounted m.next m.answers m.waiting m.begin m.runs laws.none_waits laws.starts laws.keeps laws.accounts program xs right).known call stated)

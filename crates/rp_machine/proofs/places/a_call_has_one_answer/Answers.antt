@@ -9,7 +9,7 @@ use Rattle.rp_machine.proofs.places.a_call_has_one_answer.Goals as goal
 pub returns : goal.returns
 returns g c =
     let m = g.M.Machine in
-    let laws = g.met.M.Machine in
+    let laws = c.laws.ensures in
     λ program actions call one other right answer again.
     one_of_image call_of (replay_answers m.next m.answers (m.begin program) actions) one other
     (accounted m.next m.answers m.waiting m.begin m.runs laws.none_waits laws.starts laws.keeps laws.accounts program actions right).once

@@ -10,7 +10,7 @@ use Rattle.rp_machine.proofs.places.an_answered_call_has_one_place.Goals as goal
 pub returns : goal.returns
 returns g c =
     let m = g.M.Machine in
-    let laws = g.met.M.Machine in
+    let laws = c.laws.ensures in
     λ program actions call answer right is.
     let begin = m.begin program in
     let fine = accounted m.next m.answers m.waiting m.begin m.runs laws.none_waits laws.starts laws.keeps laws.accounts program actions right in

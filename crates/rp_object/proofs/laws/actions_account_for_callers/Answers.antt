@@ -1,6 +1,6 @@
 -- By the cases of an action.
 use Rattle.rp_object.specs.Step.{objects_next, objects_answers, objects_waiting}
-use Rattle.rp_object.specs.MachineLaws.Accounting.{step_leaves, step_accounts}
+use Rattle.rp_object.proofs.MachineLaws.Accounting.{step_leaves, step_accounts}
 use Rattle.rp_object.proofs.laws.actions_account_for_callers.Goals as goal
 
 pub returns : goal.returns

@@ -3,7 +3,7 @@ use Rattle.rp_machine.proofs.Applying.{accounted}
 use Rattle.rp_object.specs.State.{first_state}
 use Rattle.rp_object.specs.Step.{objects_next, objects_answers, objects_waiting}
 use Rattle.rp_object.specs.Reached.{IsStateOf}
-use Rattle.rp_object.specs.MachineLaws as machine
+use Rattle.rp_object.proofs.MachineLaws as machine
 use Rattle.rp_object.proofs.laws.logs_lead_to_states_of_the_program.Goals as goal
 
 pub returns : goal.returns

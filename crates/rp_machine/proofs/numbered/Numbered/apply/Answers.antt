@@ -8,7 +8,7 @@ use Rattle.rp_machine.proofs.numbered.Numbered.apply.Goals as goal
 pub invariant_of-self : goal.invariant_of-self
 invariant_of-self g c =
     let m = g.M.Machine in
-    let laws = g.met.M.Machine in
+    let laws = c.laws.ensures in
     let self = c.self.inside in
     let begin = m.begin self.program.value in
     let counting = viewed m.next m.answers (record { begin = begin; actions = self.actions }) c.args.self.now c.args.action.now false c.self.view_is (sym c.counts.ensures ∙ c.if-not-counts.true) in
@@ -27,7 +27,7 @@ apply-requires-clause-free g c =
 pub invariant_of-self-2 : goal.invariant_of-self-2
 invariant_of-self-2 g c =
     let m = g.M.Machine in
-    let laws = g.met.M.Machine in
+    let laws = c.laws.ensures in
     let self = c.self.inside in
     let begin = m.begin self.program.value in
     let counting = viewed m.next m.answers (record { begin = begin; actions = self.actions }) c.args.self.now c.args.action.now true c.self.view_is (sym c.counts.ensures ∙ c.if-not-counts.false) in
@@ -39,7 +39,7 @@ invariant_of-self-2 g c =
 pub returns-then-not-counts-clause-once : goal.returns-then-not-counts-clause-once
 returns-then-not-counts-clause-once g c =
     let m = g.M.Machine in
-    let laws = g.met.M.Machine in
+    let laws = c.laws.ensures in
     let self = c.self.inside in
     once_more m.next m.answers m.waiting m.begin m.runs laws.none_waits laws.starts laws.keeps laws.accounts self.program.value self.actions c.push.new.self c.args.action.now
     c.self.invariant.right c.requires c.push.ensures
@@ -47,7 +47,7 @@ returns-then-not-counts-clause-once g c =
 pub returns-clause-once : goal.returns-clause-once
 returns-clause-once g c =
     let m = g.M.Machine in
-    let laws = g.met.M.Machine in
+    let laws = c.laws.ensures in
     let self = c.self.inside in
     once_more m.next m.answers m.waiting m.begin m.runs laws.none_waits laws.starts laws.keeps laws.accounts self.program.value self.actions c.push-2.new.self c.args.action.now
     c.self.invariant.right c.requires c.push-2.ensures

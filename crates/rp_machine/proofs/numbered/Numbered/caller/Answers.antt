@@ -10,7 +10,7 @@ use Rattle.rp_machine.proofs.numbered.Numbered.caller.Goals as goal
 pub returns-clause-above : goal.returns-clause-above
 returns-clause-above g c = λ number above.
     let m = g.M.Machine in
-    let laws = g.met.M.Machine in
+    let laws = c.laws.ensures in
     let self = c.self.inside in
     let task = c.args.task in
     let unused : Caller = record { last = 0; reply = None } in

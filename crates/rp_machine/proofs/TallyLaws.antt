@@ -21,6 +21,7 @@ use Rattle.rp_base.specs.declared.reply.Reply.TheVariants.{Value, ConstraintErro
 use Rattle.rp_base.specs.declared.action.Action.{Action}
 use Rattle.rp_base.specs.declared.action.Action.TheVariants.{Noop, Call, Interrupt, Tick}
 use Rattle.rp_machine.specs.Calls.{MayApply, AccountsFor}
+use Rattle.rp_machine.proofs.AtOnce.{none_answered, own_answered}
 use Rattle.rp_machine.specs.TallyRule.{fits_i64, HasSums, is_add, sum_of, added, new_sum, with_sum}
 use Rattle.rp_machine.specs.TallyRule.{reply_to_add, tally_next, tally_answers, sums_text}
 use Rattle.rp_machine.specs.TallyRule.{tally_image}
@@ -179,18 +180,12 @@ tally_image-injective objects s t first second e =
 pub tally_accounts : (objects : ℕ) (sums : List ℤ) (action : Action) → HasSums objects sums
     → IsRight action
     → MayApply [] action → AccountsFor [] action (tally_answers sums action) []
-tally_accounts objects sums Noop has right may =
-    record { distinct = tt; known = λ call h. h; waits = λ call. (λ h. absurd h, λ h. h.0) }
+tally_accounts objects sums Noop has right may = none_answered Noop refl
 tally_accounts objects sums (Call task number object operation arg) has right may =
-    record {
-      distinct = (λ h. h, tt);
-      known = λ call h. h;
-      waits = λ call. (λ h. absurd h, λ h. absurd (h.1 h.0));
-    }
+    own_answered (Call task number object operation arg) _ refl
 tally_accounts objects sums (Interrupt source occurrence) has right may =
-    record { distinct = tt; known = λ call h. h; waits = λ call. (λ h. absurd h, λ h. h.0) }
-tally_accounts objects sums (Tick now) has right may =
-    record { distinct = tt; known = λ call h. h; waits = λ call. (λ h. absurd h, λ h. h.0) }
+    none_answered (Interrupt source occurrence) refl
+tally_accounts objects sums (Tick now) has right may = none_answered (Tick now) refl
 
 -- ---- a reply fits
 

@@ -50,7 +50,7 @@ use Rattle.rp_object.specs.Step.{Result, waiting_at, object_acts, asks, ends_wit
 use Rattle.rp_object.specs.Step.{allowed, called, handled, fires, fire, with_timer, program_step}
 use Rattle.rp_object.specs.Step.{own_answer, answers_of}
 use Rattle.rp_object.specs.Reached.{HaveQueues}
-use Rattle.rp_object.specs.MachineLaws.Queues.{acts_many}
+use Rattle.rp_object.proofs.MachineLaws.Queues.{acts_many}
 
 -- a call by its task and number
 abbrev named : ℕ × ℕ → CallName

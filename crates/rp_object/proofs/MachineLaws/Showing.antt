@@ -27,9 +27,9 @@ use Rattle.rp_object.specs.Image.{ints_text, truth_text, bools_text, call_text, 
 use Rattle.rp_object.specs.Image.{entry_text, queues_text, object_line, object_lines, time_text}
 use Rattle.rp_object.specs.Image.{timer_line, timer_lines, objects_image}
 use Rattle.rp_object.specs.Reached.{IsCall, IsObjectOf, IsStateOf}
-use Rattle.rp_object.specs.MachineLaws.Words.{EndsWord, ends_before, read_signed, read_count}
-use Rattle.rp_object.specs.MachineLaws.Words.{regroup}
-use Rattle.rp_object.specs.MachineLaws.Stores.{values_fit, same_ints, same_bools}
+use Rattle.rp_object.proofs.MachineLaws.Words.{EndsWord, ends_before, read_signed, read_count}
+use Rattle.rp_object.proofs.MachineLaws.Words.{regroup}
+use Rattle.rp_object.proofs.MachineLaws.Stores.{values_fit, same_ints, same_bools}
 
 -- ---- components
 

@@ -17,9 +17,9 @@ use Rattle.rp_object.specs.Program.{operations_of, DeclarationFits, IsProgram}
 use Rattle.rp_object.specs.State.{Running, first_object, unset, first_state, name_of}
 use Rattle.rp_object.specs.Step.{waiting_at, objects_waiting, objects_next, objects_answers}
 use Rattle.rp_object.specs.Reached.{IsObjectOf, IsStateOf}
-use Rattle.rp_object.specs.MachineLaws.Accounting.{step_leaves, step_accounts}
-use Rattle.rp_object.specs.MachineLaws.Distinct.{set_of_mapped, tasks_apart}
-use Rattle.rp_object.specs.MachineLaws.Keeping.{as_many, have_queues}
+use Rattle.rp_object.proofs.MachineLaws.Accounting.{step_leaves, step_accounts}
+use Rattle.rp_object.proofs.MachineLaws.Distinct.{set_of_mapped, tasks_apart}
+use Rattle.rp_object.proofs.MachineLaws.Keeping.{as_many, have_queues}
 
 pub nobody : (declared : List ObjectDeclaration)
     → flat_map waiting_at (map first_object declared) ≡ []

@@ -17,6 +17,7 @@ use Rattle.rp_base.specs.declared.reply.Answer.{Answer}
 use Rattle.rp_base.specs.declared.reply.Reply.{Reply}
 use Rattle.rp_base.specs.declared.reply.Reply.TheVariants.{Value, NoSuchOperation}
 use Rattle.rp_machine.specs.Calls.{MayApply, AccountsFor}
+use Rattle.rp_machine.proofs.AtOnce.{none_answered, own_answered}
 use Rattle.rp_examples.specs.Counter.{begun, increased, after_add, called, counter_next}
 use Rattle.rp_examples.specs.Counter.{counter_answers, counter_image, Runs}
 use Rattle.rp_examples.specs.declared.counter.BoundedCounter.{BoundedCounter}
@@ -121,18 +122,12 @@ pub counter_accounts : (program : CounterProgram) (counter : BoundedCounter) (ac
     → Runs program counter
     → IsRight action → MayApply [] action
     → AccountsFor [] action (counter_answers counter action) []
-counter_accounts program counter Noop runs right may =
-    record { distinct = tt; known = λ call h. h; waits = λ call. (λ h. absurd h, λ h. h.0) }
+counter_accounts program counter Noop runs right may = none_answered Noop refl
 counter_accounts program counter (Call task number object operation arg) runs right may =
-    record {
-      distinct = (λ h. h, tt);
-      known = λ call h. h;
-      waits = λ call. (λ h. absurd h, λ h. absurd (h.1 h.0));
-    }
+    own_answered (Call task number object operation arg) _ refl
 counter_accounts program counter (Interrupt source occurrence) runs right may =
-    record { distinct = tt; known = λ call h. h; waits = λ call. (λ h. absurd h, λ h. h.0) }
-counter_accounts program counter (Tick now) runs right may =
-    record { distinct = tt; known = λ call h. h; waits = λ call. (λ h. absurd h, λ h. h.0) }
+    none_answered (Interrupt source occurrence) refl
+counter_accounts program counter (Tick now) runs right may = none_answered (Tick now) refl
 
 -- the value of each reply has 64 signed bits
 pub counter_replies : (program : CounterProgram) (counter : BoundedCounter) (action : Action)

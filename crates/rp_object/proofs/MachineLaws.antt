@@ -21,10 +21,10 @@ use Rattle.rp_object.specs.State.{Running, first_state}
 use Rattle.rp_object.specs.Step.{objects_next, objects_answers, objects_waiting}
 use Rattle.rp_object.specs.Reached.{IsStateOf}
 use Rattle.rp_object.specs.Image.{objects_image}
-use Rattle.rp_object.specs.MachineLaws.Showing.{image_shows}
-use Rattle.rp_object.specs.MachineLaws.First.{nobody_first, first_is_state, state_accounts}
-use Rattle.rp_object.specs.MachineLaws.Keeping.{next_is_state}
-use Rattle.rp_object.specs.MachineLaws.Replying.{step_replies}
+use Rattle.rp_object.proofs.MachineLaws.Showing.{image_shows}
+use Rattle.rp_object.proofs.MachineLaws.First.{nobody_first, first_is_state, state_accounts}
+use Rattle.rp_object.proofs.MachineLaws.Keeping.{next_is_state}
+use Rattle.rp_object.proofs.MachineLaws.Replying.{step_replies}
 
 -- nobody waits at the start
 pub none_waits : (program : Declarations) → objects_waiting (first_state program) ≡ []

@@ -40,10 +40,10 @@ use Rattle.rp_object.specs.Step.{object_acts, asks, ends_with, asks_within, allo
 use Rattle.rp_object.specs.Step.{handled, fires, fire, with_timer, program_step, objects_next}
 use Rattle.rp_object.specs.Step.{objects_answers, objects_waiting}
 use Rattle.rp_object.specs.Reached.{IsCall, IsObjectOf, IsStateOf, HaveQueues}
-use Rattle.rp_object.specs.MachineLaws.Accounting.{step_leaves}
-use Rattle.rp_object.specs.MachineLaws.Distinct.{set_right, tasks_apart}
-use Rattle.rp_object.specs.MachineLaws.Queues.{IsRightRequest, acts_short, acts_calls}
-use Rattle.rp_object.specs.MachineLaws.Queues.{acts_serviced}
+use Rattle.rp_object.proofs.MachineLaws.Accounting.{step_leaves}
+use Rattle.rp_object.proofs.MachineLaws.Distinct.{set_right, tasks_apart}
+use Rattle.rp_object.proofs.MachineLaws.Queues.{IsRightRequest, acts_short, acts_calls}
+use Rattle.rp_object.proofs.MachineLaws.Queues.{acts_serviced}
 
 -- ---- one object
 

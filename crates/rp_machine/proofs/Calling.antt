@@ -112,7 +112,7 @@ is_new r (Interrupt source occurrence) e call h m = h
 is_new r (Tick now) e call h m = h
 
 -- two sets that share nothing are one
-pub set_append : (xs ys : List CallName) → IsSet xs → IsSet ys → ((x : CallName) → Has x ys → ¬ Has x xs) → IsSet (xs ++ ys)
+pub set_append : {A : Type 0} (xs ys : List A) → IsSet xs → IsSet ys → ((x : A) → Has x ys → ¬ Has x xs) → IsSet (xs ++ ys)
 set_append [] ys set other apart = other
 set_append (x ∷ xs) ys set other apart = (
   λ h. elim (has_either x xs ys h) [ inl before ↦ set.0 before | inr now ↦ apart x now (inl refl) ],

@@ -1,5 +1,5 @@
 -- Calls that count are numbered from 1 on, each after the answer to the one before.
-use Rattle.std.proofs.Common.{◌≡◌, ◌≢◌, ℕ, zero, suc, ◌<◌, max, ℤ, Bool, true, false, ◌||◌, Option, Some, None, List, [], ◌∷◌, ◌++◌, length, if◌then◌else◌, refl, sym, ap, subst, ◌∙◌, inl, inr, arith, append-nil, eq-eqb}
+use Rattle.std.proofs.Common.{◌≡◌, ◌≢◌, ℕ, zero, suc, ◌<◌, max, ℤ, Bool, true, false, ◌||◌, Option, Some, None, List, [], ◌∷◌, ◌++◌, length, if◌then◌else◌, refl, sym, ap, subst, ◌∙◌, inl, inr, arith, append-nil, eq-eqb, nat_lt, ltb-true}
 use Rattle.std.proofs.lemmas.List.{length-append}
 use Rattle.std.proofs.lemmas.List.Elements.{filter_map-append}
 use Rattle.std.proofs.lemmas.List.Folds.{list_any-append}
@@ -12,7 +12,7 @@ use Rattle.rp_base.specs.declared.action.Action.TheVariants.{Noop, Call, Interru
 use Rattle.rp_base.specs.declared.action.Operation.{Operation}
 use Rattle.rp_base.specs.declared.reply.Answer.{Answer}
 use Rattle.rp_machine.specs.Calls.{CallName, calls_of, calls_made}
-use Rattle.rp_machine.specs.Replay.{number_for, numbers_of, one_to, is_for, is_answered, all_answered, is_next_number, counts, Replayed, unmoved, replay_step, replay_from, replay_of}
+use Rattle.rp_machine.specs.Replay.{number_for, numbers_of, occurrence_for, occurrences_of, one_to, is_for, is_answered, all_answered, is_next_number, counts, Replayed, unmoved, replay_step, replay_from, replay_of}
 use Rattle.rp_machine.specs.Asked.{greatest, last_number}
 use Rattle.rp_machine.proofs.Calling.{has_either, both_true, all_true, calls_made-append, is_new, set_append}
 
@@ -140,6 +140,40 @@ calls_set (Call task number object operation arg) = (λ h. h, tt)
 calls_set (Interrupt source occurrence) = tt
 calls_set (Tick now) = tt
 
+-- ---- each occurrence of a source counts once
+
+module _ (source : ℕ) (kept : List Action) (given : List Answer) where
+  -- an action that is no interrupt of the source leaves its occurrences
+  no_occurrence : (action : Action) → occurrence_for source action ≡ None → IsSet (occurrences_of source kept) → IsSet (occurrences_of source (kept ++ action ∷ []))
+  no_occurrence action none set =
+      let same = filter_map-append (occurrence_for source) kept (action ∷ [])
+      ∙ ap (λ (found : Option ℕ). occurrences_of source kept ++ cons_option found []) none ∙ append-nil (occurrences_of source kept) in
+      subst (λ (xs : List ℕ). IsSet xs) (sym same) set
+
+  -- an interrupt of the source that counts is above those before
+  own_occurrence : (occurrence : ℕ) → counts kept given (Interrupt source occurrence) ≡ true → IsSet (occurrences_of source kept) → IsSet (occurrences_of source (kept ++ Interrupt source occurrence ∷ []))
+  own_occurrence occurrence e set =
+      let more = filter_map-append (occurrence_for source) kept (Interrupt source occurrence ∷ [])
+      ∙ ap (λ (b : Bool). occurrences_of source kept ++ cons_option (if b then Some occurrence else None) []) (eq-eqb source source refl) in
+      subst (λ (xs : List ℕ). IsSet xs) (sym more)
+      (set_append (occurrences_of source kept) (occurrence ∷ []) set (λ h. h, tt) (λ x h before. elim h [
+        | inl same ↦
+            let below = ltb-true x occurrence (all_true (λ earlier. nat_lt earlier occurrence) (occurrences_of source kept) x e before) in
+            omega arith
+        | inr none ↦ absurd none
+      ]))
+
+  one_more_occurrence : (action : Action) → counts kept given action ≡ true → IsSet (occurrences_of source kept) → IsSet (occurrences_of source (kept ++ action ∷ []))
+  one_more_occurrence Noop e set = no_occurrence Noop refl set
+  one_more_occurrence (Call task number object operation arg) e set = no_occurrence (Call task number object operation arg) refl set
+  one_more_occurrence (Interrupt other occurrence) e set = elim (eqb_tells other source) [
+    | inl same ↦
+        let P : ℕ → Type 0 = λ s. counts kept given (Interrupt s occurrence) ≡ true → IsSet (occurrences_of source (kept ++ Interrupt s occurrence ∷ [])) in
+        subst P (sym same.1) (λ own. own_occurrence occurrence own set) e
+    | inr is ↦ no_occurrence (Interrupt other occurrence) (ap (λ (b : Bool). if b then Some occurrence else None) is.0) set
+  ]
+  one_more_occurrence (Tick now) e set = no_occurrence (Tick now) refl set
+
 module _ {S : Type 0} (next : S → Action → S) (answers : S → Action → List Answer) where
   abbrev taken : Replayed S → Action → Replayed S
   taken r action = record { state = next r.state action; kept = r.kept ++ action ∷ []; given = r.given ++ answers r.state action }
@@ -171,3 +205,16 @@ module _ {S : Type 0} (next : S → Action → S) (answers : S → Action → Li
   -- a call counts once in any log
   pub counts_once : (begin : S) (actions : List Action) → IsSet (calls_made (replay_of next answers begin actions).kept)
   counts_once begin actions = once_from (unmoved begin) actions tt
+
+  occurs_if : (source : ℕ) (r : Replayed S) (action : Action) (b : Bool) → counts r.kept r.given action ≡ b → IsSet (occurrences_of source r.kept)
+      → (let after = (if b then taken r action else r) in IsSet (occurrences_of source after.kept))
+  occurs_if source r action true e set = one_more_occurrence source r.kept r.given action e set
+  occurs_if source r action false e set = set
+
+  occurs_from : (source : ℕ) (r : Replayed S) (rest : List Action) → IsSet (occurrences_of source r.kept) → IsSet (occurrences_of source (replay_from next answers r rest).kept)
+  occurs_from source r [] set = set
+  occurs_from source r (action ∷ rest) set = occurs_from source (replay_step next answers r action) rest (occurs_if source r action (counts r.kept r.given action) refl set)
+
+  -- an occurrence of a source counts once in any log
+  pub occurs_once : (begin : S) (actions : List Action) (source : ℕ) → IsSet (occurrences_of source (replay_of next answers begin actions).kept)
+  occurs_once begin actions source = occurs_from source (unmoved begin) actions tt

@@ -19,9 +19,9 @@ use std::marker::Model;
 
 /// An acceptor: what the records that it noted say at each position. Questions change nothing and
 /// notes take effect, so that a record can be written between the two (Lamport, "Paxos Made
-/// Simple", section 2.5). The bound at a position is the greatest of three ballots: the one promised
-/// for it alone and the last vote's, which its page keeps, and the one promised for a range, which a
-/// level holds for all positions up to the next one.
+/// Simple", section 2.5). The bound at a position is the greatest of three ballots: the one
+/// promised for it alone and the last vote's, which its page keeps, and the one promised for a
+/// range, which a level holds for all positions up to the next one.
 #[derive(Drop)]
 pub struct Acceptor {
     alloc: Global,

@@ -1,5 +1,5 @@
-//! The ballots that an acceptor promised for ranges, as levels: each holds from its position up to the
-//! next one.
+//! The ballots that an acceptor promised for ranges, as levels: each holds from its position up to
+//! the next one.
 
 ghost use Rattle.std.specs.Prelude.{◌≡◌, ℕ, ◌+◌, ◌-◌, ◌<◌, ◌≤◌, ◌^◌, [], max, map, length, IfSome, OnOk, OnErr, slice_get};
 ghost use Rattle.std.specs.List.{range_with_len};
@@ -100,8 +100,8 @@ impl Levels {
         compare(&self.levels, range, ballot)
     }
 
-    /// Splits the level that holds at a position there: a level then begins there, and each position
-    /// keeps its ballot.
+    /// Splits the level that holds at a position there: a level then begins there, and each
+    /// position keeps its ballot.
     pub fn split(&mut self, position: usize) -> Result<(), AllocError>
         ensures same { (i : ℕ) → ballot_at self.new i ≡ ballot_at self.old i }
         ensures keeps { (i : ℕ) → HasLevel self.old i → HasLevel self.new i }

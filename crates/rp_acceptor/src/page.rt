@@ -15,8 +15,8 @@ use std::marker::Model;
 /// How many positions a page has.
 pub const PAGE: usize = 64;
 
-/// What is kept for one position: the number of the greatest ballot that was promised for it alone, 0
-/// if none was, and the last vote there.
+/// What is kept for one position: the number of the greatest ballot that was promised for it alone,
+/// 0 if none was, and the last vote there.
 #[derive(Clone, Copy)]
 pub struct Kept {
     promised: u64,
@@ -245,8 +245,8 @@ fn make_page(pages: &mut Vec<Page>, alloc: Global, number: usize) -> Result<(), 
     Ok(())
 }
 
-/// Notes the vote, or the promise for one position, that a record is, if it is one. The place of its
-/// position is there.
+/// Notes the vote, or the promise for one position, that a record is, if it is one. The place of
+/// its position is there.
 #[inline(always)]
 pub fn note(pages: &mut Vec<Page>, rec: &Rec)
     requires { (index : ℕ) → Has (index + 1) (single_in rec.now) → HasSlot pages.old.items index }

@@ -47,8 +47,8 @@ pub fn applied_lists_are_prefixes()
         → (x : ℕ) → IsPrefix (applied_of (node x).records) order }
 {}
 
-/// What one node has applied begins what another has applied, or the other way about; so too where
-/// the one is seen at a later moment than the other.
+/// Of what two nodes have applied one is a prefix of the other, also if one is seen at a later
+/// moment.
 pub fn applied_lists_are_alike()
     // claim as applied_lists_are_prefixes
     ensures { (nodes : ℕ) (node after : ℕ → NodePart) (sent later : List Message)
@@ -56,8 +56,8 @@ pub fn applied_lists_are_alike()
         → (x y : ℕ) → AreAlike (applied_of (node x).records) (applied_of (after y).records) }
 {}
 
-/// Nodes that have applied equally many actions are in one state, with the same answers given; so
-/// too where the one is seen at a later moment than the other.
+/// Nodes that have applied equally many actions are in one state, with the same answers given, also
+/// if one is seen at a later moment.
 pub fn states_are_alike<M: Machine>()
     // claim: Nodes that have applied equally many actions are in one state, with the same answers
     //   given

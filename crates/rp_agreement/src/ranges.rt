@@ -38,8 +38,8 @@ pub fn records_stay_in_the_log<M: Machine>()
         → length (applied_of part.records) ≤ setting.config.max_positions }
 {}
 
-/// In every history a vote is sent only for a position less than 64 above the first unlearned one of
-/// the node that it is sent to; so none arrives where a node notes none.
+/// In every history a vote is sent only for a position less than 64 above the first unlearned one
+/// of the node that it is sent to; so a node leaves out no vote.
 pub fn votes_are_in_the_window<M: Machine>()
     // claim: In every history a vote is sent only for a position less than 64 above the first
     //   unlearned one of the node that it is sent to, so that no node leaves one out
@@ -77,8 +77,8 @@ pub fn packets_are_right<M: Machine>()
     replies_fit::<M>();
 }
 
-/// What an event of a world leads to keeps every number within its range, and so does the world that
-/// a step leaves whatever it answers. The opening world does.
+/// What an event of a world leads to keeps every number within its range, and so does the world
+/// that a step leaves whatever it answers. The opening world does.
 pub fn events_keep_ranges<M: Machine>()
     // claim: Every event keeps each number within its range, whatever a step returns; the opening
     //   world does

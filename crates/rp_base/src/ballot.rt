@@ -28,8 +28,8 @@ impl Model for Ballot {
 }
 
 impl Ballot {
-    /// The ballot of this number, or `None` if no ballot has it: below 9, from 2^35 on, or a multiple
-    /// of 8.
+    /// The ballot of this number, or `None` if no ballot has it: below 9, from 2^35 on, or a
+    /// multiple of 8.
     pub fn new(number: u64) -> Option<Self>
         ensures valid { IsSome result ↔ IsBallot number }
         ensures value { IfSome result (λ ballot. ballot ≡ number) }
@@ -85,8 +85,8 @@ impl Ballot {
         }
     }
 
-    /// The least ballot of the node above a ballot, or above none. `BallotsSpent` if the node has no
-    /// ballot above it.
+    /// The least ballot of the node above a ballot, or above none. `BallotsSpent` if the node has
+    /// no ballot above it.
     pub fn next_for(node: NodeId, above: Option<Ballot>) -> Result<Self, Fault>
         // claim: A node's next ballot is its least above a given one, or `BallotsSpent` exactly if
         //   there is none

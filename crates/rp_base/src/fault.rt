@@ -96,8 +96,8 @@ pub enum Fault {
     /// The node has no ballot above those that it has seen.
     #[error("BallotsSpent")]
     BallotsSpent,
-    /// The position to lead at, or one of the range, is above the log, or 64 or more above the first
-    /// unlearned one.
+    /// The position to lead at, or one of the range, is above the log, or 64 or more above the
+    /// first unlearned one.
     #[error("LogFull")]
     LogFull,
     /// No packet of this number was sent.

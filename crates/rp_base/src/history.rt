@@ -5,8 +5,8 @@ ghost use Rattle.std.specs.Prelude.{◌≡◌, [], ◌∷◌, ◌++◌};
 use std::marker::Model;
 use std::snapshot::Snapshot;
 
-/// A list of what happened, oldest first, for contracts alone: its items are snapshots, which take no
-/// bytes, so memory holds none of them.
+/// A list of what happened, oldest first, for contracts alone: its items are snapshots, which take
+/// no bytes, so memory holds none of them.
 #[cycle(history)]
 #[derive(Drop)]
 pub struct History<T: Drop> {

@@ -33,7 +33,7 @@ impl Model for PositionRange {
 
 impl PositionRange {
     /// The range of this many positions from the first on. `BadConfig` unless the count is 1 to 64;
-    /// then `LogFull` where the last position would be above 65,535.
+    /// then `LogFull` if the last position would be above 65,535.
     pub fn new(first: Position, count: u8) -> Result<Self, Fault>
         // claim: A range of positions exists exactly if its count is 1 to 64 and its last position
         //   at most 65,535; a wrong count is reported before a last position

@@ -23,7 +23,7 @@ pub fn one_more_record()
         → learned_at (records ++ rec ∷ []) i ≡ or_else (learned_at records i) (learned_in i rec) }
 {}
 
-/// The vote that a promise reports lies below the promised ballot, and is right where the records
+/// The vote that a promise reports lies below the promised ballot, and is right if the records
 /// are (Lamport, "Paxos Made Simple", section 2.2).
 pub fn last_votes_lie_below()
     // claim: A vote that is the last one below a ballot in some records is below it, and is right
@@ -37,7 +37,7 @@ pub fn last_votes_lie_below()
 {}
 
 /// The votes that a promise for a range reports: at each of its positions the last vote, if there
-/// is one, and none elsewhere; by rising position, in ballots below the promised one, and right where
+/// is one, and none elsewhere; by rising position, in ballots below the promised one, and right if
 /// the records are (Lamport, "Paxos Made Simple", sections 2.2 and 3).
 pub fn range_votes_are_reported()
     // claim: The votes that a promise for a range reports are the last votes of its positions and

@@ -20,9 +20,9 @@ pub enum PrepareAnswer {
 /// The answer to a `PrepareRange`.
 #[derive(Debug, Drop)]
 pub enum RangeAnswer {
-    /// The ballot is above the bound at each position of the range: a promise for all of them, which
-    /// reports the last vote of each position that has one. The record is to be written, and then
-    /// noted, before the promise is sent.
+    /// The ballot is above the bound at each position of the range: a promise for all of them,
+    /// which reports the last vote of each position that has one. The record is to be written, and
+    /// then noted, before the promise is sent.
     Promise { votes: RangeVotes, rec: Rec },
     /// The ballot is below the bound at a position of the range: the least such position, and its
     /// bound.

@@ -1,4 +1,5 @@
-//! The program: reads a deck on standard input, runs its script, and prints a drawing of what happens.
+//! The program: reads a deck on standard input, runs its script, and prints a drawing of what
+//! happens.
 //!
 //! In reading order:
 //! - `console`: does what the words of the command line ask for, and reports its faults

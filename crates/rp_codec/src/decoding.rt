@@ -175,8 +175,8 @@ fn listed(alloc: Global, found: Found) -> Result<Packet, AllocError>
 
 /// The packet of which the bytes are a text, of version 1 or 2, all of the bytes. Where they are no
 /// packet's text, the reason is the first fault from left to right, by the version that the first
-/// byte says: `Version` where it says neither. Only a report's actions and the votes of a promise for
-/// a range take memory.
+/// byte says: `Version` where it says neither. Only a report's actions and the votes of a promise
+/// for a range take memory.
 #[inline(never)]
 pub fn decode(alloc: Global, bytes: &[u8]) -> Result<Result<Packet, PacketReason>, AllocError>
     // claim: `decode` gives a packet exactly if the bytes are its text of version 1 or 2, else the
@@ -202,8 +202,8 @@ fn skip_packet(reader: &mut Reader) -> Result<(), PacketReason>
     Ok(())
 }
 
-/// How many bytes the packet's text has, of version 1 or 2, that the bytes begin with. Any bytes may
-/// follow it. `None` where they begin with no packet's text. It takes no memory.
+/// How many bytes the packet's text has, of version 1 or 2, that the bytes begin with. Any bytes
+/// may follow it. `None` where they begin with no packet's text. It takes no memory.
 pub fn packet_len(bytes: &[u8]) -> Option<usize>
     // Where there is one.
     // claim: The length of the packet text, of version 1 or 2, that is a prefix of the bytes is

@@ -29,8 +29,8 @@ fn head_of(packet: &Packet) -> [u8; 4]
     ]
 }
 
-/// The one text of version 2 of a packet that is neither a report nor a promise for a range. It takes
-/// no memory.
+/// The one text of version 2 of a packet that is neither a report nor a promise for a range. It
+/// takes no memory.
 #[inline(always)]
 pub fn text_of_packet(packet: &Packet) -> ShortText
     requires { ¬ IsLongBody packet.now.body }

@@ -31,9 +31,9 @@ fn reply_len(tag: u8) -> usize
     }
 }
 
-/// How many bytes the packet's text has, of version 1 or 2, that the bytes begin with. Any bytes may
-/// follow it. It reads three bytes at most, but for a report and a promise for a range, which it reads
-/// whole. It takes no memory.
+/// How many bytes the packet's text has, of version 1 or 2, that the bytes begin with. Any bytes
+/// may follow it. It reads three bytes at most, but for a report and a promise for a range, which
+/// it reads whole. It takes no memory.
 #[inline(always)]
 pub fn text_len(bytes: &[u8]) -> usize
     requires { BeginsWithPacket bytes.now }

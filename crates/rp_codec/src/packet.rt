@@ -17,8 +17,8 @@ pub enum Party {
     Audit,
 }
 
-/// What a packet says (Lamport, "Paxos Made Simple", section 2.2, where `Prepare` to `Accepted` are the
-/// requests of its two phases and their responses).
+/// What a packet says (Lamport, "Paxos Made Simple", section 2.2, where `Prepare` to `Accepted` are
+/// the requests of its two phases and their responses).
 #[derive(Clone, Debug, PartialEq, Eq, Drop)]
 pub enum Body {
     /// A task calls.
@@ -80,8 +80,8 @@ pub enum Body {
         range: PositionRange,
         ballot: Ballot,
     },
-    /// The node takes no part in lower ballots at each position of the range, and these are its last
-    /// votes there, by rising position.
+    /// The node takes no part in lower ballots at each position of the range, and these are its
+    /// last votes there, by rising position.
     PromiseRange {
         range: PositionRange,
         ballot: Ballot,
@@ -91,8 +91,9 @@ pub enum Body {
 
 /// A body with its sender and its receiver, by the rules: a task calls a node, in a call of its
 /// own; a node replies to a task and reports to the audit; all else goes from node to node. Actions
-/// are right, a promise's votes are in lower ballots, those for a range at positions of it that rise,
-/// the bound of a `Nack` is above its ballot, and a report has as many actions as `report_len` says.
+/// are right, a promise's votes are in lower ballots, those for a range at positions of it that
+/// rise, the bound of a `Nack` is above its ballot, and a report has as many actions as
+/// `report_len` says.
 #[derive(Debug, PartialEq, Eq, Drop)]
 pub struct Packet {
     from: Party,

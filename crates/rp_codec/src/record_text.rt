@@ -123,8 +123,9 @@ pub fn encode_rec(alloc: Global, rec: &Rec) -> Result<Vec<u8>, AllocError>
     Vec::from_slice(alloc, text_of_record(rec).as_slice())
 }
 
-/// The record whose text, of version 1 or 2, the bytes begin with, and how many bytes that text has.
-/// Any bytes may follow it. `None` where the bytes begin with no record's text. It takes no memory.
+/// The record whose text, of version 1 or 2, the bytes begin with, and how many bytes that text
+/// has. Any bytes may follow it. `None` where the bytes begin with no record's text. It takes no
+/// memory.
 pub fn decode_front(bytes: &[u8]) -> Option<(Rec, usize)>
     // Where there is one.
     // claim: A record is returned exactly if the bytes begin with its text of version 1 or 2

@@ -1,6 +1,6 @@
-//! Packets and records of the usual kinds to bytes, each in an array, since its text has one length:
-//! those whose action, if any, is a call. An array is joined of its fields, and the compiler stores
-//! each field straight into the place where the array is copied.
+//! Packets and records of the usual kinds to bytes, each in an array, since its text has one
+//! length: those whose action, if any, is a call. An array is joined of its fields, and the
+//! compiler stores each field straight into the place where the array is copied.
 
 ghost use Rattle.std.specs.Prelude.{◌≡◌, ◌↔◌, ◌+◌, [], ◌∷◌, ◌++◌, IsTrue};
 ghost use Rattle.std.specs.Int.{w32};

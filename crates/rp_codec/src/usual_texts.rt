@@ -1,6 +1,6 @@
-//! Packets of the usual kinds: those between nodes whose action, if any, is a call, a task's call, and
-//! a reply with a value, in texts of version 2. Each kind has a function, in which the readers of its
-//! fields are compiled for texts of its one length.
+//! Packets of the usual kinds: those between nodes whose action, if any, is a call, a task's call,
+//! and a reply with a value, in texts of version 2. Each kind has a function, in which the readers
+//! of its fields are compiled for texts of its one length.
 
 ghost use Rattle.std.specs.Prelude.{◌≡◌, [], Ok, IfOk};
 ghost use Rattle.rp_codec.specs.declared.packet.Party.TheVariants.{Node, Task};
@@ -138,10 +138,10 @@ fn end(body: &Reader) -> Result<(), PacketReason>
     Ok(())
 }
 
-/// The header of a prepare of which the bytes are the text of version 2. An error is no answer about the
-/// bytes, whatever its reason: `decode` reads those. There is such a function for each usual kind,
-/// compiled into its caller, which so has the fields without a packet in memory. Which packets are read
-/// so is a matter of speed alone, and no clause says it.
+/// The header of a prepare of which the bytes are the text of version 2. An error is no answer
+/// about the bytes, whatever its reason: `decode` reads those. There is such a function for each
+/// usual kind, compiled into its caller, which so has the fields without a packet in memory. Which
+/// packets are read so is a matter of speed alone, and no clause says it.
 #[inline(always)]
 pub fn usual_prepare(bytes: &[u8]) -> Result<Header, PacketReason>
     ensures { IfOk result (λ header. IsDecoded bytes.now (Ok (prepare_at header))) }

@@ -18,8 +18,8 @@ use crate::version::Version;
 use rp_base::{Action, Ballot, PacketReason, PlacedVote, Position, PositionRange, Vote};
 use std::alloc::{AllocError, Global};
 
-/// A position that is the first or a later one, and below the end, and a vote there in a lower ballot
-/// than this one.
+/// A position that is the first or a later one, and below the end, and a vote there in a lower
+/// ballot than this one.
 #[tactic(auto, unfolding(crate::specs::Reading::reported_at))]
 fn read_reported(
     reader: &mut Reader,

@@ -28,8 +28,8 @@ const COND_WORDS: [(&[u8], CondWord); 8] = [
     (b"or", CondWord::Or),
 ];
 
-/// Whether the word has a meaning of its own in expressions and conditions, so that no component may be
-/// named by it.
+/// Whether the word has a meaning of its own in expressions and conditions, so that no component
+/// may be named by it.
 pub fn is_of_expressions(word: &str) -> bool
     ensures { result ≡ is_declared word.now expression_words }
 {
@@ -233,7 +233,8 @@ impl<'w, 'n> Nodes<'w, 'n> {
         self.cond_from(word, inner)
     }
 
-    /// Reads the rest of a condition, after its first word. The conditions in it are at most so deep.
+    /// Reads the rest of a condition, after its first word. The conditions in it are at most so
+    /// deep.
     #[cycle(cond)]
     fn cond_from(&mut self, word: &[u8], depth: u8) -> Result<Cond, LineError>
         ensures read { ReadsCond (cond_from (key_names self.old.names.now)

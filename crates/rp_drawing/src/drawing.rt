@@ -20,9 +20,9 @@ pub struct Lane {
     pub colour: u8,
 }
 
-/// The drawing of a sketch, of at most 300 bytes for each message, moment and lane, and 9,300 besides. Each
-/// message whose way is drawn has its arrow, from the line of the moment that sent it down to the line of
-/// the one that settled it. `OutOfMemory`.
+/// The drawing of a sketch, of at most 300 bytes for each message, moment and lane, and 9,300
+/// besides. Each message whose way is drawn has its arrow, from the line of the moment that sent it
+/// down to the line of the one that settled it. `OutOfMemory`.
 pub fn draw(alloc: Global, sketch: &Sketch, lanes: &[Lane]) -> Result<String, Fault>
     requires down { AreDown sketch.now.lines sketch.now.ways.items }
     requires lines { sketch.now.lines ≤ 2 ^ 32 }
@@ -156,8 +156,8 @@ fn write_way(
     add_element(text, &element)
 }
 
-/// The curve of a way that is drawn: from its sender's lane to its receiver's, and down. One that has not
-/// ended ends half way.
+/// The curve of a way that is drawn: from its sender's lane to its receiver's, and down. One that
+/// has not ended ends half way.
 fn way_curve(page: Page, lines: &u64, way: &Way) -> Curve
     requires down { IsDown lines.now way.now }
     requires drawn { way.now.sending.is_drawn ≡ true }

@@ -124,8 +124,8 @@ pub fn words_at(
     format!(in alloc; "<text class='t{colour}' x='{x}' y='{y}'>{text}</text>")
 }
 
-/// Adds an element, and the end of its line. `OutOfMemory`, also where it has more than 300 bytes, as
-/// none has.
+/// Adds an element, and the end of its line. `OutOfMemory`, also where it has more than 300 bytes,
+/// as none has.
 pub fn add_element(text: &mut String, element: &str) -> Result<(), Fault>
     ensures added { OnOk result (string_bytes text.new
         ≡ string_bytes text.old ++ (element.now ++ 10 ∷ [])) }

@@ -40,8 +40,8 @@ pub struct Ending {
     pub end: End,
 }
 
-/// A moment of a run: how many messages were sent before it, those that are sent in it, in order, and
-/// the one that is settled by it.
+/// A moment of a run: how many messages were sent before it, those that are sent in it, in order,
+/// and the one that is settled by it.
 #[derive(Drop)]
 pub struct Moment {
     pub before: u64,
@@ -74,8 +74,8 @@ pub struct Mark {
     pub kind: Kind,
 }
 
-/// What is drawn of a moment beside the ways of packets: at the left what happens, at the right what
-/// an actor does then.
+/// What is drawn of a moment beside the ways of packets: at the left what happens, at the right
+/// what an actor does then.
 #[derive(Drop)]
 pub struct Label {
     pub cause: Words,
@@ -136,8 +136,8 @@ impl Sketch {
         }
     }
 
-    /// One more moment: its packets begin their ways in it, and the way of the message that it settles
-    /// ends, if it has not ended before. `OutOfMemory`, also above 4,294,967,296 lines.
+    /// One more moment: its packets begin their ways in it, and the way of the message that it
+    /// settles ends, if it has not ended before. `OutOfMemory`, also above 4,294,967,296 lines.
     pub fn add(&mut self, moment: Moment, label: Label) -> Result<(), Fault>
         requires before { moment.before ≡ length self.old.ways.items }
         requires ending { IsEndingWithin moment.before moment.ending }
@@ -176,8 +176,8 @@ impl Sketch {
         Ok(())
     }
 
-    /// The way of the message that is settled ends in the moment of this place and line, unless it has ended
-    /// before. Whether it is drawn.
+    /// The way of the message that is settled ends in the moment of this place and line, unless it
+    /// has ended before. Whether it is drawn.
     fn end(&mut self, ending: Option<Ending>, moment: u64, line: u64) -> bool
         requires { IsEndingWithin (length self.old.ways.items) ending }
         ensures rows { self.new.rows ≡ self.old.rows }

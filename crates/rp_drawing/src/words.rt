@@ -25,8 +25,8 @@ impl Words {
         }
     }
 
-    /// The beginning of a text, with two dots where some of it is left out. A byte that has a meaning of
-    /// its own in a drawing, and one that is no letter, digit or sign, are left blank.
+    /// The beginning of a text, with two dots where some of it is left out. A byte that has a
+    /// meaning of its own in a drawing, and one that is no letter, digit or sign, are left blank.
     pub fn fitted(alloc: Global, bytes: &[u8]) -> Result<Self, AllocError>
         // claim: The words for a text are its first 36 bytes, with a blank for each that has a meaning
         //   of its own in a drawing or is not printed, and two dots where it has more

@@ -17,8 +17,8 @@ use std::marker::Model;
 use std::sync::Arc;
 
 /// A protected object with functions, procedures and entries. Each call is a whole protected action
-/// with the servicing of the entry queues, and takes no memory (Ada Reference Manual, sections 9.5.1
-/// and 9.5.3).
+/// with the servicing of the entry queues, and takes no memory (Ada Reference Manual, sections
+/// 9.5.1 and 9.5.3).
 #[derive(Debug, Drop)]
 pub struct Object {
     operations: Arc<Operations, Global>,
@@ -44,8 +44,8 @@ impl Model for Object {
 impl Object {
     /// The object of these operations, which other objects may share, and components, with nobody
     /// waiting, or `None` where there are more than 8 functions, 8 procedures or 4 entries, an
-    /// operation does not keep the limits of the language, a longest queue is not 1 to 8 calls, or a
-    /// barrier names no Boolean component. It takes the memory of the queues.
+    /// operation does not keep the limits of the language, a longest queue is not 1 to 8 calls, or
+    /// a barrier names no Boolean component. It takes the memory of the queues.
     pub fn new(
         alloc: Global,
         operations: Arc<Operations, Global>,

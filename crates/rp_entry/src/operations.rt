@@ -72,8 +72,8 @@ impl Function {
 }
 
 impl Entry {
-    /// Whether the barrier names a Boolean that is counted, the longest queue is 1 to 8 calls and the
-    /// body keeps the limits.
+    /// Whether the barrier names a Boolean that is counted, the longest queue is 1 to 8 calls and
+    /// the body keeps the limits.
     fn fits(&self, limits: &Limits) -> bool
         ensures { IsTrue result ↔ EntryFits limits.now self.now }
     {
@@ -84,8 +84,8 @@ impl Entry {
 }
 
 impl Operations {
-    /// Whether there are at most 8 functions, 8 procedures and 4 entries, and each function, each body
-    /// and each entry keep the limits.
+    /// Whether there are at most 8 functions, 8 procedures and 4 entries, and each function, each
+    /// body and each entry keep the limits.
     pub fn fit(&self, limits: &Limits) -> bool
         ensures { IsTrue result ↔ OperationsFit limits.now self.now }
     {

@@ -203,8 +203,8 @@ impl State {
         self.queues[usize::from(index) - 1].push(call);
     }
 
-    /// The place of the first open entry that has a caller, counted from 0. It looks at each barrier
-    /// at most once.
+    /// The place of the first open entry that has a caller, counted from 0. It looks at each
+    /// barrier at most once.
     fn next_ready(&self, operations: &Operations) -> Option<usize>
         requires { length self.now.queues ≡ length operations.now.entries.items }
         ensures ready { IfSome result

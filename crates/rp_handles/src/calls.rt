@@ -56,8 +56,8 @@ pub fn open_node(
     Ok(found)
 }
 
-/// Opens a task, 1 to 8, which has made no call. What the handle kept before is closed. Refused with
-/// `BadConfig` for another number, or with `OutOfMemory`: then the handle keeps what it kept.
+/// Opens a task, 1 to 8, which has made no call. What the handle kept before is closed. Refused
+/// with `BadConfig` for another number, or with `OutOfMemory`: then the handle keeps what it kept.
 pub fn open_task(alloc: Global, number: u8, handle: &mut Handle) -> Result<(), Refusal>
     // claim (ok): A handle keeps a task that has made no call
     ensures ok { OnOk result (KeepsTask number handle.new.kept) }

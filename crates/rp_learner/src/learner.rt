@@ -39,10 +39,10 @@ pub enum Decision {
 }
 
 /// The votes that a node has heard and the positions that it knows to be decided (Lamport, "Paxos
-/// Made Simple", section 2.3), in a window of 64 positions in a row; all below the window are settled.
-/// Counting is stricter than Lamport's: only votes of one ballot add up. Votes at a position are let
-/// go when it is settled. The window is a ring that `new` makes, so a learner takes the same memory
-/// however many positions there are.
+/// Made Simple", section 2.3), in a window of 64 positions in a row; all below the window are
+/// settled. Counting is stricter than Lamport's: only votes of one ballot add up. Votes at a
+/// position are let go when it is settled. The window is a ring that `new` makes, so a learner
+/// takes the same memory however many positions there are.
 #[derive(Debug, Drop)]
 pub struct Learner {
     nodes: u8,
@@ -85,8 +85,8 @@ fn unheard_places(alloc: Global) -> Result<HeapCircularBuffer<PositionState>, Al
 }
 
 impl Learner {
-    /// A learner of 3 to 7 nodes that has heard nothing, for positions 1 to `max_positions`, with its
-    /// window from position 1 on. `OutOfMemory` leaves nothing.
+    /// A learner of 3 to 7 nodes that has heard nothing, for positions 1 to `max_positions`, with
+    /// its window from position 1 on. `OutOfMemory` leaves nothing.
     pub fn new(alloc: Global, nodes: u8, max_positions: u16) -> Result<Self, Fault>
         requires nodes { (3 ≤ nodes) × (nodes ≤ 7) }
         ensures fresh { IfOk result (λ l. l ≡ fresh nodes max_positions) }

@@ -161,8 +161,8 @@ impl Log {
         Position::new(self.top)
     }
 
-    /// The action of the least position that was not taken yet, where that position is learned: so the
-    /// actions come in order and none is left out. It is lent where it lies.
+    /// The action of the least position that was not taken yet, where that position is learned: so
+    /// the actions come in order and none is left out. It is lent where it lies.
     #[inline(always)]
     pub fn ready(&self) -> Option<&Action>
         // claim (ready): A log returns its learned actions in order, each once and none left out

@@ -42,7 +42,7 @@ pub trait Machine: Drop {
         ensures { IfOk result (λ m. m ≡ begin program.now) };
 
     /// Applies an action, and puts its answers where the caller holds none, so that they are not
-    /// copied. It takes no memory and always succeeds. The caller sees to it that no call of the
+    /// copied. It takes no memory and always succeeds. It may be called only if no call of the
     /// action's task waits.
     fn apply(&mut self, action: &Action, into: &mut Answers)
         requires none { into.old ≡ [] }
@@ -51,7 +51,7 @@ pub trait Machine: Drop {
         ensures next { self.new ≡ next self.old action.now }
         ensures answers { into.new ≡ answers self.old action.now };
 
-    /// Lines that show the state, each ended by a line feed.
+    /// Lines that show the state.
     fn image(&self, alloc: Global) -> Result<Vec<u8>, AllocError>
         ensures { IfOk result (λ text. text.items ≡ image self.now) };
 
@@ -59,8 +59,8 @@ pub trait Machine: Drop {
     ///
     /// No call waits at the start, which is a state of the program; an action leads from a state of
     /// the program to one; two states of one program that look the same are the same; an action
-    /// answers calls that wait or its own, and the others go on waiting; the value of each reply has
-    /// 64 signed bits.
+    /// answers calls that wait or its own, and the others go on waiting; the value of each reply
+    /// has 64 signed bits.
     fn laws()
         ensures none_waits { (program : Self.Program) → waiting (begin program) ≡ [] }
         ensures starts { (program : Self.Program) → runs program (begin program) }

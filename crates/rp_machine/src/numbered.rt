@@ -22,8 +22,8 @@ const CALLERS: usize = MOST_TASKS as usize;
 /// How many sources of interrupts something is kept of.
 const SOURCES: usize = MOST_SOURCES as usize;
 
-/// What is kept of a task's calls: the number of the last one that counted, 0 where none did, and the
-/// reply to it, once there is one.
+/// What is kept of a task's calls: the number of the last one that counted, 0 where none did, and
+/// the reply to it, once there is one.
 #[derive(Clone, Copy, Debug, PartialEq, Eq)]
 struct Caller {
     last: u32,
@@ -39,12 +39,13 @@ impl Caller {
     }
 }
 
-/// A machine to which the actions of a log are applied one after another, and which lets those count
-/// that do: a call one above the last of its task that counted, while none of that task waits; an
-/// interrupt above the last of its source; a tick; never a Noop. The others change nothing.
+/// A machine to which the actions of a log are applied one after another, and which lets those
+/// count that do: a call one above the last of its task that counted, while none of that task
+/// waits; an interrupt above the last of its source; a tick; never a Noop. The others change
+/// nothing.
 ///
-/// To a contract it is its start and the list of the actions applied, which memory does not hold. What
-/// it was asked costs the same however many they are.
+/// To a contract it is its start and the list of the actions applied, which memory does not hold.
+/// What it was asked costs the same however many they are.
 #[derive(Drop)]
 pub struct Numbered<M: Machine> {
     machine: M,
@@ -86,9 +87,9 @@ impl<M: Machine> Numbered<M> {
         })
     }
 
-    /// Applies the next action of the log, and puts the answers that result in place of those that are
-    /// there: those of the machine where the action counts, else none. No call is answered twice. It
-    /// takes no memory.
+    /// Applies the next action of the log, and puts the answers that result in place of those that
+    /// are there: those of the machine if the action counts, otherwise none. No call is answered
+    /// twice. It takes no memory.
     #[inline(always)]
     pub fn apply(&mut self, action: &Action, answers: &mut Answers)
         requires { IsRight action.now }
@@ -113,8 +114,8 @@ impl<M: Machine> Numbered<M> {
         self.actions.push(action);
     }
 
-    /// The reply to a call of this task, where the call is the last of the task that counted and has
-    /// its answer.
+    /// The reply to a call of this task, where the call is the last of the task that counted and
+    /// has its answer.
     pub fn kept(&self, task: TaskId, number: u32) -> Option<Reply>
         // claim: The reply to a task's last call is kept, and no other
         ensures { let r = outcome M.next M.answers self.now in result

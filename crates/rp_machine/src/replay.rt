@@ -11,8 +11,8 @@ ghost use Rattle.rp_machine.specs.Replay.{counts, Replayed, replay_from, replay_
 
 use crate::machine::Machine;
 
-/// A longer log goes on from the shorter: the machine goes on from the state that it was in, and
-/// what counted and what was answered is in its place.
+/// The replay of a log continues that of each of its prefixes: from the same state, after the same
+/// counted actions and answers.
 pub fn replay_goes_on<M: Machine>()
     // claim: The replay of a log continues that of each of its prefixes, for every machine
     ensures from { (begin : M) (actions more : List Action)
@@ -22,8 +22,8 @@ pub fn replay_goes_on<M: Machine>()
         → GoesOn before (replay_from M.next M.answers before more) }
 {}
 
-/// Replay of right actions stays in the program's states, and where a further action counts, no call
-/// of its task waits, so that the machine takes it.
+/// Replay of right actions stays in the program's states, and where a further action counts, no
+/// call of its task waits, so that the machine takes it.
 pub fn replay_may_go_on<M: Machine>()
     // claim: If an action counts, the machine may take it
     ensures runs { (program : M.Program) (actions : List Action)

@@ -18,7 +18,7 @@ pub record Describes (sent : ℕ) (transition : Transition) (effect : Effect) : 
   pub taken : effect.taken ≡ transition.taken
   pub opened : effect.opened ≡ transition.opened
 
--- at most n of a node's torn bytes are left, where there is a node of this number
+-- at most n of a node's torn bytes are left, if there is a node of this number
 abbrev pub untorn : ℕ → World → ℕ → Option NodePart → World
 untorn kept w me None = w
 untorn kept w me (Some part) = record w { nodes = with_part w.nodes me (untorn_part kept part) }
@@ -27,9 +27,8 @@ untorn kept w me (Some part) = record w { nodes = with_part w.nodes me (untorn_p
 abbrev pub IsStopped : World → ℕ → Type 0
 IsStopped w me = (part : NodePart) × (part_at w.nodes me ≡ Some part) × (part.running ≡ None)
 
--- What an event leaves that fails for memory: the world as it was, but that torn bytes of a node
--- may be gone that was stopped and to start again, from the end. A stop takes no memory, so it
--- never fails for it.
+-- What is left if an event runs out of memory: the world as it was; only the restart of a stopped
+-- node may have taken torn bytes off its end. A stop takes no memory, so it never runs out.
 abbrev pub IsLeft : World → Event → World → Type 0
 IsLeft w (Submit task node object operation arg) left = left ≡ w
 IsLeft w (Again task node) left = left ≡ w
@@ -53,9 +52,9 @@ pub record ResultsIn {S : Type 0} (s : Setting S) (w : World) (event : Event) (a
   pub effect : event_effect s w event ≡ Ok transition
   pub world : after ≡ transition.world
 
--- Where a device fails: a node's step, and a cut of one, that writes a record is cut where some
--- number of its bytes is kept; a node that is stopped does not start again; and no other event has
--- a device.
+-- What is left if a device fails. A step that writes a record, or a cut of one, is cut with some
+-- number of the record's bytes kept. A stopped node does not start again. No other event uses a
+-- device.
 abbrev pub FailsBy : {S : Type 0} → Setting S → World → Event → World → Type 0
 FailsBy s w (Submit task node object operation arg) left = ⊥
 FailsBy s w (Again task node) left = ⊥

@@ -142,7 +142,7 @@ abbrev pub cut_if : ℕ → NodePart → Result (Done NodePart) Fault → Result
 cut_if kept part (Ok done) = Ok (goes_on_as (cut_part kept part done.written))
 cut_if kept part (Err fault) = Err fault
 
--- the node stops within a step, where n bytes of its record are kept
+-- the node stops within a step, with n bytes of its record kept
 abbrev pub cut_effect : {S : Type 0} → Setting S → ℕ → NodePart → NodeInput → ℕ
     → Result (Done NodePart) Fault
 cut_effect s me part input kept = cut_if kept part (node_effect s me part input)

@@ -11,7 +11,7 @@ use Rattle.rp_model.specs.declared.event.Step.TheVariants as taken_steps
 use Rattle.rp_model.specs.declared.event.Event.{Event as TakenEvent}
 use Rattle.rp_model.specs.declared.event.Event.TheVariants as taken_events
 
--- A node's step: a packet that was sent, by its number from 1, is delivered to whom it is for; or
+-- A packet that was sent, by its number from 1, is delivered to its receiver, a node or a task; or
 -- the node of a number leads, at a position or the least free one or at n from a position on, notes
 -- an interrupt of a source, notes a tick, or reports from a position on.
 pub data Step : Type 0 where

@@ -89,8 +89,8 @@ module _ {S : Type 0} (next : S → Action → S) (answers : S → Action → Li
       if nat_le (2 ^ 32) (round_of b) then Err BallotsSpent
       else Ok (begins nodes me records running i b)
 
-  -- a prepared proposal offers the action of the highest vote reported, or an own one where none
-  -- is; its promises are written, so it writes nothing
+  -- a prepared proposal offers the action of the highest vote reported, or an action of its own if
+  -- none is; its ballot is written, so it writes nothing
   abbrev pub offers : ℕ → ℕ → List Rec → Running → Proposal → Turn
   offers nodes me records running p =
       let others = without_proposal running.proposals p.position in

@@ -97,7 +97,7 @@ task_receives config w task message None = Ok (nothing_happens w)
 task_receives config w task message (Some part) =
     task_done_if w task (task_effect config task part (tasks.Take message))
 
--- a node's input, where there is a node of this number
+-- a node's input, if there is a node of this number
 abbrev pub node_takes : {S : Type 0} → Setting S → World → ℕ → NodeInput → Option NodePart
     → Result Transition Fault
 node_takes s w me input None = Err BadConfig
@@ -140,7 +140,7 @@ step_effect s w (Report me first) = node_takes s w me (nodes.Report first) (part
 
 -- ---- a stop within a step
 
--- a node's input is cut, where there is a node of this number
+-- a node's input is cut, if there is a node of this number
 abbrev pub node_is_cut : {S : Type 0} → Setting S → World → ℕ → NodeInput → ℕ → Option NodePart
     → Result Transition Fault
 node_is_cut s w me input kept None = Err BadConfig
@@ -164,7 +164,7 @@ abbrev pub delivery_is_cut : {S : Type 0} → Setting S → World → Option Mes
 delivery_is_cut s w None kept = Err NoSuchMessage
 delivery_is_cut s w (Some message) kept = arrival_is_cut s w message message.to kept
 
--- a node's step, cut where n bytes of its record are kept
+-- a node's step, cut with n bytes of its record kept
 abbrev pub cut_step : {S : Type 0} → Setting S → World → Step → ℕ → Result Transition Fault
 cut_step s w (Deliver number) kept = delivery_is_cut s w (part_at w.sent number) kept
 cut_step s w (Lead me choice) kept =

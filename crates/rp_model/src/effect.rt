@@ -19,7 +19,7 @@ pub enum Dropped {
 pub struct Effect {
     /// The number of the first message that was sent, or would have been.
     pub first: u64,
-    /// How many messages were sent: 4,294,967,295 where there were more.
+    /// How many messages were sent: 4,294,967,295 if there were more.
     pub sent: u32,
     pub dropped: Dropped,
     /// The reply that a task took.

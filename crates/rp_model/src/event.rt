@@ -7,11 +7,11 @@ ghost use Rattle.rp_model.specs.Events.{IsOperation, IsStep, IsEvent, step_of, e
 use crate::interrupt::Interrupt;
 use rp_base::{NodeId, Operation, Position, TaskId};
 
-/// One step of a node.
+/// One step of a node, or the delivery of a message to a task.
 #[derive(Clone, Copy, Debug, PartialEq, Eq)]
 pub enum Step {
-    /// The node takes a message that was sent, by its number from 1. A message may be taken any
-    /// number of times, or never. One that is for a task is taken by the task.
+    /// A message that was sent, by its number from 1, is delivered to its receiver, a node or a
+    /// task. A message may be delivered any number of times, or never.
     Deliver(u64),
     /// The node leads at a position, or at the least one that is free.
     Lead {
@@ -57,7 +57,7 @@ pub enum Event {
         task: TaskId,
         node: NodeId,
     },
-    /// A node makes a step.
+    /// A node makes a step, or a message is delivered to a task.
     Node(Step),
     /// A node stops within a step: n bytes of the step's record are kept, or all if there are no
     /// more, and nothing is sent.
@@ -72,8 +72,8 @@ pub enum Event {
 }
 
 impl Event {
-    /// The numbers of an event are within the ranges of their types. It does nothing: what it promises
-    /// is for contracts.
+    /// The numbers of an event are within the ranges of their types. It does nothing: what it
+    /// promises is for contracts.
     pub fn keeps_ranges(&self)
         // claim: The numbers of an event are within the ranges of their types
         ensures { IsEvent (event_of self.now) }

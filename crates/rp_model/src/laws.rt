@@ -36,7 +36,7 @@ pub fn worlds_grow<M: Machine>()
         → Grows before transition }
 {}
 
-/// No event is refused with `Device`: that is answered where a device failed, and nowhere else.
+/// No event is refused with `Device`: a step returns that only if a device failed.
 pub fn no_event_is_refused_by_a_device<M: Machine>()
     // claim: No event is refused as a fault of a device
     ensures { (setting : Setting M) (before : World) (event : Event)

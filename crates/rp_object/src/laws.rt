@@ -14,9 +14,9 @@ ghost use Rattle.rp_object.specs.State.{Running, first_state};
 ghost use Rattle.rp_object.specs.Timers.{due_from, sorted, InOrder};
 ghost use Rattle.rp_object.specs.Step.{objects_next, objects_answers, objects_waiting};
 
-/// No caller that waits is lost or answered twice: if each declared object is there with a queue for
-/// each of its entries, and no call waits twice, the answers to an action are for distinct calls, its
-/// own or ones that waited, and exactly the others of these wait after it.
+/// No caller that waits is lost or answered twice: if each declared object is there with a queue
+/// for each of its entries, and no call waits twice, the answers to an action are for distinct
+/// calls, its own or ones that waited, and exactly the others of these wait after it.
 pub fn actions_account_for_callers()
     // claim: Nobody who waits is forgotten or answered twice
     ensures { (running : Running) (action : Action)

@@ -22,7 +22,8 @@ use std::alloc::{AllocError, Global};
 use std::marker::Model;
 use std::sync::Arc;
 
-/// A program that runs: its protected objects, the times for which its timing events are set, and the clock.
+/// A program that runs: its protected objects, the times for which its timing events are set, and
+/// the clock.
 #[derive(Debug, Drop)]
 pub struct Objects {
     declarations: Arc<Declarations, Global>,
@@ -95,8 +96,8 @@ impl Objects {
         }
     }
 
-    /// A line for each object with its components and its queue, the line of the clock, and a line for
-    /// each timing event.
+    /// A line for each object with its components and its queue, the line of the clock, and a line
+    /// for each timing event.
     pub fn image(&self, alloc: Global) -> Result<Vec<u8>, AllocError>
         // claim: The image of a program is the stated text
         ensures { IfOk result (λ text. text.items ≡ objects_image self.now) }
@@ -317,8 +318,8 @@ impl Objects {
         self.clock = self.clock.max(now);
     }
 
-    /// The clock is at least `now`: it is raised where it is below, and then the timing events that are
-    /// due fire, one after another.
+    /// The clock is at least `now`: it is raised where it is below, and then the timing events that
+    /// are due fire, one after another.
     fn tick(&mut self, now: u32) -> Answers
         ensures action { ticked self.old.program self.old.state now
             ≡ record { caller = None; replied = result; after = self.new.state } }

@@ -16,8 +16,8 @@ use std::sync::Arc;
 /// The most timing events that a program has, each of which a call names by an operation's index.
 pub const MOST_TIMERS: u8 = MOST_OPERATIONS;
 
-/// What runs at an interrupt, or when the time of a timing event has come: a procedure of an object, both
-/// counted from 1 (Ada Reference Manual, sections C.3 and D.15).
+/// What runs at an interrupt, or when the time of a timing event has come: a procedure of an
+/// object, both counted from 1 (Ada Reference Manual, sections C.3 and D.15).
 #[derive(Clone, Copy, Debug, PartialEq, Eq)]
 pub struct Handler {
     pub object: u8,
@@ -33,8 +33,8 @@ pub enum Profile {
     Jorvik,
 }
 
-/// A protected object: its components are named by their places in the lists of names, and have their
-/// first values.
+/// A protected object: its components are named by their places in the lists of names, and have
+/// their first values.
 #[derive(Debug, Drop)]
 pub struct ObjectDeclaration {
     pub name: String,
@@ -77,10 +77,10 @@ pub struct Program {
 }
 
 impl Program {
-    /// The program of these declarations, or `None` where they do not keep the limits: at most 8 of each
-    /// kind, priorities and ceilings 1 to 30, a name for each component and each entry, first values in
-    /// their ranges, operations that fit the components and keep the profile, and handlers that are
-    /// there. It takes no memory.
+    /// The program of these declarations, or `None` where they do not keep the limits: at most 8 of
+    /// each kind, priorities and ceilings 1 to 30, a name for each component and each entry, first
+    /// values in their ranges, operations that fit the components and keep the profile, and
+    /// handlers that are there. It takes no memory.
     pub fn new(declarations: Arc<Declarations, Global>) -> Option<Self>
         // claim: A program is accepted exactly if it keeps its limits
         ensures right { IsSome result ↔ IsProgram (arc_value declarations) }

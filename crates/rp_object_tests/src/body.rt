@@ -100,8 +100,8 @@ fn bodies_are_at_most_8_deep_and_have_at_most_64_statements(rt: HostRuntime) {
     }
 }
 
-/// A number of this name may be set, read alone and read in a condition, or not. A Boolean of it may
-/// be put and read, or not.
+/// A number of this name may be set, read alone and read in a condition, or not. A Boolean of it
+/// may be put and read, or not.
 fn expect_name(rt: &impl Abort, alloc: Global, name: u8, int: bool, bool: bool) {
     let limits = Limits { ints: 2, bools: 1 };
     expect_right(rt, alloc, Stmt::Set(name, Expr::Arg), &limits, int);

@@ -28,8 +28,8 @@ fn answer_at(answers: &Answers, place: usize) -> Option<(u8, u32, Reply)> {
     Some((answer.task.get(), answer.number, answer.reply))
 }
 
-/// Ends the test unless these are the answers, each by its task, the number of its call and its reply.
-/// There are never more than 8.
+/// Ends the test unless these are the answers, each by its task, the number of its call and its
+/// reply. There are never more than 8.
 pub(crate) fn expect_answers(rt: &impl Abort, found: &Answers, expected: &[(u8, u32, Reply)]) {
     for place in 0..8 {
         expect_eq(rt, answer_at(found, place), expected.get(place).copied());

@@ -104,9 +104,9 @@ enum Request {
     Event(u8),
 }
 
-/// What is done to a gate and what follows: the reply, if there is one at once; who is served, by the
-/// task, the number of its call and the reply; the calls that wait, by the entry, the task and the
-/// argument; and the values of n and up.
+/// What is done to a gate and what follows: the reply, if there is one at once; who is served, by
+/// the task, the number of its call and the reply; the calls that wait, by the entry, the task and
+/// the argument; and the values of n and up.
 type Step<'a> = (
     Request,
     Option<Reply>,
@@ -245,8 +245,8 @@ fn a_waiting_caller_stays_and_a_raised_body_serves_it(rt: HostRuntime) {
     expect_steps(&rt, gate, &SERVED_BY_A_RAISED_BODY);
 }
 
-/// A caller that waits at the entry of a gate with n at this value has this reply when up is put up, and
-/// leaves n at that value.
+/// A caller that waits at the entry of a gate with n at this value has this reply when up is put
+/// up, and leaves n at that value.
 fn expect_lifted(rt: &impl Abort, alloc: Global, n: i64, reply: Reply, after: i64) {
     let steps: [Step; 2] = [
         (ENTERS, None, &[], &[(1, 1, 7)], (n, false)),
@@ -267,7 +267,8 @@ fn a_served_body_raises_to_its_own_caller(rt: HostRuntime) {
     expect_lifted(&rt, rt.alloc(), 4, Reply::ConstraintError, 4);
 }
 
-/// An event whose handler is this procedure serves a caller that waits, and the next one serves none.
+/// An event whose handler is this procedure serves a caller that waits, and the next one serves
+/// none.
 fn expect_event(rt: &impl Abort, alloc: Global, handler: u8) {
     let event = Request::Event(handler);
     let steps: [Step; 3] = [
@@ -284,7 +285,8 @@ fn an_event_has_no_caller_and_its_exception_no_effect(rt: HostRuntime) {
     expect_event(&rt, rt.alloc(), BURST);
 }
 
-/// A call of the open entry of a gate with n at this value has this reply, and leaves n at that value.
+/// A call of the open entry of a gate with n at this value has this reply, and leaves n at that
+/// value.
 fn expect_entered(rt: &impl Abort, alloc: Global, n: i64, reply: Reply, after: i64) {
     let enters = Request::Entry(1, 1, 0);
     let steps: [Step; 1] = [(enters, Some(reply), &[], &[], (after, false))];
@@ -334,8 +336,8 @@ fn absent_operations_reply_and_change_nothing(rt: HostRuntime) {
     expect_replies(&rt, rt.alloc(), &ABSENT_OPERATIONS);
 }
 
-/// The entries pass when up, at which n wait, which counts to 2 and then puts up down, and late when
-/// up, which gives 7.
+/// The entries pass when up, at which n wait, which counts to 2 and then puts up down, and late
+/// when up, which gives 7.
 fn pass_and_late(rt: &impl Abort, alloc: Global, longest: u8) -> Vec<Entry> {
     let full = Cond::Equal(Expr::Int(0), Expr::Number(2));
     let down = Stmt::If(full, one(rt, alloc, put(false)), Vec::new(alloc));
@@ -445,7 +447,8 @@ fn empty_entries(
     entries
 }
 
-/// Entries, as many as `count` says, of this barrier and this longest queue make an object, or do not.
+/// Entries, as many as `count` says, of this barrier and this longest queue make an object, or do
+/// not.
 fn expect_entries(rt: &impl Abort, alloc: Global, ends: (u8, u8, u8), right: bool) {
     let (barrier, longest, count) = ends;
     let entries = empty_entries(rt, alloc, barrier, longest, count);

@@ -154,8 +154,8 @@ fn applied_to<M: Machine>(
     last_reply(&answers)
 }
 
-/// An action in a log has this reply, and the last call of the first task that counted is then this one,
-/// with this reply.
+/// An action in a log has this reply, and the last call of the first task that counted is then this
+/// one, with this reply.
 fn expect_counted<M: Machine>(
     rt: &impl Abort,
     log: &mut Numbered<M>,

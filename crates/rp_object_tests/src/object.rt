@@ -303,7 +303,8 @@ fn what_is_not_declared_is_refused_before_the_ceiling(rt: HostRuntime) {
     expect_story(&rt, rt.alloc(), &FIRST_CALLS, image, &[]);
 }
 
-/// A task waits or not, and the last of its calls that counted has this number and keeps this reply.
+/// A task waits or not, and the last of its calls that counted has this number and keeps this
+/// reply.
 type Caller = (bool, u32, Option<Reply>);
 
 /// Task 1 is such a caller.
@@ -313,7 +314,8 @@ fn expect_caller(rt: &impl Abort, log: &Numbered<Objects>, caller: Caller) {
     expect_eq(rt, (log.waits(task), last, log.kept(task, last)), caller);
 }
 
-/// A log takes these steps, after each of which task 1 is such a caller. Then this text shows its machine.
+/// A log takes these steps, after each of which task 1 is such a caller. Then this text shows its
+/// machine.
 fn expect_log(rt: &impl Abort, alloc: Global, steps: &[(Step, Caller)], image: &str) {
     let mut log = log_of(rt, alloc);
     for (step, caller) in steps {

@@ -1,4 +1,5 @@
-//! The packets that a node sends: their texts in one run of bytes, in the order in which they are sent.
+//! The packets that a node sends: their texts in one run of bytes, in the order in which they are
+//! sent.
 #![tactic(auto)]
 
 mod outbox;

@@ -21,8 +21,8 @@ use rp_codec::{
 use std::alloc::{AllocError, Global};
 use std::marker::Model;
 
-/// Packets that are sent: their texts in one run of bytes, with the place where each ends. What is put
-/// into the room that was made takes no memory.
+/// Packets that are sent: their texts in one run of bytes, with the place where each ends. What is
+/// put into the room that was made takes no memory.
 #[derive(Debug, Drop)]
 pub struct Outbox {
     bytes: Vec<u8>,

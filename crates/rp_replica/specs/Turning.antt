@@ -22,7 +22,7 @@ pub record Turns {S : Type 0} (turn : Turn) (old new : ReplicaState S) (sent : S
   pub packets : sent.packets ≡ length turn.sent
   pub dropped : sent.dropped ≡ turn.dropped
 
--- The device failed while this record was written: some beginning of its text may be after the
+-- The device failed while this record was written: some prefix of its text may be after the
 -- others, and so it holds what some cut of the turn leaves of the node's part.
 pub record FailsAt {S : Type 0} (written : Option Rec) (old new : ReplicaState S) : Type 0 where
   pub rec : Rec

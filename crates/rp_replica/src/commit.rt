@@ -33,7 +33,7 @@ use std::alloc::Global;
 impl<M: Machine, D: Device> Replica<M, D> {
     /// Commits a plan: its packets are put after the others. Refused with `OutOfMemory`, it changes
     /// nothing. If the device fails while the record is written it is refused with `Device`:
-    /// some beginning of the record may then be on the device, and nothing else has changed.
+    /// a prefix of the record may then be on the device, and nothing else has changed.
     #[inline(always)]
     pub(crate) fn commit(
         &mut self,

@@ -28,9 +28,9 @@ pub enum NotCut<M: Machine, D: Device> {
 }
 
 impl<M: Machine, D: CutDevice> Replica<M, D> {
-    /// The node stops within the step of an input: the step's record is appended and not synced, and
-    /// the device stops with the first `kept` bytes of it, or all if there are no more. Nothing is
-    /// sent. A step that writes no record leaves the device as it is.
+    /// The node stops within the step of an input: the step's record is appended and not synced,
+    /// and the device stops with the first `kept` bytes of it, or all if there are no more. Nothing
+    /// is sent. A step that writes no record leaves the device as it is.
     pub fn torn(self, alloc: Global, input: &Input, kept: u64) -> Result<D, NotCut<M, D>>
         requires right { IsRightInput input.now }
         // claim: A stop within a step keeps the given number of bytes of its record, and sends

@@ -5,8 +5,8 @@
 //! - `opening`: a replica that is opened over a device
 //! - `turn`: a step: it decides by the rules (`rp_rules`), and commits
 //! - `commit`: a plan, committed: it is written, takes effect and is sent
-//! - `range_promise`, `proposal`, `decisions`, `report`: a promise for a range, plans of a leader, of a
-//!   learner and for the audit, committed
+//! - `range_promise`, `proposal`, `decisions`, `report`: a promise for a range, plans of a leader,
+//!   of a learner and for the audit, committed
 //! - `cut`: a node that stops within a step
 //! - `sent`: what a step sends
 //! - `infallible`: what a replica's device holds

@@ -141,8 +141,8 @@ impl<M: Machine, D: Device> Replica<M, D> {
         self.server.note_refusal(position, ballot, bound);
     }
 
-    /// Begins a proposal at an unlearned position within reach, in place of another there: its ballot
-    /// is written first.
+    /// Begins a proposal at an unlearned position within reach, in place of another there: its
+    /// ballot is written first.
     fn start(&mut self, position: Position, ballot: Ballot, own: &Action) -> Result<(), WriteFault>
         requires working { self.old.failed ≡ false }
         requires may { MayBegin (server_of self.old) position ballot own.now }

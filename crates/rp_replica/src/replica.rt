@@ -15,10 +15,10 @@ use rp_store::{Device, Store};
 use std::alloc::Global;
 use std::marker::Model;
 
-/// One node as it runs, over a device of its own (Lamport, "Paxos Made Simple", sections 2.2, 2.3 and
-/// 3). A call writes at most one record, and that before any packet of it is given out. Any call may be
-/// refused with `OutOfMemory`, which changes nothing, with `Device` if the device fails while the
-/// record is written, and with `Failed` from then on, until the device is opened again.
+/// One node as it runs, over a device of its own (Lamport, "Paxos Made Simple", sections 2.2, 2.3
+/// and 3). A call writes at most one record, and that before any packet of it is given out. Any
+/// call may be refused with `OutOfMemory`, which changes nothing, with `Device` if the device fails
+/// while the record is written, and with `Failed` from then on, until the device is opened again.
 ///
 /// To a contract it is its node, the configuration and the machine's start, its records, what it
 /// knows while it runs, what its device holds, and whether that has failed.
@@ -76,7 +76,7 @@ impl<M: Machine, D: Device> Replica<M, D> {
         self.server.pending_len() > 0
     }
 
-    /// Lines that show the machine's state, each ended by a line feed.
+    /// Lines that show the machine's state.
     pub fn image(&self, alloc: Global) -> Result<Vec<u8>, Fault>
         // claim (image): A replica shows the replay of its applied list
         ensures image { IfOk result (λ text. text.items ≡ M.image

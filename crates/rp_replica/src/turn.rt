@@ -25,8 +25,8 @@ use std::alloc::Global;
 use std::mem::replace;
 
 impl<M: Machine, D: Device> Replica<M, D> {
-    /// What the step of an input does, or why there is no step: as `rp_rules` says, or `Failed` after
-    /// the device failed. It writes the plan to `plan`, so that none is copied.
+    /// What the step of an input does, or why there is no step: as `rp_rules` says, or `Failed`
+    /// after the device failed. It writes the plan to `plan`, so that none is copied.
     #[inline(always)]
     pub(crate) fn decide(&self, alloc: Global, input: &Input, plan: &mut Plan) -> Result<(), Fault>
         requires right { IsRightInput input.now }
@@ -43,9 +43,9 @@ impl<M: Machine, D: Device> Replica<M, D> {
         decide(&self.server, alloc, input, plan)
     }
 
-    /// One step of the node: at most one record is written, and the packets are given out once it is
-    /// stable. Refused with `BadPacket` if the bytes are no packet's text, with `BallotsSpent`
-    /// or `LogFull` if the node cannot lead, with `OutOfMemory`: then nothing has changed. After
+    /// One step of the node: at most one record is written, and the packets are given out once it
+    /// is stable. Refused with `BadPacket` if the bytes are no packet's text, with `BallotsSpent`
+    /// or `LogFull` if the node cannot lead, or with `OutOfMemory`: then nothing has changed. After
     /// `Device` the device has failed, and each further step is refused with `Failed`.
     pub fn turn(&mut self, alloc: Global, input: &Input) -> Result<Sent, Fault>
         requires right { IsRightInput input.now }
@@ -55,8 +55,8 @@ impl<M: Machine, D: Device> Replica<M, D> {
         self.turn_with(alloc, Vec::new(alloc), &mut Vec::new(alloc), input)
     }
 
-    /// The same, in buffers for the texts of the packets and for the places where these end, in place
-    /// of what they hold: so steps that use them again take no memory for their packets.
+    /// The same, in buffers for the texts of the packets and for the places where these end, in
+    /// place of what they hold: so steps that use them again take no memory for their packets.
     #[inline(always)]
     pub fn turn_with(
         &mut self,
@@ -133,10 +133,10 @@ impl<M: Machine, D: Device> Replica<M, D> {
         Ok(plan.dropped())
     }
 
-    /// Handles a packet, given as its text. Refused with `BadPacket` if the bytes are no packet's text, and
-    /// otherwise as `Replica` says. A packet that is for another node, from a node or for a position
-    /// beyond the configuration, or in a ballot that its sender does not own, is dropped, and nothing
-    /// happens.
+    /// Handles a packet, given as its text. Refused with `BadPacket` if the bytes are no packet's
+    /// text, and otherwise as `Replica` says. A packet that is for another node, from a node or for
+    /// a position beyond the configuration, or in a ballot that its sender does not own, is
+    /// dropped, and nothing happens.
     pub fn receive(&mut self, alloc: Global, bytes: &[u8]) -> Result<Sent, Fault>
         ensures { Answers (effect_if_given M.next M.answers self.old
             (packet_given (all_of bytes.now)))

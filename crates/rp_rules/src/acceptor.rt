@@ -1,4 +1,4 @@
-//! What a server decides that is asked for a promise or a vote (Lamport, "Paxos Made Simple",
+//! What a server decides of a question for a promise or a vote (Lamport, "Paxos Made Simple",
 //! section 2.2).
 
 ghost use Rattle.std.specs.Prelude.{◌≡◌, ◌≤◌, true};

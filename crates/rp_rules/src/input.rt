@@ -16,6 +16,7 @@ pub enum Input<'a> {
     Interrupt { source: u8, occurrence: u32 },
     /// A tick of the clock.
     Tick { now: u32 },
-    /// The wish for a report to the audit, of the actions applied at the positions from this one on.
+    /// A request for a report to the audit, of the actions applied at the positions from this one
+    /// on.
     Report(Position),
 }

@@ -1,5 +1,5 @@
-//! What a server decides that leads, and that is answered by promises (Lamport, "Paxos Made
-//! Simple", section 2.2).
+//! What a server decides as a leader: how it leads at a position, and of promises (Lamport, "Paxos
+//! Made Simple", section 2.2).
 
 ghost use Rattle.std.specs.Prelude.{◌≡◌, ◌+◌, ◌^◌, ◌<◌, ◌≤◌, Some, is_some, unwrap_or, Ok, Err, IfNone, IfOk, IfErr, IfSome, false};
 ghost use Rattle.rp_base.specs.Action.{IsRight};

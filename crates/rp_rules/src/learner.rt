@@ -1,5 +1,5 @@
-//! What a server decides that is asked what was decided, or gets votes and decisions (Lamport,
-//! "Paxos Made Simple", section 2.3).
+//! What a server decides of votes, of decisions and of questions for decisions (Lamport, "Paxos
+//! Made Simple", section 2.3).
 
 ghost use Rattle.std.specs.Prelude.{◌≡◌, ◌≤◌};
 ghost use Rattle.rp_base.specs.Action.{IsRight};

@@ -1,5 +1,5 @@
-//! The rules: what a server decides of an input. They change nothing and make a plan of it, which says all
-//! that the step does.
+//! The rules: what a server decides of an input. They change nothing, and return a plan of all that
+//! the step does.
 //!
 //! In reading order:
 //! - `input`: what a node may be given
@@ -7,9 +7,12 @@
 //! - `rules`: the rule of an input, by its kind
 //! - `texts`: the rule for a packet's text, by the packet's kind
 //! - `packets`: the rules for any packet
-//! - `acceptor`, `leader`, `lead`, `ranges`, `learner`, `arrivals`: the rules for a question for a
-//!   promise or a vote, promises, the command to lead at a position or a range, votes and
-//!   decisions, calls and interrupts and ticks
+//! - `acceptor`: prepares and accepts
+//! - `leader`: promises, and leading at a position
+//! - `lead`: the command to lead at a position, or at the least free one
+//! - `ranges`: the command to lead at a range
+//! - `learner`: votes, decisions and questions for decisions
+//! - `arrivals`: calls, interrupts and ticks
 #![tactic(auto)]
 
 mod acceptor;

@@ -1,4 +1,4 @@
-//! What a server decides that is given a packet.
+//! What a server decides of a packet.
 
 ghost use Rattle.std.specs.Prelude.{◌≡◌, nat_eq, true, IfErr, OnOk};
 ghost use Rattle.rp_base.specs.declared.fault.Fault.TheVariants as faults;

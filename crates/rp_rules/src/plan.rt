@@ -33,8 +33,8 @@ pub struct CountedRange {
     pub votes: Votes,
 }
 
-/// What a step does: decided without changing anything, small and without texts. To commit it is to write
-/// its record, if it has one, then to update the state, and then to send.
+/// What a step does: decided without changing anything, small and without texts. To commit it is to
+/// write its record, if it has one, then to update the state, and then to send.
 #[derive(Debug, Drop)]
 pub enum Plan {
     /// Nothing, and what is dropped.

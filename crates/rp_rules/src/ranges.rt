@@ -1,4 +1,4 @@
-//! What a server decides that leads at a range of positions (Lamport, "Paxos Made Simple", section
+//! What a server decides as a leader at a range of positions (Lamport, "Paxos Made Simple", section
 //! 3).
 
 ghost use Rattle.std.specs.Prelude.{◌≡◌, nat_eq, length, IfOk, IfErr, Ok, Err};

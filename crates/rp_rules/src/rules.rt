@@ -15,10 +15,10 @@ use rp_machine::Machine;
 use rp_server::Server;
 use std::alloc::Global;
 
-/// What the step of an input does, or why there is no step: `BadPacket` if the bytes are no packet's
-/// text, `BallotsSpent` or `LogFull` if the node cannot lead, or `OutOfMemory` if a report or a
-/// promise for a range is read. It reads the server alone, and writes the plan to `plan`, so that
-/// none is copied.
+/// What the step of an input does, or why there is no step: `BadPacket` if the bytes are no
+/// packet's text, `BallotsSpent` or `LogFull` if the node cannot lead, or `OutOfMemory` if a report
+/// or a promise for a range is read. It reads the server alone, and writes the plan to `plan`, so
+/// that none is copied.
 #[inline(always)]
 pub fn decide<M: Machine>(
     server: &Server<M>,

@@ -1,5 +1,5 @@
-//! What a server decides that is given a packet's text. Each usual kind has a function, which reads the
-//! text into fields and calls the rule with these. It returns whether the bytes are such a packet's
+//! What a server decides of a packet's text. Each usual kind has a function, which reads the text
+//! into fields and calls the rule with these. It returns whether the bytes are such a packet's
 //! text; if they are not, it leaves the plan as it is.
 
 ghost use Rattle.std.specs.Prelude.{◌≡◌, ◌&&◌, not, nat_lt, true, Ok, IfErr, OnOk};
@@ -30,9 +30,9 @@ use rp_model::Dropped;
 use rp_server::Server;
 use std::alloc::Global;
 
-/// Handles a packet, given as its text: `BadPacket` if the bytes are no packet's, or `OutOfMemory` if a
-/// report or a promise for a range is read. Each usual kind has its function, in which reading the
-/// packet and the rule for it are compiled for that kind alone.
+/// Handles a packet, given as its text: `BadPacket` if the bytes are no packet's, or `OutOfMemory`
+/// if a report or a promise for a range is read. Each usual kind has its function, in which reading
+/// the packet and the rule for it are compiled for that kind alone.
 #[inline(always)]
 pub fn on_text<M: Machine>(
     server: &Server<M>,

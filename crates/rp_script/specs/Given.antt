@@ -35,8 +35,8 @@ IsMeant mode given (BadDeck line reason) =
     Means mode given (Err (record { line = line; reason = reason }))
 IsMeant mode given _ = Unit {0}
 
--- The fault of a run of the deck that these bytes mean. If they mean none, it has the first bad line
--- and the first reason on it, and nothing was written.
+-- The fault of a run of the deck that these bytes mean. If they mean none, it has the first bad
+-- line and the first reason on it, and nothing was written.
 pub record FailsRun (mode : Mode) (given output output_after : Option (List ℕ)) (fault : Fault)
     : Type 0 where
   pub meant : IsMeant mode given fault

@@ -50,7 +50,8 @@ impl<M: Machine> Server<M> {
         self.acceptor.accept(position, ballot, action)
     }
 
-    /// The last votes at the positions of the range. `OutOfMemory` is returned only if there is one.
+    /// The last votes at the positions of the range. `OutOfMemory` is returned only if there is
+    /// one.
     pub fn last_votes(
         &self,
         alloc: Global,

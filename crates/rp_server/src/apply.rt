@@ -17,8 +17,8 @@ use rp_log::Log;
 use rp_machine::{Machine, Numbered};
 use rp_outbox::Outbox;
 
-/// Applies the next action that is ready, if one is, and puts its answers in place of those that are
-/// there.
+/// Applies the next action that is ready, if one is, and puts its answers in place of those that
+/// are there.
 #[inline(always)]
 fn apply_next<M: Machine>(machine: &mut Numbered<M>, log: &mut Log, answers: &mut Answers) -> bool
     requires right { (i : ℕ) (v : Action) → action_at log.old i ≡ Some v → IsRight v }
@@ -55,8 +55,8 @@ pub(crate) fn apply_ready<M: Machine>(machine: &mut Numbered<M>, log: &mut Log)
     log.applied();
 }
 
-/// Applies all that is ready, in order, and pushes a reply for each answer whose call is pending. It
-/// takes no memory.
+/// Applies all that is ready, in order, and pushes a reply for each answer whose call is pending.
+/// It takes no memory.
 #[inline(always)]
 pub(crate) fn apply_and_reply<M: Machine>(
     machine: &mut Numbered<M>,

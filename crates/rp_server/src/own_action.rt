@@ -12,8 +12,8 @@ use rp_machine::Machine;
 use rp_model::RightAction;
 
 impl<M: Machine> Server<M> {
-    /// What a proposal at the position takes as its own action: the first pending item that is free,
-    /// else nothing. It looks at 32 items and 64 proposals at most.
+    /// What a proposal at the position takes as its own action: the first pending item that is
+    /// free, else nothing. It looks at 32 items and 64 proposals at most.
     pub fn own_action(&self, position: Position) -> RightAction
         ensures { result ≡ own_action
             (kept_of M.next M.answers self.now.begin (applied_of self.now.records))

@@ -80,8 +80,8 @@ impl Pending {
         has_call(front, answer) || has_call(back, answer)
     }
 
-    /// Takes out the items that do not stay, once what the log took since n actions were taken are the
-    /// last that were applied to the machine. At most nodes nothing is pending.
+    /// Takes out the items that do not stay, once what the log took since n actions were taken are
+    /// the last that were applied to the machine. At most nodes nothing is pending.
     #[inline(always)]
     pub(crate) fn settle<M: Machine>(&mut self, machine: &Numbered<M>, log: &Log, before: u32)
         requires { before ≤ length log.now.taken }
@@ -181,8 +181,8 @@ fn has_call(items: &[RightAction], answer: &Answer) -> bool
     false
 }
 
-/// Whether a pending item stays, once what the log took since n actions were taken are the last that
-/// were applied to the machine.
+/// Whether a pending item stays, once what the log took since n actions were taken are the last
+/// that were applied to the machine.
 fn stays<M: Machine>(machine: &Numbered<M>, log: &Log, before: u32, item: RightAction) -> bool
     requires { before ≤ length log.now.taken }
     ensures { let r = outcome M.next M.answers machine.now in result

@@ -86,8 +86,8 @@ impl<M: Machine> Server<M> {
         !self.is_learned(position) && self.proposer.is_ready(position)
     }
 
-    /// The ballot of the prepared proposal at the position, if one runs there, with the action of the
-    /// highest vote that its promises report.
+    /// The ballot of the prepared proposal at the position, if one runs there, with the action of
+    /// the highest vote that its promises report.
     pub fn prepared(&self, position: Position) -> Option<(Ballot, Option<Action>)>
         ensures found { result ≡ prepared_by self.now.config.nodes
             (proposal_at self.now.running.proposals position) }
@@ -96,7 +96,8 @@ impl<M: Machine> Server<M> {
         self.proposer.prepared(position)
     }
 
-    /// What a promise of one of the nodes, with a right vote, makes of the proposal at the position.
+    /// What a promise of one of the nodes, with a right vote, makes of the proposal at the
+    /// position.
     #[inline(always)]
     pub fn promise(
         &self,
@@ -114,8 +115,8 @@ impl<M: Machine> Server<M> {
         self.proposer.promise(from, position, ballot, last)
     }
 
-    /// Begins a proposal at an unlearned position within reach, in place of another there: its ballot
-    /// is written first.
+    /// Begins a proposal at an unlearned position within reach, in place of another there: its
+    /// ballot is written first.
     #[inline(always)]
     pub fn begin<D: Device>(
         &mut self,

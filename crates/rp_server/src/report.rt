@@ -13,8 +13,8 @@ use rp_machine::Machine;
 use std::alloc::{AllocError, Global};
 
 impl<M: Machine> Server<M> {
-    /// The actions applied at the positions from `first` on, as many as a report has. It copies what
-    /// is reported and no more.
+    /// The actions applied at the positions from `first` on, as many as a report has. It copies
+    /// what is reported and no more.
     pub fn reported(&self, alloc: Global, first: Position) -> Result<Vec<Action>, AllocError>
         ensures reported { IfOk result (λ reported. let applied = applied_of self.now.records in
             reported.items ≡ take (report_len first (length applied)) (drop (first - 1) applied)) }

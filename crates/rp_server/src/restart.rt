@@ -67,7 +67,8 @@ impl<M: Machine> Server<M> {
     }
 }
 
-/// A learner that heard nothing and settled what these records learn, its window from position 1 on.
+/// A learner that heard nothing and settled what these records learn, its window from position 1
+/// on.
 fn learner_of(alloc: Global, config: Config, records: &[Rec]) -> Result<Learner, Fault>
     requires right { IsRightConfig config }
     requires within { AllInLog config.max_positions records.now }

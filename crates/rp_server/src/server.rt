@@ -27,8 +27,8 @@ use std::marker::Model;
 /// Made Simple", sections 2.2, 2.3 and 3). What changes it for good takes the store in which the
 /// change is written first.
 ///
-/// To a contract it is its node, the configuration and the machine's start, its records, and what it
-/// knows while it runs.
+/// To a contract it is its node, the configuration and the machine's start, its records, and what
+/// it knows while it runs.
 #[derive(Drop)]
 pub struct Server<M: Machine> {
     pub(crate) me: NodeId,
@@ -116,7 +116,7 @@ impl<M: Machine> Server<M> {
         self.pending.has_room()
     }
 
-    /// Lines that show the machine's state, each ended by a line feed.
+    /// Lines that show the machine's state.
     pub fn image(&self, alloc: Global) -> Result<Vec<u8>, Fault>
         ensures image { IfOk result (λ text. text.items ≡ M.image
             (replay_state M.next M.answers self.now.begin (applied_of self.now.records))) }
@@ -165,8 +165,8 @@ impl<M: Machine> Server<M> {
         }
     }
 
-    /// Each record may be sent and written again. It does nothing: its contract is for the proofs of
-    /// its callers.
+    /// Each record may be sent and written again. It does nothing: its contract is for the proofs
+    /// of its callers.
     #[inline(always)]
     pub fn has_right_records(&self)
         ensures { AllByRecursion IsRightRecord self.now.records }

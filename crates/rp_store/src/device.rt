@@ -8,7 +8,7 @@ use rp_base::Fault;
 use std::alloc::Global;
 
 /// Bytes that stay where they were put. What was synced stays whatever happens. Of what was
-/// appended since, a stop of the node leaves some beginning.
+/// appended since, a stop of the node leaves some prefix.
 ///
 /// A call fails with `Fault::Device`, which raises the failure count, or is refused when out of
 /// memory with `Fault::OutOfMemory`, and then nothing has changed. There is no other fault. A call
@@ -17,8 +17,8 @@ pub trait Device: Drop {
     /// What it holds.
     ghost disk: { Self → Disk };
 
-    /// Puts the bytes at the end. They are stable once `sync` has succeeded. Where it fails, some
-    /// beginning of them may be there.
+    /// Puts the bytes at the end. They are stable once `sync` has succeeded. If it fails, some
+    /// prefix of them may be there.
     fn append(&mut self, bytes: &[u8]) -> Result<(), Fault>
         ensures ok { OnOk result (disk self.new ≡ appended bytes.now (disk self.old)) }
         ensures refused { IsErrOf result Fault.OutOfMemory → disk self.new ≡ disk self.old }
@@ -27,7 +27,7 @@ pub trait Device: Drop {
         ensures faults { IfErr result (λ fault.
             (fault ≡ faults.OutOfMemory) ⊎ (fault ≡ faults.Device)) };
 
-    /// Makes all that it holds stable. It takes no memory. Where it fails, some of what was not
+    /// Makes all that it holds stable. It takes no memory. If it fails, some of what was not
     /// stable may be.
     fn sync(&mut self) -> Result<(), Fault>
         ensures ok { OnOk result (disk self.new ≡ synced (disk self.old)) }
@@ -47,7 +47,7 @@ pub trait Device: Drop {
     fn len(&self) -> u64
         ensures { result ≡ length (disk self.now).contents };
 
-    /// Takes bytes off the end, so that `len` are left. Where it fails, it may have taken some of
+    /// Takes bytes off the end, so that `len` are left. If it fails, it may have taken some of
     /// them off.
     fn cut(&mut self, len: u64) -> Result<(), Fault>
         requires { len ≤ length (disk self.old).contents }

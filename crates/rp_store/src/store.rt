@@ -44,7 +44,7 @@ pub struct Opened<D: Device> {
 /// A record that was not torn.
 #[derive(Drop)]
 pub enum NotTorn<D: Device> {
-    /// The device failed. Some beginning of the record's text may be at its end.
+    /// The device failed. Some prefix of the record's text may be at its end.
     Failed(D),
     /// Nothing has changed: `OutOfMemory`, or `Failed` if the device had failed before.
     Refused(Fault, Store<D>),
@@ -123,8 +123,8 @@ impl<D: Device> Store<D> {
 
     /// Reads the records of a device, of version 1 and 2 in any order, truncates what is torn after
     /// them, and syncs, so that all that it read is stable. It appends nothing. Refused with
-    /// `OutOfMemory`, and then nothing has changed, or with `Device` where the device failed: it
-    /// holds each whole record that it held, and after them some beginning of what was torn.
+    /// `OutOfMemory`, and then nothing has changed, or with `Device` if the device failed: it
+    /// holds each whole record that it held, and after them some prefix of what was torn.
     pub fn open(alloc: Global, device: D) -> Result<Opened<D>, (Fault, D)>
         // claim: Opening a store returns the records of the device's contents, of both versions in
         //   any order, truncates what is after them, and leaves all of it stable
@@ -149,10 +149,10 @@ impl<D: Device> Store<D> {
     }
 
     /// Appends the record's text, of version 2, and syncs. It never cuts, and reads nothing. It
-    /// takes no memory but the device's, and costs what the text is long, whatever the device
+    /// takes no memory but the device's, and time by the length of the text, whatever the device
     /// holds. The record is a right one: opening would truncate any other, and all records after
-    /// it. Refused with `Failed` where the device failed since it was opened, or with
-    /// `OutOfMemory`: then nothing has changed. After `Device`, some beginning of the text may be
+    /// it. Refused with `Failed` if the device failed since it was opened, or with
+    /// `OutOfMemory`: then nothing has changed. After `Device`, some prefix of the text may be
     /// at the end.
     #[inline(always)]
     pub fn put(&mut self, rec: &Rec) -> Result<(), WriteFault>

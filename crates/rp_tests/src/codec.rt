@@ -91,9 +91,9 @@ fn expect_text_of(rt: &impl Abort, alloc: Global, packet: &Packet, bytes: &[u8])
     expect_eq(rt, text.get(1..), bytes.get(1..));
 }
 
-/// The bytes with the one of this place set to each other value are refused for a reason, or are the
-/// text of the packet that is read from them. Where the first of them says version 1, that text differs
-/// from the one of version 2 in it alone, since there is no entry in the packet.
+/// The bytes with the one of this place set to each other value are refused for a reason, or are
+/// the text of the packet that is read from them. Where the first of them says version 1, that text
+/// differs from the one of version 2 in it alone, since there is no entry in the packet.
 fn changed_bytes_are_read_as_they_are(rt: &impl Abort, alloc: Global, bytes: &[u8], place: usize) {
     let mut changed = Vec::from_slice(alloc, bytes).expect(rt, "memory for the bytes");
     for value in 0..=255u8 {
@@ -141,8 +141,8 @@ fn expect_no_front(rt: &impl Abort, alloc: Global, bytes: &[u8]) {
     }
 }
 
-/// The bytes, said to be of this version, are at the front of more bytes, and the packet is read from
-/// them.
+/// The bytes, said to be of this version, are at the front of more bytes, and the packet is read
+/// from them.
 fn expect_version(rt: &impl Abort, alloc: Global, packet: &Packet, bytes: &[u8], version: u8) {
     let mut run = Vec::from_slice(alloc, bytes).expect(rt, "memory for the bytes");
     if let Some(first) = run.first_mut() {
@@ -153,8 +153,8 @@ fn expect_version(rt: &impl Abort, alloc: Global, packet: &Packet, bytes: &[u8],
     expect_eq(rt, packet_len(&run), Some(bytes.len()));
 }
 
-/// The packet of these parts is read from these bytes, and from no proper front of them, and is written
-/// as they are. In version 1 it has the same but for the first.
+/// The packet of these parts is read from these bytes, and from no proper front of them, and is
+/// written as they are. In version 1 it has the same but for the first.
 fn both_ways(rt: &impl Abort, alloc: Global, bytes: &[u8], parties: (Party, Party), body: Body) {
     let packet = packet(rt, alloc, bytes, parties, body);
     expect_text(rt, &encoded(rt, alloc, &packet), bytes);
@@ -628,8 +628,8 @@ fn expect_wrong(rt: &impl Abort, alloc: Global, bytes: &[u8], place: usize, valu
     expect_reason(rt, alloc, &changed, PacketReason::Field);
 }
 
-/// A task prepares or promises, or makes another's call; a vote is below the range; an interrupt is of
-/// source 0.
+/// A task prepares or promises, or makes another's call; a vote is below the range; an interrupt is
+/// of source 0.
 #[test]
 fn one_wrong_field_leaves_no_packet(rt: HostRuntime) {
     let cases: [(&[u8], usize, u8); 5] = [

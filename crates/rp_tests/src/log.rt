@@ -76,7 +76,8 @@ fn what_is_learned_first_at_a_position_stays(rt: HostRuntime) {
     expect_at_position(&rt, &log, 2, None);
 }
 
-/// Logs by the positions at which they learn, with the next position to learn at and the highest one.
+/// Logs by the positions at which they learn, with the next position to learn at and the highest
+/// one.
 static LOGS: [(&[u16], u32, Option<u16>); 6] = [
     (&[], 1, None),
     (&[1], 2, Some(1)),
@@ -105,8 +106,8 @@ fn the_ends_of_what_is_learned_are_returned(rt: HostRuntime) {
     }
 }
 
-/// The log makes room at its next position, tried once more where memory was refused, and changes in
-/// nothing else. It then learns there.
+/// The log makes room at its next position, tried once more where memory was refused, and changes
+/// in nothing else. It then learns there.
 fn learns_next(rt: &impl Abort, log: &mut Log, number: u16) {
     let position = position(rt, number);
     if log.reserve(position).is_err() {

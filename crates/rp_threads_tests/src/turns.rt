@@ -39,7 +39,8 @@ fn leads<M: Machine, D: Device>(
     })
 }
 
-/// The first task makes one turn, with one call of node 1. The packet is the one in the box to node 1.
+/// The first task makes one turn, with one call of node 1. The packet is the one in the box to node
+/// 1.
 fn calls<M: Machine, D: Device>(
     alloc: Global,
     program: &M::Program,

@@ -54,8 +54,8 @@ AsksIn b (Accept position ballot action) = ballot ≡ b
 AsksIn b _ = ⊥
 
 -- Of what two nodes have applied, the one now and the other later, one is a prefix of the other;
--- and where they have applied equally many actions they are in one state, with the same answers
--- given, and show the same.
+-- and if they have applied equally many actions they are in one state, with the same answers
+-- given, and show the same image.
 pub record Agree {S : Type 0} (next : S → Action → S) (answers : S → Action → List Answer)
     (image : S → List ℕ)
     (begin : S) (now later : World) : Type 0 where
@@ -78,12 +78,12 @@ module _ {S : Type 0} (next : S → Action → S) (answers : S → Action → Li
       (one other : ℕ) → IsPlace next answers begin actions call one
       → IsPlace next answers begin actions call other → one ≡ other
 
-  -- There is one order in which all happens: what each node has applied begins it; the calls of
-  -- each task that count in it are those that the task made, in order, with their objects,
+  -- There is one order in which all happens: what each node has applied is a prefix of it; the
+  -- calls of each task that count in it are those that the task made, in order, with their objects,
   -- operations and arguments, all of them or all but the one that it waits for; the reply that the
   -- task got to its nth call is the one that the order gives, at the call's place. A call of the
-  -- task takes effect once: at exactly one place of the order where the task got its reply, at one
-  -- at most else; and each call that takes effect is one that a task of the world made.
+  -- task takes effect at exactly one place of the order if the task got its reply, and otherwise at
+  -- one at most; and each call that takes effect is one that a task of the world made.
   pub record IsOrdered (nodes : ℕ) (w : World) : Type 0 where
     pub order : List Action
     pub decided : IsOrder nodes w.sent order

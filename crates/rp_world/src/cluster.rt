@@ -120,10 +120,10 @@ impl<M: Machine, D: CutDevice> Cluster<M, D> {
     }
 
     /// The same, but writes the effect to `effect`, so that none is copied; if the step is refused,
-    /// its content is unspecified. Refused, it changes nothing:
-    /// `NotRunning` for a stopped node, or if a cut delivery goes to no running node, `NoSuchMessage` for a number above the
-    /// last, `TaskBusy` while the task's last call has no answer, `LogFull` and `BallotsSpent` for
-    /// a leader, `NumbersSpent` for a task's last number, `BadConfig` for a node above the last, a
+    /// its content is unspecified. Refused, it changes nothing: `NotRunning` for a stopped node, or
+    /// if a cut delivery goes to no running node, `NoSuchMessage` for a number above the last,
+    /// `TaskBusy` while the task's last call has no answer, `LogFull` and `BallotsSpent` for a
+    /// leader, `NumbersSpent` for a task's last number, `BadConfig` for a node above the last, a
     /// call that is not right or a range that is not of 1 to 64 positions, and `OutOfMemory`.
     /// `Device` if a node's device fails: then the node is stopped within the step; one that was to
     /// start again stays stopped, and some of its torn bytes may be gone, as they may be after
@@ -159,8 +159,9 @@ impl<M: Machine, D: CutDevice> Cluster<M, D> {
     /// The steps of these events one after another, up to the first that is refused. Whatever they
     /// are, nodes agree, before the run and after it, and what each has applied is a prefix of one
     /// order: the calls of a task that count in it are those that the task made, in order, each
-    /// reply that a task got is the answer to its call, and each such call takes effect at one
-    /// place, no other at two. What was decided before the run is decided after it.
+    /// reply that a task got is the answer to its call. A call takes effect at exactly one place if
+    /// its reply was got, and otherwise at one at most. What was decided before the run is decided
+    /// after it.
     pub fn run(&mut self, alloc: Global, events: &[Event]) -> Result<(), Refused>
         // claim (run): A run makes its steps one after another, and returns the place of the first
         //   that was refused; failure counts stay but for a device that failed there
@@ -221,11 +222,12 @@ impl<M: Machine, D: CutDevice> Cluster<M, D> {
 
     /// What holds of every cluster, whatever happened to it: at most one action is decided at a
     /// position, whether votes are counted in what was sent or in what nodes wrote; in one ballot
-    /// at most one action is offered at a position, in a higher ballot than one in which it was
-    /// decided the same (P2b), and only if a majority's promises justify it (P2c); what a node has
-    /// applied is a prefix of the order; and a node has written the ballot, the promise, the vote
-    /// and the decision that it sent, and its last vote was what it reported. It does nothing: its
-    /// contract is for the callers' proofs. Lamport, "Paxos Made Simple", section 2.2.
+    /// at most one action is offered at a position; above a ballot in which an action was decided
+    /// only that action is (P2b), and each offer is justified by the promises of a majority (P2c);
+    /// what a node has applied is a prefix of the order; and a node has written the ballot, the
+    /// promise, the vote and the decision that it sent, and its last vote was what it reported. It
+    /// does nothing: its contract is for the callers' proofs. Lamport, "Paxos Made Simple", section
+    /// 2.2.
     pub fn agrees(&self)
         // claim: Of every cluster, at any moment: at a position one action at most is decided,
         //   counted in packets or in records, and in one ballot one is offered; above a ballot in
@@ -317,8 +319,8 @@ impl<M: Machine, D: CutDevice> Cluster<M, D> {
         self.world.applied(node)
     }
 
-    /// The lines that show a node's machine, each ended by a line feed. `NotRunning` where the node
-    /// is stopped, `BadConfig` above the last node.
+    /// The lines that show a node's machine. `NotRunning` if the node is stopped, `BadConfig` above
+    /// the last node.
     pub fn image(&self, alloc: Global, node: NodeId) -> Result<Vec<u8>, Fault>
         // claim: A node shows the image of the state that its applied list leads to; it is refused
         //   as `Cluster::applied` is, and out of memory only if it runs

@@ -15,7 +15,8 @@ pub struct Refused {
     pub fault: Fault,
 }
 
-/// The effect of a step that sent, dropped and took nothing, where this is the number of the next message.
+/// The effect of a step that sent, dropped and took nothing, where this is the number of the next
+/// message.
 #[inline(always)]
 pub fn no_effect(first: u64) -> Effect
     ensures { result

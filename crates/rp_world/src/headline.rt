@@ -20,10 +20,10 @@ use rp_machine::{Machine, a_call_has_one_place};
 
 /// Nodes of one configuration that run one program of a machine agree at any two moments of any
 /// history, whatever stops, is cut within a step, starts again, is lost or delivered twice. At each
-/// moment there is one order of all that is decided: what each node has applied is a prefix of it, the
-/// calls of a task that count in it are those that the task made, in order, and each reply that a
-/// task got is the answer that it gives to the task's call, which takes effect at one place of it.
-/// Each interrupt and each tick in it was noted at some node by an event of the history.
+/// moment there is one order of all that is decided: what each node has applied is a prefix of it,
+/// the calls of a task that count in it are those that the task made, in order, and each reply that
+/// a task got is the answer that it gives to the task's call, which takes effect at one place of
+/// it. Each interrupt and each tick in it was noted at some node by an event of the history.
 pub fn histories_are_ordered<M: Machine>()
     // claim: The agreement and the order of a run hold of any two moments of any history of right
     //   events, with no cluster in it

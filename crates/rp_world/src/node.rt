@@ -149,9 +149,9 @@ impl<M: Machine, D: CutDevice> Node<M, D> {
         }
     }
 
-    /// The node makes the step of an input, whose packets are put after the others. `NotRunning` where
-    /// it is stopped, and else as the replica says; where its device failed it is stopped within the
-    /// step.
+    /// The node makes the step of an input, whose packets are put after the others. `NotRunning`
+    /// where it is stopped, and else as the replica says; where its device failed it is stopped
+    /// within the step.
     #[inline(always)]
     pub(crate) fn turn(
         &mut self,

@@ -38,8 +38,8 @@ impl<M: Machine, D: CutDevice> World<M, D> {
         }
     }
 
-    /// A node starts again; one that runs goes on. `BadConfig` above the last node; `OutOfMemory` or
-    /// `Device` where it could not: it stays stopped, and some of its torn bytes may be gone.
+    /// A node starts again; one that runs goes on. `BadConfig` above the last node; `OutOfMemory`
+    /// or `Device` where it could not: it stays stopped, and some of its torn bytes may be gone.
     #[inline(never)]
     pub(crate) fn restart(&mut self, alloc: Global, node: NodeId) -> Result<Effect, Fault>
         ensures answer { AnswersRestart self.old.world node

@@ -43,8 +43,8 @@ impl Task {
     }
 
     /// The call that the task would make next, or why it may not: `TaskBusy` while one waits,
-    /// `NumbersSpent` after number 2^32 - 1, `BadConfig` for a node above the last or a call that is
-    /// not right.
+    /// `NumbersSpent` after number 2^32 - 1, `BadConfig` for a node above the last or a call that
+    /// is not right.
     pub fn next(
         &self,
         config: Config,
@@ -102,8 +102,8 @@ impl Task {
         self.replies.as_slice()
     }
 
-    /// Takes a reply where the call of this number waits, which ends it. Refused for memory,
-    /// nothing changes.
+    /// Takes a reply if the call of this number waits; the call then waits no more. If memory runs
+    /// out, nothing changes.
     pub fn take(&mut self, number: u32, reply: Reply) -> Result<Option<Answer>, AllocError>
         ensures part { IfOk result (λ taken. self.new ≡ record self.old {
           part = (takes_reply self.old.task self.old.part number reply).part;

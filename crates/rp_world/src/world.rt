@@ -171,8 +171,8 @@ impl<M: Machine, D: CutDevice> World<M, D> {
         Ok(u16::try_from(replica.applied()).unwrap_or(u16::MAX))
     }
 
-    /// The lines that show a node's machine, each ended by a line feed. `NotRunning` where the node
-    /// is stopped, `BadConfig` above the last node.
+    /// The lines that show a node's machine. `NotRunning` if the node is stopped, `BadConfig` above
+    /// the last node.
     pub(crate) fn image(&self, alloc: Global, node: NodeId) -> Result<Vec<u8>, Fault>
         ensures { IsQueryAnswerUnlessMemory result (λ text records.
             text.items ≡ M.image (replay_state M.next M.answers (M.begin self.now.program)

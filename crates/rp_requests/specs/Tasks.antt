@@ -8,6 +8,7 @@ use Rattle.rp_base.specs.declared.fault.Fault.TheVariants as faults
 use Rattle.rp_base.specs.declared.fault.Fault.{Fault}
 use Rattle.rp_base.specs.declared.fault.PacketReason.{PacketReason}
 use Rattle.rp_base.specs.declared.reply.Reply.{Reply}
+use Rattle.rp_codec.specs.Decoding.{IsLongText}
 use Rattle.rp_codec.specs.Message.{Message}
 use Rattle.rp_codec.specs.Reading.{all_of}
 use Rattle.rp_codec.specs.Text.{text_of, reply_text}
@@ -79,11 +80,12 @@ pub record ReplyPut (read : Result Message PacketReason) (old new : Calls) (befo
   pub goes : new ≡ once_taken old (reply_taken old packet)
   pub put : IsPut [] (taken_text (reply_taken old packet)) before after lengths
 
--- Why a packet was not taken: the bytes are no packet, or memory ran out.
-abbrev pub NotTaken : Result Message PacketReason → Fault → Type 0
-NotTaken read (faults.BadPacket reason) = read ≡ Err reason
-NotTaken read faults.OutOfMemory = Unit {0}
-NotTaken read _ = ⊥
+-- Why a packet was not taken: the bytes are no packet, or memory ran out for one that takes memory
+-- to read.
+abbrev pub NotTaken : List ℕ → Fault → Type 0
+NotTaken bytes (faults.BadPacket reason) = all_of bytes ≡ Err reason
+NotTaken bytes faults.OutOfMemory = IsLongText bytes
+NotTaken bytes _ = ⊥
 
 -- Nothing changed, and the answer is a fault, for a reason that holds.
 abbrev pub IsRefusedBy : (Fault → Type 0) → Calls → Calls → List ℕ → List ℕ → Refusal → Type 0
@@ -109,7 +111,7 @@ abbrev pub TakeDoes : List ℕ → Calls → Calls → List ℕ → List ℕ →
 TakeDoes bytes old new before after (Ok lengths) =
     ReplyPut (all_of bytes) old new before after lengths
 TakeDoes bytes old new before after (Err refusal) =
-    IsRefusedBy (NotTaken (all_of bytes)) old new before after refusal
+    IsRefusedBy (NotTaken bytes) old new before after refusal
 
 -- The answer to a request, if it is one.
 abbrev pub TaskDoes : Option TaskAsked → Calls → Calls → List ℕ → List ℕ → Result Lengths Refusal

@@ -128,12 +128,13 @@ impl FaultLine {
     }
 
     /// Takes a packet by the next word of the stream, as `accept` does, and does not copy it unless
-    /// it is held twice. At `OutOfMemory` the packet is gone.
+    /// it is held twice: only then it takes memory. At `OutOfMemory` the packet is gone.
     #[inline(always)]
     pub fn take(&mut self, alloc: Global, packet: Vec<u8>) -> Result<(), Fault>
         ensures ok { OnOk result
             (self.new ≡ accepted (word_of self.old) packet.items (drawn self.old)) }
         ensures err { OnErr result (self.new ≡ self.old) }
+        ensures twice { OnErr result (copies_of (word_of self.old) ≡ 2) }
         ensures only { IsOkUnless result Fault.OutOfMemory }
     {
         let next = self.peek();
@@ -195,6 +196,7 @@ impl FaultLine {
     fn hold(&mut self, alloc: Global, word: u32, packet: Vec<u8>) -> Result<(), Fault>
         ensures ok { OnOk result (self.new ≡ accepted word packet.items self.old) }
         ensures err { OnErr result (self.new ≡ self.old) }
+        ensures twice { OnErr result (copies_of word ≡ 2) }
         ensures only { IsOkUnless result Fault.OutOfMemory }
     {
         prove!(self.held.len() <= ROOM);

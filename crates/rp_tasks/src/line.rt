@@ -2,7 +2,7 @@
 
 ghost use Rattle.std.specs.Prelude.{◌≡◌, ◌≢◌, ◌⊎◌, ℕ, ◌+◌, ◌-◌, List, [], ◌∷◌, ◌++◌, length, take, Some, option_map, IfOk, OnOk, OnErr, IsOkUnless};
 ghost use Rattle.rp_base.specs.Sets.{Has};
-ghost use Rattle.rp_tasks.specs.Line.{Line, line_of, word_of, drawn, accepted, picked, released, saturating_sum};
+ghost use Rattle.rp_tasks.specs.Line.{Line, line_of, word_of, drawn, accepted, picked, copies_of, released, saturating_sum};
 
 use rand_chacha::ChaCha20Rng;
 use rand_chacha::rand_core::SeedableRng;

@@ -190,6 +190,23 @@ module _ (nodes : ℕ) (records : List Rec) (proposals : List Proposal) where
           ]) in
           absurd (omega (arith, many, is))
 
+  -- none below where it ends is free
+  taken_below : (most i j : ℕ) → i ≤ j → j < free_from nodes records proposals most i → is_free_position nodes records proposals j ≡ false
+  taken_below zero i j low below = absurd (omega arith)
+  taken_below (suc most) i j low below = by (is_free_position nodes records proposals i) refl (taken_below most (suc i) j) below
+    where
+      by : (b : Bool) → is_free_position nodes records proposals i ≡ b
+          → (suc i ≤ j → j < free_from nodes records proposals most (suc i) → is_free_position nodes records proposals j ≡ false)
+          → j < cond b i (free_from nodes records proposals most (suc i)) → is_free_position nodes records proposals j ≡ false
+      by true free later below = absurd (omega arith)
+      by false taken later below = elim (cases_lt i j) [
+        | inl above ↦ later (omega arith) below
+        | inr past ↦ let same : i ≡ j = omega arith in subst (λ (p : ℕ). is_free_position nodes records proposals p ≡ false) same taken
+      ]
+
+  pub none_is_below : (j : ℕ) → 1 ≤ j → j < least_free nodes records proposals → is_free_position nodes records proposals j ≡ false
+  none_is_below j low below = taken_below (length records + length proposals) 1 j low below
+
   pub least_is_positive : 1 ≤ least_free nodes records proposals
   least_is_positive = starts (length records + length proposals) 1
 

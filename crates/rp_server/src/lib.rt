@@ -12,11 +12,13 @@
 //!   answered; the learner's window, which follows the log; the items that wait to be proposed
 //! - `report`: what is applied, for a report
 //! - `heard`: the votes that were heard, which memory does not hold
+//! - `laws`: what follows from the definition of the least free position
 #![tactic(auto)]
 
 mod acceptor;
 mod apply;
 mod heard;
+mod laws;
 mod learn;
 mod learner;
 mod own_action;
@@ -28,5 +30,6 @@ mod server;
 mod window;
 
 pub use acceptor::record_in_range;
+pub use laws::the_least_free_position_is_least;
 pub use learn::Decision;
 pub use server::Server;

@@ -1,6 +1,6 @@
 //! The byte by which a packet names a party: node k is k, task t is 16 + t, the audit is 32.
 
-ghost use Rattle.std.specs.Prelude.{◌≡◌};
+ghost use Rattle.std.specs.Prelude.{◌≡◌, ◌≢◌};
 ghost use Rattle.rp_codec.specs.Message.{Message, IsPacket, IsParty};
 ghost use Rattle.rp_codec.specs.declared.packet.Party.{Party as PartyOf};
 ghost use Rattle.rp_codec.specs.Text.{party_number, text_of};
@@ -30,11 +30,14 @@ pub fn party_number(party: Party) -> u8
     }
 }
 
-/// The party that a byte names; the audit where it names none.
+/// The party that a byte names, or the audit if it names none.
 #[inline(always)]
 pub fn party_of(byte: u8) -> Party
     // claim: The party that a byte names is found by it
-    ensures { (party : PartyOf) → IsParty party → party_number party ≡ byte → result ≡ party }
+    ensures named { (party : PartyOf) → IsParty party → party_number party ≡ byte
+        → result ≡ party }
+    ensures none { ((party : PartyOf) → IsParty party → party_number party ≢ byte)
+        → result ≡ PartyOf.Audit }
 {
     if let Some(node) = NodeId::new(byte) {
         return Party::Node(node);

@@ -11,9 +11,8 @@ use Rattle.rp_deck.specs.declared.deck.Mode.TheVariants as modes
 use Rattle.rp_script.specs.Agreeing.{ScriptBegins, ScriptPrints}
 use Rattle.rp_console.specs.CommandLine.{console, live_args, name_of, seed_of, trace_of, turns_of}
 use Rattle.rp_console.specs.CommandLine.{ReadsAs}
-use Rattle.rp_script.specs.Faults.{IsBadDeck, IsProgramFault}
 use Rattle.rp_script.specs.Figures.{figures_line_of}
-use Rattle.rp_script.specs.Given.{IsMeant}
+use Rattle.rp_script.specs.Given.{FailsRun}
 use Rattle.rp_script.specs.LiveRun.{LiveBegins, LivePrints}
 use Rattle.rp_output.specs.Endings.{RefusesAs, status_after}
 use Rattle.rp_output.specs.FaultMessage.{fault_message_of, with_line_feed}
@@ -72,9 +71,7 @@ pub record RunsAs (args : Args) (given output output_after errors errors_after :
   pub ran : Result (Option FiguresLine) Fault
   pub printed : IfOk ran (Prints args given output output_after)
   pub begun : OnErr ran (HasBegun args given output output_after)
-  pub meant : IfErr ran (IsMeant (mode_of args) given)
-  pub bad : IfErr ran (λ fault. IsBadDeck fault → output_after ≡ output)
-  pub fault : IfErr ran IsProgramFault
+  pub fault : IfErr ran (FailsRun (mode_of args) given output output_after)
   pub status : ending.status ≡ status_after ran
   pub reported : Writes errors errors_after (report_of ran) ending.reported
   pub silent : report_of ran ≡ [] → errors_after ≡ errors

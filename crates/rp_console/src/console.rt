@@ -4,8 +4,7 @@ ghost use Rattle.std.specs.Prelude.{◌≡◌, [], IfErr, IfOk, OnErr, map};
 ghost use Rattle.rp_console.specs.Console.{FollowsWords, HasBegun, Prints, mode_of, report_of};
 ghost use Rattle.rp_output.specs.Endings.{status_after};
 ghost use Rattle.rp_output.specs.Stream.{Writes};
-ghost use Rattle.rp_script.specs.Faults.{IsBadDeck, IsProgramFault};
-ghost use Rattle.rp_script.specs.Given.{IsMeant};
+ghost use Rattle.rp_script.specs.Given.{FailsRun};
 
 use crate::args::{Args, read_args};
 use rp_base::Fault;
@@ -60,10 +59,8 @@ fn run_as<T: Threads + Wait + Clock, R: Read, W: Write>(
         (W.contents writer.old) (W.contents writer.new)) }
     ensures begun { OnErr result (HasBegun args (R.remaining reader.old)
         (W.contents writer.old) (W.contents writer.new)) }
-    ensures meant { IfErr result (IsMeant (mode_of args) (R.remaining reader.old)) }
-    ensures bad { IfErr result (λ fault. IsBadDeck fault
-        → W.contents writer.new ≡ W.contents writer.old) }
-    ensures fault { IfErr result IsProgramFault }
+    ensures fault { IfErr result (FailsRun (mode_of args) (R.remaining reader.old)
+        (W.contents writer.old) (W.contents writer.new)) }
 {
     match args {
         Args::Script { traced } => match run_script(alloc, reader, traced, writer) {

@@ -42,12 +42,18 @@ fn a_counter_stays_within_its_bound(rt: HostRuntime) -> Result<(), Fail> {
     Ok(())
 }
 
-/// An empty device whose first append leaves three bytes and fails, or none of whose calls fails.
-fn device(alloc: Global, fails: bool) -> FailDevice<MemDevice>
+/// A call that fails: of which kind, and which of that kind, from 1, or 0 for none.
+type Failing = (DeviceCall, u64);
+
+const NONE: Failing = (DeviceCall::Append, 0);
+const APPEND: Failing = (DeviceCall::Append, 1);
+const SECOND_READ: Failing = (DeviceCall::Read, 2);
+
+/// An empty device of which one call fails. An append that fails leaves three bytes.
+fn device(alloc: Global, failing: Failing) -> FailDevice<MemDevice>
     ensures { result ≡ empty_disk }
 {
-    let at = if fails { 1 } else { 0 };
-    FailDevice::new(MemDevice::new(alloc), DeviceCall::Append, at, 3)
+    FailDevice::new(MemDevice::new(alloc), failing.0, failing.1, 3)
 }
 
 /// Puts a record on a device, and opens it again: whether the put failed, and how many records and
@@ -65,10 +71,12 @@ fn put_and_open<D: Device>(alloc: Global, device: D) -> Result<(bool, usize, u64
 fn a_record_is_whole_while_one_device_works(rt: HostRuntime) -> Result<(), Fail> {
     let alloc = rt.alloc();
     let cases = [
-        (false, false, (false, 1, 0)),
-        (true, false, (false, 1, 0)),
-        (false, true, (false, 1, 0)),
-        (true, true, (true, 0, 3)),
+        (NONE, NONE, (false, 1, 0)),
+        (APPEND, NONE, (false, 1, 0)),
+        (NONE, APPEND, (false, 1, 0)),
+        (APPEND, APPEND, (true, 0, 3)),
+        (SECOND_READ, NONE, (false, 1, 0)),
+        (NONE, SECOND_READ, (false, 1, 0)),
     ];
     for (main, spare, found) in cases {
         let mirrored = MirroredDevice::new(device(alloc, main), device(alloc, spare));

@@ -8,6 +8,7 @@ use Rattle.rp_words.specs.LineFaults.{BadLine}
 use Rattle.rp_deck.specs.Meaning.{DeckText, meaning_of}
 use Rattle.rp_deck.specs.declared.deck.Deck.{Deck}
 use Rattle.rp_deck.specs.declared.deck.Mode.{Mode}
+use Rattle.rp_script.specs.Faults.{IsBadDeck, IsProgramFault}
 
 -- the most bytes that a deck may have
 abbrev pub most_bytes : ℕ
@@ -33,3 +34,11 @@ abbrev pub IsMeant : Mode → Option (List ℕ) → Fault → Type 0
 IsMeant mode given (BadDeck line reason) =
     Means mode given (Err (record { line = line; reason = reason }))
 IsMeant mode given _ = Unit {0}
+
+-- The fault of a run of the deck that these bytes mean. If they mean none, it has the first bad line
+-- and the first reason on it, and nothing was written.
+pub record FailsRun (mode : Mode) (given output output_after : Option (List ℕ)) (fault : Fault)
+    : Type 0 where
+  pub meant : IsMeant mode given fault
+  pub unwritten : IsBadDeck fault → output_after ≡ output
+  pub known : IsProgramFault fault

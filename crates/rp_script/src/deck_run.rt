@@ -3,9 +3,8 @@
 ghost use Rattle.std.specs.Prelude.{◌≡◌, IfErr, OnOk, OnErr};
 ghost use Rattle.rp_script.specs.Agreeing.{DeckPrints, ScriptBegins, ScriptPrints};
 ghost use Rattle.rp_deck.specs.Deck.{IsRightDeck};
-ghost use Rattle.rp_script.specs.Faults.{IsBadDeck, IsProgramFault};
 ghost use Rattle.rp_output.specs.Faults.{IsRunFault};
-ghost use Rattle.rp_script.specs.Given.{IsMeant};
+ghost use Rattle.rp_script.specs.Given.{FailsRun};
 ghost use Rattle.rp_script.specs.Output.{output_of};
 ghost use Rattle.rp_output.specs.Stream.{Writes};
 
@@ -42,10 +41,8 @@ pub fn run_script<R: Read, W: Write>(
         (W.contents writer.old) (W.contents writer.new)) }
     ensures begun { OnErr result (ScriptBegins traced (R.remaining reader.old)
         (W.contents writer.old) (W.contents writer.new)) }
-    ensures meant { IfErr result (IsMeant Mode.Script (R.remaining reader.old)) }
-    ensures bad { IfErr result (λ fault. IsBadDeck fault
-        → W.contents writer.new ≡ W.contents writer.old) }
-    ensures fault { IfErr result IsProgramFault }
+    ensures fault { IfErr result (FailsRun Mode.Script (R.remaining reader.old)
+        (W.contents writer.old) (W.contents writer.new)) }
 {
     let deck = read_given(alloc, reader, Mode::Script)?;
     run_deck(alloc, deck, traced, writer)?;

@@ -2,9 +2,8 @@
 
 ghost use Rattle.std.specs.Prelude.{◌≡◌, All, IfErr, IfOk, OnErr};
 ghost use Rattle.std.specs.Arc.{arc_value};
-ghost use Rattle.rp_script.specs.Faults.{IsBadDeck, IsProgramFault};
 ghost use Rattle.rp_output.specs.Faults.{IsRunFault};
-ghost use Rattle.rp_script.specs.Given.{IsMeant};
+ghost use Rattle.rp_script.specs.Given.{FailsRun};
 ghost use Rattle.rp_script.specs.LiveRun.{LiveBegins, LivePrints, IsOutcome, event_of, events_of};
 ghost use Rattle.rp_base.specs.Config.{IsRightConfig};
 ghost use Rattle.rp_object.specs.State.{first_state};
@@ -60,10 +59,8 @@ pub fn run_live<T: Threads + Wait + Clock, R: Read, W: Write>(
         (R.remaining reader.old) (W.contents writer.old) (W.contents writer.new) line.figures) }
     ensures begun { OnErr result (LiveBegins request.seed request.turns
         (R.remaining reader.old) (W.contents writer.old) (W.contents writer.new)) }
-    ensures meant { IfErr result (IsMeant Mode.Live (R.remaining reader.old)) }
-    ensures bad { IfErr result (λ fault. IsBadDeck fault
-        → W.contents writer.new ≡ W.contents writer.old) }
-    ensures fault { IfErr result IsProgramFault }
+    ensures fault { IfErr result (FailsRun Mode.Live (R.remaining reader.old)
+        (W.contents writer.old) (W.contents writer.new)) }
 {
     let deck = read_given(alloc, reader, Mode::Live)?;
     let begun = Instant::now(rt);

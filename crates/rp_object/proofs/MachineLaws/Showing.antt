@@ -38,6 +38,29 @@ ints_end : (store : Store) (place : ℕ) (names : List (String Global)) (s : Lis
 ints_end store place [] s gap = gap
 ints_end store place (name ∷ names) s gap = inl refl
 
+-- equal texts of a component of one name have equal texts after the name
+after_name : (word x y left right s t : List ℕ)
+    → (codes " " ++ (word ++ (codes "=" ++ (x ++ left)))) ++ s
+    ≡ (codes " " ++ (word ++ (codes "=" ++ (y ++ right)))) ++ t
+    → x ++ (left ++ s) ≡ y ++ (right ++ t)
+after_name word x y left right s t e =
+    let first = append_cancel_left (codes " ") ((word ++ (codes "=" ++ (x ++ left))) ++ s)
+    ((word ++ (codes "=" ++ (y ++ right))) ++ t) e in
+    let named =
+    append_cancel_left word ((codes "=" ++ (x ++ left)) ++ s) ((codes "=" ++ (y ++ right)) ++ t)
+    (regroup word (codes "=" ++ (x ++ left)) s word (codes "=" ++ (y ++ right)) t first) in
+    let value = append_cancel_left (codes "=") ((x ++ left) ++ s) ((y ++ right) ++ t) named in
+    regroup x left s y right t value
+
+-- values that are the same at a place and at the n places after it
+one_more : {A : Type 0} (one other : ℕ → A) (place n : ℕ) → one place ≡ other place
+    → ((k : ℕ) → suc place ≤ k → k < suc place + n → one k ≡ other k)
+    → (k : ℕ) → place ≤ k → k < place + suc n → one k ≡ other k
+one_more one other place n here rest k low high =
+    ⊎_elim (λ (is : k ≡ place). subst (λ m. one m ≡ other m) (sym is) here)
+    (λ (apart : k ≢ place). rest k (omega (arith, low, apart)) (omega (arith, high)))
+    (cases_eq k place)
+
 read_ints : (names : List (String Global)) (one other : Store) (place : ℕ) (s t : List ℕ)
     → ((k : ℕ) → FitsSigned w64 (int_value one k)) → ((k : ℕ) → FitsSigned w64 (int_value other k))
     → EndsWord s → EndsWord t → ints_text one place names ++ s ≡ ints_text other place names ++ t
@@ -45,29 +68,16 @@ read_ints : (names : List (String Global)) (one other : Store) (place : ℕ) (s 
     × (s ≡ t)
 read_ints [] one other place s t p q u v e = ((λ k low high. absurd (omega (arith, low, high))), e)
 read_ints (name ∷ names) one other place s t p q u v e =
-    let word = string_bytes name in
     let x = signed_decimal (int_value one place) in
     let y = signed_decimal (int_value other place) in
     let left = ints_text one (suc place) names in
     let right = ints_text other (suc place) names in
-    let first = append_cancel_left (codes " ") ((word ++ (codes "=" ++ (x ++ left))) ++ s)
-    ((word ++ (codes "=" ++ (y ++ right))) ++ t) e in
-    let named =
-    append_cancel_left word ((codes "=" ++ (x ++ left)) ++ s) ((codes "=" ++ (y ++ right)) ++ t)
-    (regroup word (codes "=" ++ (x ++ left)) s word (codes "=" ++ (y ++ right)) t first) in
-    let value = append_cancel_left (codes "=") ((x ++ left) ++ s) ((y ++ right) ++ t) named in
     let here = read_signed (int_value one place) (int_value other place) (left ++ s) (right ++ t)
     (p place) (q place)
     (ints_end one (suc place) names s u) (ints_end other (suc place) names t v)
-    (regroup x left s y right t value) in
-    let rest = read_ints names one other (suc place) s t p q u v here.1 in (
-      (λ k low high. ⊎_elim
-          (λ (is : k ≡ place). subst (λ n. int_value one n ≡ int_value other n) (sym is) here.0)
-          (λ (apart : k ≢ place). let past : suc place ≤ k = omega (arith, low, apart) in
-          rest.0 k past (omega (arith, high)))
-          (cases_eq k place)),
-      rest.1,
-    )
+    (after_name (string_bytes name) x y left right s t e) in
+    let rest = read_ints names one other (suc place) s t p q u v here.1 in
+    (one_more (int_value one) (int_value other) place (length names) here.0 rest.0, rest.1)
 
 bools_end : (store : Store) (place : ℕ) (names : List (String Global)) (s : List ℕ) → EndsWord s
     → EndsWord (bools_text store place names ++ s)
@@ -88,27 +98,14 @@ read_bools : (names : List (String Global)) (one other : Store) (place : ℕ) (s
     × (s ≡ t)
 read_bools [] one other place s t e = ((λ k low high. absurd (omega (arith, low, high))), e)
 read_bools (name ∷ names) one other place s t e =
-    let word = string_bytes name in
     let x = truth_text (bool_value one place) in
     let y = truth_text (bool_value other place) in
     let left = bools_text one (suc place) names in
     let right = bools_text other (suc place) names in
-    let first = append_cancel_left (codes " ") ((word ++ (codes "=" ++ (x ++ left))) ++ s)
-    ((word ++ (codes "=" ++ (y ++ right))) ++ t) e in
-    let named =
-    append_cancel_left word ((codes "=" ++ (x ++ left)) ++ s) ((codes "=" ++ (y ++ right)) ++ t)
-    (regroup word (codes "=" ++ (x ++ left)) s word (codes "=" ++ (y ++ right)) t first) in
-    let value = append_cancel_left (codes "=") ((x ++ left) ++ s) ((y ++ right) ++ t) named in
     let here = read_truth (bool_value one place) (bool_value other place) (left ++ s) (right ++ t)
-    (regroup x left s y right t value) in
-    let rest = read_bools names one other (suc place) s t here.1 in (
-      (λ k low high. ⊎_elim
-          (λ (is : k ≡ place). subst (λ n. bool_value one n ≡ bool_value other n) (sym is) here.0)
-          (λ (apart : k ≢ place). let past : suc place ≤ k = omega (arith, low, apart) in
-          rest.0 k past (omega (arith, high)))
-          (cases_eq k place)),
-      rest.1,
-    )
+    (after_name (string_bytes name) x y left right s t e) in
+    let rest = read_bools names one other (suc place) s t here.1 in
+    (one_more (bool_value one) (bool_value other) place (length names) here.0 rest.0, rest.1)
 
 -- ---- the queues
 

@@ -114,6 +114,13 @@ not_there : (b : Bool) (name count : ℕ) → (b ≡ true → name < count) → 
 not_there false name count below past = refl
 not_there true name count below past = absurd (omega (arith, below refl, past))
 
+-- what is named below the count is the same in both, and nothing else is there
+by_name : {A : Type 0} (count name : ℕ) (one other : Option A) → (name < count → one ≡ other)
+    → (count ≤ name → (one ≡ None) × (other ≡ None))
+    → one ≡ other
+by_name count name one other below past =
+    ⊎_elim below (λ (p : count ≤ name). (past p).0 ∙ sym (past p).1) (cases_lt name count)
+
 module _ (declared : ObjectDeclaration) (fits : DeclarationFits declared) (one other : Store) where
   pub same_ints : HasRangesOf declared.components one → HasRangesOf declared.components other
       → ((name : ℕ) → name < length declared.ints.items → int_value one name ≡ int_value other name)
@@ -121,17 +128,15 @@ module _ (declared : ObjectDeclaration) (fits : DeclarationFits declared) (one o
   same_ints first second values =
       same_map nat_cmp_total nat_cmp-IsAntisymmetric one.ints other.ints (λ name.
       let count = len declared.components.ints in
-      ⊎_elim
+      let range = get declared.components.ints name in
+      by_name count name (get one.ints name) (get other.ints name)
       (λ (below : name < count).
       same_found (get one.ints name) (get other.ints name) (first name ∙ sym (second name))
       (values name (omega (arith, below, fits.ints))))
       (λ (past : count ≤ name).
-      let none = not_there (is_some (get declared.components.ints name)) name count
-      (fits.numbered.ints name).0 past in
-      mapped_none (get declared.components.ints name) (get one.ints name) none (first name)
-      ∙ sym (mapped_none (get declared.components.ints name) (get other.ints name) none
-      (second name)))
-      (cases_lt name count))
+      let none = not_there (is_some range) name count (fits.numbered.ints name).0 past in
+      (mapped_none range (get one.ints name) none (first name),
+      mapped_none range (get other.ints name) none (second name))))
 
   pub same_bools : HasBoolsOf declared.components one → HasBoolsOf declared.components other
       → ((name : ℕ) → name < length declared.bools.items
@@ -140,13 +145,12 @@ module _ (declared : ObjectDeclaration) (fits : DeclarationFits declared) (one o
   same_bools first second values =
       same_map nat_cmp_total nat_cmp-IsAntisymmetric one.bools other.bools (λ name.
       let count = len declared.components.bools in
-      ⊎_elim
+      let is_there = is_some (get declared.components.bools name) in
+      by_name count name (get one.bools name) (get other.bools name)
       (λ (below : name < count).
       same_truth (get one.bools name) (get other.bools name) (first name ∙ sym (second name))
       (values name (omega (arith, below, fits.bools))))
       (λ (past : count ≤ name).
-      let none = not_there (is_some (get declared.components.bools name)) name count
-      (fits.numbered.bools name).0 past in
-      truth_none (get one.bools name) (first name ∙ none)
-      ∙ sym (truth_none (get other.bools name) (second name ∙ none)))
-      (cases_lt name count))
+      let none = not_there is_there name count (fits.numbered.bools name).0 past in
+      (truth_none (get one.bools name) (first name ∙ none),
+      truth_none (get other.bools name) (second name ∙ none))))

@@ -39,11 +39,11 @@ ints_end store place [] s gap = gap
 ints_end store place (name ∷ names) s gap = inl refl
 
 -- equal texts of a component of one name have equal texts after the name
-after_name : (word x y left right s t : List ℕ)
+same_rest : (word x y left right s t : List ℕ)
     → (codes " " ++ (word ++ (codes "=" ++ (x ++ left)))) ++ s
     ≡ (codes " " ++ (word ++ (codes "=" ++ (y ++ right)))) ++ t
     → x ++ (left ++ s) ≡ y ++ (right ++ t)
-after_name word x y left right s t e =
+same_rest word x y left right s t e =
     let first = append_cancel_left (codes " ") ((word ++ (codes "=" ++ (x ++ left))) ++ s)
     ((word ++ (codes "=" ++ (y ++ right))) ++ t) e in
     let named =
@@ -75,7 +75,7 @@ read_ints (name ∷ names) one other place s t p q u v e =
     let here = read_signed (int_value one place) (int_value other place) (left ++ s) (right ++ t)
     (p place) (q place)
     (ints_end one (suc place) names s u) (ints_end other (suc place) names t v)
-    (after_name (string_bytes name) x y left right s t e) in
+    (same_rest (string_bytes name) x y left right s t e) in
     let rest = read_ints names one other (suc place) s t p q u v here.1 in
     (one_more (int_value one) (int_value other) place (length names) here.0 rest.0, rest.1)
 
@@ -103,7 +103,7 @@ read_bools (name ∷ names) one other place s t e =
     let left = bools_text one (suc place) names in
     let right = bools_text other (suc place) names in
     let here = read_truth (bool_value one place) (bool_value other place) (left ++ s) (right ++ t)
-    (after_name (string_bytes name) x y left right s t e) in
+    (same_rest (string_bytes name) x y left right s t e) in
     let rest = read_bools names one other (suc place) s t here.1 in
     (one_more (bool_value one) (bool_value other) place (length names) here.0 rest.0, rest.1)
 

@@ -6,3 +6,5 @@ pub mod Writing
 pub mod Starting
 pub mod Due
 pub mod Order
+pub mod Firing
+pub mod Clock

@@ -1,18 +1,18 @@
 //! What follows from the rules of a program alone.
 
-ghost use Rattle.std.specs.Prelude.{◌≡◌, ◌↔◌, ◌++◌, ℕ, ℤ, pos, true, int_le, List, Option, Some, length};
+ghost use Rattle.std.specs.Prelude.{◌≡◌, ◌++◌, ℕ, max, List, length, filter_map};
 ghost use Rattle.rp_base.specs.Sets.{Has, IsSet};
 ghost use Rattle.rp_base.specs.Action.{IsRight};
 ghost use Rattle.rp_base.specs.declared.action.Action.{Action};
-ghost use Rattle.rp_entry.specs.Operations.{of_index};
+ghost use Rattle.rp_machine.specs.Asked.{greatest};
 ghost use Rattle.rp_machine.specs.Calls.{calls_of, AccountsFor};
 ghost use Rattle.rp_machine.specs.Replay.{replay_state};
 ghost use Rattle.rp_object.specs.declared.program.Declarations.{Declarations};
 ghost use Rattle.rp_object.specs.Program.{IsProgram};
 ghost use Rattle.rp_object.specs.Reached.{IsStateOf, HaveQueues};
-ghost use Rattle.rp_object.specs.State.{Running, first_state};
-ghost use Rattle.rp_object.specs.Timers.{due_from, sorted, InOrder};
-ghost use Rattle.rp_object.specs.Step.{objects_next, objects_answers, objects_waiting};
+ghost use Rattle.rp_object.specs.State.{ProgramState, Running, first_state};
+ghost use Rattle.rp_object.specs.Step.{ticked, objects_next, objects_answers, objects_waiting};
+ghost use Rattle.rp_object.specs.Ticks.{Fires, tick_of};
 
 /// No caller that waits is lost or answered twice: if each declared object is there with a queue for
 /// each of its entries, and no call waits twice, the answers to an action are for distinct calls, its
@@ -27,15 +27,22 @@ pub fn actions_account_for_callers()
         (objects_waiting (objects_next running action)) }
 {}
 
-/// A tick fires the timing events that are set for a time at or below the clock, all of them, in
-/// order of time and number.
-pub fn due_events_are_due()
+/// A tick raises the clock where it is below, and then fires the timing events that are due one after
+/// another, until none is due: each is the first of them by time and number, is no longer set, and its
+/// handler runs.
+pub fn a_tick_fires_what_is_due()
     // claim: A tick fires exactly the events that are due, in order of time and number
-    ensures order { (clock : ℕ) (timers : List (Option ℤ))
-        → InOrder (sorted (due_from clock 1 timers)) }
-    ensures due { (clock : ℕ) (timers : List (Option ℤ)) (time : ℤ) (number : ℕ)
-        → Has (time, number) (sorted (due_from clock 1 timers))
-        ↔ ((of_index timers number ≡ Some (Some time)) × (int_le time (pos clock) ≡ true)) }
+    ensures { (program : Declarations) (before : ProgramState) (now : ℕ)
+        → let tick = ticked program before now in
+        Fires program (record before { clock = max before.clock now }) tick.replied tick.after }
+{}
+
+/// The clock never goes back: it is the greatest of the ticks of the log, in whatever order they come.
+pub fn the_clock_is_the_greatest_tick()
+    // claim: The clock is the greatest of the ticks that were decided, 0 before any
+    ensures { (program : Declarations) (actions : List Action)
+        → (replay_state objects_next objects_answers (first_state program) actions).state.clock
+        ≡ greatest (filter_map tick_of actions) }
 {}
 
 /// Every log of right actions leads to a state of the program: each object has its operations, its

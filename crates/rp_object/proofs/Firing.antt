@@ -2,17 +2,34 @@
 use Rattle.std.proofs.Common.{◌≡◌, ◌≤◌, ◌<◌, ◌+◌, ◌-◌, ◌⊎◌, ◌<ℤ◌, ◌≤ℤ◌, inl, inr, ℕ, suc, ℤ, pos, true}
 use Rattle.std.proofs.Common.{List, [], ◌∷◌, ◌++◌, length, set, map, Option, Some, None, refl, sym, ◌∙◌, ap}
 use Rattle.std.proofs.Common.{subst, arith, append_assoc, append-nil}
-use Rattle.std.specs.Prelude.{int_le}
+use Rattle.std.proofs.Common.{zero, Bool, Vec, option_map, length-set}
+use Rattle.std.specs.Prelude.{int_le, slice_get}
+use Rattle.std.specs.declared.alloc.Global.{Global}
 use Rattle.std.proofs.lemmas.Int.{ints, by_lt_z}
 use Rattle.rp_base.specs.Sets.{Has}
 use Rattle.rp_base.proofs.Members.{has_mapped}
+use Rattle.rp_base.specs.declared.reply.Answer.{Answer}
+use Rattle.rp_base.specs.declared.action.Operation.TheVariants.{Procedure}
+use Rattle.rp_body.specs.declared.statement.Stmt.{Stmt}
+use Rattle.rp_entry.specs.declared.operations.Operations.{Operations}
+use Rattle.rp_entry.specs.declared.state.CallOutcome.{CallOutcome}
 use Rattle.rp_entry.specs.Operations.{of_index}
+use Rattle.rp_entry.specs.Queue.{State}
+use Rattle.rp_entry.specs.Actions.{Acts, event}
+use Rattle.rp_entry.specs.Results.{event_handled, acted}
+use Rattle.rp_entry.proofs.Queues.{index_there}
+use Rattle.rp_entry.proofs.Naming.{all_at}
+use Rattle.rp_entry.proofs.Results.{is_acted}
+use Rattle.rp_object.specs.declared.program.Handler.{Handler}
+use Rattle.rp_object.specs.declared.program.TimingEvent.{TimingEvent}
+use Rattle.rp_object.specs.declared.program.ObjectDeclaration.{ObjectDeclaration}
 use Rattle.rp_object.specs.declared.program.Declarations.{Declarations}
-use Rattle.rp_object.specs.Program.{timer_handler}
+use Rattle.rp_object.specs.Program.{operations_of, has_operation, is_some_and, is_handler}
+use Rattle.rp_object.specs.Program.{timer_handler, IsProgram}
 use Rattle.rp_object.specs.State.{ProgramState}
 use Rattle.rp_object.specs.Timers.{Setting, due_from, sorted, due_events}
-use Rattle.rp_object.specs.Step.{fires, fire, with_timer}
-use Rattle.rp_object.specs.Ticks.{IsDue, IsFirstDue, Fires, ends, goes_on}
+use Rattle.rp_object.specs.Step.{Result, object_acts, handled, fires, fire, with_object, with_timer}
+use Rattle.rp_object.specs.Ticks.{IsDue, IsFirstDue, RunsHandler, Fires, ends, goes_on}
 use Rattle.rp_object.proofs.Due.{due_exactly}
 use Rattle.rp_object.proofs.Timing.{IsBefore, BeforeAll, IsBest, Best, none_more, first_found}
 use Rattle.rp_object.proofs.Timing.{still_none, earlier_found, later_kept, IsFirst, best_is_first}
@@ -102,23 +119,118 @@ first_due state time number is =
           (elim has [ inl e ↦ inl e | inr h ↦ inr (before_each s (later, other) others is.before h) ]);
     }
 
--- ---- one after another
+-- ---- its handler runs
 
-module _ (program : Declarations) where
-  pub fire_fires : (numbers : List ℕ) (state : ProgramState)
+slice_there : {X : Type 0} (xs : List X) (place : ℕ) → place < length xs
+    → (x : X) × (slice_get xs place ≡ Some x)
+slice_there [] place below = absurd (omega (arith, below))
+slice_there (x ∷ xs) zero below = (x, refl)
+slice_there (x ∷ xs) (suc place) below = slice_there xs place (omega (arith, below))
+
+index_within : {X : Type 0} (xs : List X) (index : ℕ) → 1 ≤ index → index ≤ length xs
+    → (x : X) × (of_index xs index ≡ Some x)
+index_within xs zero some within = absurd (omega (arith, some))
+index_within xs (suc place) some within = slice_there xs place (omega (arith, within))
+
+some_passes : {X : Type 0} (test : X → Bool) (found : Option X) → is_some_and test found ≡ true
+    → (x : X) × (found ≡ Some x)
+some_passes test None passes = absurd (cc)
+some_passes test (Some x) passes = (x, refl)
+
+-- no task asks for an event
+no_caller : (operations : Operations) (before : State) (found : Option (Vec Stmt Global))
+    → (event_handled operations found before).caller ≡ None
+no_caller operations before None = refl
+no_caller operations before (Some body) = refl
+
+event_acts : (operations : Operations) (before : State) (index : ℕ)
+    → (let did = acted operations before (event index) in
+    Acts operations before (event index) None did.replied did.after)
+event_acts operations before index =
+    let did = acted operations before (event index) in
+    let none = no_caller operations before (of_index operations.procedures.items index) in
+    subst
+    (λ (c : Option CallOutcome). Acts operations before (event index) c did.replied did.after)
+    none (is_acted operations before (event index))
+
+-- the declared objects and timing events are there
+pub record AreThere (program : Declarations) (state : ProgramState) : Type 0 where
+  pub objects : length state.objects ≡ length program.objects.items
+  pub timers : length state.timers ≡ length program.timers.items
+
+module _ (program : Declarations) (right : IsProgram program) where
+  fires_one : (before : ProgramState) (number : ℕ) (time : ℤ) → AreThere program before
+      → of_index before.timers number ≡ Some (Some time)
+      → RunsHandler program number (with_timer before number None)
+      (fires program before number).replied (fires program before number).after
+  fires_one before number time are set =
+      let cleared = with_timer before number None in
+      let within = index_there before.timers number (Some time) set in
+      let timer =
+      index_within program.timers.items number within.0 (omega (arith, within.1, are.timers)) in
+      let handler : Handler = timer.0.handler in
+      let declared : timer_handler program number ≡ Some handler =
+      ap (λ (t : Option TimingEvent). option_map (λ (x : TimingEvent). x.handler) t) timer.1 in
+      let handled_by : is_handler program handler ≡ true =
+      all_at (λ (t : TimingEvent). is_handler program t.handler ≡ true) program.timers.items number
+      timer.0 right.timers timer.1 in
+      let owner =
+      some_passes
+      (λ (d : ObjectDeclaration). has_operation (Procedure handler.procedure) (operations_of d))
+      (of_index program.objects.items handler.object) handled_by in
+      let place = index_there program.objects.items handler.object owner.0 owner.1 in
+      let object =
+      index_within before.objects handler.object place.0 (omega (arith, place.1, are.objects)) in
+      let request = event handler.procedure in
+      let does : object_acts cleared handler.object request (Some object.0)
+          ≡ fires program before number =
+      sym (ap (handled cleared) declared
+      ∙ ap (object_acts cleared handler.object request) object.1) in
+      let did = acted object.0.operations object.0.state request in
+      let runs : RunsHandler program number cleared did.replied
+      (with_object cleared handler.object (record object.0 { state = did.after })) =
+      record {
+        handler = handler;
+        object = object.0;
+        state = did.after;
+        declared = declared;
+        there = object.1;
+        action = event_acts object.0.operations object.0.state handler.procedure;
+        follows = refl;
+      } in
+      subst (λ (r : Result). RunsHandler program number cleared r.replied r.after) does runs
+
+  -- what it does leaves them there
+  still_there : {before after : ProgramState} {number : ℕ} {served : List Answer}
+      → RunsHandler program number (with_timer before number None) served after
+      → AreThere program before → AreThere program after
+  still_there {before} {after} {number} {served} runs are =
+      let changed = record runs.object { state = runs.state } in
+      record {
+        objects =
+            ap (λ (s : ProgramState). length s.objects) runs.follows
+            ∙ length-set before.objects (runs.handler.object - 1) changed ∙ are.objects;
+        timers =
+            ap (λ (s : ProgramState). length s.timers) runs.follows
+            ∙ length-set before.timers (number - 1) None ∙ are.timers;
+      }
+
+  -- ---- one after another
+
+  pub fire_fires : (numbers : List ℕ) (state : ProgramState) → AreThere program state
       → due_events state.clock state.timers ≡ numbers
       → Fires program state (fire program state numbers).replied (fire program state numbers).after
-  fire_fires [] state none =
+  fire_fires [] state are none =
       ends (λ time number due.
       let has : Has number (due_events state.clock state.timers) =
       has_mapped (λ (x : Setting). x.1) (time, number)
       (sorted (due_from state.clock 1 state.timers))
       (due_listed state time number due) in
       absurd (subst (λ (l : List ℕ). Has number l) none has))
-  fire_fires (number ∷ rest) state all =
+  fire_fires (number ∷ rest) state are all =
       decide (best_of state.clock state.timers) (λ after. fire_fires rest after) where
     decide : Found state.clock state.timers
-        → ((after : ProgramState) → due_events after.clock after.timers ≡ rest
+        → ((after : ProgramState) → AreThere program after → due_events after.clock after.timers ≡ rest
         → Fires program after (fire program after rest).replied (fire program after rest).after)
         → Fires program state (fire program state (number ∷ rest)).replied
         (fire program state (number ∷ rest)).after
@@ -139,4 +251,5 @@ module _ (program : Declarations) where
         let left : due_events one.after.clock one.after.timers ≡ rest =
         ap (λ (s : ProgramState). due_events s.clock s.timers) alone
         ∙ ap (λ n. due_events state.clock (set state.timers (n - 1) None)) (sym same) ∙ others in
-        goes_on first refl (others_fire one.after left)
+        let runs = fires_one state number time are first.due.set in
+        goes_on first runs (others_fire one.after (still_there runs are) left)

@@ -10,7 +10,7 @@ ghost use Rattle.rp_machine.specs.Replay.{replay_state};
 ghost use Rattle.rp_object.specs.declared.program.Declarations.{Declarations};
 ghost use Rattle.rp_object.specs.Program.{IsProgram};
 ghost use Rattle.rp_object.specs.Reached.{IsStateOf, HaveQueues};
-ghost use Rattle.rp_object.specs.State.{ProgramState, Running, first_state};
+ghost use Rattle.rp_object.specs.State.{Running, first_state};
 ghost use Rattle.rp_object.specs.Step.{ticked, objects_next, objects_answers, objects_waiting};
 ghost use Rattle.rp_object.specs.Ticks.{Fires, tick_of};
 
@@ -27,19 +27,23 @@ pub fn actions_account_for_callers()
         (objects_waiting (objects_next running action)) }
 {}
 
-/// A tick raises the clock where it is below, and then fires the timing events that are due one after
-/// another, until none is due: each is the first of them by time and number, is no longer set, and its
-/// handler runs.
+/// At a tick the clock is raised where it is below, and then the timing events that are due fire one
+/// after another, until none is due: each time the first of them by time and number is no longer set,
+/// and its handler runs.
 pub fn a_tick_fires_what_is_due()
     // claim: A tick fires exactly the events that are due, in order of time and number
-    ensures { (program : Declarations) (before : ProgramState) (now : ℕ)
-        → let tick = ticked program before now in
+    ensures { (program : Declarations) (running : Running) (now : ℕ)
+        → IsProgram program
+        → IsStateOf program running
+        → let before = running.state in
+        let tick = ticked program before now in
         Fires program (record before { clock = max before.clock now }) tick.replied tick.after }
 {}
 
-/// The clock never goes back: it is the greatest of the ticks of the log, in whatever order they come.
+/// The clock after a log is the greatest of its ticks, in whatever order they come, and 0 if there is
+/// none.
 pub fn the_clock_is_the_greatest_tick()
-    // claim: The clock is the greatest of the ticks that were decided, 0 before any
+    // claim: The clock never goes back: it is the greatest of the ticks in the log
     ensures { (program : Declarations) (actions : List Action)
         → (replay_state objects_next objects_answers (first_state program) actions).state.clock
         ≡ greatest (filter_map tick_of actions) }

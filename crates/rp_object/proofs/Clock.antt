@@ -60,8 +60,7 @@ module _ (program : Declarations) (before : ProgramState) (call : Waiting) (obje
   within_clock request =
       elim (is_within_ceiling program call.task object) as
       (λ b. (cond b (asks before object request) (ends_with (Reply ProgramError) before)).after.clock
-      ≡ before.clock)
-      [
+      ≡ before.clock) [
         | true ↦ ap (λ (s : ProgramState). s.clock) (asks_alone before object request)
         | false ↦ refl
       ]

@@ -15,6 +15,7 @@ use Rattle.rp_entry.specs.declared.operations.Operations.{Operations}
 use Rattle.rp_entry.specs.declared.state.CallOutcome.{CallOutcome}
 use Rattle.rp_entry.specs.Operations.{of_index}
 use Rattle.rp_entry.specs.Queue.{State}
+use Rattle.rp_entry.specs.Protected.{Protected}
 use Rattle.rp_entry.specs.Actions.{Acts, event}
 use Rattle.rp_entry.specs.Results.{event_handled, acted}
 use Rattle.rp_entry.proofs.Queues.{index_there}
@@ -153,6 +154,31 @@ event_acts operations before index =
     (λ (c : Option CallOutcome). Acts operations before (event index) c did.replied did.after)
     none (is_acted operations before (event index))
 
+-- the handler that is declared runs at the object that is there
+handler_runs : (program : Declarations) (number : ℕ) (before : ProgramState) (handler : Handler)
+    (object : Protected)
+    → timer_handler program number ≡ Some handler
+    → of_index before.objects handler.object ≡ Some object
+    → (let does = handled before (timer_handler program number) in
+    RunsHandler program number before does.replied does.after)
+handler_runs program number before handler object declared there =
+    let request = event handler.procedure in
+    let did = acted object.operations object.state request in
+    let result = object_acts before handler.object request (Some object) in
+    let does : result ≡ handled before (timer_handler program number) =
+    sym (ap (handled before) declared ∙ ap (object_acts before handler.object request) there) in
+    let runs : RunsHandler program number before result.replied result.after =
+    record {
+      handler = handler;
+      object = object;
+      state = did.after;
+      declared = declared;
+      there = there;
+      action = event_acts object.operations object.state handler.procedure;
+      follows = refl {a = result.after};
+    } in
+    subst (λ (r : Result). RunsHandler program number before r.replied r.after) does runs
+
 -- the declared objects and timing events are there
 pub record AreThere (program : Declarations) (state : ProgramState) : Type 0 where
   pub objects : length state.objects ≡ length program.objects.items
@@ -181,24 +207,7 @@ module _ (program : Declarations) (right : IsProgram program) where
       let place = index_there program.objects.items handler.object owner.0 owner.1 in
       let object =
       index_within before.objects handler.object place.0 (omega (arith, place.1, are.objects)) in
-      let request = event handler.procedure in
-      let does : object_acts cleared handler.object request (Some object.0)
-          ≡ fires program before number =
-      sym (ap (handled cleared) declared
-      ∙ ap (object_acts cleared handler.object request) object.1) in
-      let did = acted object.0.operations object.0.state request in
-      let runs : RunsHandler program number cleared did.replied
-      (with_object cleared handler.object (record object.0 { state = did.after })) =
-      record {
-        handler = handler;
-        object = object.0;
-        state = did.after;
-        declared = declared;
-        there = object.1;
-        action = event_acts object.0.operations object.0.state handler.procedure;
-        follows = refl;
-      } in
-      subst (λ (r : Result). RunsHandler program number cleared r.replied r.after) does runs
+      handler_runs program number cleared handler object.0 declared object.1
 
   -- what it does leaves them there
   still_there : {before after : ProgramState} {number : ℕ} {served : List Answer}
@@ -229,27 +238,27 @@ module _ (program : Declarations) (right : IsProgram program) where
       absurd (subst (λ (l : List ℕ). Has number l) none has))
   fire_fires (number ∷ rest) state are all =
       decide (best_of state.clock state.timers) (λ after. fire_fires rest after) where
-    decide : Found state.clock state.timers
-        → ((after : ProgramState) → AreThere program after → due_events after.clock after.timers ≡ rest
-        → Fires program after (fire program after rest).replied (fire program after rest).after)
-        → Fires program state (fire program state (number ∷ rest)).replied
-        (fire program state (number ∷ rest)).after
-    decide (None, none) others_fire =
-        let no : due_events state.clock state.timers ≡ [] =
-        ap (λ (l : List Setting). map (λ (x : Setting). x.1) (sorted l)) none in
-        absurd (cc)
-    decide (Some (time, which), best) others_fire =
-        let is = best_is_first state.clock state.timers time which best in
-        let listed : number ∷ rest
+        decide : Found state.clock state.timers
+            → ((after : ProgramState) → AreThere program after → due_events after.clock after.timers ≡ rest
+            → Fires program after (fire program after rest).replied (fire program after rest).after)
+            → Fires program state (fire program state (number ∷ rest)).replied
+            (fire program state (number ∷ rest)).after
+        decide (None, none) others_fire =
+            let no : due_events state.clock state.timers ≡ [] =
+            ap (λ (l : List Setting). map (λ (x : Setting). x.1) (sorted l)) none in
+            absurd (cc)
+        decide (Some (time, which), best) others_fire =
+            let is = best_is_first state.clock state.timers time which best in
+            let listed : number ∷ rest
             ≡ which ∷ due_events state.clock (set state.timers (which - 1) None) =
-        sym all ∙ ap (map (λ (x : Setting). x.1)) is.all in
-        let same : which ≡ number = cc in
-        let others : due_events state.clock (set state.timers (which - 1) None) ≡ rest = cc in
-        let first = subst (λ n. IsFirstDue state time n) same (first_due state time which is) in
-        let one = fires program state number in
-        let alone = handled_alone (with_timer state number None) (timer_handler program number) in
-        let left : due_events one.after.clock one.after.timers ≡ rest =
-        ap (λ (s : ProgramState). due_events s.clock s.timers) alone
-        ∙ ap (λ n. due_events state.clock (set state.timers (n - 1) None)) (sym same) ∙ others in
-        let runs = fires_one state number time are first.due.set in
-        goes_on first runs (others_fire one.after (still_there runs are) left)
+            sym all ∙ ap (map (λ (x : Setting). x.1)) is.all in
+            let same : which ≡ number = cc in
+            let others : due_events state.clock (set state.timers (which - 1) None) ≡ rest = cc in
+            let first = subst (λ n. IsFirstDue state time n) same (first_due state time which is) in
+            let one = fires program state number in
+            let alone = handled_alone (with_timer state number None) (timer_handler program number) in
+            let left : due_events one.after.clock one.after.timers ≡ rest =
+            ap (λ (s : ProgramState). due_events s.clock s.timers) alone
+            ∙ ap (λ n. due_events state.clock (set state.timers (n - 1) None)) (sym same) ∙ others in
+            let runs = fires_one state number time are first.due.set in
+            goes_on first runs (others_fire one.after (still_there runs are) left)

@@ -4,6 +4,7 @@ ghost use Rattle.std.specs.Prelude.{◌≡◌, ◌++◌, ℕ, max, List, length,
 ghost use Rattle.rp_base.specs.Sets.{Has, IsSet};
 ghost use Rattle.rp_base.specs.Action.{IsRight};
 ghost use Rattle.rp_base.specs.declared.action.Action.{Action};
+ghost use Rattle.rp_base.specs.declared.action.Action.TheVariants.{Tick};
 ghost use Rattle.rp_machine.specs.Asked.{greatest};
 ghost use Rattle.rp_machine.specs.Calls.{calls_of, AccountsFor};
 ghost use Rattle.rp_machine.specs.Replay.{replay_state};
@@ -11,7 +12,7 @@ ghost use Rattle.rp_object.specs.declared.program.Declarations.{Declarations};
 ghost use Rattle.rp_object.specs.Program.{IsProgram};
 ghost use Rattle.rp_object.specs.Reached.{IsStateOf, HaveQueues};
 ghost use Rattle.rp_object.specs.State.{Running, first_state};
-ghost use Rattle.rp_object.specs.Step.{ticked, objects_next, objects_answers, objects_waiting};
+ghost use Rattle.rp_object.specs.Step.{objects_next, objects_answers, objects_waiting};
 ghost use Rattle.rp_object.specs.Ticks.{Fires, tick_of};
 
 /// No caller that waits is lost or answered twice: if each declared object is there with a queue for
@@ -32,12 +33,12 @@ pub fn actions_account_for_callers()
 /// and its handler runs.
 pub fn a_tick_fires_what_is_due()
     // claim: A tick fires exactly the events that are due, in order of time and number
-    ensures { (program : Declarations) (running : Running) (now : ℕ)
-        → IsProgram program
-        → IsStateOf program running
-        → let before = running.state in
-        let tick = ticked program before now in
-        Fires program (record before { clock = max before.clock now }) tick.replied tick.after }
+    ensures { (running : Running) (now : ℕ)
+        → IsProgram running.program
+        → IsStateOf running.program running
+        → let raised = max running.state.clock now in
+        Fires running.program (record running.state { clock = raised })
+        (objects_answers running (Tick now)) (objects_next running (Tick now)).state }
 {}
 
 /// The clock after a log is the greatest of its ticks, in whatever order they come, and 0 if there is

@@ -6,11 +6,12 @@ use Rattle.rp_object.proofs.Firing.{fire_fires}
 use Rattle.rp_object.proofs.laws.a_tick_fires_what_is_due.Goals as goal
 
 pub returns : goal.returns
-returns c program running now right is =
+returns c running now right is =
     let before = running.state in
     let clock = max before.clock now in
-    fire_fires program right (due_events clock before.timers) (record before { clock = clock })
+    fire_fires running.program right (due_events clock before.timers)
+    (record before { clock = clock })
     (record {
-      objects = sym (as_many program.objects.items before.objects is.objects);
+      objects = sym (as_many running.program.objects.items before.objects is.objects);
       timers = is.all_timers;
     }) refl

@@ -29,10 +29,10 @@ use Rattle.rp_object.specs.Program.{operations_of, has_operation, is_some_and, i
 use Rattle.rp_object.specs.Program.{timer_handler, IsProgram}
 use Rattle.rp_object.specs.State.{ProgramState}
 use Rattle.rp_object.specs.Timers.{Setting, due_from, sorted, due_events}
-use Rattle.rp_object.specs.Step.{Result, object_acts, handled, fires, fire, with_object, with_timer}
+use Rattle.rp_object.specs.Step.{Result, object_acts, handled, fires, fire, with_timer}
 use Rattle.rp_object.specs.Ticks.{IsDue, IsFirstDue, RunsHandler, Fires, ends, goes_on}
 use Rattle.rp_object.proofs.Due.{due_exactly}
-use Rattle.rp_object.proofs.Timing.{IsBefore, BeforeAll, IsBest, Best, none_more, first_found}
+use Rattle.rp_object.proofs.Timing.{IsBefore, BeforeAll, IsBest, none_more, first_found}
 use Rattle.rp_object.proofs.Timing.{still_none, earlier_found, later_kept, IsFirst, best_is_first}
 use Rattle.rp_object.proofs.Clock.{handled_alone}
 

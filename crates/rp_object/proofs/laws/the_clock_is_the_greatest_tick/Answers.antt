@@ -1,10 +1,7 @@
 -- By induction on the actions.
-use Rattle.std.proofs.Common.{max, ◌∙◌, arith}
-use Rattle.std.specs.Prelude.{filter_map}
-use Rattle.rp_machine.specs.Asked.{greatest}
+use Rattle.std.proofs.Common.{◌∙◌, arith}
 use Rattle.rp_machine.specs.Replay.{unmoved}
 use Rattle.rp_object.specs.State.{first_state}
-use Rattle.rp_object.specs.Ticks.{tick_of}
 use Rattle.rp_object.proofs.Clock.{clock_greatest}
 use Rattle.rp_object.proofs.laws.the_clock_is_the_greatest_tick.Goals as goal
 

@@ -1,5 +1,6 @@
 -- The clock is the greatest of the ticks.
-use Rattle.std.proofs.Common.{◌≡◌, ℕ, max, true, false, cond, List, [], ◌∷◌, ◌++◌, Option, Some, None}
+use Rattle.std.proofs.Common.{◌≡◌, ℕ, max, true, false, cond, List, [], ◌∷◌, ◌++◌, Option, Some}
+use Rattle.std.proofs.Common.{None}
 use Rattle.std.proofs.Common.{refl, ◌∙◌, ap, arith}
 use Rattle.std.specs.Prelude.{filter_map}
 use Rattle.rp_base.specs.declared.action.Action.{Action}
@@ -59,7 +60,8 @@ module _ (program : Declarations) (before : ProgramState) (call : Waiting) (obje
       → (asks_within program before call object request).after.clock ≡ before.clock
   within_clock request =
       elim (is_within_ceiling program call.task object) as
-      (λ b. (cond b (asks before object request) (ends_with (Reply ProgramError) before)).after.clock
+      (λ b. (cond b (asks before object request)
+      (ends_with (Reply ProgramError) before)).after.clock
       ≡ before.clock) [
         | true ↦ ap (λ (s : ProgramState). s.clock) (asks_alone before object request)
         | false ↦ refl

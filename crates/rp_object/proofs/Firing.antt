@@ -1,6 +1,7 @@
 -- Events that are due fire, the first of them first.
-use Rattle.std.proofs.Common.{◌≡◌, ◌≤◌, ◌<◌, ◌+◌, ◌-◌, ◌⊎◌, ◌<ℤ◌, ◌≤ℤ◌, inl, inr, ℕ, suc, ℤ, pos, true}
-use Rattle.std.proofs.Common.{List, [], ◌∷◌, ◌++◌, length, set, map, Option, Some, None, refl, sym, ◌∙◌, ap}
+use Rattle.std.proofs.Common.{◌≡◌, ◌≤◌, ◌<◌, ◌+◌, ◌-◌, ◌⊎◌, ◌<ℤ◌, ◌≤ℤ◌, inl, inr, ℕ, suc, ℤ, pos}
+use Rattle.std.proofs.Common.{true, List, [], ◌∷◌, ◌++◌, length, set, map, Option, Some, None, refl}
+use Rattle.std.proofs.Common.{sym, ◌∙◌, ap}
 use Rattle.std.proofs.Common.{subst, arith, append_assoc, append-nil}
 use Rattle.std.proofs.Common.{zero, Bool, Vec, option_map, length-set}
 use Rattle.std.specs.Prelude.{int_le, slice_get}
@@ -117,7 +118,10 @@ first_due state time number is =
           subst (λ (l : List Setting). Has (later, other) l) is.all
           (due_listed state later other due) in
           is_no_later s (later, other)
-          (elim has [ inl e ↦ inl e | inr h ↦ inr (before_each s (later, other) others is.before h) ]);
+          (elim has [
+            | inl e ↦ inl e
+            | inr h ↦ inr (before_each s (later, other) others is.before h)
+          ]);
     }
 
 -- ---- its handler runs
@@ -239,7 +243,8 @@ module _ (program : Declarations) (right : IsProgram program) where
   fire_fires (number ∷ rest) state are all =
       decide (best_of state.clock state.timers) (λ after. fire_fires rest after) where
         decide : Found state.clock state.timers
-            → ((after : ProgramState) → AreThere program after → due_events after.clock after.timers ≡ rest
+            → ((after : ProgramState) → AreThere program after
+            → due_events after.clock after.timers ≡ rest
             → Fires program after (fire program after rest).replied (fire program after rest).after)
             → Fires program state (fire program state (number ∷ rest)).replied
             (fire program state (number ∷ rest)).after
@@ -256,9 +261,11 @@ module _ (program : Declarations) (right : IsProgram program) where
             let others : due_events state.clock (set state.timers (which - 1) None) ≡ rest = cc in
             let first = subst (λ n. IsFirstDue state time n) same (first_due state time which is) in
             let one = fires program state number in
-            let alone = handled_alone (with_timer state number None) (timer_handler program number) in
+            let alone =
+            handled_alone (with_timer state number None) (timer_handler program number) in
             let left : due_events one.after.clock one.after.timers ≡ rest =
             ap (λ (s : ProgramState). due_events s.clock s.timers) alone
-            ∙ ap (λ n. due_events state.clock (set state.timers (n - 1) None)) (sym same) ∙ others in
+            ∙ ap (λ n. due_events state.clock (set state.timers (n - 1) None)) (sym same)
+            ∙ others in
             let runs = fires_one state number time are first.due.set in
             goes_on first runs (others_fire one.after (still_there runs are) left)

@@ -27,7 +27,7 @@ pub record IsFirstDue (state : ProgramState) (time : ℤ) (number : ℕ) : Type 
   pub first : (later : ℤ) (other : ℕ) → IsDue state later other
       → (time <ℤ later) ⊎ ((time ≡ later) × (number ≤ other))
 
--- the handler of the timing event runs: a protected action of its object, which no task asks for, and
+-- the handler of the timing event runs: a protected action of its object that no task asks for, and
 -- after which callers that wait may be served (sections 9.5.3 and D.15)
 pub record RunsHandler (program : Declarations) (number : ℕ) (before : ProgramState)
     (served : List Answer) (after : ProgramState) : Type 0 where

@@ -15,9 +15,9 @@ ghost use Rattle.rp_object.specs.State.{Running, first_state};
 ghost use Rattle.rp_object.specs.Step.{objects_next, objects_answers, objects_waiting};
 ghost use Rattle.rp_object.specs.Ticks.{Fires, tick_of};
 
-/// No caller that waits is lost or answered twice: if each declared object is there with a queue for
-/// each of its entries, and no call waits twice, the answers to an action are for distinct calls, its
-/// own or ones that waited, and exactly the others of these wait after it.
+/// No caller that waits is lost or answered twice: if each declared object is there with a queue
+/// for each of its entries, and no call waits twice, the answers to an action are for distinct
+/// calls, its own or ones that waited, and exactly the others of these wait after it.
 pub fn actions_account_for_callers()
     // claim: Nobody who waits is forgotten or answered twice
     ensures { (running : Running) (action : Action)
@@ -28,9 +28,9 @@ pub fn actions_account_for_callers()
         (objects_waiting (objects_next running action)) }
 {}
 
-/// At a tick the clock is raised where it is below, and then the timing events that are due fire one
-/// after another, until none is due: each time the first of them by time and number is no longer set,
-/// and its handler runs.
+/// At a tick the clock is raised where it is below, and then the timing events that are due fire
+/// one after another, until none is due: each time the first of them by time and number is no
+/// longer set, and its handler runs.
 pub fn a_tick_fires_what_is_due()
     // claim: A tick fires exactly the events that are due, in order of time and number
     ensures { (running : Running) (now : ℕ)
@@ -41,8 +41,8 @@ pub fn a_tick_fires_what_is_due()
         (objects_answers running (Tick now)) (objects_next running (Tick now)).state }
 {}
 
-/// The clock after a log is the greatest of its ticks, in whatever order they come, and 0 if there is
-/// none.
+/// The clock after a log is the greatest of its ticks, in whatever order they come, and 0 if there
+/// is none.
 pub fn the_clock_is_the_greatest_tick()
     // claim: The clock never goes back: it is the greatest of the ticks in the log
     ensures { (program : Declarations) (actions : List Action)

@@ -5,4 +5,5 @@ pub mod Ticking
 pub mod Writing
 pub mod Starting
 pub mod Due
-pub mod Order
+pub mod Firing
+pub mod Clock

@@ -1,10 +1,10 @@
 -- Timing events that fire one after another.
-use Rattle.std.proofs.Common.{◌≡◌, ℕ, List, [], ◌∷◌, ◌++◌, None, refl, sym, ◌∙◌, ap, append_assoc, append-nil}
+use Rattle.std.proofs.Common.{◌≡◌, ℕ, List, [], ◌∷◌, ◌++◌, None, refl}
 use Rattle.rp_base.specs.declared.reply.Answer.{Answer}
 use Rattle.rp_object.specs.declared.program.Declarations.{Declarations}
 use Rattle.rp_object.specs.State.{ProgramState}
 use Rattle.rp_object.specs.Timers.{due_events}
-use Rattle.rp_object.specs.Step.{Result, fires, fire, with_timer}
+use Rattle.rp_object.specs.Step.{Result, fire}
 
 -- what came before, and then this
 abbrev pub following : List Answer → Result → Result

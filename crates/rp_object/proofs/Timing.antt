@@ -1,5 +1,5 @@
 -- The timing event that is due first, and those that are due after it.
-use Rattle.std.proofs.Common.{◌≡◌, ◌<◌, ◌≤◌, ◌+◌, ◌-◌, ◌⊎◌, inl, inr, ℕ, suc, ℤ, pos, ◌<ℤ◌, ◌≤ℤ◌, Bool, true, false, cond, ◌&&◌, ◌||◌, List, [], ◌∷◌, ◌++◌, length, get_or, set, take, Option, Some, None, map, refl, sym, ◌∙◌, ap, subst, arith, append_assoc, append-nil, length-append, length-take-le}
+use Rattle.std.proofs.Common.{◌≡◌, ◌<◌, ◌+◌, ◌-◌, ◌⊎◌, inl, inr, ℕ, suc, ℤ, pos, ◌<ℤ◌, ◌≤ℤ◌, Bool, true, false, cond, ◌&&◌, ◌||◌, List, [], ◌∷◌, ◌++◌, length, get_or, set, take, Option, Some, None, map, refl, sym, ◌∙◌, ap, subst, arith, append_assoc, append-nil, length-take-le}
 use Rattle.std.specs.Prelude.{int_lt, int_le, nat_lt}
 use Rattle.std.specs.Ordering.{int_eq}
 use Rattle.std.proofs.lemmas.Int.{ints, by_lt_z}
@@ -197,9 +197,13 @@ set_after : {X : Type 0} (xs : List X) (x y : X) (ys : List X) → set (xs ++ x 
 set_after [] x y ys = refl
 set_after (z ∷ xs) x y ys = ap (λ l. z ∷ l) (set_after xs x y ys)
 
--- it is the first that is due, and the others are due once it is not set
-pub best_first : (clock : ℕ) (timers : List (Option ℤ)) (time : ℤ) (number : ℕ) → Best clock timers time number → due_events clock timers ≡ number ∷ due_events clock (set timers (number - 1) None)
-best_first clock timers time number was =
+-- it is the first that is due, and before the others, which are due once it is not set
+pub record IsFirst (clock : ℕ) (timers : List (Option ℤ)) (time : ℤ) (number : ℕ) : Type 0 where
+  pub all : sorted (due_from clock 1 timers) ≡ (time, number) ∷ sorted (due_from clock 1 (set timers (number - 1) None))
+  pub before : BeforeAll (time, number) (sorted (due_from clock 1 (set timers (number - 1) None)))
+
+pub best_is_first : (clock : ℕ) (timers : List (Option ℤ)) (time : ℤ) (number : ℕ) → Best clock timers time number → IsFirst clock timers time number
+best_is_first clock timers time number was =
     let s : Setting = (time, number) in
     let next : suc number ≡ number + 1 = omega arith in
     let from : 1 + length was.before ≡ number = omega (arith, was.place) in
@@ -213,9 +217,15 @@ best_first clock timers time number was =
     ap (λ n. set timers n None) place ∙ ap (λ (l : List (Option ℤ)). set l (length was.before) None) was.split ∙ set_after was.before (Some time) None was.following in
     let others : due_from clock 1 (set timers (number - 1) None) ≡ left ++ right =
     ap (due_from clock 1) cleared ∙ due_append clock 1 was.before (None ∷ was.following) ∙ ap (λ n. left ++ due_from clock (suc n) was.following) from ∙ ap (λ n. left ++ due_from clock n was.following) next in
-    ap (λ (l : List Setting). map (λ (x : Setting). x.1) (sorted l)) all
-    ∙ ap (map (λ (x : Setting). x.1)) (sorted_first s left right was.first was.second)
-    ∙ ap (λ (l : List Setting). number ∷ map (λ (x : Setting). x.1) (sorted l)) (sym others)
+    record {
+      all = ap sorted all ∙ sorted_first s left right was.first was.second ∙ ap (λ (l : List Setting). s ∷ sorted l) (sym others);
+      before =
+          subst (λ (l : List Setting). BeforeAll s (sorted l)) (sym others)
+          (sorted_keeps s (left ++ right) (before_append s left right was.first was.second));
+    }
+
+pub best_first : (clock : ℕ) (timers : List (Option ℤ)) (time : ℤ) (number : ℕ) → Best clock timers time number → due_events clock timers ≡ number ∷ due_events clock (set timers (number - 1) None)
+best_first clock timers time number was = ap (map (λ (x : Setting). x.1)) (best_is_first clock timers time number was).all
 
 -- ---- the loop's steps, at what the code compares
 

@@ -4,5 +4,6 @@ pub mod State
 pub mod InMemory
 pub mod Timers
 pub mod Step
+pub mod Ticks
 pub mod Image
 pub mod Reached

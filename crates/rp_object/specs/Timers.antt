@@ -1,7 +1,7 @@
 -- Which timing events are due, and in which order (Ada Reference Manual, section D.15; the order is
 -- ours).
-use Rattle.std.specs.Prelude.{◌≡◌, ℕ, suc, ℤ, pos, int_lt, int_le, nat_lt, Bool, false, ◌&&◌, ◌||◌}
-use Rattle.std.specs.Prelude.{Option, Some, None, List, [], ◌∷◌, map, if◌then◌else◌}
+use Rattle.std.specs.Prelude.{ℕ, suc, ℤ, pos, int_lt, int_le, nat_lt, Bool, ◌&&◌, ◌||◌, Option}
+use Rattle.std.specs.Prelude.{Some, None, List, [], ◌∷◌, map, if◌then◌else◌}
 use Rattle.std.specs.Ordering.{int_eq}
 
 -- a time for which a timing event is set, and the event's number
@@ -34,13 +34,3 @@ sorted (setting ∷ rest) = with_setting setting (sorted rest)
 -- the numbers of the events that are due, in order of time and number
 abbrev pub due_events : ℕ → List (Option ℤ) → List ℕ
 due_events clock timers = map (λ setting. setting.1) (sorted (due_from clock 1 timers))
-
--- none of these is before the setting
-abbrev pub NoneBefore : Setting → List Setting → Type 0
-NoneBefore setting [] = Unit {0}
-NoneBefore setting (other ∷ rest) = (is_before other setting ≡ false) × NoneBefore setting rest
-
--- none that is after a setting is before it
-abbrev pub InOrder : List Setting → Type 0
-InOrder [] = Unit {0}
-InOrder (setting ∷ rest) = NoneBefore setting rest × InOrder rest

@@ -1,18 +1,19 @@
 //! What follows from the rules of a program alone.
 
-ghost use Rattle.std.specs.Prelude.{◌≡◌, ◌↔◌, ◌++◌, ℕ, ℤ, pos, true, int_le, List, Option, Some, length};
+ghost use Rattle.std.specs.Prelude.{◌≡◌, ◌++◌, ℕ, max, List, length, filter_map};
 ghost use Rattle.rp_base.specs.Sets.{Has, IsSet};
 ghost use Rattle.rp_base.specs.Action.{IsRight};
 ghost use Rattle.rp_base.specs.declared.action.Action.{Action};
-ghost use Rattle.rp_entry.specs.Operations.{of_index};
+ghost use Rattle.rp_base.specs.declared.action.Action.TheVariants.{Tick};
+ghost use Rattle.rp_machine.specs.Asked.{greatest};
 ghost use Rattle.rp_machine.specs.Calls.{calls_of, AccountsFor};
 ghost use Rattle.rp_machine.specs.Replay.{replay_state};
 ghost use Rattle.rp_object.specs.declared.program.Declarations.{Declarations};
 ghost use Rattle.rp_object.specs.Program.{IsProgram};
 ghost use Rattle.rp_object.specs.Reached.{IsStateOf, HaveQueues};
 ghost use Rattle.rp_object.specs.State.{Running, first_state};
-ghost use Rattle.rp_object.specs.Timers.{due_from, sorted, InOrder};
 ghost use Rattle.rp_object.specs.Step.{objects_next, objects_answers, objects_waiting};
+ghost use Rattle.rp_object.specs.Ticks.{Fires, tick_of};
 
 /// No caller that waits is lost or answered twice: if each declared object is there with a queue
 /// for each of its entries, and no call waits twice, the answers to an action are for distinct
@@ -27,15 +28,26 @@ pub fn actions_account_for_callers()
         (objects_waiting (objects_next running action)) }
 {}
 
-/// A tick fires the timing events that are set for a time at or below the clock, all of them, in
-/// order of time and number.
-pub fn due_events_are_due()
+/// At a tick the clock is raised where it is below, and then the timing events that are due fire
+/// one after another, until none is due: each time the first of them by time and number is no
+/// longer set, and its handler runs.
+pub fn a_tick_fires_what_is_due()
     // claim: A tick fires exactly the events that are due, in order of time and number
-    ensures order { (clock : ℕ) (timers : List (Option ℤ))
-        → InOrder (sorted (due_from clock 1 timers)) }
-    ensures due { (clock : ℕ) (timers : List (Option ℤ)) (time : ℤ) (number : ℕ)
-        → Has (time, number) (sorted (due_from clock 1 timers))
-        ↔ ((of_index timers number ≡ Some (Some time)) × (int_le time (pos clock) ≡ true)) }
+    ensures { (running : Running) (now : ℕ)
+        → IsProgram running.program
+        → IsStateOf running.program running
+        → let raised = max running.state.clock now in
+        Fires running.program (record running.state { clock = raised })
+        (objects_answers running (Tick now)) (objects_next running (Tick now)).state }
+{}
+
+/// The clock after a log is the greatest of its ticks, in whatever order they come, and 0 if there
+/// is none.
+pub fn the_clock_is_the_greatest_tick()
+    // claim: The clock never goes back: it is the greatest of the ticks in the log
+    ensures { (program : Declarations) (actions : List Action)
+        → (replay_state objects_next objects_answers (first_state program) actions).state.clock
+        ≡ greatest (filter_map tick_of actions) }
 {}
 
 /// Every log of right actions leads to a state of the program: each object has its operations, its

@@ -16,7 +16,8 @@ mod objects;
 mod program;
 
 pub use laws::{
-    actions_account_for_callers, due_events_are_due, logs_lead_to_states_of_the_program,
+    a_tick_fires_what_is_due, actions_account_for_callers, logs_lead_to_states_of_the_program,
+    the_clock_is_the_greatest_tick,
 };
 pub use objects::Objects;
 pub use program::{

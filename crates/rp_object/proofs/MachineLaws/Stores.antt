@@ -134,9 +134,10 @@ module _ (declared : ObjectDeclaration) (fits : DeclarationFits declared) (one o
       same_found (get one.ints name) (get other.ints name) (first name ∙ sym (second name))
       (values name (omega (arith, below, fits.ints))))
       (λ (past : count ≤ name).
-      let none = not_there (is_some range) name count (fits.numbered.ints name).0 past in
-      (mapped_none range (get one.ints name) none (first name),
-      mapped_none range (get other.ints name) none (second name))))
+      let none = not_there (is_some range) name count (fits.numbered.ints name).0 past in (
+        mapped_none range (get one.ints name) none (first name),
+        mapped_none range (get other.ints name) none (second name),
+      )))
 
   pub same_bools : HasBoolsOf declared.components one → HasBoolsOf declared.components other
       → ((name : ℕ) → name < length declared.bools.items
@@ -151,6 +152,7 @@ module _ (declared : ObjectDeclaration) (fits : DeclarationFits declared) (one o
       same_truth (get one.bools name) (get other.bools name) (first name ∙ sym (second name))
       (values name (omega (arith, below, fits.bools))))
       (λ (past : count ≤ name).
-      let none = not_there is_there name count (fits.numbered.bools name).0 past in
-      (truth_none (get one.bools name) (first name ∙ none),
-      truth_none (get other.bools name) (second name ∙ none))))
+      let none = not_there is_there name count (fits.numbered.bools name).0 past in (
+        truth_none (get one.bools name) (first name ∙ none),
+        truth_none (get other.bools name) (second name ∙ none),
+      )))

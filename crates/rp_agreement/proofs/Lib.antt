@@ -27,6 +27,7 @@ pub mod PlayedRestarts
 pub mod PlayedRanges
 pub mod AnswerTurns
 pub mod AnswersGrow
+pub mod AnswerAgain
 pub mod NodeReplies
 pub mod TaskReplies
 pub mod Made

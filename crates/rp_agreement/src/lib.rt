@@ -15,6 +15,7 @@
 //! - `replies`: the replies to tasks
 //! - `ranges`: numbers stay within their ranges
 //! - `sends`: what one actor sends
+//! - `responses`: what a node does with an input
 #![tactic(auto)]
 
 mod decisions;
@@ -26,7 +27,9 @@ mod order;
 mod packets;
 mod ranges;
 mod replies;
+mod responses;
 mod sends;
+
 
 pub use decisions::{
     decisions_are_one, decisions_stay, only_asked_actions_are_decided,
@@ -54,3 +57,4 @@ pub use replies::{
     replies_follow_the_order, task_events_keep_replies,
 };
 pub use sends::{nodes_send_right_packets, tasks_send_right_packets};
+pub use responses::{a_majority_is_offered, an_answered_call_is_answered_again};

@@ -14,7 +14,7 @@ use Rattle.rp_agreement.specs.Answered.{named}
 use Rattle.rp_agreement.proofs.Lists.{found_has}
 
 -- a search finds a member where some member passes the test
-finds_one : {A : Type 0} (test : A → Bool) (x : A) (xs : List A) → Has x xs → test x ≡ true → (y : A) × (find test xs ≡ Some y)
+pub finds_one : {A : Type 0} (test : A → Bool) (x : A) (xs : List A) → Has x xs → test x ≡ true → (y : A) × (find test xs ≡ Some y)
 finds_one test x [] h passes = absurd h
 finds_one {A} test x (y ∷ ys) h passes =
     elim (cases_Bool (test y)) [
@@ -27,11 +27,11 @@ finds_one {A} test x (y ∷ ys) h passes =
     ]
 
 -- an answer for a call passes the test for it, and no other does
-is_for_call : (task number : ℕ) (answer : Answer) → call_of answer ≡ named task number → is_for task number answer ≡ true
+pub is_for_call : (task number : ℕ) (answer : Answer) → call_of answer ≡ named task number → is_for task number answer ≡ true
 is_for_call task number answer is =
     and_from (nat_eq answer.task task) (nat_eq answer.number number) (eq-eqb answer.task task (ap (λ (c : CallName). c.task) is)) (eq-eqb answer.number number (ap (λ (c : CallName). c.number) is))
 
-call_is : (task number : ℕ) (answer : Answer) → is_for task number answer ≡ true → call_of answer ≡ named task number
+pub call_is : (task number : ℕ) (answer : Answer) → is_for task number answer ≡ true → call_of answer ≡ named task number
 call_is task number answer passes =
     let both = and_parts _ _ passes in
     let tasks : answer.task ≡ task = eqb-true answer.task task both.0 in

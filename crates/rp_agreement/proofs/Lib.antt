@@ -46,5 +46,7 @@ pub mod RangeKeeping
 pub mod OnlyMade
 pub mod NearTurns
 pub mod NearKeeping
+pub mod PendingOver
+pub mod PendingTurns
 pub mod NotedTurns
 pub mod NotedWorlds

@@ -57,4 +57,7 @@ pub use replies::{
     replies_follow_the_order, task_events_keep_replies,
 };
 pub use sends::{nodes_send_right_packets, tasks_send_right_packets};
-pub use responses::{a_majority_is_offered, an_answered_call_is_answered_again};
+pub use responses::{
+    a_majority_is_offered, an_answered_call_is_answered_again,
+    pending_items_stay_until_they_are_over,
+};

@@ -25,6 +25,8 @@ pub mod Playing
 pub mod PlayedNotes
 pub mod PlayedRestarts
 pub mod PlayedRanges
+pub mod PlayedTakeovers
+pub mod PlayedAsking
 pub mod AnswerTurns
 pub mod AnswersGrow
 pub mod AnswerAgain

@@ -36,8 +36,9 @@ pub use decisions::{
     only_decided_actions_are_learned,
 };
 pub use histories::{
-    histories_agree, histories_are_sound, only_noted_actions_are_decided, some_history_decides,
-    some_history_leads_a_range, some_history_notes, some_history_replies, some_history_restarts,
+    histories_agree, histories_are_sound, only_noted_actions_are_decided, some_history_catches_up,
+    some_history_decides, some_history_leads_a_range, some_history_notes, some_history_replies,
+    some_history_restarts, some_history_takes_over,
 };
 pub use invariant::{events_keep, histories_keep, node_events_keep, task_events_keep};
 pub use offers::{offers_are_one, offers_follow_decisions};

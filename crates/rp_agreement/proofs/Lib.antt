@@ -25,8 +25,11 @@ pub mod Playing
 pub mod PlayedNotes
 pub mod PlayedRestarts
 pub mod PlayedRanges
+pub mod PlayedTakeovers
+pub mod PlayedAsking
 pub mod AnswerTurns
 pub mod AnswersGrow
+pub mod AnswerAgain
 pub mod NodeReplies
 pub mod TaskReplies
 pub mod Made
@@ -45,5 +48,7 @@ pub mod RangeKeeping
 pub mod OnlyMade
 pub mod NearTurns
 pub mod NearKeeping
+pub mod PendingOver
+pub mod PendingTurns
 pub mod NotedTurns
 pub mod NotedWorlds

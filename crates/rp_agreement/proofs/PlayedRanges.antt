@@ -17,7 +17,7 @@ use Rattle.rp_agreement.proofs.Playing.{AllRight, history_on, GetsReply, Votes, 
 abbrev first_two : Range
 first_two = record { first = 1; count = 2 }
 
-abbrev other_call : Action
+abbrev pub other_call : Action
 other_call = Call 2 1 1 (Procedure 1) (pos 7)
 
 -- The tasks 1 and 2 call node 1, which leads both positions; the nodes 1 and 2 promise both at once, node 1 offers a

@@ -70,7 +70,7 @@ right_learning sent = (tt, (tt, tt))
 abbrev pub Votes : List Message → ℕ → ℕ → ℕ → ℕ → Action → Type 0
 Votes sent number a i b v = part_at sent number ≡ Some (record { from = Node a; to = Node 1; body = Accepted i b v })
 
-has_voted : (sent : List Message) (number a i b : ℕ) (v : Action) → Votes sent number a i b v → HasVoted sent a i b v
+pub has_voted : (sent : List Message) (number a i b : ℕ) (v : Action) → Votes sent number a i b v → HasVoted sent a i b v
 has_voted sent number a i b v there = (1, part_has sent number (record { from = Node a; to = Node 1; body = Accepted i b v }) there)
 
 -- of three nodes two decide
@@ -90,10 +90,34 @@ two_decide sent one two i b v first second = record {
       ];
 }
 
+-- the packet of this number is a vote of the node, to the node 2
+abbrev pub VotesToTwo : List Message → ℕ → ℕ → ℕ → ℕ → Action → Type 0
+VotesToTwo sent number a i b v = part_at sent number ≡ Some (record { from = Node a; to = Node 2; body = Accepted i b v })
+
+pub voted_to_two : (sent : List Message) (number a i b : ℕ) (v : Action) → VotesToTwo sent number a i b v → HasVoted sent a i b v
+voted_to_two sent number a i b v there = (2, part_has sent number (record { from = Node a; to = Node 2; body = Accepted i b v }) there)
+
+-- of three nodes the other two decide
+pub others_decide : (sent : List Message) (one two i b : ℕ) (v : Action) → VotesToTwo sent one 2 i b v → VotesToTwo sent two 3 i b v → IsDecided 3 sent i v
+others_decide sent one two i b v first second = record {
+  ballot = b;
+  voters = 2 ∷ 3 ∷ [];
+  members = record {
+    members = λ x has. elim has [ inl is ↦ (omega (arith, is), omega (arith, is)) | inr rest ↦ elim rest [ inl is ↦ (omega (arith, is), omega (arith, is)) | inr none ↦ absurd none ] ];
+    distinct = (λ has. elim has [ inl is ↦ omega (arith, is) | inr none ↦ none ], (λ none. none, tt));
+  };
+  majority = omega arith;
+  voted = λ a has.
+      elim has [
+        | inl is ↦ subst (λ (a : ℕ). HasVoted sent a i b v) (sym is) (voted_to_two sent one 2 i b v first)
+        | inr rest ↦ elim rest [ inl is ↦ subst (λ (a : ℕ). HasVoted sent a i b v) (sym is) (voted_to_two sent two 3 i b v second) | inr none ↦ absurd none ]
+      ];
+}
+
 -- ---- histories
 
 -- events happen after others
-happen_on : {S : Type 0} (s : Setting S) (events more : List Event) (before middle after : World) → Happen s before events middle → Happen s middle more after → Happen s before (events ++ more) after
+pub happen_on : {S : Type 0} (s : Setting S) (events more : List Event) (before middle after : World) → Happen s before events middle → Happen s middle more after → Happen s before (events ++ more) after
 happen_on s [] more before middle after happened on = subst (λ (w : World). Happen s w more after) happened on
 happen_on s (event ∷ rest) more before middle after happened on = (happened.0, happened.1, happen_on s rest more happened.0.world middle after happened.2 on)
 

@@ -12,3 +12,4 @@ pub mod History
 pub mod Noted
 pub mod Possible
 pub mod Answered
+pub mod Over

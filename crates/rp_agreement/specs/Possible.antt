@@ -1,19 +1,22 @@
 -- Histories in which something happens, so that the laws are not vacuous: a call is decided
--- and its task gets the reply, a tick is applied, a stopped node starts again, a range is led.
-use Rattle.std.specs.Prelude.{◌≡◌, ℕ, Bool, false, true, Some, IsSome, List, [], ◌∷◌, ◌++◌, filter}
+-- and its task gets the reply, a tick is applied, a stopped node starts again, a range is led, a node
+-- takes over from one that stopped, and one learns what it missed.
+use Rattle.std.specs.Prelude.{◌≡◌, ℕ, Bool, false, true, nat_eq, ◌&&◌, Some, IsSome, List, [], ◌∷◌}
+use Rattle.std.specs.Prelude.{◌++◌, filter}
 use Rattle.rp_base.specs.Ranges.{Range}
 use Rattle.rp_base.specs.Records.{applied_of}
 use Rattle.rp_base.specs.Sets.{Has}
 use Rattle.rp_base.specs.declared.action.Action.{Action}
 use Rattle.rp_base.specs.declared.reply.Answer.{Answer}
 use Rattle.rp_codec.specs.declared.packet.Body.{Body}
-use Rattle.rp_codec.specs.declared.packet.Body.TheVariants.{Prepare, PrepareRange}
+use Rattle.rp_codec.specs.declared.packet.Body.TheVariants.{Prepare, PrepareRange, Decided, Ask}
 use Rattle.rp_model.specs.Answers.{IsStopped}
 use Rattle.rp_model.specs.Effect.{Setting}
-use Rattle.rp_model.specs.Events.{Event, Step, Makes, Cut, Restart, LeadRange}
-use Rattle.rp_model.specs.Facts.{IsDecided}
-use Rattle.rp_model.specs.Parts.{NodePart, TaskPart}
-use Rattle.rp_model.specs.Says.{says_to_all}
+use Rattle.rp_model.specs.Events.{Event, Step, Makes, Cut, Stop, Restart, Deliver, LeadRange}
+use Rattle.rp_model.specs.Facts.{HasVoted, IsDecided}
+use Rattle.rp_model.specs.Parts.{Running, NodePart, TaskPart}
+use Rattle.rp_model.specs.Receiving.{is_node}
+use Rattle.rp_model.specs.Says.{says, says_to_all}
 use Rattle.rp_model.specs.World.{World, part_at, step_writes}
 use Rattle.rp_agreement.specs.Computed.{order_of}
 use Rattle.rp_agreement.specs.History.{IsHistory}
@@ -103,3 +106,56 @@ pub record IsRepliedInRange {S : Type 0} (s : Setting S) (range : Range) (call o
   pub decided : IsDecided s.config.nodes world.sent 1 call
   pub other_decided : IsDecided s.config.nodes world.sent 2 other
   pub replied : HasOnlyReply world answer
+
+-- the first item that waits at a node to be proposed
+pub record WaitsFirst (w : World) (me : ℕ) (item : Action) : Type 0 where
+  pub part : NodePart
+  pub here : part_at w.nodes me ≡ Some part
+  pub running : Running
+  pub runs : part.running ≡ Some running
+  pub others : List Action
+  pub pending : running.pending ≡ item ∷ others
+
+-- In some history node 2 votes for a call, and node 1, which led, stops before anything is decided,
+-- and for good; node 2, at which another call waits first, leads, the call that was voted for is
+-- decided, and task 1 gets this reply.
+pub record IsRepliedAfterTakeover {S : Type 0} (s : Setting S) (call other : Action)
+    (answer : Answer)
+    : Type 0 where
+  pub before : List Event
+  pub after : List Event
+  pub stopped : World
+  pub last : World
+  pub stops : IsHistory s (before ++ Stop 1 ∷ []) stopped
+  pub is_stopped : IsStopped stopped 1
+  pub ballot : ℕ
+  pub voted : HasVoted stopped.sent 2 1 ballot call
+  pub undecided : order_of s.config.nodes stopped.sent ≡ []
+  pub waits_first : WaitsFirst stopped 2 other
+  pub history : IsHistory s (before ++ Stop 1 ∷ after) last
+  pub stays_stopped : IsStopped last 1
+  pub decided : IsDecided s.config.nodes last.sent 1 call
+  pub replied : HasOnlyReply last answer
+
+-- the event delivers the packet of this number
+abbrev pub is_delivery : ℕ → Event → Bool
+is_delivery number (Makes (Deliver delivered)) = nat_eq delivered number
+is_delivery number event = false
+
+-- In some history two calls are decided; node 1 says to node 3 what is decided at position 1 in a
+-- packet that is lost; node 3 asks node 1 for that position, asks nobody for a promise, and applies
+-- both calls.
+pub record IsCaughtUp {S : Type 0} (s : Setting S) (call other : Action) : Type 0 where
+  pub events : List Event
+  pub world : World
+  pub history : IsHistory s events world
+  pub decided : IsDecided s.config.nodes world.sent 1 call
+  pub other_decided : IsDecided s.config.nodes world.sent 2 other
+  pub number : ℕ
+  pub missed : part_at world.sent number ≡ Some (says 1 (Decided 1 call) 3)
+  pub lost : filter (is_delivery number) events ≡ []
+  pub asks : Has (says 3 (Ask 1) 1) world.sent
+  pub prepares : filter (λ m. is_node 3 m.from && is_prepare m.body) world.sent ≡ []
+  pub part : NodePart
+  pub here : part_at world.nodes 3 ≡ Some part
+  pub applied : applied_of part.records ≡ call ∷ other ∷ []

@@ -22,6 +22,7 @@ ghost use Rattle.rp_agreement.specs.Noted.{IsNoted};
 ghost use Rattle.rp_agreement.specs.Order.{IsPrefix, AreAlike};
 ghost use Rattle.rp_agreement.specs.Possible.{three_nodes, IsReplied, IsNotedAndApplied};
 ghost use Rattle.rp_agreement.specs.Possible.{IsRepliedAfterRestart, IsRepliedInRange};
+ghost use Rattle.rp_agreement.specs.Possible.{IsRepliedAfterTakeover, IsCaughtUp};
 ghost use Rattle.rp_agreement.specs.Worlds.{IsSoundWorld};
 
 use crate::opening::the_opening_is_sound;
@@ -136,4 +137,36 @@ pub fn some_history_leads_a_range<M: Machine>()
         let answer : Answer = record { task = 1; number = 1; reply = reply } in
         M.answers begin call ≡ answer ∷ []
         → IsRepliedInRange (three_nodes 2 M.next M.answers begin) range call other answer }
+{}
+
+/// Nor of positions that nobody can take over: with three nodes, whatever the machine, if it answers
+/// that call at once, in some history a node stops for which another voted, that one leads, and what
+/// it voted for is decided and its task gets the reply.
+pub fn some_history_takes_over<M: Machine>()
+    // claim: In some history a node that led stops for good once another voted for a call, the
+    //   other leads with a call of its own, and the first call is decided and its task gets the
+    //   reply: with three nodes twenty-three right events do
+    ensures { (begin : M) (reply : Reply)
+        → let call : Action = Call 1 1 1 (Procedure 1) (pos 5) in
+        let other : Action = Call 2 1 1 (Procedure 1) (pos 7) in
+        let answer : Answer = record { task = 1; number = 1; reply = reply } in
+        M.answers begin call ≡ answer ∷ []
+        → IsRepliedAfterTakeover (three_nodes 1 M.next M.answers begin) call other answer }
+{}
+
+/// Nor of nodes that never learn what they missed: with three nodes, whatever the machine, if it
+/// answers each of two calls at once, in some history a node that a decision did not reach asks for
+/// it, and applies both calls.
+pub fn some_history_catches_up<M: Machine>()
+    // claim: In some history two calls are decided, a node to which the first decision is lost asks
+    //   for it, and applies both calls without leading: with three nodes twenty-two right events
+    //   do
+    ensures { (begin : M) (reply second : Reply)
+        → let call : Action = Call 1 1 1 (Procedure 1) (pos 5) in
+        let other : Action = Call 2 1 1 (Procedure 1) (pos 7) in
+        let answer : Answer = record { task = 1; number = 1; reply = reply } in
+        let other_answer : Answer = record { task = 2; number = 1; reply = second } in
+        M.answers begin call ≡ answer ∷ []
+        → M.answers (M.next begin call) other ≡ other_answer ∷ []
+        → IsCaughtUp (three_nodes 2 M.next M.answers begin) call other }
 {}

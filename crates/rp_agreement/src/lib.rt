@@ -15,6 +15,7 @@
 //! - `replies`: the replies to tasks
 //! - `ranges`: numbers stay within their ranges
 //! - `sends`: what one actor sends
+//! - `responses`: what a node does with an input
 #![tactic(auto)]
 
 mod decisions;
@@ -26,15 +27,18 @@ mod order;
 mod packets;
 mod ranges;
 mod replies;
+mod responses;
 mod sends;
+
 
 pub use decisions::{
     decisions_are_one, decisions_stay, only_asked_actions_are_decided,
     only_decided_actions_are_learned,
 };
 pub use histories::{
-    histories_agree, histories_are_sound, only_noted_actions_are_decided, some_history_decides,
-    some_history_leads_a_range, some_history_notes, some_history_replies, some_history_restarts,
+    histories_agree, histories_are_sound, only_noted_actions_are_decided, some_history_catches_up,
+    some_history_decides, some_history_leads_a_range, some_history_notes, some_history_replies,
+    some_history_restarts, some_history_takes_over,
 };
 pub use invariant::{events_keep, histories_keep, node_events_keep, task_events_keep};
 pub use offers::{offers_are_one, offers_follow_decisions};
@@ -54,3 +58,7 @@ pub use replies::{
     replies_follow_the_order, task_events_keep_replies,
 };
 pub use sends::{nodes_send_right_packets, tasks_send_right_packets};
+pub use responses::{
+    a_majority_is_offered, an_answered_call_is_answered_again,
+    pending_items_stay_until_they_are_over,
+};

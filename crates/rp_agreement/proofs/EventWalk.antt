@@ -13,7 +13,7 @@ use Rattle.rp_model.specs.Effect as nodes
 use Rattle.rp_model.specs.Effect.{Setting, Done, NodeInput, node_effect, cut_effect, stop_effect, restart_part, untorn_part}
 use Rattle.rp_model.specs.Tasks as tasks
 use Rattle.rp_model.specs.Tasks.{TaskInput, task_effect}
-use Rattle.rp_model.specs.Events.{Step, Deliver, Lead, LeadRange, Interrupt, Tick, Report, IsStep, Event, Submit, Again, Makes, Cut, Stop, Restart, IsEvent}
+use Rattle.rp_model.specs.Events.{Step, Deliver, Lead, LeadRange, Interrupt, Tick, Report, IsRightStep, Event, Submit, Again, Makes, Cut, Stop, Restart, IsRightEvent}
 use Rattle.rp_model.specs.World.{World, Transition, part_at, node_done, task_done, node_done_if, task_done_if, task_takes, task_receives, node_takes, node_hears, node_receives, arrives, delivers, step_effect, node_is_cut, hearing_is_cut, arrival_is_cut, delivery_is_cut, cut_step, stops, restarts, event_effect}
 use Rattle.rp_model.specs.Answers.{untorn, IsLeft, FailsBy, Steps, Happen}
 use Rattle.rp_agreement.specs.Inputs.{IsInput, IsTaskInput}
@@ -126,7 +126,7 @@ module _ {S : Type 0} (s : Setting S) (may : NodeInput → Type 0) (P : World �
   delivery_keeps w number None fact comes is = tt
   delivery_keeps w number (Some message) fact comes is = arrival_keeps w message message.to fact (part_has w.sent number message is) (comes message) refl
 
-  step_keeps : (w : World) (step : Step) → P w → IsStep step → StepMay may step → HoldsAfter P (step_effect s w step)
+  step_keeps : (w : World) (step : Step) → P w → IsRightStep step → StepMay may step → HoldsAfter P (step_effect s w step)
   step_keeps w (Deliver number) fact is comes = delivery_keeps w number (part_at w.sent number) fact comes refl
   step_keeps w (Lead me choice) fact is comes = takes_keep w me (nodes.Lead choice) (part_at w.nodes me) fact is.1 comes refl
   step_keeps w (LeadRange me first count) fact is comes = takes_keep w me (nodes.LeadRange first count) (part_at w.nodes me) fact is.1 comes refl
@@ -156,7 +156,7 @@ module _ {S : Type 0} (s : Setting S) (may : NodeInput → Type 0) (P : World �
   delivery_cut_keeps w number None kept fact is = tt
   delivery_cut_keeps w number (Some message) kept fact is = arrival_cut_keeps w message message.to kept fact (part_has w.sent number message is)
 
-  cut_step_keeps : (w : World) (step : Step) (kept : ℕ) → P w → IsStep step → HoldsAfter P (cut_step s w step kept)
+  cut_step_keeps : (w : World) (step : Step) (kept : ℕ) → P w → IsRightStep step → HoldsAfter P (cut_step s w step kept)
   cut_step_keeps w (Deliver number) kept fact is = delivery_cut_keeps w number (part_at w.sent number) kept fact refl
   cut_step_keeps w (Lead me choice) kept fact is = cuts_keep w me (nodes.Lead choice) kept (part_at w.nodes me) fact is.1 refl
   cut_step_keeps w (LeadRange me first count) kept fact is = cuts_keep w me (nodes.LeadRange first count) kept (part_at w.nodes me) fact is.1 refl
@@ -174,7 +174,7 @@ module _ {S : Type 0} (s : Setting S) (may : NodeInput → Type 0) (P : World �
   restarts_keep w me None fact here = tt
   restarts_keep w me (Some part) fact here = kept_by.restart w me part fact here
 
-  pub event_keeps : (w : World) (event : Event) → P w → IsEvent event → EventMay may event → HoldsAfter P (event_effect s w event)
+  pub event_keeps : (w : World) (event : Event) → P w → IsRightEvent event → EventMay may event → HoldsAfter P (event_effect s w event)
   event_keeps w (Submit t node object operation arg) fact is comes = task_takes_keep w t (tasks.Submit node object operation arg) (part_at w.tasks t) fact (is.1, is.4) refl
   event_keeps w (Again t node) fact is comes = task_takes_keep w t (tasks.Again node) (part_at w.tasks t) fact is.1 refl
   event_keeps w (Makes step) fact is comes = step_keeps w step fact is comes
@@ -203,7 +203,7 @@ module _ {S : Type 0} (s : Setting S) (may : NodeInput → Type 0) (P : World �
   pub result_keeps : (result : Result Transition Fault) (transition : Transition) (after : World) → HoldsAfter P result → result ≡ Ok transition → after ≡ transition.world → P after
   result_keeps result transition after fact is world = subst P (sym world) (subst (HoldsAfter P) is fact)
 
-  fails_keeps : (w : World) (event : Event) (left : World) → P w → IsEvent event → FailsBy s w event left → P left
+  fails_keeps : (w : World) (event : Event) (left : World) → P w → IsRightEvent event → FailsBy s w event left → P left
   fails_keeps w (Submit t node object operation arg) left fact is fails = absurd fails
   fails_keeps w (Again t node) left fact is fails = absurd fails
   fails_keeps w (Makes step) left fact is fails = result_keeps (cut_step s w step fails.0) fails.1.transition left (cut_step_keeps w step fails.0 fact is) fails.1.effect fails.1.world
@@ -211,7 +211,7 @@ module _ {S : Type 0} (s : Setting S) (may : NodeInput → Type 0) (P : World �
   fails_keeps w (Stop me) left fact is fails = absurd fails
   fails_keeps w (Restart me) left fact is fails = left_keeps w (Restart me) left fact fails
 
-  pub answer_keeps : (w : World) (event : Event) (after : World) (answer : Result Effect Fault) → P w → IsEvent event → EventMay may event → Steps s w event after answer → P after
+  pub answer_keeps : (w : World) (event : Event) (after : World) (answer : Result Effect Fault) → P w → IsRightEvent event → EventMay may event → Steps s w event after answer → P after
   answer_keeps w event after (Ok effect) fact is comes steps = result_keeps (event_effect s w event) steps.transition after (event_keeps w event fact is comes) steps.resulted steps.world
   answer_keeps w event left (Err fault) fact is comes steps =
       elim steps [
@@ -223,7 +223,7 @@ module _ {S : Type 0} (s : Setting S) (may : NodeInput → Type 0) (P : World �
       ]
 
   -- events one after another
-  pub history_keeps : (w : World) (events : List Event) (after : World) → P w → ((event : Event) → Has event events → IsEvent event)
+  pub history_keeps : (w : World) (events : List Event) (after : World) → P w → ((event : Event) → Has event events → IsRightEvent event)
       → ((event : Event) → Has event events → EventMay may event) → Happen s w events after → P after
   history_keeps w [] after fact right come happen = same_keeps w after fact happen
   history_keeps w (event ∷ rest) after fact right come happen =

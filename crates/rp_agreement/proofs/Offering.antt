@@ -21,18 +21,18 @@ use Rattle.rp_codec.specs.declared.packet.Body.TheVariants as bodies
 use Rattle.rp_model.specs.Parts.{NodePart}
 use Rattle.rp_model.specs.Facts.{IsPromise, HasPromised, IsOffered}
 use Rattle.rp_agreement.specs.Asked.{IsAsked}
-use Rattle.rp_agreement.specs.Justified.{Reports, IsJustified, HasWritten}
+use Rattle.rp_agreement.specs.Justified.{Reports, IsJustified, HasPromiseRecord}
 use Rattle.rp_agreement.specs.Sound.{IsMember, IsSo, SaysSo, IsSound}
 use Rattle.rp_agreement.proofs.Lists.{has_picked, highest_has}
 
 -- ---- what is sent is so
 
 promise_so : (nodes : ℕ) (sent : List Message) (records : List Rec) (body : Body) (i b : ℕ) (last : Option Vote) → IsPromise body i b last → IsSo nodes sent records body
-    → HasWritten records i b × Reports records i b last
+    → HasPromiseRecord records i b × Reports records i b last
 promise_so nodes sent records (bodies.Call action) i b last is so = absurd is
 promise_so nodes sent records (bodies.Prepare position ballot) i b last is so = absurd is
 promise_so nodes sent records (bodies.Promise position ballot vote) i b last is so =
-    let Kept : ℕ → ℕ → Option Vote → Type 0 = λ j c o. HasWritten records j c × Reports records j c o in
+    let Kept : ℕ → ℕ → Option Vote → Type 0 = λ j c o. HasPromiseRecord records j c × Reports records j c o in
     subst (Kept i b) is.2 (subst (λ (c : ℕ). Kept i c vote) is.1 (subst (λ (j : ℕ). Kept j ballot vote) is.0 ((Promised position ballot, so.0, (refl, refl)), so.1)))
 promise_so nodes sent records (bodies.Accept position ballot action) i b last is so = absurd is
 promise_so nodes sent records (bodies.Accepted position ballot action) i b last is so = absurd is
@@ -43,12 +43,12 @@ promise_so nodes sent records (bodies.Reply number reply) i b last is so = absur
 promise_so nodes sent records (bodies.Report first applied actions) i b last is so = absurd is
 promise_so nodes sent records (bodies.PrepareRange range ballot) i b last is so = absurd is
 promise_so nodes sent records (bodies.PromiseRange range ballot votes) i b last is so =
-    let Kept : ℕ → Option Vote → Type 0 = λ c o. HasWritten records i c × Reports records i c o in
+    let Kept : ℕ → Option Vote → Type 0 = λ c o. HasPromiseRecord records i c × Reports records i c o in
     subst (Kept b) is.2 (subst (λ (c : ℕ). Kept c (placed_at votes i)) is.1 ((PromisedRange range ballot, so.0, (is.0, refl)), so.1 i is.0))
 
 -- a node that sent a promise keeps it
 pub promise_kept : (nodes : ℕ) (node : ℕ → NodePart) (sent : List Message) → IsSound nodes node sent → (a i b : ℕ) (last : Option Vote) → HasPromised sent a i b last
-    → IsMember nodes a × Reports (node a).records i b last × HasWritten (node a).records i b
+    → IsMember nodes a × Reports (node a).records i b last × HasPromiseRecord (node a).records i b
 promise_kept nodes node sent sound a i b last stated =
     let so = subst (λ (party : Party). SaysSo nodes node sent party stated.0.body) stated.2 (sound.says stated.0 stated.1) in
     let kept = promise_so nodes sent (node a).records stated.0.body i b last stated.3 so.1 in

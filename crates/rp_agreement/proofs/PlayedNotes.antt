@@ -5,7 +5,7 @@ use Rattle.rp_base.specs.declared.action.Action.TheVariants.{Interrupt, Tick}
 use Rattle.rp_base.specs.declared.reply.Answer.{Answer}
 use Rattle.rp_model.specs.Answers.{Happen}
 use Rattle.rp_model.specs.Events as events
-use Rattle.rp_model.specs.Events.{Step, Event, IsStep, Makes}
+use Rattle.rp_model.specs.Events.{Step, Event, IsRightStep, Makes}
 use Rattle.rp_model.specs.World.{World, opening_world}
 use Rattle.rp_agreement.specs.Possible.{HasApplied, IsNotedAndApplied, three_nodes}
 use Rattle.rp_agreement.specs.Noted.{IsNoted}
@@ -20,7 +20,7 @@ module _ {S : Type 0} (next : S → Action → S) (answers : S → Action → Li
   abbrev Noted : Step → Action → Type 0
   Noted note v = (w : World) × Happen (three_nodes 1 next answers begin) (opening_world 3) (noting note) w × Votes w.sent 9 1 1 9 v × Votes w.sent 10 2 1 9 v × HasApplied w v
 
-  applied_so : (note : Step) (v : Action) → IsStep note → IsNoted (noting note) v → Noted note v → IsNotedAndApplied (three_nodes 1 next answers begin) v
+  applied_so : (note : Step) (v : Action) → IsRightStep note → IsNoted (noting note) v → Noted note v → IsNotedAndApplied (three_nodes 1 next answers begin) v
   applied_so note v right noted played = record {
     events = noting note;
     world = played.0;

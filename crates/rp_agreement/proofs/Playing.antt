@@ -12,7 +12,7 @@ use Rattle.rp_codec.specs.Message.{Message}
 use Rattle.rp_codec.specs.declared.packet.Body.TheVariants.{Accepted}
 use Rattle.rp_codec.specs.declared.packet.Party.TheVariants.{Node}
 use Rattle.rp_model.specs.Answers.{Happen}
-use Rattle.rp_model.specs.Events.{Event, IsEvent, Submit, Makes, Deliver, Lead}
+use Rattle.rp_model.specs.Events.{Event, IsRightEvent, Submit, Makes, Deliver, Lead}
 use Rattle.rp_model.specs.Facts.{HasVoted, IsDecided}
 use Rattle.rp_model.specs.Effect.{Setting}
 use Rattle.rp_model.specs.World.{World, Transition, opening_world, part_at, event_effect}
@@ -45,11 +45,11 @@ learning sent = Makes (Deliver (sent + 9)) ∷ Makes (Deliver (sent + 10)) ∷ [
 -- each of some events that are all right is right
 abbrev pub AllRight : List Event → Type 0
 AllRight [] = Unit {0}
-AllRight (event ∷ rest) = IsEvent event × AllRight rest
+AllRight (event ∷ rest) = IsRightEvent event × AllRight rest
 
-each_right : (events : List Event) → AllRight events → (event : Event) → Has event events → IsEvent event
+each_right : (events : List Event) → AllRight events → (event : Event) → Has event events → IsRightEvent event
 each_right [] all event there = absurd there
-each_right (first ∷ rest) all event there = elim there [ inl same ↦ subst IsEvent (sym same) all.0 | inr later ↦ each_right rest all.1 event later ]
+each_right (first ∷ rest) all event there = elim there [ inl same ↦ subst IsRightEvent (sym same) all.0 | inr later ↦ each_right rest all.1 event later ]
 
 pub right_on : (events more : List Event) → AllRight events → AllRight more → AllRight (events ++ more)
 right_on [] more all on = on

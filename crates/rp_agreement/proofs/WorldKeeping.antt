@@ -11,7 +11,7 @@ use Rattle.rp_model.specs.Parts.{TaskPart}
 use Rattle.rp_model.specs.Parts.{fresh_node}
 use Rattle.rp_model.specs.Effect.{Setting, Done, goes_on_as, NodeInput, node_effect, cut_effect, stop_effect, restart_part, untorn_part}
 use Rattle.rp_model.specs.Tasks.{task_effect}
-use Rattle.rp_model.specs.Events.{Event, IsEvent}
+use Rattle.rp_model.specs.Events.{Event, IsRightEvent}
 use Rattle.rp_model.specs.Answers.{untorn, Happen}
 use Rattle.rp_model.specs.World.{World, part_at, with_part, node_done, task_done}
 use Rattle.rp_agreement.specs.Sound.{IsMember, IsSound}
@@ -129,6 +129,6 @@ module _ {S : Type 0} (s : Setting S) (right : IsRightConfig s.config) where
   }
 
   -- so any events keep it
-  pub history_keeps : (w : World) (events : List Event) (after : World) → IsSoundWorld s.config.nodes w → ((event : Event) → Has event events → IsEvent event)
+  pub history_keeps : (w : World) (events : List Event) (after : World) → IsSoundWorld s.config.nodes w → ((event : Event) → Has event events → IsRightEvent event)
       → Happen s w events after → IsSoundWorld s.config.nodes after
   history_keeps w events after sound are happen = walk.history_keeps s any_input (IsSoundWorld s.config.nodes) sound_kept w events after sound are (λ event _. any_event event) happen

@@ -4,13 +4,13 @@ use Rattle.rp_base.specs.Config.{IsRightConfig}
 use Rattle.rp_base.specs.Sets.{Has}
 use Rattle.rp_model.specs.Answers.{Happen}
 use Rattle.rp_model.specs.Effect.{Setting}
-use Rattle.rp_model.specs.Events.{Event, IsEvent}
+use Rattle.rp_model.specs.Events.{Event, IsRightEvent}
 use Rattle.rp_model.specs.World.{World, opening_world}
 
 -- In a right configuration, these right events lead from the opening world to this one.
 pub record IsHistory {S : Type 0} (s : Setting S) (events : List Event) (w : World) : Type 0 where
   pub config : IsRightConfig s.config
-  pub right : (event : Event) → Has event events → IsEvent event
+  pub right : (event : Event) → Has event events → IsRightEvent event
   pub happened : Happen s (opening_world s.config.nodes) events w
 
 -- Two moments of a history: some events lead to the one world, these and more to the other.

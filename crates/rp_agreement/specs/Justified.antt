@@ -24,8 +24,8 @@ IsPromiseAt i b (Learned position action) = ⊥
 IsPromiseAt i b (PromisedRange range ballot) = (is_covered range i ≡ true) × (ballot ≡ b)
 
 -- one of the records promises the ballot at the position
-abbrev pub HasWritten : List Rec → ℕ → ℕ → Type 0
-HasWritten records i b = (rec : Rec) × Has rec records × IsPromiseAt i b rec
+abbrev pub HasPromiseRecord : List Rec → ℕ → ℕ → Type 0
+HasPromiseRecord records i b = (rec : Rec) × Has rec records × IsPromiseAt i b rec
 
 -- The records promise the ballot at the position, and this is their last vote there below it: it
 -- was cast, and no vote between it and the ballot was.

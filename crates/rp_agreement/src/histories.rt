@@ -139,9 +139,9 @@ pub fn some_history_leads_a_range<M: Machine>()
         → IsRepliedInRange (three_nodes 2 M.next M.answers begin) range call other answer }
 {}
 
-/// Nor of positions that nobody can take over: with three nodes, whatever the machine, if it answers
-/// that call at once, in some history a node stops for which another voted, that one leads, and what
-/// it voted for is decided and its task gets the reply.
+/// Nor of positions that nobody can take over: with three nodes, whatever the machine, if it
+/// answers that call at once, in some history a node stops for which another voted, that one leads,
+/// and what it voted for is decided and its task gets the reply.
 pub fn some_history_takes_over<M: Machine>()
     // claim: In some history a node that led stops for good once another voted for a call, the
     //   other leads with a call of its own, and the first call is decided and its task gets the

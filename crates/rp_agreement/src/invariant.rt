@@ -9,7 +9,7 @@ ghost use Rattle.rp_codec.specs.Message.{Message};
 ghost use Rattle.rp_model.specs.Answers.{Steps, Happen};
 ghost use Rattle.rp_model.specs.Effect.{Setting, Done, NodeInput, goes_on_as, untorn_part};
 ghost use Rattle.rp_model.specs.Effect.{node_effect, cut_effect, stop_effect, restart_part};
-ghost use Rattle.rp_model.specs.Events.{Event, IsEvent};
+ghost use Rattle.rp_model.specs.Events.{Event, IsRightEvent};
 ghost use Rattle.rp_model.specs.Tasks.{TaskInput, task_effect};
 ghost use Rattle.rp_model.specs.World.{World, Transition, event_effect};
 ghost use Rattle.rp_model.specs.declared.effect.Effect.{Effect};
@@ -80,13 +80,13 @@ pub fn events_keep<M: Machine>()
     // claim: Every event keeps the invariant of agreement, whatever a step returns
     ensures effect { (setting : Setting M) (world : World) (event : Event) (transition : Transition)
         → IsRightConfig setting.config → IsSoundWorld setting.config.nodes world
-        → IsEvent event
+        → IsRightEvent event
         → event_effect setting world event ≡ Ok transition
         → IsSoundWorld setting.config.nodes transition.world }
     ensures answer { (setting : Setting M) (world after : World) (event : Event)
         (answer : Result Effect Fault)
         → IsRightConfig setting.config → IsSoundWorld setting.config.nodes world
-        → IsEvent event
+        → IsRightEvent event
         → Steps setting world event after answer
         → IsSoundWorld setting.config.nodes after }
 {}
@@ -95,7 +95,7 @@ pub fn events_keep<M: Machine>()
 pub fn histories_keep<M: Machine>()
     ensures { (setting : Setting M) (world after : World) (events : List Event)
         → IsRightConfig setting.config → IsSoundWorld setting.config.nodes world
-        → ((event : Event) → Has event events → IsEvent event)
+        → ((event : Event) → Has event events → IsRightEvent event)
         → Happen setting world events after
         → IsSoundWorld setting.config.nodes after }
 {}

@@ -7,7 +7,7 @@ ghost use Rattle.rp_codec.specs.declared.packet.Body.{Body};
 ghost use Rattle.rp_model.specs.Parts.{NodePart};
 ghost use Rattle.rp_agreement.specs.Asked.{Says};
 ghost use Rattle.rp_model.specs.Facts.{HasPromised};
-ghost use Rattle.rp_agreement.specs.Justified.{Reports, HasWritten};
+ghost use Rattle.rp_agreement.specs.Justified.{Reports, HasPromiseRecord};
 ghost use Rattle.rp_agreement.specs.Sound.{IsMember, IsSo, IsSound};
 
 /// What a node says is so, by what it has written down by now and by what was sent: a vote or a
@@ -27,7 +27,7 @@ pub fn packets_say_so()
     ensures written { (nodes : ℕ) (node : ℕ → NodePart) (sent : List Message)
         → IsSound nodes node sent
         → (a i b : ℕ) (last : Option Vote)
-        → HasPromised sent a i b last → HasWritten (node a).records i b }
+        → HasPromised sent a i b last → HasPromiseRecord (node a).records i b }
     ensures members { (nodes : ℕ) (node : ℕ → NodePart) (sent : List Message)
         → IsSound nodes node sent
         → (a : ℕ) (body : Body) → Says sent a body → IsMember nodes a }

@@ -11,7 +11,7 @@ ghost use Rattle.rp_codec.specs.Message.{Message, IsPacket};
 ghost use Rattle.rp_model.specs.Answers.{Steps};
 ghost use Rattle.rp_model.specs.declared.effect.Effect.{Effect};
 ghost use Rattle.rp_model.specs.Effect.{Setting};
-ghost use Rattle.rp_model.specs.Events.{Event, IsEvent};
+ghost use Rattle.rp_model.specs.Events.{Event, IsRightEvent};
 ghost use Rattle.rp_model.specs.Parts.{is_in_log};
 ghost use Rattle.rp_model.specs.World.{World, Transition, opening_world, part_at, event_effect};
 ghost use Rattle.rp_model.specs.Parts.{NodePart};
@@ -55,7 +55,7 @@ pub fn few_packets_are_sent<M: Machine>()
     ensures { (config : Config) (program : M.Program) (events : List Event) (world : World)
         (event : Event) (transition : Transition)
         → let setting = setting_for M.next M.answers M.begin config program in
-        IsHistory setting events world → IsEvent event
+        IsHistory setting events world → IsRightEvent event
         → event_effect setting world event ≡ Ok transition
         → length transition.sends < 2 ^ 32 - 1 }
 {
@@ -86,13 +86,13 @@ pub fn events_keep_ranges<M: Machine>()
     ensures effect { (config : Config) (program : M.Program) (world : World) (event : Event)
         (transition : Transition)
         → let setting = setting_for M.next M.answers M.begin config program in
-        IsRightConfig config → IsRangedWorld config.nodes world → IsEvent event
+        IsRightConfig config → IsRangedWorld config.nodes world → IsRightEvent event
         → event_effect setting world event ≡ Ok transition
         → IsRangedWorld config.nodes transition.world }
     ensures answer { (config : Config) (program : M.Program) (world after : World) (event : Event)
         (answer : Result Effect Fault)
         → let setting = setting_for M.next M.answers M.begin config program in
-        IsRightConfig config → IsRangedWorld config.nodes world → IsEvent event
+        IsRightConfig config → IsRangedWorld config.nodes world → IsRightEvent event
         → Steps setting world event after answer
         → IsRangedWorld config.nodes after }
 {

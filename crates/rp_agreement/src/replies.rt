@@ -13,7 +13,7 @@ ghost use Rattle.rp_machine.specs.Replay.{kept_of};
 ghost use Rattle.rp_model.specs.Answers.{Steps};
 ghost use Rattle.rp_model.specs.Effect.{Setting, Done, NodeInput, goes_on_as, untorn_part};
 ghost use Rattle.rp_model.specs.Effect.{node_effect, cut_effect, stop_effect, restart_part};
-ghost use Rattle.rp_model.specs.Events.{Event, IsEvent};
+ghost use Rattle.rp_model.specs.Events.{Event, IsRightEvent};
 ghost use Rattle.rp_model.specs.Tasks.{TaskInput, task_effect};
 ghost use Rattle.rp_model.specs.World.{World, Transition, part_at, event_effect};
 ghost use Rattle.rp_model.specs.declared.effect.Effect.{Effect};
@@ -83,13 +83,13 @@ pub fn events_keep_replies<M: Machine>()
     // claim: Every event keeps the invariant of replies, whatever a step returns
     ensures effect { (setting : Setting M) (world : World) (event : Event) (transition : Transition)
         → IsRightConfig setting.config → IsKeptWorld setting world
-        → IsEvent event
+        → IsRightEvent event
         → event_effect setting world event ≡ Ok transition
         → IsKeptWorld setting transition.world }
     ensures answer { (setting : Setting M) (world after : World) (event : Event)
         (answer : Result Effect Fault)
         → IsRightConfig setting.config → IsKeptWorld setting world
-        → IsEvent event
+        → IsRightEvent event
         → Steps setting world event after answer
         → IsKeptWorld setting after }
 {}

@@ -17,7 +17,7 @@ use Rattle.rp_model.specs.Parts.{NodePart, TaskPart}
 use Rattle.rp_agreement.specs.Inputs.{IsInput, IsTaskInput, NodeMoves, TaskMoves}
 use Rattle.rp_boxes.specs.Parts.{Part, View, Role, OfNode, OfTask, actor_in, actor_of, box_of, from_actor, node_of, task_of, part_after, part_in, to_actor}
 use Rattle.rp_boxes.specs.Rule.{Slot, IsGood, IsGoodAt, IsWorld, IsBox, IsCarriedOver, Ruled, HasOwnPackets, node_among, task_among, all_sent}
-use Rattle.rp_boxes.specs.Steps.{ResultsIn, IsNodeEvent, IsTaskEvent, IsEvent, HasEvent}
+use Rattle.rp_boxes.specs.Steps.{ResultsInPart, IsNodeEvent, IsTaskEvent, IsEvent, HasEvent}
 use Rattle.rp_boxes.specs.Laws.{EventsKeep}
 use Rattle.rp_boxes.specs.Plays.{Sight, alone, IsNoted}
 use Rattle.rp_boxes.proofs.Carrying.{carried_still}
@@ -87,7 +87,7 @@ module _ {S : Type 0} (s : Setting S) (keep : EventsKeep s) (right : IsRightConf
       } in
       let kept = keep.nodes k event.input event.done (node_among parts) (node_among after) (task_among parts) (all_sent parts 16) (all_sent after 16) right event.member good
       (inputs_sent p.got (all_sent parts 16) got event.input event.given)
-      (subst (λ (q : NodePart). ResultsIn s k q event.input event.done) (sym here) event.results) moves in
+      (subst (λ (q : NodePart). ResultsInPart s k q event.input event.done) (sym here) event.results) moves in
       record {
         role = OfNode event.done.part;
         sends = event.done.sends;

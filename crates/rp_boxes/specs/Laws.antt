@@ -11,7 +11,7 @@ use Rattle.rp_model.specs.Parts.{NodePart, TaskPart}
 use Rattle.rp_agreement.specs.Inputs.{IsInput, IsTaskInput, NodeMoves, TaskMoves}
 use Rattle.rp_agreement.specs.Sound.{IsMember}
 use Rattle.rp_boxes.specs.Rule.{IsGood}
-use Rattle.rp_boxes.specs.Steps.{ResultsIn}
+use Rattle.rp_boxes.specs.Steps.{ResultsInPart}
 
 -- an event of a node preserves the invariant, and the packets that it sends name it as the sender
 abbrev pub NodesKeep : {S : Type 0} → Setting S → Type 0
@@ -19,7 +19,7 @@ NodesKeep s =
     (x : ℕ) (input : NodeInput) (done : Done NodePart) (node after : ℕ → NodePart)
     (task : ℕ → TaskPart) (sent later : List Message)
     → IsRightConfig s.config → IsMember s.config.nodes x → IsGood s node task sent
-    → IsInput sent input → ResultsIn s x (node x) input done
+    → IsInput sent input → ResultsInPart s x (node x) input done
     → NodeMoves x done node sent after later
     → IsGood s after task later × ((m : Message) → Has m done.sends → m.from ≡ Node x)
 

@@ -112,7 +112,7 @@ pub record Ruled {S : Type 0} (s : Setting S) (t : State Slot View) : Type 0 whe
       → IsBox parts x y (slice_index t.words (box_of x y))
       (λ slot. get_elem? t.homes (box_of x y) ≡ some (some slot))
 
--- all packets that an actor sent or got are valid, with it as the sender or the receiver, and it
+-- all packets that an actor sent or got are right, with it as the sender or the receiver, and it
 -- sent what it put into boxes
 pub record HasOwnPackets (k : ℕ) (p : Part) : Type 0 where
   pub sent : (m : Message) → Has m p.sent → IsPacket m × (actor_of m.from ≡ k)

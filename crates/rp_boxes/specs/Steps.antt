@@ -10,8 +10,9 @@ use Rattle.rp_agreement.specs.Sound.{IsMember}
 use Rattle.rp_boxes.specs.Parts.{Part, OfNode, OfTask, part_after}
 
 -- an input results in this at the node, or the node stops within that step
-abbrev pub ResultsIn : {S : Type 0} → Setting S → ℕ → NodePart → NodeInput → Done NodePart → Type 0
-ResultsIn s x part input done =
+abbrev pub ResultsInPart : {S : Type 0} → Setting S → ℕ → NodePart → NodeInput → Done NodePart
+    → Type 0
+ResultsInPart s x part input done =
     (node_effect s x part input ≡ Ok done)
     ⊎ ((kept : ℕ) × (cut_effect s x part input kept ≡ Ok done))
 
@@ -34,7 +35,7 @@ pub record IsNodeEvent {S : Type 0} (s : Setting S) (x : ℕ) (before after : Pa
   pub input : NodeInput
   pub given : IsInput before.got input
   pub done : Done NodePart
-  pub results : ResultsIn s x part input done
+  pub results : ResultsInPart s x part input done
   pub is : after ≡ part_after before (OfNode done.part) done.sends
 
 -- one event of task t

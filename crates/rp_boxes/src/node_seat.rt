@@ -193,7 +193,7 @@ impl<M: Machine, D: Device> NodeSeat<M, D> {
         self.node
     }
 
-    /// All packets that the seat sent are valid. It does nothing: its contract is for the callers'
+    /// All packets that the seat sent are right. It does nothing: its contract is for the callers'
     /// proofs.
     pub fn sends_packets(&self)
         ensures { (m : Message) → Has m self.now.part.sent → IsPacket m }

@@ -76,7 +76,7 @@ impl<M: Machine> Model for TaskSeat<M> {
 impl<M: Machine> TaskSeat<M> {
     /// The task makes its next call and asks a node for it. It is one event. `TaskBusy` while a
     /// call waits for its reply, `NumbersSpent` after call 2^32 - 1, `BadConfig` for a node above
-    /// the last or a call that is not valid, or `OutOfMemory`: then nothing has happened.
+    /// the last or a call that is not right, or `OutOfMemory`: then nothing has happened.
     pub fn call(
         &mut self,
         alloc: Global,

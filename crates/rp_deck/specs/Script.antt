@@ -3,7 +3,7 @@ use Rattle.std.specs.Prelude.{ℕ, ◌<◌, ◌≤◌, ◌^◌}
 use Rattle.indexmap.specs.IndexMap.{index_map_len}
 use Rattle.indexmap.specs.IndexSet.{index_set_len}
 use Rattle.rp_base.specs.Action.{IsRightOperation}
-use Rattle.rp_model.specs.Events.{IsEvent, event_of}
+use Rattle.rp_model.specs.Events.{IsRightEvent, event_of}
 use Rattle.rp_model.specs.declared.event.Event.{Event}
 use Rattle.rp_model.specs.declared.event.Event.TheVariants.{Submit, Again, Node, Cut, Stop, Restart}
 use Rattle.rp_model.specs.declared.event.Step.{Step}
@@ -52,7 +52,7 @@ FitsIn nodes tasks objects Show = Unit {0}
 
 -- the numbers of a command's event are within the ranges of their types
 abbrev pub KeepsRanges : Command → Type 0
-KeepsRanges (Take event) = IsEvent (event_of event)
+KeepsRanges (Take event) = IsRightEvent (event_of event)
 KeepsRanges (Lose first last) = Unit {0}
 KeepsRanges Drain = Unit {0}
 KeepsRanges Show = Unit {0}

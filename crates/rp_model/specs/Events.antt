@@ -41,23 +41,23 @@ IsOperation (Entry index) = index < 2 ^ 8
 IsOperation (SetTimer index) = index < 2 ^ 8
 IsOperation (CancelTimer index) = index < 2 ^ 8
 
-abbrev pub IsStep : Step → Type 0
-IsStep (Deliver number) = Unit {0}
-IsStep (Lead node position) = IsNode node × IfSome position IsPosition
-IsStep (LeadRange node first count) = IsNode node × IsPosition first × (count < 2 ^ 8)
-IsStep (Interrupt node source occurrence) = IsNode node × IsIndex source × IsCount occurrence
-IsStep (Tick node now) = IsNode node × (now < 2 ^ 32)
-IsStep (Report node first) = IsNode node × IsPosition first
+abbrev pub IsRightStep : Step → Type 0
+IsRightStep (Deliver number) = Unit {0}
+IsRightStep (Lead node position) = IsNode node × IfSome position IsPosition
+IsRightStep (LeadRange node first count) = IsNode node × IsPosition first × (count < 2 ^ 8)
+IsRightStep (Interrupt node source occurrence) = IsNode node × IsIndex source × IsCount occurrence
+IsRightStep (Tick node now) = IsNode node × (now < 2 ^ 32)
+IsRightStep (Report node first) = IsNode node × IsPosition first
 
 -- an event that the types of its numbers allow
-abbrev pub IsEvent : Event → Type 0
-IsEvent (Submit task node object operation arg) =
+abbrev pub IsRightEvent : Event → Type 0
+IsRightEvent (Submit task node object operation arg) =
     IsTask task × IsNode node × (object < 2 ^ 8) × IsOperation operation × FitsSigned w64 arg
-IsEvent (Again task node) = IsTask task × IsNode node
-IsEvent (Makes step) = IsStep step
-IsEvent (Cut step kept) = IsStep step × (kept < 2 ^ 64)
-IsEvent (Stop node) = IsNode node
-IsEvent (Restart node) = IsNode node
+IsRightEvent (Again task node) = IsTask task × IsNode node
+IsRightEvent (Makes step) = IsRightStep step
+IsRightEvent (Cut step kept) = IsRightStep step × (kept < 2 ^ 64)
+IsRightEvent (Stop node) = IsNode node
+IsRightEvent (Restart node) = IsNode node
 
 -- ---- the same as a cluster takes them
 

@@ -2,7 +2,7 @@
 
 ghost use Rattle.std.specs.Prelude.{◌<◌, ◌^◌, FitsSigned};
 ghost use Rattle.std.specs.Int.{w64};
-ghost use Rattle.rp_model.specs.Events.{IsOperation, IsStep, IsEvent, step_of, event_of};
+ghost use Rattle.rp_model.specs.Events.{IsOperation, IsRightStep, IsRightEvent, step_of, event_of};
 
 use crate::interrupt::Interrupt;
 use rp_base::{NodeId, Operation, Position, TaskId};
@@ -76,7 +76,7 @@ impl Event {
     /// promises is for contracts.
     pub fn keeps_ranges(&self)
         // claim: The numbers of an event are within the ranges of their types
-        ensures { IsEvent (event_of self.now) }
+        ensures { IsRightEvent (event_of self.now) }
     {
         match *self {
             Event::Submit {
@@ -107,7 +107,7 @@ impl Event {
 impl Step {
     /// The same of a step.
     fn keeps_ranges(self)
-        ensures { IsStep (step_of self) }
+        ensures { IsRightStep (step_of self) }
     {
         match self {
             Step::Deliver(_) => {}

@@ -10,7 +10,7 @@ use Rattle.rp_base.specs.declared.action.Action.TheVariants.{Noop, Call}
 use Rattle.rp_base.specs.declared.fault.Fault.{Fault}
 use Rattle.rp_model.specs.Answers.{Happen}
 use Rattle.rp_model.specs.Effect.{Setting}
-use Rattle.rp_model.specs.Events.{Event, IsEvent, Makes, Step, Deliver, Interrupt, Tick, event_of}
+use Rattle.rp_model.specs.Events.{Event, IsRightEvent, Makes, Step, Deliver, Interrupt, Tick, event_of}
 use Rattle.rp_model.specs.World.{World, Transition, opening_world, event_effect}
 use Rattle.rp_model.specs.declared.event.Event.{Event as TakenEvent}
 use Rattle.rp_model.specs.declared.event.Event.TheVariants.{Node}
@@ -27,7 +27,7 @@ use Rattle.rp_deck.specs.declared.deck.Line.{Line}
 -- right events of a kind lead from one world to another
 record Reaches {S : Type 0} (Is : Event → Type 0) (s : Setting S) (from to : World) : Type 0 where
   pub events : List Event
-  pub right : (event : Event) → Has event events → IsEvent event
+  pub right : (event : Event) → Has event events → IsRightEvent event
   pub are : (event : Event) → Has event events → Is event
   pub happened : Happen s from events to
 
@@ -46,10 +46,10 @@ module _ {S : Type 0} (Is : Event → Type 0) (s : Setting S) where
   stays : (w : World) → Reaches Is s w w
   stays w = record { events = []; right = λ event h. absurd h; are = λ event h. absurd h; happened = refl }
 
-  results : (w : World) (event : Event) (transition : Transition) → IsEvent event → Is event → event_effect s w event ≡ Ok transition → Reaches Is s w transition.world
+  results : (w : World) (event : Event) (transition : Transition) → IsRightEvent event → Is event → event_effect s w event ≡ Ok transition → Reaches Is s w transition.world
   results w event transition right such is = record {
     events = event ∷ [];
-    right = one_is IsEvent event right;
+    right = one_is IsRightEvent event right;
     are = one_is Is event such;
     happened = (transition, is, refl);
   }
@@ -57,7 +57,7 @@ module _ {S : Type 0} (Is : Event → Type 0) (s : Setting S) where
   goes_on : (from middle to : World) → Reaches Is s from middle → Reaches Is s middle to → Reaches Is s from to
   goes_on from middle to first second = record {
     events = first.events ++ second.events;
-    right = all_are IsEvent first.events second.events first.right second.right;
+    right = all_are IsRightEvent first.events second.events first.right second.right;
     are = all_are Is first.events second.events first.are second.are;
     happened = joined first.events second.events from middle to first.happened second.happened;
   }
@@ -79,12 +79,12 @@ module _ {S : Type 0} (s : RunSetting S) (all : List Line) where
 
   -- ---- an event, a drain, a line, lines
 
-  effect_leads : (line : ℕ) (play : Play) (event : TakenEvent) (answer : Result Transition Fault) → IsEvent (event_of event) → IsOfLines all (event_of event)
+  effect_leads : (line : ℕ) (play : Play) (event : TakenEvent) (answer : Result Transition Fault) → IsRightEvent (event_of event) → IsOfLines all (event_of event)
       → effect_of s play.world event ≡ answer → Leads play.world (effect_said s line play event answer).play.world
   effect_leads line play event (Ok transition) right such is = results (IsOfLines all) s.setting play.world (event_of event) transition right such is
   effect_leads line play event (Err refusal) right such is = rests play.world
 
-  event_leads : (line : ℕ) (play : Play) (event : TakenEvent) → IsEvent (event_of event) → IsOfLines all (event_of event) → Leads play.world (event_said s line play event).play.world
+  event_leads : (line : ℕ) (play : Play) (event : TakenEvent) → IsRightEvent (event_of event) → IsOfLines all (event_of event) → Leads play.world (event_said s line play event).play.world
   unfolding event_said
   event_leads line play event right such = effect_leads line play event (effect_of s play.world event) right such refl
 

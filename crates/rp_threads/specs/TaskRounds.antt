@@ -93,7 +93,7 @@ with_lost lost so_far = record so_far { lost = saturating_sum so_far.lost lost }
 -- ---- turns
 
 -- Why a task's loop may end before its last turn: out of memory; no number is left for its next
--- call; or the task asks a node above the last, or its next call is not valid.
+-- call; or the task asks a node above the last, or its next call is not right.
 abbrev pub IsBadCall : Config → ℕ → List TaskCall → ℕ → Type 0
 IsBadCall config task calls made =
     (call : TaskCall) × (slice_get calls made ≡ Some call)

@@ -26,7 +26,7 @@ use rp_tasks::{FaultLine, gives_what_it_took};
 use std::alloc::Global;
 
 /// In every nth turn a task asks another node for the call that it waits for.
-const PATIENCE: u64 = 16;
+const ASK_PERIOD: u64 = 16;
 
 /// A call that a task is to make, and the node that it asks first.
 #[derive(Clone, Copy, Debug)]
@@ -202,10 +202,10 @@ impl<M: Machine> Caller<M> {
             self.old.seat self.new.seat fault) }
     {
         if self.so_far.waits {
-            if turn % PATIENCE != 0 {
+            if turn % ASK_PERIOD != 0 {
                 return Ok(0);
             }
-            return ask_again(&mut self.seat, alloc, node_in_turn(nodes, turn / PATIENCE));
+            return ask_again(&mut self.seat, alloc, node_in_turn(nodes, turn / ASK_PERIOD));
         }
         let Some(call) = calls.get(self.so_far.made) else {
             return Ok(0);
@@ -243,7 +243,7 @@ impl<M: Machine> Caller<M> {
 /// makes its calls in order: the first in the first turn, and each later one once the call before
 /// has its reply. While it waits, it asks the next node again in every 16th turn. A fault ends the
 /// loop: `OutOfMemory`, `NumbersSpent` if no number is left for the next call, or `BadConfig` if
-/// that call is not valid or asks a node above the last. The loop never blocks, unless the gate
+/// that call is not right or asks a node above the last. The loop never blocks, unless the gate
 /// does.
 pub fn task_loop<M: Machine, G: Gate>(
     seat: TaskSeat<M>,

@@ -17,7 +17,7 @@ use Rattle.rp_model.specs.World.{World, part_at}
 use Rattle.rp_model.specs.Parts.{NodePart}
 use Rattle.rp_model.specs.Parts.{TaskPart}
 use Rattle.rp_agreement.specs.Answered.{named, calls_so_far, AreItsCalls}
-use Rattle.rp_agreement.specs.Justified as justified
+use Rattle.rp_agreement.specs.Justified.{HasPromiseRecord}
 use Rattle.rp_agreement.specs.Justified.{Reports}
 use Rattle.rp_agreement.specs.Order.{IsPrefix, AreAlike}
 
@@ -39,7 +39,7 @@ HasWritten w x rec = (part : NodePart) × (part_at w.nodes x ≡ Some part) × H
 -- range
 abbrev pub HasWrittenPromise : World → ℕ → ℕ → ℕ → Type 0
 HasWrittenPromise w x i b =
-    (part : NodePart) × (part_at w.nodes x ≡ Some part) × justified.HasWritten part.records i b
+    (part : NodePart) × (part_at w.nodes x ≡ Some part) × HasPromiseRecord part.records i b
 
 -- the records of the node of this number say so of its last vote at a position, below a ballot
 abbrev pub HasReported : World → ℕ → ℕ → ℕ → Option Vote → Type 0

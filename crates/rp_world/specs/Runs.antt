@@ -28,15 +28,15 @@ module _ {S P : Type 0} (next : S → Action → S) (answers : S → Action → 
     pub faulted : IsFaulted (setting_of next answers start old) stopped (event_of event) left fault
 
   -- where a run ends, by what it answers
-  abbrev pub ResultsIn : Setup P → List Event → World → Result Unit Refused → Type 0
-  ResultsIn old events new (Ok all) = LeadsTo old events new
-  ResultsIn old events new (Err refused) = StopsAt old events new refused.place refused.fault
+  abbrev pub EndsIn : Setup P → List Event → World → Result Unit Refused → Type 0
+  EndsIn old events new (Ok all) = LeadsTo old events new
+  EndsIn old events new (Err refused) = StopsAt old events new refused.place refused.fault
 
   -- The counts of failures after a run: as before, but that of one node where its device failed, at
   -- the event where the run stopped.
   abbrev pub AreCountedBy : (old : Setup P) (events : List Event) (new : Setup P)
       (answer : Result Unit Refused)
-      → ResultsIn old events new.world answer → Type 0
+      → EndsIn old events new.world answer → Type 0
   AreCountedBy old events new (Ok all) resulted = new.failures ≡ old.failures
   AreCountedBy old events new (Err refused) resulted =
       let fault : Result Unit Fault = Err refused.fault in
@@ -47,6 +47,6 @@ module _ {S P : Type 0} (next : S → Action → S) (answers : S → Action → 
   -- device failed; and all else stays.
   pub record IsRun (old : Setup P) (events : List Event) (new : Setup P)
       (answer : Result Unit Refused) : Type 0 where
-    pub world : ResultsIn old events new.world answer
+    pub world : EndsIn old events new.world answer
     pub setup : IsSameSetup old new
     pub failures : AreCountedBy old events new answer world

@@ -12,7 +12,7 @@ ghost use Rattle.rp_codec.specs.Text.{text_of};
 ghost use Rattle.rp_model.specs.Effect.{Done, NodeInput, Setting, node_effect};
 ghost use Rattle.rp_model.specs.Parts.{NodePart};
 ghost use Rattle.rp_model.specs.Events as events;
-ghost use Rattle.rp_model.specs.Events.{IsEvent, event_of, step_of};
+ghost use Rattle.rp_model.specs.Events.{IsRightEvent, event_of, step_of};
 ghost use Rattle.rp_model.specs.World as worlds;
 ghost use Rattle.rp_model.specs.World.{part_at, node_takes, node_is_cut, step_effect, cut_step, stepping, step_writes, node_writes};
 ghost use Rattle.rp_agreement.specs.Ranges.{IsRangedWorld};
@@ -56,7 +56,7 @@ impl<M: Machine, D: CutDevice> World<M, D> {
     ) -> Result<(), Fault>
         requires config { IsRightConfig self.old.config }
         requires ranged { IsRangedWorld self.old.config.nodes self.old.world }
-        requires event { IsEvent (event_of event.now) }
+        requires event { IsRightEvent (event_of event.now) }
         ensures step { IsStep M.next M.answers M.begin self.old event.now self.new
             (stated result effect.new) }
     {
@@ -108,7 +108,7 @@ impl<M: Machine, D: CutDevice> World<M, D> {
     fn make_step(&mut self, alloc: Global, step: Step, effect: &mut Effect) -> Result<(), Fault>
         requires config { IsRightConfig self.old.config }
         requires ranged { IsRangedWorld self.old.config.nodes self.old.world }
-        requires step { events.IsStep (step_of step) }
+        requires step { events.IsRightStep (step_of step) }
         ensures answer { let setting = setting_of M.next M.answers M.begin self.old in
             Answers self.old.world (step_effect setting self.old.world (step_of step))
             (λ kept. cut_step setting self.old.world (step_of step) kept) self.new.world

@@ -3,7 +3,7 @@ use Rattle.std.proofs.Common.{sym, ap, subst, ◌∙◌}
 use Rattle.std.specs.Prelude.{IsSome}
 use Rattle.rp_model.specs.declared.event.Event.TheVariants.{Node}
 use Rattle.rp_model.specs.Effect.{Setting}
-use Rattle.rp_model.specs.Events.{IsEvent, Makes, Deliver, event_of}
+use Rattle.rp_model.specs.Events.{IsRightEvent, Makes, Deliver, event_of}
 use Rattle.rp_model.specs.World.{stepping, step_writes}
 use Rattle.rp_world.specs.Going.{stated}
 use Rattle.rp_world.specs.Shape.{IsCluster}
@@ -22,7 +22,7 @@ invariant_of-self g c =
     let answer = stated c.deliver.result c.deliver.new.effect in
     let counts = counts_stated (IsSome (step_writes s old.world step)) (stepping old.world step) old.failures new.failures c.deliver.result c.deliver.new.effect c.deliver.ensures.failures in
     let steps = made s old.world new.world answer (stepping old.world step) old.failures new.failures step counts c.deliver.ensures.answer in
-    let is = subst (λ taken. IsEvent (event_of (Node taken))) c.in-Deliver.is (subst (λ e. IsEvent (event_of e)) c.in-Node.is c.keeps_ranges.ensures) in
+    let is = subst (λ taken. IsRightEvent (event_of (Node taken))) c.in-Deliver.is (subst (λ e. IsRightEvent (event_of e)) c.in-Node.is c.keeps_ranges.ensures) in
     let now = c.self.invariant in
     subst (λ (t : Setting g.row.M.Denot). IsCluster t new.world) (sym (same_setting m.next m.answers m.begin old new c.deliver.ensures.setup))
     (record {

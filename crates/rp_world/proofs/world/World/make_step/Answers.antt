@@ -44,7 +44,7 @@ give_input-requires-clause-sends g c = λ given part done is here resulted.
     let was = c.args.self.now in
     let me = c.in-Lead.node in
     let step = events.Lead me c.in-Lead.position in
-    let range = subst (λ s. events.IsStep (step_of s)) c.in-Lead.is c.requires.step in
+    let range = subst (λ s. events.IsRightStep (step_of s)) c.in-Lead.is c.requires.step in
     let results = result_of (setting_of g.M.Machine.next g.M.Machine.answers g.M.Machine.begin was) was.world step me (inputs.Lead c.in-Lead.position) refl is here resulted in
     sends_are was.world.sent done.sends (c.events_keep_ranges.ensures.effect was.config was.program was.world (events.Makes step) (node_done was.world me done) c.requires.config c.requires.ranged range results).packets
 
@@ -56,7 +56,7 @@ give_input-requires-in-Ok-clause-sends g c = λ given part done is here resulted
     let was = c.args.self.now in
     let me = c.in-LeadRange.node in
     let step = events.LeadRange me c.in-LeadRange.first c.in-LeadRange.count in
-    let range = subst (λ s. events.IsStep (step_of s)) c.in-LeadRange.is c.requires.step in
+    let range = subst (λ s. events.IsRightStep (step_of s)) c.in-LeadRange.is c.requires.step in
     let results = result_of (setting_of g.M.Machine.next g.M.Machine.answers g.M.Machine.begin was) was.world step me (inputs.LeadRange c.in-LeadRange.first c.in-LeadRange.count) refl (sym c.in-Ok.ensures.ok ∙ is) here resulted in
     sends_are was.world.sent done.sends (c.events_keep_ranges.ensures.effect was.config was.program was.world (events.Makes step) (node_done was.world me done) c.requires.config c.requires.ranged range results).packets
 
@@ -71,7 +71,7 @@ give_input-requires-in-Report-clause-sends g c = λ given part done is here resu
     let was = c.args.self.now in
     let me = c.in-Report.node in
     let step = events.Report me c.in-Report.first in
-    let range = subst (λ s. events.IsStep (step_of s)) c.in-Report.is c.requires.step in
+    let range = subst (λ s. events.IsRightStep (step_of s)) c.in-Report.is c.requires.step in
     let results = result_of (setting_of g.M.Machine.next g.M.Machine.answers g.M.Machine.begin was) was.world step me (inputs.Report c.in-Report.first) refl is here resulted in
     sends_are was.world.sent done.sends (c.events_keep_ranges.ensures.effect was.config was.program was.world (events.Makes step) (node_done was.world me done) c.requires.config c.requires.ranged range results).packets
 

@@ -3,7 +3,7 @@ use Rattle.std.proofs.Common.{sym, ap, subst}
 use Rattle.std.specs.Prelude.{ℤ, IsSome}
 use Rattle.std.specs.Int.{w64}
 use Rattle.std.proofs.lemmas.Int.{to_z-of_z}
-use Rattle.rp_model.specs.Events.{Submit, Again, Stop, Restart, IsEvent, event_of, step_of}
+use Rattle.rp_model.specs.Events.{Submit, Again, Stop, Restart, IsRightEvent, event_of, step_of}
 use Rattle.rp_model.specs.World.{event_effect, step_writes, stepping}
 use Rattle.rp_world.specs.Going.{Answers, no_cut, stated}
 use Rattle.rp_world.specs.Steps.{IsStep, setting_of}
@@ -18,7 +18,7 @@ returns-in-Submit g c =
     let s = setting_of m.next m.answers m.begin old in
     let v = c.in-Submit in
     let made = c.submit in
-    let range = subst (λ e. IsEvent (event_of e)) v.is c.requires.event in
+    let range = subst (λ e. IsRightEvent (event_of e)) v.is c.requires.event in
     let answer : Answers old.world (event_effect s old.world (Submit v.task v.node v.object v.operation v.arg)) no_cut made.new.self.world made.result =
     subst (λ (z : ℤ). Answers old.world (event_effect s old.world (Submit v.task v.node v.object v.operation z)) no_cut made.new.self.world made.result) (to_z-of_z w64 v.arg range.4) made.ensures.answer in
     record {

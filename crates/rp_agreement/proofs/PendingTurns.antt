@@ -279,8 +279,7 @@ module _ {S : Type 0} (s : Setting S) (records : List Rec) (running : Running) (
       let after = applied_of (records ++ Learned i v ∷ []) in
       let kept = kept_of s.next s.answers s.begin after in
       let given = replay_answers s.next s.answers s.begin after in
-      let newly = drop (length (applied_of records)) after in
-      (
+      let newly = drop (length (applied_of records)) after in (
         λ h.
             let both = has_passing (stays kept given newly) item running.pending (subst (λ (items : List Action). Has item items) is h) in
             (both.0, not_over kept given newly item both.1),

@@ -46,7 +46,9 @@ fn a_counter_stays_within_its_bound(rt: HostRuntime) -> Result<(), Fail> {
 type Failing = (DeviceCall, u64);
 
 const NONE: Failing = (DeviceCall::Append, 0);
+
 const APPEND: Failing = (DeviceCall::Append, 1);
+
 const SECOND_READ: Failing = (DeviceCall::Read, 2);
 
 /// An empty device of which one call fails. An append that fails leaves three bytes.

@@ -205,7 +205,11 @@ impl<M: Machine> Caller<M> {
             if turn % ASK_PERIOD != 0 {
                 return Ok(0);
             }
-            return ask_again(&mut self.seat, alloc, node_in_turn(nodes, turn / ASK_PERIOD));
+            return ask_again(
+                &mut self.seat,
+                alloc,
+                node_in_turn(nodes, turn / ASK_PERIOD),
+            );
         }
         let Some(call) = calls.get(self.so_far.made) else {
             return Ok(0);

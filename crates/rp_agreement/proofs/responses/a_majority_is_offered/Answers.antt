@@ -21,6 +21,6 @@ returns c = λ nodes me running from i b last p runs takes promised.
     let place : p.position ≡ i = eqb-true p.position i (found_has (λ (q : Proposal). nat_eq q.position i) p running.proposals runs).1 in
     let ballot : p.ballot ≡ b = eqb-true p.ballot b (and_parts _ _ takes).0 in
     let turn = ap (λ (at : Option Proposal). on_promise_to nodes me running b one at) runs
-        ∙ cond-true (takes_promise b p) (counts_promise nodes me running p one) (notes running) takes
-        ∙ cond-true (is_promised nodes after) (sends known (says_to_all nodes me (Accept p.position p.ballot v))) (notes known) promised in
+    ∙ cond-true (takes_promise b p) (counts_promise nodes me running p one) (notes running) takes
+    ∙ cond-true (is_promised nodes after) (sends known (says_to_all nodes me (Accept p.position p.ballot v))) (notes known) promised in
     (v, ap (λ (t : Turn). t.sent) turn ∙ ap (λ (j : ℕ). says_to_all nodes me (Accept j p.ballot v)) place ∙ ap (λ (d : ℕ). says_to_all nodes me (Accept i d v)) ballot)

@@ -26,7 +26,7 @@ returns g c =
     let kept = kept_of m.next m.answers (m.begin program) applied in
     let given = replay_answers m.next m.answers (m.begin program) applied in
     let stays = reply_is_kept task number kept given answer above last is there
-        (λ other other_is other_there. c.a_call_has_one_answer.ensures program applied (named task number) other answer right (other_is, other_there) (is, there)) in
+    (λ other other_is other_there. c.a_call_has_one_answer.ensures program applied (named task number) other answer right (other_is, other_there) (is, there)) in
     let mine : is_for_node config me (asks task me call) ≡ true = and_from _ _ (and_from _ _ (eq-eqb me me refl) refl) refl in
     ap Ok
     (cond-true (is_for_node config me (asks task me call)) _ (drops_foreign running) mine

@@ -106,7 +106,7 @@ module _ {S : Type 0} (next : S → Action → S) (answers : S → Action → Li
       if is_prepared nodes p then Ok (offers nodes me records running p)
       else begins_if nodes me records running i
 
-  -- Lead: where the chosen position is learned nothing happens; it has to be within reach, and a
+  -- Lead: if the chosen position is learned nothing happens; it has to be within reach, and a
   -- ballot has to be left unless the position is prepared
   abbrev pub on_lead : Config → ℕ → List Rec → Running → Option ℕ → Result Turn Fault
   on_lead config me records running choice =
@@ -129,7 +129,7 @@ begins_range nodes me records running range b =
     (record running { proposals = with_range running.proposals b (unlearned_in records range) })
     (says_to_all nodes me (bodies.PrepareRange range b))
 
--- LeadRange: each position has to be within reach; where all are learned nothing happens; and a
+-- LeadRange: each position has to be within reach; if all are learned nothing happens; and a
 -- ballot has to be left
 abbrev pub leads_range : Config → ℕ → List Rec → Running → Range → Result Turn Fault
 leads_range config me records running range =
@@ -139,7 +139,7 @@ leads_range config me records running range =
     else if nat_le (2 ^ 32) (round_of b) then Err BallotsSpent
     else Ok (begins_range config.nodes me records running range b)
 
--- the same, where n positions from the first one make a range
+-- the same, if n positions from the first one make a range
 abbrev pub on_lead_range : Config → ℕ → List Rec → Running → Result Range Fault → Result Turn Fault
 on_lead_range config me records running (Ok range) = leads_range config me records running range
 on_lead_range config me records running (Err fault) = Err fault
@@ -153,7 +153,7 @@ on_promise_range nodes running from range b votes =
 
 -- ---- promises and refusals
 
--- a promise that counts: where it makes a majority the action is offered to all, else it is noted
+-- a promise that counts: if it makes a majority the action is offered to all, else it is noted
 abbrev pub counts_promise : ℕ → ℕ → Running → Proposal → Promise → Turn
 counts_promise nodes me running p promise =
     let after = with_promise p promise in

@@ -70,7 +70,7 @@ module _ {S : Type 0} (next : S → Action → S) (answers : S → Action → Li
       (drop (length (replay_answers next answers begin before)) given)
       ++ following)
 
-  -- a vote where the position is learned, or not: where it makes a majority of one ballot and
+  -- a vote at a position that is learned, or not: if it makes a majority of one ballot and
   -- action the action is learned and the others are informed, else it is noted
   abbrev pub on_vote : ℕ → ℕ → List Rec → Running → ℕ → ℕ → Vote → Option Action → Turn
   on_vote nodes me records running from i vote (Some learned) = notes running
@@ -88,14 +88,14 @@ module _ {S : Type 0} (next : S → Action → S) (answers : S → Action → Li
       if is_beyond records i then notes running
       else on_vote nodes me records running from i vote (learned_at records i)
 
-  -- a decision where the position is learned, or not
+  -- a decision at a position that is learned, or not
   abbrev pub on_decision : ℕ → List Rec → Running → ℕ → ℕ → Action → Option Action → Turn
   on_decision me records running from i v (Some learned) = notes running
   on_decision me records running from i v None =
       learns me records running i v []
       (asks_for me from (missing_position (records ++ Learned i v ∷ [])))
 
-  -- Decided: the action is learned unless the position is, and where a position is missing below a
+  -- Decided: the action is learned unless the position is, and if a position is missing below a
   -- learned one the sender is asked for it
   abbrev pub on_decided : ℕ → List Rec → Running → ℕ → ℕ → Action → Turn
   on_decided me records running from i v =

@@ -85,7 +85,7 @@ abbrev pub task_done_if : World → ℕ → Result (Done TaskPart) Fault → Res
 task_done_if w task (Ok done) = Ok (task_done w task done)
 task_done_if w task (Err fault) = Err fault
 
--- a task's input, where there is a task of this number
+-- a task's input, if there is a task of this number
 abbrev pub task_takes : Config → World → ℕ → TaskInput → Option TaskPart → Result Transition Fault
 task_takes config w task input None = Err BadConfig
 task_takes config w task input (Some part) =

@@ -1,5 +1,5 @@
--- Which numbers name nodes, tasks and positions (the limits are ours).
-use Rattle.std.specs.Prelude.{ℕ, Bool, ◌<◌, ◌≤◌, ◌^◌, ◌&&◌, nat_le}
+-- Which numbers name nodes, tasks and positions (the limits are ours), and the greatest of some.
+use Rattle.std.specs.Prelude.{ℕ, Bool, ◌<◌, ◌≤◌, ◌^◌, ◌&&◌, nat_le, max, List, [], ◌∷◌}
 
 -- the number is 1 to `most`
 abbrev pub IsUpTo : ℕ → ℕ → Type 0
@@ -24,3 +24,8 @@ window = 64
 -- the number is low to high, as a test
 abbrev pub in_range : ℕ → ℕ → ℕ → Bool
 in_range low high n = nat_le low n && nat_le n high
+
+-- the greatest of some numbers, 0 if there is none
+abbrev pub greatest : List ℕ → ℕ
+greatest [] = 0
+greatest (n ∷ rest) = max n (greatest rest)

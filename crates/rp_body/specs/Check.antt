@@ -1,7 +1,8 @@
 -- Which bodies keep the limits of the language.
-use Rattle.std.specs.Prelude.{ℕ, ◌+◌, ◌≤◌, max, nat_lt, nat_le, Bool, true, ◌&&◌, IsTrue, List, []}
-use Rattle.std.specs.Prelude.{◌∷◌, map, sum}
+use Rattle.std.specs.Prelude.{ℕ, ◌+◌, ◌≤◌, max, nat_lt, nat_le, Bool, true, ◌&&◌, IsTrue, List, map}
+use Rattle.std.specs.Prelude.{sum}
 use Rattle.std.specs.List.{list_all}
+use Rattle.rp_base.specs.Number.{greatest}
 use Rattle.rp_body.specs.declared.components.Limits.{Limits}
 use Rattle.rp_body.specs.declared.expression.Expr.{Expr}
 use Rattle.rp_body.specs.declared.expression.Expr.TheVariants.{Number, Arg, Out, Int, Add', Sub'}
@@ -74,11 +75,6 @@ stmt_count = fold-Stmt ℕ count_step
 -- the number of statements in a body, those inside an `if` too
 abbrev pub statement_count : List Stmt → ℕ
 statement_count body = sum (map stmt_count body)
-
--- the greatest of the numbers, 0 of none
-abbrev pub greatest : List ℕ → ℕ
-greatest [] = 0
-greatest (n ∷ rest) = max n (greatest rest)
 
 -- how deep one statement is, where each one inside it is given as its own depth
 abbrev pub depth_step : Stmt-F ℕ → ℕ

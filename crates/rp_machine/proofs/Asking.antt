@@ -14,7 +14,8 @@ use Rattle.rp_base.specs.declared.action.Operation.{Operation}
 use Rattle.rp_base.specs.declared.reply.Reply.{Reply}
 use Rattle.rp_base.specs.declared.reply.Answer.{Answer}
 use Rattle.rp_machine.specs.Replay.{numbers_of, occurrences_of, one_to, is_for, is_answered, all_answered, is_next_number, counts}
-use Rattle.rp_machine.specs.Asked.{greatest, last_number, last_occurrence, waits, answer_to, kept_reply}
+use Rattle.rp_base.specs.Number.{greatest}
+use Rattle.rp_machine.specs.Asked.{last_number, last_occurrence, waits, answer_to, kept_reply}
 use Rattle.rp_machine.specs.Calls.{CallName, calls_made, call_of}
 use Rattle.rp_machine.proofs.Calling.{has_left, answered, made_number, one_to_bound}
 use Rattle.rp_machine.proofs.Numbering.{IsCounted, length-one_to}

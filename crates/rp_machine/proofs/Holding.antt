@@ -17,7 +17,8 @@ use Rattle.rp_base.specs.declared.reply.Answer.{Answer}
 use Rattle.rp_machine.specs.declared.numbered.Caller.{Caller}
 use Rattle.rp_machine.specs.Calls.{CallName, calls_of, calls_made, call_of, MayApply, AccountsFor}
 use Rattle.rp_machine.specs.Replay.{numbers_of, occurrence_for, occurrences_of, one_to, is_for, is_answered, all_answered, is_next_number, counts, Replayed, unmoved, replay_from, replay_of}
-use Rattle.rp_machine.specs.Asked.{greatest, last_number, last_occurrence, answer_to, kept_reply}
+use Rattle.rp_base.specs.Number.{greatest}
+use Rattle.rp_machine.specs.Asked.{last_number, last_occurrence, answer_to, kept_reply}
 use Rattle.rp_machine.specs.Numbered.{Applied, outcome, caller_of, AreCallers, AreOccurrences, IsNumbered, waiting_caller, with_action, with_occurrence, with_answer, with_answers}
 use Rattle.rp_machine.proofs.Calling.{has_left, has_right, has_either, both_true, answered, calls_made-append, made_number, one_to_bound, is_new}
 use Rattle.rp_machine.proofs.Numbering.{IsCounted, counted, counted_action, numbers_other, numbers_own, next_numbers, greatest-push, greatest-one_to}

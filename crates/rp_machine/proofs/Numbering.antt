@@ -13,7 +13,8 @@ use Rattle.rp_base.specs.declared.action.Operation.{Operation}
 use Rattle.rp_base.specs.declared.reply.Answer.{Answer}
 use Rattle.rp_machine.specs.Calls.{CallName, calls_of, calls_made}
 use Rattle.rp_machine.specs.Replay.{number_for, numbers_of, occurrence_for, occurrences_of, one_to, is_for, is_answered, all_answered, is_next_number, counts, Replayed, unmoved, replay_step, replay_from, replay_of}
-use Rattle.rp_machine.specs.Asked.{greatest, last_number}
+use Rattle.rp_base.specs.Number.{greatest}
+use Rattle.rp_machine.specs.Asked.{last_number}
 use Rattle.rp_machine.proofs.Calling.{has_either, both_true, all_true, calls_made-append, is_new, set_append}
 
 -- ---- the numbers 1 to n

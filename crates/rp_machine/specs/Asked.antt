@@ -1,16 +1,12 @@
 -- What a machine after a log is asked, from the actions that counted and the answers to them.
-use Rattle.std.specs.Prelude.{ℕ, Bool, not, ◌&&◌, nat_eq, nat_lt, max, Option, None, List, [], ◌∷◌}
+use Rattle.std.specs.Prelude.{ℕ, Bool, not, ◌&&◌, nat_eq, nat_lt, Option, None, List}
 use Rattle.std.specs.Prelude.{find, if◌then◌else◌}
 use Rattle.std.specs.Option.{option_map}
+use Rattle.rp_base.specs.Number.{greatest}
 use Rattle.rp_base.specs.declared.action.Action.{Action}
 use Rattle.rp_base.specs.declared.reply.Reply.{Reply}
 use Rattle.rp_base.specs.declared.reply.Answer.{Answer}
 use Rattle.rp_machine.specs.Replay.{is_for, numbers_of, occurrences_of, all_answered}
-
--- the greatest of some numbers, 0 where there is none
-abbrev pub greatest : List ℕ → ℕ
-greatest [] = 0
-greatest (n ∷ rest) = max n (greatest rest)
 
 -- the number of the task's last call that counted, 0 where none did
 abbrev pub last_number : ℕ → List Action → ℕ

@@ -14,7 +14,7 @@ use Rattle.rp_entry.specs.declared.state.CallOutcome.TheVariants.{Reply}
 use Rattle.rp_entry.specs.Operations.{of_index}
 use Rattle.rp_entry.specs.Protected.{Protected}
 use Rattle.rp_entry.specs.Actions.{Request, calls_function, calls_procedure, calls_entry, event}
-use Rattle.rp_machine.specs.Asked.{greatest}
+use Rattle.rp_base.specs.Number.{greatest}
 use Rattle.rp_machine.specs.Replay.{counts, Replayed, replay_step, replay_from}
 use Rattle.rp_object.specs.declared.program.Handler.{Handler}
 use Rattle.rp_object.specs.declared.program.Declarations.{Declarations}

@@ -5,7 +5,7 @@ ghost use Rattle.rp_base.specs.Sets.{Has, IsSet};
 ghost use Rattle.rp_base.specs.Action.{IsRight};
 ghost use Rattle.rp_base.specs.declared.action.Action.{Action};
 ghost use Rattle.rp_base.specs.declared.action.Action.TheVariants.{Tick};
-ghost use Rattle.rp_machine.specs.Asked.{greatest};
+ghost use Rattle.rp_base.specs.Number.{greatest};
 ghost use Rattle.rp_machine.specs.Calls.{calls_of, AccountsFor};
 ghost use Rattle.rp_machine.specs.Replay.{replay_state};
 ghost use Rattle.rp_object.specs.declared.program.Declarations.{Declarations};

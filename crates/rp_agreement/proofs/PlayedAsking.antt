@@ -1,5 +1,5 @@
 -- A history in which a node asks for a decision that was lost on its way, and applies two calls.
-use Rattle.std.proofs.Common.{◌≡◌, ℕ, pos, Some, Ok, List, [], ◌∷◌, ◌++◌, Bool, map, filter, if◌then◌else◌, refl, sym, ap, subst, ◌∙◌, arith}
+use Rattle.std.proofs.Common.{◌≡◌, pos, Some, Ok, List, [], ◌∷◌, ◌++◌, Bool, map, filter, if◌then◌else◌, refl, sym, ap, subst, ◌∙◌, arith}
 use Rattle.std.specs.Prelude.{nat_eq, ◌&&◌}
 use Rattle.std.specs.List.{list_any}
 use Rattle.std.proofs.lemmas.List.Elements.{filter-append}
@@ -148,22 +148,22 @@ module _ {S : Type 0} (next : S → Action → S) (answers : S → Action → Li
   ends_so : (reply second : Reply) → Ends (asked_world (first_answer reply ∷ []) (other_answer second ∷ []))
   unfolding ask told_so
   ends_so reply second =
-    let given = replay_answers next answers begin (first_call ∷ other_call ∷ []) in
-    record {
-    told = told_so reply second;
-    transition = _;
-    effect = refl;
-    one = refl;
-    two = refl;
-    other_one = refl;
-    other_two = refl;
-    missed = refl;
-    asks = refl;
-    prepares = both_silent (told_so reply second).world.sent (replies_to 3 [] given ++ []) refl (silent [] given);
-    part = _;
-    here = refl;
-    applied = refl;
-  }
+      let given = replay_answers next answers begin (first_call ∷ other_call ∷ []) in
+      record {
+        told = told_so reply second;
+        transition = _;
+        effect = refl;
+        one = refl;
+        two = refl;
+        other_one = refl;
+        other_two = refl;
+        missed = refl;
+        asks = refl;
+        prepares = both_silent (told_so reply second).world.sent (replies_to 3 [] given ++ []) refl (silent [] given);
+        part = _;
+        here = refl;
+        applied = refl;
+      }
 
   ends : (reply second : Reply) → answers begin first_call ≡ first_answer reply ∷ [] → answers (next begin first_call) other_call ≡ other_answer second ∷ []
       → Ends (asked_world (answers begin first_call) (answers (next begin first_call) other_call))

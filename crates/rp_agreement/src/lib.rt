@@ -30,7 +30,6 @@ mod replies;
 mod responses;
 mod sends;
 
-
 pub use decisions::{
     decisions_are_one, decisions_stay, only_asked_actions_are_decided,
     only_decided_actions_are_learned,
@@ -57,8 +56,8 @@ pub use replies::{
     node_events_keep_replies, only_made_calls_count, replies_answer_calls_that_count,
     replies_follow_the_order, task_events_keep_replies,
 };
-pub use sends::{nodes_send_right_packets, tasks_send_right_packets};
 pub use responses::{
     a_majority_is_offered, an_answered_call_is_answered_again,
     pending_items_stay_until_they_are_over,
 };
+pub use sends::{nodes_send_right_packets, tasks_send_right_packets};

@@ -1,5 +1,4 @@
 -- By the cases of what comes in.
-use Rattle.std.proofs.Common.{◌≡◌}
 use Rattle.rp_base.specs.Records.{applied_of}
 use Rattle.rp_machine.specs.Replay.{kept_of}
 use Rattle.rp_model.specs.Effect.{running_effect}

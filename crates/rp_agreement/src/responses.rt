@@ -26,7 +26,8 @@ ghost use Rattle.rp_model.specs.Parts.{Running, Turn};
 ghost use Rattle.rp_model.specs.Says.{sends, says_to_all, says_to_task};
 ghost use Rattle.rp_model.specs.Tasks.{asks};
 ghost use Rattle.rp_agreement.specs.Answered.{named, setting_for};
-ghost use Rattle.rp_agreement.specs.Over.{IsOverOnce, IsTaken, AreKept, brought_by};
+ghost use Rattle.rp_agreement.specs.Over.{IsOver, IsOverOnce, IsTaken, IsCallTaken, AreKept};
+ghost use Rattle.rp_agreement.specs.Over.{brought_by};
 
 use rp_machine::{Machine, a_call_has_one_answer};
 
@@ -91,8 +92,16 @@ pub fn pending_items_stay_until_they_are_over<M: Machine>()
         → running_effect setting me records running input ≡ Ok turn
         → ((i : ℕ) (v : Action) → turn.written ≢ Some (Learned i v))
         → AreKept running turn (brought_by input) }
-    // claim (interrupts, ticks): A node that is given an interrupt or a tick notes it, unless it is
-    //   over or 32 items wait
+    // claim (calls, interrupts, ticks): A node that is given a call, an interrupt or a tick notes
+    //   it, unless it is over or 32 items wait
+    ensures calls { (setting : Setting M) (me task number object : ℕ) (operation : Operation)
+        (arg : ℤ) (records : List Rec) (running : Running) (turn : Turn)
+        → let applied = applied_of records in
+        let kept = kept_of setting.next setting.answers setting.begin applied in
+        let given = replay_answers setting.next setting.answers setting.begin applied in
+        let call : Action = Call task number object operation arg in
+        running_effect setting me records running (Receive (asks task me call)) ≡ Ok turn
+        → IsOver kept given [] call ⊎ IsCallTaken running turn (named task number) }
     ensures interrupts { (setting : Setting M) (me source occurrence : ℕ) (records : List Rec)
         (running : Running) (turn : Turn)
         → running_effect setting me records running (inputs.Interrupt source occurrence) ≡ Ok turn

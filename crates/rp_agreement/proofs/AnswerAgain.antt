@@ -1,11 +1,10 @@
 -- A call of which the answer was given: its reply is found again.
-use Rattle.std.proofs.Common.{◌≡◌, ℕ, zero, suc, ◌≤◌, ℤ, Bool, true, false, if◌then◌else◌, Option, Some, None, List, [], ◌∷◌, refl, sym, ap, ◌∙◌, inl, inr, arith, eq-eqb, lt-ltb, eqb-true}
+use Rattle.std.proofs.Common.{◌≡◌, ℕ, ◌≤◌, Bool, true, Some, None, List, [], ◌∷◌, sym, ap, ◌∙◌, inl, inr, eq-eqb, lt-ltb, eqb-true}
 use Rattle.std.specs.Prelude.{nat_eq, nat_lt, find, ◌&&◌}
 use Rattle.std.specs.Option.{option_map}
 use Rattle.std.proofs.lemmas.Bool.{and_from, and_parts, cases_Bool, cond-true, cond-false}
 use Rattle.rp_base.specs.declared.action.Action.{Action}
 use Rattle.rp_base.specs.declared.reply.Answer.{Answer}
-use Rattle.rp_base.specs.declared.reply.Reply.{Reply}
 use Rattle.rp_base.specs.Sets.{Has}
 use Rattle.rp_machine.specs.Asked.{last_number, answer_to, kept_reply}
 use Rattle.rp_machine.specs.Calls.{CallName, call_of}

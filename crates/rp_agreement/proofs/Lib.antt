@@ -50,5 +50,6 @@ pub mod NearTurns
 pub mod NearKeeping
 pub mod PendingOver
 pub mod PendingTurns
+pub mod CallTurns
 pub mod NotedTurns
 pub mod NotedWorlds

@@ -1,19 +1,16 @@
 -- A pending item stays exactly if it is not over.
-use Rattle.std.proofs.Common.{◌≡◌, ℕ, ◌<◌, ◌≤◌, Bool, true, false, not, ◌&&◌, nat_eq, nat_lt, nat_le, is_none, ◌⊎◌, inl, inr, Option, Some, None, List, [], ◌∷◌, find, refl, sym, ap, subst, ◌∙◌, arith, lt-ltb}
+use Rattle.std.proofs.Common.{◌≡◌, ℕ, Bool, true, false, not, ◌&&◌, nat_le, is_none, ◌⊎◌, inl, inr, Option, Some, None, List, refl, sym, ap, ◌∙◌, arith, lt-ltb}
 use Rattle.std.specs.List.{list_any}
 use Rattle.std.proofs.lemmas.Bool.{cases_Bool, cases_lt, le-leb, lt-leb}
 use Rattle.rp_base.specs.Action.{same_action}
-use Rattle.rp_base.specs.Sets.{Has}
 use Rattle.rp_base.specs.declared.action.Action.{Action}
 use Rattle.rp_base.specs.declared.action.Action.TheVariants.{Noop, Call, Interrupt, Tick}
 use Rattle.rp_base.specs.declared.reply.Answer.{Answer}
 use Rattle.rp_base.proofs.Members.{found, finds}
 use Rattle.rp_base.proofs.Sameness.{action_decides}
 use Rattle.rp_machine.specs.Asked.{last_number, last_occurrence, answer_to}
-use Rattle.rp_machine.specs.Calls.{call_of}
 use Rattle.rp_machine.specs.Replay.{is_for}
 use Rattle.rp_model.specs.Pending.{stays}
-use Rattle.rp_agreement.specs.Answered.{named}
 use Rattle.rp_agreement.specs.Over.{IsOver}
 use Rattle.rp_agreement.proofs.AnswerAgain.{finds_one, is_for_call, call_is}
 use Rattle.rp_agreement.proofs.Lists.{found_has}

@@ -1,5 +1,5 @@
 -- A history in which a node asks for a decision that was lost on its way, and applies two calls.
-use Rattle.std.proofs.Common.{◌≡◌, ℕ, pos, Some, Ok, List, [], ◌∷◌, ◌++◌, Bool, map, filter, if◌then◌else◌, refl, sym, ap, subst, ◌∙◌, arith}
+use Rattle.std.proofs.Common.{◌≡◌, pos, Some, Ok, List, [], ◌∷◌, ◌++◌, Bool, map, filter, if◌then◌else◌, refl, sym, ap, subst, ◌∙◌, arith}
 use Rattle.std.specs.Prelude.{nat_eq, ◌&&◌}
 use Rattle.std.specs.List.{list_any}
 use Rattle.std.proofs.lemmas.List.Elements.{filter-append}

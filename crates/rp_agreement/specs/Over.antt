@@ -11,7 +11,7 @@ use Rattle.rp_base.specs.declared.reply.Answer.{Answer}
 use Rattle.rp_codec.specs.declared.packet.Body.{Body}
 use Rattle.rp_codec.specs.declared.packet.Body.TheVariants.{Call}
 use Rattle.rp_machine.specs.Asked.{last_number, last_occurrence}
-use Rattle.rp_machine.specs.Calls.{call_of}
+use Rattle.rp_machine.specs.Calls.{CallName, calls_of, call_of}
 use Rattle.rp_machine.specs.Replay.{kept_of, replay_answers}
 use Rattle.rp_model.specs.Effect.{Setting, NodeInput, Receive, Lead, LeadRange, Interrupt, Tick}
 use Rattle.rp_model.specs.Effect.{Report}
@@ -64,4 +64,10 @@ AreKept running turn brought =
 abbrev pub IsTaken : Running → Turn → Action → Type 0
 IsTaken running turn item =
     Has item turn.running.pending
+    ⊎ ((turn.dropped ≡ Full) × (32 ≤ length running.pending))
+
+-- the same of a call: one of this task and number waits after the turn, or the node is full
+abbrev pub IsCallTaken : Running → Turn → CallName → Type 0
+IsCallTaken running turn call =
+    ((item : Action) × Has item turn.running.pending × (calls_of item ≡ call ∷ []))
     ⊎ ((turn.dropped ≡ Full) × (32 ≤ length running.pending))

@@ -1,6 +1,6 @@
 -- Histories in which something happens, so that the laws are not vacuous: a call is decided and its
 -- task gets the reply, a tick is applied, a stopped node starts again, a range is led, a node takes
--- over from one that stopped, and one learns what it missed.
+-- over from one that stopped, a node learns what it missed.
 use Rattle.std.specs.Prelude.{◌≡◌, ℕ, Bool, false, true, nat_eq, ◌&&◌, Some, IsSome, List, [], ◌∷◌}
 use Rattle.std.specs.Prelude.{◌++◌, filter}
 use Rattle.rp_base.specs.Ranges.{Range}

@@ -38,7 +38,7 @@ pub fn histories_are_sound<M: Machine>()
 
 /// At two moments of a history, now and later: at a position one action at most is decided, and it
 /// stays decided; the order grows at its end alone; of what two nodes have applied, the one now and
-/// the other later, one is a prefix of the other; and if they have applied equally many actions
+/// the other later, one is a prefix of the other; and where they have applied equally many actions
 /// they are in one state, with the same answers given.
 pub fn histories_agree<M: Machine>()
     // claim: Nodes agree in every history of right events
@@ -140,12 +140,12 @@ pub fn some_history_leads_a_range<M: Machine>()
 {}
 
 /// Nor of positions that nobody can take over: with three nodes, whatever the machine, if it
-/// answers that call at once, in some history a node stops for which another voted, that one leads,
-/// and what it voted for is decided and its task gets the reply.
+/// answers that call at once, in some history a node stops once another voted for a call, the other
+/// leads, and that call is decided and its task gets the reply.
 pub fn some_history_takes_over<M: Machine>()
     // claim: In some history a node that led stops for good once another voted for a call, the
-    //   other leads with a call of its own, and the first call is decided and its task gets the
-    //   reply: with three nodes twenty-three right events do
+    //   other leads, where another call waits first, and the call that was voted for is decided and
+    //   its task gets the reply: with three nodes twenty-three right events do
     ensures { (begin : M) (reply : Reply)
         → let call : Action = Call 1 1 1 (Procedure 1) (pos 5) in
         let other : Action = Call 2 1 1 (Procedure 1) (pos 7) in

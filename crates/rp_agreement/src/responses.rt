@@ -1,11 +1,11 @@
 //! What a node does with an input.
 
-ghost use Rattle.std.specs.Prelude.{◌≡◌, ◌≢◌, ◌↔◌, ◌⊎◌, ◌≤◌, ℕ, true, ℤ, Ok, Option, Some, List};
-ghost use Rattle.std.specs.Prelude.{[], ◌∷◌};
+ghost use Rattle.std.specs.Prelude.{◌≡◌, ◌≢◌, ◌↔◌, ◌⊎◌, ◌≤◌, ℕ, ℤ, true, false, Ok, Option};
+ghost use Rattle.std.specs.Prelude.{Some, None, List, [], ◌∷◌};
 ghost use Rattle.rp_base.specs.Action.{IsRight};
 ghost use Rattle.rp_base.specs.Proposals.{Proposal, proposal_at, takes_promise, with_promise};
-ghost use Rattle.rp_base.specs.Proposals.{is_promised};
-ghost use Rattle.rp_base.specs.Records.{applied_of};
+ghost use Rattle.rp_base.specs.Proposals.{is_promised, is_prepared};
+ghost use Rattle.rp_base.specs.Records.{applied_of, learned_at};
 ghost use Rattle.rp_base.specs.Sets.{Has};
 ghost use Rattle.rp_base.specs.declared.action.Action.{Action};
 ghost use Rattle.rp_base.specs.declared.action.Action.TheVariants.{Call, Interrupt, Tick};
@@ -20,13 +20,14 @@ ghost use Rattle.rp_machine.specs.Asked.{last_number, last_occurrence};
 ghost use Rattle.rp_machine.specs.Calls.{call_of};
 ghost use Rattle.rp_machine.specs.Replay.{kept_of, replay_answers};
 ghost use Rattle.rp_model.specs.Effect as inputs;
-ghost use Rattle.rp_model.specs.Effect.{Setting, NodeInput, Receive, running_effect};
-ghost use Rattle.rp_model.specs.Leader.{on_promise};
+ghost use Rattle.rp_model.specs.Effect.{Setting, NodeInput, Receive, Lead, running_effect};
+ghost use Rattle.rp_model.specs.Leader.{on_promise, is_out_of_reach};
 ghost use Rattle.rp_model.specs.Parts.{Running, Turn};
 ghost use Rattle.rp_model.specs.Says.{sends, says_to_all, says_to_task};
 ghost use Rattle.rp_model.specs.Tasks.{asks};
 ghost use Rattle.rp_agreement.specs.Answered.{named, setting_for};
-ghost use Rattle.rp_agreement.specs.Over.{IsOverOnce, IsTaken, AreKept, brought_by};
+ghost use Rattle.rp_agreement.specs.Over.{IsOver, IsOverOnce, IsTaken, IsCallTaken, AreKept};
+ghost use Rattle.rp_agreement.specs.Over.{brought_by};
 
 use rp_machine::{Machine, a_call_has_one_answer};
 
@@ -52,24 +53,34 @@ pub fn an_answered_call_is_answered_again<M: Machine>()
 }
 
 /// Where one promise more makes a majority, some action is offered to all nodes, whatever votes the
-/// promises report (Lamport, "Paxos Made Simple", section 2.2).
-pub fn a_majority_is_offered()
+/// promises report (Lamport, "Paxos Made Simple", section 2.2); so too where a node leads at a
+/// position that a majority promised as part of a range.
+pub fn a_majority_is_offered<M: Machine>()
     // claim: Once a majority promised, a node offers some action to all nodes, whatever votes the
     //   promises report
-    ensures { (nodes me : ℕ) (running : Running) (from i b : ℕ) (last : Option Vote)
+    ensures promised { (nodes me : ℕ) (running : Running) (from i b : ℕ) (last : Option Vote)
         (p : Proposal)
         → proposal_at running.proposals i ≡ Some p → takes_promise b p ≡ true
         → is_promised nodes (with_promise p (from, last)) ≡ true
         → (v : Action)
         × ((on_promise nodes me running from i b last).sent
         ≡ says_to_all nodes me (Accept i b v)) }
+    ensures prepared { (setting : Setting M) (me i : ℕ) (records : List Rec) (running : Running)
+        (p : Proposal)
+        → let nodes = setting.config.nodes in
+        learned_at records i ≡ None
+        → is_out_of_reach setting.config.max_positions records i ≡ false
+        → proposal_at running.proposals i ≡ Some p → is_prepared nodes p ≡ true
+        → (turn : Turn) × (v : Action)
+        × (running_effect setting me records running (Lead (Some i)) ≡ Ok turn)
+        × (turn.sent ≡ says_to_all nodes me (Accept i p.ballot v)) }
 {}
 
 /// An item that waits at a node to be proposed waits until it is over, and no longer. So nothing
 /// that a node noted is forgotten while it runs, and no node is full of what is over.
 pub fn pending_items_stay_until_they_are_over<M: Machine>()
-    // claim: What waits at a node to be proposed waits until it is over, and no longer: at a step
-    //   that learns an action exactly what is over goes, at any other nothing does
+    // claim (learning, others): What waits at a node to be proposed waits until it is over, and no
+    //   longer: in a step that learns an action exactly what is over goes, in any other nothing
     ensures learning { (setting : Setting M) (me i : ℕ) (records : List Rec) (running : Running)
         (input : NodeInput) (turn : Turn) (v item : Action)
         → running_effect setting me records running input ≡ Ok turn
@@ -81,8 +92,16 @@ pub fn pending_items_stay_until_they_are_over<M: Machine>()
         → running_effect setting me records running input ≡ Ok turn
         → ((i : ℕ) (v : Action) → turn.written ≢ Some (Learned i v))
         → AreKept running turn (brought_by input) }
-    // claim (interrupts, ticks): A node that is given an interrupt or a tick notes it, unless it is
-    //   over or 32 items wait
+    // claim (calls, interrupts, ticks): A node that is given a call, an interrupt or a tick notes
+    //   it, unless it is over or 32 items wait
+    ensures calls { (setting : Setting M) (me task number object : ℕ) (operation : Operation)
+        (arg : ℤ) (records : List Rec) (running : Running) (turn : Turn)
+        → let applied = applied_of records in
+        let kept = kept_of setting.next setting.answers setting.begin applied in
+        let given = replay_answers setting.next setting.answers setting.begin applied in
+        let call : Action = Call task number object operation arg in
+        running_effect setting me records running (Receive (asks task me call)) ≡ Ok turn
+        → IsOver kept given [] call ⊎ IsCallTaken running turn (named task number) }
     ensures interrupts { (setting : Setting M) (me source occurrence : ℕ) (records : List Rec)
         (running : Running) (turn : Turn)
         → running_effect setting me records running (inputs.Interrupt source occurrence) ≡ Ok turn

@@ -1,17 +1,14 @@
 -- The reply is kept, since no call is answered twice.
-use Rattle.std.proofs.Common.{◌≡◌, Bool, true, Option, Ok, Some, refl, sym, ap, ◌∙◌, [], ◌∷◌, eq-eqb}
-use Rattle.std.specs.Prelude.{nat_eq, if◌then◌else◌}
+use Rattle.std.proofs.Common.{◌≡◌, true, Option, Ok, refl, ap, ◌∙◌, eq-eqb}
 use Rattle.std.proofs.lemmas.Bool.{and_from, cond-true}
 use Rattle.rp_base.specs.declared.action.Action.{Action}
 use Rattle.rp_base.specs.declared.action.Action.TheVariants.{Call}
 use Rattle.rp_base.specs.declared.reply.Reply.{Reply as CallReply}
 use Rattle.rp_base.specs.Records.{applied_of}
-use Rattle.rp_codec.specs.declared.packet.Body.TheVariants.{Reply}
 use Rattle.rp_machine.specs.Replay.{kept_of, replay_answers}
-use Rattle.rp_model.specs.Parts.{Turn}
 use Rattle.rp_model.specs.Pending.{on_numbered}
 use Rattle.rp_model.specs.Receiving.{is_for_node}
-use Rattle.rp_model.specs.Says.{drops_foreign, sends, says_to_task}
+use Rattle.rp_model.specs.Says.{drops_foreign}
 use Rattle.rp_model.specs.Tasks.{asks}
 use Rattle.rp_agreement.specs.Answered.{named}
 use Rattle.rp_agreement.proofs.AnswerAgain.{reply_is_kept}

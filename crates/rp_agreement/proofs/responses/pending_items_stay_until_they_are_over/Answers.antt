@@ -1,9 +1,9 @@
 -- By the cases of what comes in.
-use Rattle.std.proofs.Common.{◌≡◌}
 use Rattle.rp_base.specs.Records.{applied_of}
-use Rattle.rp_machine.specs.Replay.{kept_of}
+use Rattle.rp_machine.specs.Replay.{kept_of, replay_answers}
 use Rattle.rp_model.specs.Effect.{running_effect}
 use Rattle.rp_agreement.specs.Over.{brought_by}
+use Rattle.rp_agreement.proofs.CallTurns.{call_taken}
 use Rattle.rp_agreement.proofs.PendingTurns.{fate_of, learned_so, others_so, stay_exactly, interrupt_taken, tick_taken}
 use Rattle.rp_agreement.proofs.responses.pending_items_stay_until_they_are_over.Goals as goal
 
@@ -15,6 +15,11 @@ returns-clause-learning g c = λ s me i records running input turn v item result
 pub returns-clause-others : goal.returns-clause-others
 returns-clause-others g c = λ s me records running input turn result none.
     others_so s records running (brought_by input) turn (running_effect s me records running input) (fate_of s me records running input) result none
+
+pub returns-clause-calls : goal.returns-clause-calls
+returns-clause-calls g c = λ s me task number object operation arg records running turn result.
+    let applied = applied_of records in
+    call_taken task number object operation arg running s.config me (kept_of s.next s.answers s.begin applied) (replay_answers s.next s.answers s.begin applied) turn result
 
 pub returns-clause-interrupts : goal.returns-clause-interrupts
 returns-clause-interrupts g c = λ s me source occurrence records running turn result.

@@ -38,7 +38,7 @@ pub fn histories_are_sound<M: Machine>()
 
 /// At two moments of a history, now and later: at a position one action at most is decided, and it
 /// stays decided; the order grows at its end alone; of what two nodes have applied, the one now and
-/// the other later, one is a prefix of the other; and where they have applied equally many actions
+/// the other later, one is a prefix of the other; and if they have applied equally many actions
 /// they are in one state, with the same answers given.
 pub fn histories_agree<M: Machine>()
     // claim: Nodes agree in every history of right events

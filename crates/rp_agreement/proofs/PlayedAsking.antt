@@ -1,6 +1,6 @@
 -- A history in which a node asks for a decision that was lost on its way, and applies two calls.
 use Rattle.std.proofs.Common.{◌≡◌, pos, Some, Ok, List, [], ◌∷◌, ◌++◌, Bool, map, filter, if◌then◌else◌, refl, sym, ap, subst, ◌∙◌, arith}
-use Rattle.std.specs.Prelude.{nat_eq, ◌&&◌}
+use Rattle.std.specs.Prelude.{nat_eq}
 use Rattle.std.specs.List.{list_any}
 use Rattle.std.proofs.lemmas.List.Elements.{filter-append}
 use Rattle.rp_base.specs.Records.{applied_of}
@@ -10,19 +10,18 @@ use Rattle.rp_base.specs.declared.action.Operation.TheVariants.{Procedure}
 use Rattle.rp_base.specs.declared.reply.Answer.{Answer}
 use Rattle.rp_base.specs.declared.reply.Reply.{Reply}
 use Rattle.rp_codec.specs.Message.{Message}
-use Rattle.rp_codec.specs.declared.packet.Body.TheVariants.{Ask, Decided, Reply as Answers}
+use Rattle.rp_codec.specs.declared.packet.Body.TheVariants.{Ask, Decided, PrepareRange, Reply as Answers}
 use Rattle.rp_machine.specs.Replay.{replay_answers}
 use Rattle.rp_model.specs.Answers.{Happen}
 use Rattle.rp_model.specs.Events.{Event, Submit, Makes, Deliver, Lead, LeadRange}
 use Rattle.rp_model.specs.Parts.{NodePart}
-use Rattle.rp_model.specs.Receiving.{is_node}
 use Rattle.rp_model.specs.Pending.{is_answered_by, replies_to}
-use Rattle.rp_model.specs.Says.{says, says_to_task}
+use Rattle.rp_model.specs.Says.{says, says_to_all, says_to_task}
 use Rattle.rp_model.specs.World.{World, Transition, opening_world, part_at, event_effect}
 use Rattle.rp_agreement.specs.Possible.{three_nodes, is_prepare, IsCaughtUp}
 use Rattle.rp_agreement.proofs.PartPlaces.{part_has}
 use Rattle.rp_agreement.proofs.Playing.{AllRight, right_on, history_of, happen_on, Votes, two_decide, first_call, first_answer}
-use Rattle.rp_agreement.proofs.PlayedRanges.{other_call}
+use Rattle.rp_agreement.proofs.PlayedRanges.{first_two, other_call}
 
 -- the answer to the second call
 abbrev pub other_answer : Reply → Answer
@@ -104,9 +103,9 @@ module _ {S : Type 0} (next : S → Action → S) (answers : S → Action → Li
   abbrev asked_world : List Answer → List Answer → World
   asked_world one two = (ask next (fixed one two) begin).0
 
-  -- the node 3 asked for no promises
+  -- the packet asks for promises
   abbrev asks_promises : Message → Bool
-  asks_promises m = is_node 3 m.from && is_prepare m.body
+  asks_promises m = is_prepare m.body
 
   -- replies ask for none
   silent : (pending : List Action) (given : List Answer) → filter asks_promises (replies_to 3 pending given ++ []) ≡ []
@@ -116,14 +115,20 @@ module _ {S : Type 0} (next : S → Action → S) (answers : S → Action → Li
       none [] = refl
       none (answer ∷ rest) = none rest
 
-  both_silent : (known further : List Message) → filter asks_promises known ≡ [] → filter asks_promises further ≡ [] → filter asks_promises (known ++ further) ≡ []
-  both_silent known further one other = filter-append asks_promises known further ∙ ap (λ (ms : List Message). ms ++ filter asks_promises further) one ∙ other
+  -- the packets that asked for promises, where no further one does
+  no_further : (known further asked : List Message) → filter asks_promises known ≡ asked → filter asks_promises further ≡ [] → filter asks_promises (known ++ further) ≡ asked ++ []
+  no_further known further asked one other =
+      filter-append asks_promises known further ∙ ap (λ (ms : List Message). ms ++ filter asks_promises further) one ∙ ap (λ (ms : List Message). asked ++ ms) other
+
+  -- the question of node 1 for promises
+  abbrev asked_all : List Message
+  asked_all = says_to_all 3 1 (PrepareRange first_two 9)
 
   -- what the question leads to from there
   record Told (w : World) : Type 0 where
     pub world : World
     pub happened : Happen (three_nodes 2 next answers begin) w (Makes (Deliver 20) ∷ []) world
-    pub prepares : filter asks_promises world.sent ≡ []
+    pub prepares : filter asks_promises world.sent ≡ asked_all
 
   -- and what the answer leads to
   record Ends (w : World) : Type 0 where
@@ -136,7 +141,7 @@ module _ {S : Type 0} (next : S → Action → S) (answers : S → Action → Li
     pub other_two : Votes transition.world.sent 17 2 2 9 other_call
     pub missed : part_at transition.world.sent 22 ≡ Some (says 1 (Decided 1 first_call) 3)
     pub asks : part_at transition.world.sent 20 ≡ Some (says 3 (Ask 1) 1)
-    pub prepares : filter asks_promises transition.world.sent ≡ []
+    pub prepares : filter asks_promises transition.world.sent ≡ asked_all
     pub part : NodePart
     pub here : part_at transition.world.nodes 3 ≡ Some part
     pub applied : applied_of part.records ≡ first_call ∷ other_call ∷ []
@@ -159,7 +164,7 @@ module _ {S : Type 0} (next : S → Action → S) (answers : S → Action → Li
         other_two = refl;
         missed = refl;
         asks = refl;
-        prepares = both_silent (told_so reply second).world.sent (replies_to 3 [] given ++ []) refl (silent [] given);
+        prepares = no_further (told_so reply second).world.sent (replies_to 3 [] given ++ []) asked_all refl (silent [] given);
         part = _;
         here = refl;
         applied = refl;
@@ -187,6 +192,8 @@ module _ {S : Type 0} (next : S → Action → S) (answers : S → Action → Li
             (happen_on s (asking ++ Makes (Deliver 20) ∷ []) (Makes (Deliver 25) ∷ []) (opening_world 3) end.told.world world first (end.transition, end.effect, refl));
         decided = two_decide world.sent 14 15 1 9 first_call end.one end.two;
         other_decided = two_decide world.sent 16 17 2 9 other_call end.other_one end.other_two;
+        range = first_two;
+        ballot = 9;
         number = 22;
         missed = end.missed;
         lost = refl;

@@ -14,7 +14,7 @@ use Rattle.rp_model.specs.World.{World, opening_world}
 use Rattle.rp_agreement.specs.Possible.{three_nodes, is_prepare, IsRepliedInRange}
 use Rattle.rp_agreement.proofs.Playing.{AllRight, history_on, GetsReply, Votes, two_decide, first_call, first_answer}
 
-abbrev first_two : Range
+abbrev pub first_two : Range
 first_two = record { first = 1; count = 2 }
 
 abbrev pub other_call : Action

@@ -1,5 +1,5 @@
 -- A history in which a node takes over from one that stopped, and a task gets its reply.
-use Rattle.std.proofs.Common.{◌≡◌, pos, Some, List, [], ◌∷◌, ◌++◌, refl, sym, subst, arith}
+use Rattle.std.proofs.Common.{◌≡◌, pos, Some, List, [], ◌∷◌, ◌++◌, inl, inr, refl, sym, subst, arith}
 use Rattle.rp_base.specs.declared.action.Action.{Action}
 use Rattle.rp_base.specs.declared.action.Operation.TheVariants.{Procedure}
 use Rattle.rp_base.specs.declared.reply.Answer.{Answer}
@@ -91,12 +91,11 @@ module _ {S : Type 0} (next : S → Action → S) (answers : S → Action → Li
   abbrev Ends : Reply → World → Type 0
   Ends reply w =
       (last : GetsReply (three_nodes 1 next answers begin) w 25 (first_answer reply)) × VotesToTwo last.transition.world.sent 21 2 1 10 first_call × VotesToTwo last.transition.world.sent 22 3 1 10 first_call
-      × IsStopped last.transition.world 1
 
   ends : (reply : Reply) → answers begin first_call ≡ first_answer reply ∷ [] → Ends reply (taken_world (answers begin first_call))
   unfolding take_over
   ends reply answered =
-      subst (λ (given : List Answer). Ends reply (taken_world given)) (sym answered) (record { transition = _; effect = refl; replied = (_, refl, refl) }, refl, refl, (_, refl, refl))
+      subst (λ (given : List Answer). Ends reply (taken_world given)) (sym answered) (record { transition = _; effect = refl; replied = (_, refl, refl) }, refl, refl)
 
   pub takes_over : (reply : Reply) → answers begin first_call ≡ first_answer reply ∷ [] → IsRepliedAfterTakeover (three_nodes 1 next answers begin) first_call other_call (first_answer reply)
   unfolding take_over
@@ -115,7 +114,8 @@ module _ {S : Type 0} (next : S → Action → S) (answers : S → Action → Li
         undecided = cut.4;
         waits_first = cut.5;
         history = history_on 1 (omega arith, omega arith) next answers begin takeover 25 (take_over next answers begin).0 (first_answer reply) right_takeover (take_over next answers begin).1 end.0;
-        stays_stopped = end.3;
+        for_good = refl;
+        leads = inr (inr (inl refl));
         decided = others_decide end.0.transition.world.sent 21 22 1 10 first_call end.1 end.2;
         replied = end.0.replied;
       }

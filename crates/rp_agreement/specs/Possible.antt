@@ -1,7 +1,7 @@
 -- Histories in which something happens, so that the laws are not vacuous: a call is decided and its
 -- task gets the reply, a tick is applied, a stopped node starts again, a range is led, a node takes
 -- over from one that stopped, a node learns what it missed.
-use Rattle.std.specs.Prelude.{◌≡◌, ℕ, Bool, false, true, nat_eq, ◌&&◌, Some, IsSome, List, [], ◌∷◌}
+use Rattle.std.specs.Prelude.{◌≡◌, ℕ, Bool, false, true, nat_eq, Some, IsSome, List, [], ◌∷◌}
 use Rattle.std.specs.Prelude.{◌++◌, filter}
 use Rattle.rp_base.specs.Ranges.{Range}
 use Rattle.rp_base.specs.Records.{applied_of}
@@ -12,10 +12,10 @@ use Rattle.rp_codec.specs.declared.packet.Body.{Body}
 use Rattle.rp_codec.specs.declared.packet.Body.TheVariants.{Prepare, PrepareRange, Decided, Ask}
 use Rattle.rp_model.specs.Answers.{IsStopped}
 use Rattle.rp_model.specs.Effect.{Setting}
-use Rattle.rp_model.specs.Events.{Event, Step, Makes, Cut, Stop, Restart, Deliver, LeadRange}
+use Rattle.rp_model.specs.Events.{Event, Step, Makes, Cut, Stop, Restart, Deliver, Lead}
+use Rattle.rp_model.specs.Events.{LeadRange}
 use Rattle.rp_model.specs.Facts.{HasVoted, IsDecided}
 use Rattle.rp_model.specs.Parts.{Running, NodePart, TaskPart}
-use Rattle.rp_model.specs.Receiving.{is_node}
 use Rattle.rp_model.specs.Says.{says, says_to_all}
 use Rattle.rp_model.specs.World.{World, part_at, step_writes}
 use Rattle.rp_agreement.specs.Computed.{order_of}
@@ -116,9 +116,14 @@ pub record WaitsFirst (w : World) (me : ℕ) (item : Action) : Type 0 where
   pub others : List Action
   pub pending : running.pending ≡ item ∷ others
 
--- In some history node 2 votes for a call, and node 1, which led, stops before anything is decided,
--- and for good; node 2, at which another call waits first, leads, the call that was voted for is
--- decided, and task 1 gets this reply.
+-- the event is that this node starts again
+abbrev pub is_restart : ℕ → Event → Bool
+is_restart me (Restart node) = nat_eq node me
+is_restart me event = false
+
+-- In some history node 2 votes for a call, and node 1, which led, stops before anything is decided
+-- and never starts again; node 2, at which another call waits first, leads, the call that was voted
+-- for is decided, and task 1 gets this reply.
 pub record IsRepliedAfterTakeover {S : Type 0} (s : Setting S) (call other : Action)
     (answer : Answer)
     : Type 0 where
@@ -133,7 +138,8 @@ pub record IsRepliedAfterTakeover {S : Type 0} (s : Setting S) (call other : Act
   pub undecided : order_of s.config.nodes stopped.sent ≡ []
   pub waits_first : WaitsFirst stopped 2 other
   pub history : IsHistory s (before ++ Stop 1 ∷ after) last
-  pub stays_stopped : IsStopped last 1
+  pub for_good : filter (is_restart 1) after ≡ []
+  pub leads : Has (Makes (Lead 2 (Some 1))) after
   pub decided : IsDecided s.config.nodes last.sent 1 call
   pub replied : HasOnlyReply last answer
 
@@ -142,20 +148,23 @@ abbrev pub is_delivery : ℕ → Event → Bool
 is_delivery number (Makes (Deliver delivered)) = nat_eq delivered number
 is_delivery number event = false
 
--- In some history two calls are decided; node 1 says to node 3 what is decided at position 1 in a
--- packet that is lost; node 3 asks node 1 for that position, asks nobody for a promise, and applies
--- both calls.
+-- In some history two calls are decided, and nobody asks for promises but node 1, once, for both
+-- positions; what it says to node 3 of position 1 is lost; node 3 asks it for that position, and
+-- applies both calls.
 pub record IsCaughtUp {S : Type 0} (s : Setting S) (call other : Action) : Type 0 where
   pub events : List Event
   pub world : World
   pub history : IsHistory s events world
   pub decided : IsDecided s.config.nodes world.sent 1 call
   pub other_decided : IsDecided s.config.nodes world.sent 2 other
+  pub range : Range
+  pub ballot : ℕ
+  pub prepares : filter (λ m. is_prepare m.body) world.sent
+      ≡ says_to_all s.config.nodes 1 (PrepareRange range ballot)
   pub number : ℕ
   pub missed : part_at world.sent number ≡ Some (says 1 (Decided 1 call) 3)
   pub lost : filter (is_delivery number) events ≡ []
   pub asks : Has (says 3 (Ask 1) 1) world.sent
-  pub prepares : filter (λ m. is_node 3 m.from && is_prepare m.body) world.sent ≡ []
   pub part : NodePart
   pub here : part_at world.nodes 3 ≡ Some part
   pub applied : applied_of part.records ≡ call ∷ other ∷ []

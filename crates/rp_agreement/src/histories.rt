@@ -159,8 +159,8 @@ pub fn some_history_takes_over<M: Machine>()
 /// it, and applies both calls.
 pub fn some_history_catches_up<M: Machine>()
     // claim: In some history two calls are decided, a node to which the first decision is lost asks
-    //   for it, and applies both calls without leading: with three nodes twenty-two right events
-    //   do
+    //   for it, and applies both calls, while one node alone leads: with three nodes twenty-two
+    //   right events do
     ensures { (begin : M) (reply second : Reply)
         → let call : Action = Call 1 1 1 (Procedure 1) (pos 5) in
         let other : Action = Call 2 1 1 (Procedure 1) (pos 7) in

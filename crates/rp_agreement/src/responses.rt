@@ -1,7 +1,7 @@
 //! What a node does with an input.
 
-ghost use Rattle.std.specs.Prelude.{◌≡◌, ◌≢◌, ◌↔◌, ◌⊎◌, ◌≤◌, ℕ, ℤ, true, false, Ok, Option};
-ghost use Rattle.std.specs.Prelude.{Some, None, List, [], ◌∷◌};
+ghost use Rattle.std.specs.Prelude.{◌≡◌, ◌≢◌, ◌↔◌, ◌⊎◌, ◌≤◌, ℕ, ℤ, Bool, true, false, Ok};
+ghost use Rattle.std.specs.Prelude.{Option, Some, None, List, [], ◌∷◌, filter};
 ghost use Rattle.rp_base.specs.Action.{IsRight};
 ghost use Rattle.rp_base.specs.Proposals.{Proposal, proposal_at, takes_promise, with_promise};
 ghost use Rattle.rp_base.specs.Proposals.{is_promised, is_prepared};
@@ -79,14 +79,20 @@ pub fn a_majority_is_offered<M: Machine>()
 /// An item that waits at a node to be proposed waits until it is over, and no longer. So nothing
 /// that a node noted is forgotten while it runs, and no node is full of what is over.
 pub fn pending_items_stay_until_they_are_over<M: Machine>()
-    // claim (learning, others): What waits at a node to be proposed waits until it is over, and no
-    //   longer: in a step that learns an action exactly what is over goes, in any other nothing
+    // claim (learning, ordered, others): What waits at a node to be proposed waits in order until
+    //   it is over, and no longer: in a step that learns an action exactly what is over goes, in
+    //   any other nothing
     ensures learning { (setting : Setting M) (me i : ℕ) (records : List Rec) (running : Running)
         (input : NodeInput) (turn : Turn) (v item : Action)
         → running_effect setting me records running input ≡ Ok turn
         → turn.written ≡ Some (Learned i v)
         → Has item turn.running.pending
         ↔ (Has item running.pending × (¬ IsOverOnce setting records i v item)) }
+    ensures ordered { (setting : Setting M) (me i : ℕ) (records : List Rec) (running : Running)
+        (input : NodeInput) (turn : Turn) (v : Action)
+        → running_effect setting me records running input ≡ Ok turn
+        → turn.written ≡ Some (Learned i v)
+        → (test : Action → Bool) × (turn.running.pending ≡ filter test running.pending) }
     ensures others { (setting : Setting M) (me : ℕ) (records : List Rec) (running : Running)
         (input : NodeInput) (turn : Turn)
         → running_effect setting me records running input ≡ Ok turn

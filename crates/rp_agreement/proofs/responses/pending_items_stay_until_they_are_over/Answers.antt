@@ -12,6 +12,10 @@ returns-clause-learning g c = λ s me i records running input turn v item result
     stay_exactly s records running (brought_by input) turn i v item
     (learned_so s records running (brought_by input) turn (running_effect s me records running input) (fate_of s me records running input) result i v wrote)
 
+pub returns-clause-ordered : goal.returns-clause-ordered
+returns-clause-ordered g c = λ s me i records running input turn v result wrote.
+    (_, learned_so s records running (brought_by input) turn (running_effect s me records running input) (fate_of s me records running input) result i v wrote)
+
 pub returns-clause-others : goal.returns-clause-others
 returns-clause-others g c = λ s me records running input turn result none.
     others_so s records running (brought_by input) turn (running_effect s me records running input) (fate_of s me records running input) result none

@@ -187,7 +187,8 @@ impl<M: Machine, D: Device> Replica<M, D> {
     }
 
     /// The node notes an occurrence of an interrupt's source, 1 to 8 and from 1: it becomes pending
-    /// unless it or a higher one counted, and is dropped if 32 items are pending. It takes no memory.
+    /// unless it or a higher one counted, and is dropped if 32 items are pending. It takes no
+    /// memory.
     pub fn interrupt(&mut self, alloc: Global, source: u8, occurrence: u32) -> Result<Sent, Fault>
         requires right { IsRight (actions.Interrupt source occurrence) }
         ensures answer { Answers (effect_of M.next M.answers self.old

@@ -1,5 +1,6 @@
 -- What a call of a replica results in.
 use Rattle.std.specs.Prelude.{◌≡◌, ◌⊎◌, ℕ, true, false, Option, Some, Result, Ok, Err, List, length}
+use Rattle.std.specs.Prelude.{IsOk}
 use Rattle.rp_base.specs.declared.fault.Fault.{Fault}
 use Rattle.rp_base.specs.declared.fault.Fault.TheVariants.{OutOfMemory, Device, Failed}
 use Rattle.rp_base.specs.declared.record.Rec.{Rec}
@@ -11,6 +12,7 @@ use Rattle.rp_model.specs.declared.effect.Dropped.{Dropped}
 use Rattle.rp_replica.specs.Committing.{Commits}
 use Rattle.rp_replica.specs.declared.sent.Sent.{Sent}
 use Rattle.rp_outbox.specs.Packets.{texts_of}
+use Rattle.rp_rules.specs.Plans.{TakesNoMemory}
 use Rattle.rp_replica.specs.Kept.{HoldsCut}
 use Rattle.rp_replica.specs.State.{ReplicaState, after_turn}
 
@@ -79,3 +81,10 @@ abbrev pub AnswersOnto : {S : Type 0} → Result Turn Fault → ReplicaState S �
 AnswersOnto effect old new before after (Ok dropped) = TurnsOnto effect old new before after dropped
 AnswersOnto effect old new before after (Err fault) =
     StopsIf effect old new fault × (after ≡ before)
+
+-- A turn that takes no memory takes effect, unless the device has failed.
+abbrev pub IsCertain : {S A : Type 0} → Result Turn Fault → ReplicaState S → Result A Fault
+    → Type 0
+IsCertain effect old result =
+    (turn : Turn) → effect ≡ Ok turn → TakesNoMemory old.running turn → old.failed ≡ false
+    → IsOk result

@@ -1,7 +1,7 @@
 //! A plan, committed: memory is reserved, the record is written, the state is updated, and the
 //! packets are given out.
 
-ghost use Rattle.std.specs.Prelude.{◌≡◌, ◌++◌, ◌∷◌, ◌<◌, [], Some, None, length, OnOk, OnErr, IfErr, IfOk, IsOkUnless, true, false};
+ghost use Rattle.std.specs.Prelude.{◌≡◌, ◌++◌, ◌∷◌, ◌<◌, [], Some, None, length, OnOk, OnErr, IfErr, IfOk, IsOk, IsOkUnless, true, false};
 ghost use Rattle.rp_base.specs.Action.{IsCount};
 ghost use Rattle.rp_base.specs.Right.{IsRightRecord};
 ghost use Rattle.rp_base.specs.declared.fault.WriteFault.TheVariants as faults;
@@ -16,7 +16,7 @@ ghost use Rattle.rp_model.specs.Says.{says, says_to_task, notes, sends, writes};
 ghost use Rattle.rp_replica.specs.Committing.{Commits};
 ghost use Rattle.rp_replica.specs.State.{after_turn, server_of};
 ghost use Rattle.rp_rules.specs.declared.plan.Plan.TheVariants as plans;
-ghost use Rattle.rp_rules.specs.Plans.{turn_of, written_by, MayCommit, OnlySends};
+ghost use Rattle.rp_rules.specs.Plans.{turn_of, written_by, MayCommit, OnlySends, TakesNoMemory};
 ghost use Rattle.rp_server.specs.Invariant.{IsAnswer};
 ghost use Rattle.rp_replica.specs.Turning.{Stops};
 
@@ -32,8 +32,9 @@ use std::alloc::Global;
 
 impl<M: Machine, D: Device> Replica<M, D> {
     /// Commits a plan: its packets are put after the others. Refused with `OutOfMemory`, it changes
-    /// nothing. If the device fails while the record is written it is refused with `Device`:
-    /// a prefix of the record may then be on the device, and nothing else has changed.
+    /// nothing; a plan that writes no record, sends no packet and counts no vote is never refused.
+    /// If the device fails while the record is written it is refused with `Device`: a prefix
+    /// of the record may then be on the device, and nothing else has changed.
     #[inline(always)]
     pub(crate) fn commit(
         &mut self,
@@ -48,6 +49,8 @@ impl<M: Machine, D: Device> Replica<M, D> {
         ensures err { IfErr result (λ fault.
             Stops (written_by plan.now) self.old self.new (fault_of fault)) }
         ensures unsent { OnErr result (out.new.sent ≡ out.old.sent) }
+        ensures certain { TakesNoMemory self.old.running
+            (turn_of M.next M.answers (server_of self.old) plan.now) → IsOk result }
     {
         match plan {
             Plan::Pass(_) => return Ok(()),

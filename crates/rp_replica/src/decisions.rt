@@ -11,6 +11,8 @@ ghost use Rattle.rp_model.specs.Says.{says_to_others, notes};
 ghost use Rattle.rp_replica.specs.Committing.{Commits};
 ghost use Rattle.rp_replica.specs.State.{after_turn, server_of};
 ghost use Rattle.rp_base.specs.Action.{IsRight};
+ghost use Rattle.rp_base.specs.Promises.{HeardVote};
+ghost use Rattle.rp_base.specs.Sets.{Has};
 ghost use Rattle.rp_server.specs.Applying.{learns_alone, decided_packets};
 ghost use Rattle.rp_outbox.specs.Packets.{longest_text};
 ghost use Rattle.rp_rules.specs.Plans.{MayHear, MayLearn, once_heard};
@@ -112,8 +114,8 @@ impl<M: Machine, D: Device> Replica<M, D> {
         self.server.learn(&mut self.store, out, decision)
     }
 
-    /// Notes a vote of one of the nodes that is counted, and settles nothing. Out of memory, it
-    /// changes nothing.
+    /// Notes a vote of one of the nodes that is counted, and settles nothing. It is out of memory
+    /// only for a vote that was not heard, and then changes nothing.
     #[inline(never)]
     pub(crate) fn hear(
         &mut self,
@@ -127,6 +129,8 @@ impl<M: Machine, D: Device> Replica<M, D> {
             (notes (once_heard (server_of self.old) from position vote.now))) }
         ensures err { OnErr result (self.new ≡ self.old) }
         ensures only { IsOkUnless result faults.OutOfMemory }
+        ensures unheard { OnErr result
+            (¬ Has {A = HeardVote} (from, position, vote.now) self.old.running.heard) }
     {
         self.server.hear(alloc, from, position, vote)
     }

@@ -3,6 +3,7 @@
 
 ghost use Rattle.std.specs.Prelude.{◌≡◌, [], Some, None, IfErr, OnOk, OnErr, false};
 ghost use Rattle.rp_base.specs.Action.{IsRight};
+ghost use Rattle.rp_base.specs.Config.{IsRightConfig};
 ghost use Rattle.rp_base.specs.declared.record.Rec.TheVariants.{Started};
 ghost use Rattle.rp_codec.specs.declared.packet.Body.TheVariants as bodies;
 ghost use Rattle.rp_base.specs.Proposals.{proposal_at};
@@ -96,6 +97,7 @@ impl<M: Machine, D: Device> Replica<M, D> {
             (says_to_all self.old.config.nodes self.old.me
             (bodies.Accept position ballot action.now)))
             self.old self.new out.old.sent out.new.sent) }
+        ensures config { IsRightConfig self.old.config }
         ensures err { IfErr result (λ fault. Stops None self.old self.new (fault_of fault)) }
         ensures unsent { OnErr result (out.new.sent ≡ out.old.sent) }
     {
@@ -121,6 +123,7 @@ impl<M: Machine, D: Device> Replica<M, D> {
             (says_to_all self.old.config.nodes self.old.me
             (bodies.Accept promise.now.position promise.now.ballot action.now)))
             self.old self.new out.old.sent out.new.sent) }
+        ensures config { IsRightConfig self.old.config }
         ensures err { IfErr result (λ fault. Stops None self.old self.new (fault_of fault)) }
         ensures unsent { OnErr result (out.new.sent ≡ out.old.sent) }
     {

@@ -16,9 +16,10 @@ use std::alloc::Global;
 use std::marker::Model;
 
 /// One node as it runs, over a device of its own (Lamport, "Paxos Made Simple", sections 2.2, 2.3
-/// and 3). A call writes at most one record, and that before any packet of it is given out. Any
-/// call may be refused with `OutOfMemory`, which changes nothing, with `Device` if the device fails
-/// while the record is written, and with `Failed` from then on, until the device is opened again.
+/// and 3). A step writes at most one record, and that before any packet of it is given out. One
+/// that writes a record, sends a packet, counts a vote or reads a long packet may be refused with
+/// `OutOfMemory`, which changes nothing; with `Device` if the device fails while the record is
+/// written, and each with `Failed` from then on, until the device is opened again.
 ///
 /// To a contract it is its node, the configuration and the machine's start, its records, what it
 /// knows while it runs, what its device holds, and whether that has failed.

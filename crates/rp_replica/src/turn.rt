@@ -1,16 +1,18 @@
 //! A step of a replica: it decides, and then commits.
 
-ghost use Rattle.std.specs.Prelude.{◌≡◌, ◌<◌, Some, Ok, IfErr, OnOk, false, length, slice_get};
+ghost use Rattle.std.specs.Prelude.{◌≡◌, ◌<◌, Some, Ok, IfErr, IsOk, OnOk, false, length, slice_get};
 ghost use Rattle.rp_base.specs.Action.{IsRight};
 ghost use Rattle.rp_base.specs.declared.action.Action.TheVariants as actions;
+ghost use Rattle.rp_codec.specs.Decoding.{IsLongBody};
 ghost use Rattle.rp_codec.specs.Message.{Message};
 ghost use Rattle.rp_codec.specs.Reading.{all_of};
 ghost use Rattle.rp_model.specs.Effect as inputs;
-ghost use Rattle.rp_rules.specs.Inputs.{IsRightInput, packet_given};
+ghost use Rattle.rp_model.specs.Parts.{Turn};
+ghost use Rattle.rp_rules.specs.Inputs.{IsLong, IsRightInput, packet_given};
 ghost use Rattle.rp_rules.specs.Plans.{turn_of, MayCommit};
 ghost use Rattle.rp_replica.specs.Inputs.{effect_of, effect_if_given, input_effect};
 ghost use Rattle.rp_replica.specs.State.{server_of};
-ghost use Rattle.rp_replica.specs.Turning.{Answers, AnswersOnto, StopsIf};
+ghost use Rattle.rp_replica.specs.Turning.{Answers, AnswersOnto, IsCertain, StopsIf};
 
 use crate::laws::texts_are_packets;
 use crate::replica::Replica;
@@ -36,6 +38,8 @@ impl<M: Machine, D: Device> Replica<M, D> {
         ensures working { OnOk result (self.now.failed ≡ false) }
         ensures err { IfErr result (λ fault. StopsIf
             (input_effect M.next M.answers self.now input.now) self.now self.now fault) }
+        ensures certain { (turn : Turn) → input_effect M.next M.answers self.now input.now ≡ Ok turn
+            → (¬ IsLong input.now) → self.now.failed ≡ false → IsOk result }
     {
         if self.has_failed() {
             return Err(Fault::Failed);
@@ -45,12 +49,16 @@ impl<M: Machine, D: Device> Replica<M, D> {
 
     /// One step of the node: at most one record is written, and the packets are given out once it
     /// is stable. Refused with `BadPacket` if the bytes are no packet's text, with `BallotsSpent`
-    /// or `LogFull` if the node cannot lead, or with `OutOfMemory`: then nothing has changed. After
-    /// `Device` the device has failed, and each further step is refused with `Failed`.
+    /// or `LogFull` if the node cannot lead, or with `OutOfMemory`: then nothing has changed. A
+    /// step that sends no packet, writes no record, counts no vote and reads no long packet is
+    /// never out of memory. After `Device` the device has failed, and each further step is refused
+    /// with `Failed`.
     pub fn turn(&mut self, alloc: Global, input: &Input) -> Result<Sent, Fault>
         requires right { IsRightInput input.now }
-        ensures { Answers (input_effect M.next M.answers self.old input.now)
+        ensures answer { Answers (input_effect M.next M.answers self.old input.now)
             self.old self.new result }
+        ensures certain { (¬ IsLong input.now)
+            → IsCertain (input_effect M.next M.answers self.old input.now) self.old result }
     {
         self.turn_with(alloc, Vec::new(alloc), &mut Vec::new(alloc), input)
     }
@@ -66,8 +74,10 @@ impl<M: Machine, D: Device> Replica<M, D> {
         input: &Input,
     ) -> Result<Sent, Fault>
         requires right { IsRightInput input.now }
-        ensures { Answers (input_effect M.next M.answers self.old input.now)
+        ensures answer { Answers (input_effect M.next M.answers self.old input.now)
             self.old self.new result }
+        ensures certain { (¬ IsLong input.now)
+            → IsCertain (input_effect M.next M.answers self.old input.now) self.old result }
     {
         let mut out = Outbox::over(bytes, replace(ends, Vec::new(alloc)));
         let answer = self.turn_into(alloc, &mut out, input);
@@ -90,18 +100,22 @@ impl<M: Machine, D: Device> Replica<M, D> {
         input: &Input,
     ) -> Result<Dropped, Fault>
         requires right { IsRightInput input.now }
-        // claim (result): Each input of a replica has exactly the node's effect that the
+        // claim (answer): Each input of a replica has exactly the node's effect that the
         //   definitions give, or is refused for the one reason that they give and changes nothing;
         //   a device that fails holds a cut of the step
-        // claim (result): Bytes that encode a packet are handled as that packet, and refused with
+        // claim (answer): Bytes that encode a packet are handled as that packet, and refused with
         //   their reason if they encode none
-        // claim (result): If no position is given, the node leads at the least one that is not
+        // claim (answer): If no position is given, the node leads at the least one that is not
         //   learned and at which no proposal runs but a prepared one
-        // claim (result): Interrupts and ticks become pending as the definition says
-        // claim (result): A report has the applied actions from a position on, as many as a packet
+        // claim (answer): Interrupts and ticks become pending as the definition says
+        // claim (answer): A report has the applied actions from a position on, as many as a packet
         //   takes
-        ensures { AnswersOnto (input_effect M.next M.answers self.old input.now)
+        ensures answer { AnswersOnto (input_effect M.next M.answers self.old input.now)
             self.old self.new out.old.sent out.new.sent result }
+        // claim: A step that sends no packet, writes no record and counts no vote takes no memory:
+        //   at a node that runs it takes effect, unless a long packet is read for it
+        ensures certain { (¬ IsLong input.now)
+            → IsCertain (input_effect M.next M.answers self.old input.now) self.old result }
     {
         let mut plan = Plan::Pass(Dropped::No);
         self.decide(alloc, input, &mut plan)?;
@@ -119,9 +133,13 @@ impl<M: Machine, D: Device> Replica<M, D> {
         place: usize,
     ) -> Result<Dropped, Fault>
         requires place { place < length out.old.sent }
-        ensures { (m : Message) → slice_get out.old.sent place ≡ Some m
+        ensures answer { (m : Message) → slice_get out.old.sent place ≡ Some m
             → AnswersOnto (effect_of M.next M.answers self.old (inputs.NodeInput.Receive m))
             self.old self.new out.old.sent out.new.sent result }
+        ensures certain { (m : Message) → slice_get out.old.sent place ≡ Some m
+            → (¬ IsLongBody m.body)
+            → IsCertain (effect_of M.next M.answers self.old (inputs.NodeInput.Receive m))
+            self.old result }
     {
         texts_are_packets();
         if self.has_failed() {
@@ -169,21 +187,24 @@ impl<M: Machine, D: Device> Replica<M, D> {
     }
 
     /// The node notes an occurrence of an interrupt's source, 1 to 8 and from 1: it becomes pending
-    /// unless it or a higher one counted, and is dropped if 32 items are pending.
+    /// unless it or a higher one counted, and is dropped if 32 items are pending. It takes no
+    /// memory.
     pub fn interrupt(&mut self, alloc: Global, source: u8, occurrence: u32) -> Result<Sent, Fault>
         requires right { IsRight (actions.Interrupt source occurrence) }
-        ensures { Answers (effect_of M.next M.answers self.old
+        ensures answer { Answers (effect_of M.next M.answers self.old
             (inputs.NodeInput.Interrupt source occurrence))
             self.old self.new result }
+        ensures certain { self.old.failed ≡ false → IsOk result }
     {
         self.turn(alloc, &Input::Interrupt { source, occurrence })
     }
 
     /// The node notes a tick of the clock: it becomes pending, and is dropped if 32 items are
-    /// pending.
+    /// pending. It takes no memory.
     pub fn tick(&mut self, alloc: Global, now: u32) -> Result<Sent, Fault>
-        ensures { Answers (effect_of M.next M.answers self.old (inputs.NodeInput.Tick now))
+        ensures answer { Answers (effect_of M.next M.answers self.old (inputs.NodeInput.Tick now))
             self.old self.new result }
+        ensures certain { self.old.failed ≡ false → IsOk result }
     {
         self.turn(alloc, &Input::Tick { now })
     }

@@ -117,6 +117,12 @@ module _ {S : Type 0} (next : S → Action → S) (answers : S → Action → Li
   turn_of (Report first) =
       sends server.running (report_of server.me first (applied_of server.records) ∷ [])
 
+-- the turn takes no memory: it writes no record, sends no packet and counts no vote
+pub record TakesNoMemory (old : Running) (turn : Turn) : Type 0 where
+  pub written : turn.written ≡ None
+  pub sent : turn.sent ≡ []
+  pub heard : turn.running.heard ≡ old.heard
+
 -- ---- what the rules saw, so that a plan may be committed
 
 -- the position is within the log, and the action right

@@ -6,14 +6,14 @@ use Rattle.rp_base.specs.declared.action.Action.{Action}
 use Rattle.rp_base.specs.declared.config.Config.{Config}
 use Rattle.rp_base.specs.declared.record.Vote.{Vote}
 use Rattle.rp_base.specs.declared.record.Rec.{Rec}
-use Rattle.rp_base.specs.Sets.{with_member}
+use Rattle.rp_base.specs.Sets.{Has, with_member}
 use Rattle.rp_base.specs.Promises.{HeardVote, same_heard, makes_majority}
 use Rattle.rp_base.specs.Records.{learned_at, first_unlearned}
 use Rattle.rp_base.proofs.Members.{has_with, same_with}
 use Rattle.rp_base.proofs.Sameness.{heard_decides}
 use Rattle.rp_proposer.specs.Proposing.{ProposerPart}
 use Rattle.rp_learner.specs.Learning.{Learning}
-use Rattle.rp_learner.specs.Status.{SameLearning, NotesVote, is_beyond, is_settled, heard_with, status_with, with_status}
+use Rattle.rp_learner.specs.Status.{SameLearning, NotesVote, IsOneMore, is_beyond, is_settled, heard_with, status_with, with_status}
 use Rattle.rp_learner.specs.declared.learner.VoteStatus.{VoteStatus}
 use Rattle.rp_learner.specs.declared.learner.VoteStatus.TheVariants.{Counting, Learned, Known, Beyond}
 use Rattle.rp_learner.proofs.Alike.{status_alike, settled_alike}
@@ -82,6 +82,11 @@ hears_more config records taken before after votes from i vote l position counti
       ];
       settled = λ j low near. settled_alike after (with_status before from i vote Counting) j same ∙ l.settled j low (omega (arith, near, same.first));
     }
+
+-- a vote that the learner had not heard is none of those
+pub none_of_those : (config : Config) (records : List Rec) (taken : ℕ) (learner : Learning) (votes : List HeardVote) (from i : ℕ) (vote : Vote) → IsLearner config records taken learner votes
+    → IsOneMore learner from i vote → ¬ Has {A = HeardVote} (from, i, vote) votes
+none_of_those config records taken learner votes from i vote l more = λ h. more.unheard ((l.heard (from, i, vote)).1 h)
 
 -- records that learn the same change nothing for a learner
 pub learns_alike : (config : Config) (records after : List Rec) (taken : ℕ) (learner : Learning) (votes : List HeardVote) → ((j : ℕ) → learned_at after j ≡ learned_at records j)

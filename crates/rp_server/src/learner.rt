@@ -3,9 +3,9 @@
 ghost use Rattle.std.specs.Prelude.{◌≡◌, ◌≤◌, ◌<◌, ◌++◌, ◌∷◌, [], length, is_some, IfSome, IsOkUnless, OnOk, OnErr};
 ghost use Rattle.rp_base.specs.Action.{IsRight};
 ghost use Rattle.rp_base.specs.Number.{IsPosition};
-ghost use Rattle.rp_base.specs.Promises.{same_heard};
+ghost use Rattle.rp_base.specs.Promises.{HeardVote, same_heard};
 ghost use Rattle.rp_base.specs.Records.{learned_at};
-ghost use Rattle.rp_base.specs.Sets.{with_member};
+ghost use Rattle.rp_base.specs.Sets.{Has, with_member};
 ghost use Rattle.rp_base.specs.declared.fault.WriteFault.TheVariants as faults;
 ghost use Rattle.rp_learner.specs.Status.{vote_for};
 ghost use Rattle.rp_learner.specs.declared.learner.VoteStatus.TheVariants.{Counting};
@@ -55,8 +55,8 @@ impl<M: Machine> Server<M> {
         self.log.get(position)
     }
 
-    /// Notes a vote of one of the nodes that is counted, and settles nothing. Out of memory, it
-    /// changes nothing.
+    /// Notes a vote of one of the nodes that is counted, and settles nothing. It is out of memory
+    /// only for a vote that was not heard, and then changes nothing.
     #[inline(always)]
     pub fn hear(
         &mut self,
@@ -76,6 +76,8 @@ impl<M: Machine> Server<M> {
             }))) }
         ensures err { OnErr result (self.new ≡ self.old) }
         ensures only { IsOkUnless result faults.OutOfMemory }
+        ensures unheard { OnErr result
+            (¬ Has {A = HeardVote} (from, position, vote.now) self.old.running.heard) }
     {
         self.learner
             .note_vote(alloc, from, position, vote.ballot, &vote.action)?;

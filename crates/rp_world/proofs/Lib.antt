@@ -20,5 +20,6 @@ pub mod Choosing
 pub mod Leaving
 pub mod Stepping
 pub mod Replied
+pub mod Light
 pub mod NodeTurns
 pub mod NodeCuts

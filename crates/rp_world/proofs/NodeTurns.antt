@@ -1,23 +1,27 @@
 -- What the world answers where one of its nodes made a turn: given an input, or a message that is for it.
-use Rattle.std.proofs.Common.{◌≡◌, ℕ, suc, ◌+◌, ◌-◌, ◌≤◌, None, Some, Result, Ok, Err, List, length, slice_get, slice_set, refl, ap, ◌∙◌}
+use Rattle.std.proofs.Common.{◌≡◌, ℕ, suc, ◌+◌, ◌-◌, ◌≤◌, None, Some, Result, Ok, Err, List, Option, length, slice_get, slice_set, refl, sym, ap, subst, ◌∙◌}
+use Rattle.std.specs.Option.{IsSomeAnd}
 use Rattle.std.specs.Prelude.{IsSome, IsErrAnd}
 use Rattle.rp_base.specs.declared.fault.Fault.{Fault}
+use Rattle.rp_codec.specs.Decoding.{IsLongBody}
 use Rattle.rp_codec.specs.Message.{Message}
 use Rattle.rp_codec.specs.declared.packet.Party.{Party}
 use Rattle.rp_model.specs.declared.effect.Dropped.{Dropped}
 use Rattle.rp_model.specs.declared.effect.Effect.{Effect}
-use Rattle.rp_model.specs.Effect.{NodeInput}
+use Rattle.rp_model.specs.Effect.{NodeInput, node_effect}
+use Rattle.rp_model.specs.Events.{Deliver}
 use Rattle.rp_model.specs.Parts.{NodePart}
-use Rattle.rp_model.specs.World.{World, Transition, part_at, node_takes, node_is_cut, node_writes, node_done_if, nothing_happens, delivers}
+use Rattle.rp_model.specs.World.{World, Transition, part_at, node_takes, node_is_cut, node_writes, node_done_if, node_named, nothing_happens, delivers, delivery_writes, arrival_writes, receiver_of, stepping, step_writes}
 use Rattle.rp_outbox.specs.Packets.{Sending}
 use Rattle.rp_world.specs.Going.{Goes, Answers, AnswersDelivery, Counts, CountsDelivery, stated}
-use Rattle.rp_world.specs.Nodes.{Member, Represents, GoesBy, NotTaken, DescribesSending, IsCounted, failures_in, node_step}
-use Rattle.rp_world.specs.Steps.{Setup}
+use Rattle.rp_world.specs.Nodes.{Member, Represents, GoesBy, IsLight, NotTaken, DescribesSending, IsCounted, failures_in, node_step}
+use Rattle.rp_world.specs.Steps.{IsLightStep, Setup}
 use Rattle.rp_world.specs.declared.node.Node.{Node}
 use Rattle.rp_world.proofs.Ending.{none_here}
 use Rattle.rp_world.proofs.Failing.{counts, heard_counts, writes}
-use Rattle.rp_world.proofs.Fields.{Fields, IsKept, as_seen, counts_of, first_seen, made_of, member, now, setting, setting_by, world, world_with}
+use Rattle.rp_world.proofs.Fields.{Fields, IsKept, as_seen, counts_of, first_seen, made_of, member, now, sent_seen, setting, setting_by, world, world_with}
 use Rattle.rp_world.proofs.Hearing.{nothing_goes, heard_by_none, heard_resting, heard_running, cut_heard}
+use Rattle.rp_world.proofs.Light.{light_part}
 use Rattle.rp_world.proofs.Messages.{SentTo, at_place}
 use Rattle.rp_world.proofs.Moving.{part, is_here, represents_now, nodes_stay}
 use Rattle.rp_world.proofs.Placing.{Found}
@@ -65,6 +69,14 @@ module _ {S D P : Type 0} (f : Fields S D P) (at : Found f.nodes) (new : Node S 
       pub counts_given : IsCounted (failures_in f.disk at.it) (failures_in f.disk new) (as_turn_fault fault) → Counted r f.was
       counts_given counted = at_err (λ x. Counted x f.was) fault r refuses (as_seen f (Counted (as_fault fault)) (counts_refused counted))
 
+-- what takes no memory in the world that the caller saw, takes none at the node
+pub light_given : {S D P : Type 0} (f : Fields S D P) (at : Found f.nodes) (input : NodeInput) (p : NodePart) → part_at f.was.world.nodes at.me ≡ Some p
+    → IsLight p (node_effect (setting_by f f.was) at.me p input) → IsLight (part f at) (node_step f.next f.answers (member f at.me) input (part f at))
+light_given f at input p here light =
+    let holds : part_at (world f).nodes at.me ≡ Some p → IsLight p (node_effect (setting f) at.me p input) → IsLight (part f at) (node_step f.next f.answers (member f at.me) input (part f at)) =
+    (λ seen is. let found = is_here f at in let same : p ≡ part f at = cc in subst (λ (q : NodePart). IsLight q (node_step f.next f.answers (member f at.me) input q)) same is) in
+    as_seen f (λ v. part_at v.world.nodes at.me ≡ Some p → IsLight p (node_effect (setting_by f v) at.me p input) → IsLight (part f at) (node_step f.next f.answers (member f at.me) input (part f at))) holds here light
+
 -- ---- a message that is for it
 
 module _ {S D P : Type 0} (f : Fields S D P) (number : ℕ) where
@@ -102,6 +114,21 @@ module _ {S D P : Type 0} (f : Fields S D P) (at : Found f.nodes) {number : ℕ}
 
   its_turn : Runs → heard f number (now f) ≡ node_done_if (world f) at.me (node_step f.next f.answers (member f at.me) input (part f at))
   its_turn runs = heard_running (setting f) (world f) m (part f at) (is_here f at) (runs (member f at.me) (part f at) (represents_now f at))
+
+  -- its delivery takes no memory
+  module _ (runs : Runs) (light : IsLightStep (setting_by f f.was) f.was.world (Deliver number)) where
+    pub light_heard : IsLight (part f at) (node_step f.next f.answers (member f at.me) input (part f at))
+    light_heard =
+        let mine : stepping (world f) (Deliver number) ≡ Some at.me = ap receiver_of m.found ∙ ap node_named m.is_to in
+        let writes : step_writes (setting f) (world f) (Deliver number) ≡ node_writes (setting f) at.me input (part_at (world f).nodes at.me) =
+        ap (delivery_writes (setting f) (world f)) m.found ∙ ap (arrival_writes (setting f) (world f) m.packet) m.is_to in
+        as_seen f (λ v. IsLightStep (setting_by f v) v.world (Deliver number) → IsLight (part f at) (node_step f.next f.answers (member f at.me) input (part f at)))
+        (λ is. light_part (setting f) (world f) (Deliver number) is at.me mine input (part f at) (is_here f at) (its_turn runs) writes) light
+
+    pub short_heard : ¬ IsLongBody m.packet.body
+    short_heard = λ long.
+        let found : part_at f.was.world.sent number ≡ Some m.packet = ap (λ (ms : List Message). part_at ms number) (sym (sent_seen f)) ∙ m.found in
+        light.short (subst (λ (o : Option Message). IsSomeAnd o (λ p. IsLongBody p.body)) (sym found) long)
 
   -- it takes the message
   module _ (new : Node S D P) (dropped : Dropped) (later : Sending)

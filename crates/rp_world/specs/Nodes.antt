@@ -1,18 +1,19 @@
 -- A node of a cluster: a replica that runs, or the device of a stopped node. A replica whose device
 -- failed is stopped too.
-use Rattle.std.specs.Prelude.{◌≡◌, ◌⊎◌, ℕ, ◌+◌, ◌<◌, min, Bool, true, false, Option, None, IsSome}
-use Rattle.std.specs.Prelude.{Result, Ok, Err, List, ◌++◌, length}
+use Rattle.std.specs.Prelude.{◌≡◌, ◌⊎◌, ℕ, ◌+◌, ◌<◌, min, Bool, true, false, Option, Some, None}
+use Rattle.std.specs.Prelude.{IsSome, Result, Ok, Err, List, [], ◌++◌, length}
 use Rattle.rp_base.specs.declared.action.Action.{Action}
 use Rattle.rp_base.specs.declared.reply.Answer.{Answer}
 use Rattle.rp_base.specs.declared.fault.Fault.TheVariants.{OutOfMemory, Device}
 use Rattle.rp_replica.specs.declared.sent.Sent.{Sent}
 use Rattle.rp_outbox.specs.Packets.{texts_of}
 use Rattle.rp_base.specs.declared.config.Config.{Config}
+use Rattle.rp_base.specs.Promises.{HeardVote}
 use Rattle.rp_base.specs.declared.fault.Fault.{Fault}
 use Rattle.rp_codec.specs.Message.{Message}
 use Rattle.rp_store.specs.Disk.{Disk}
 use Rattle.rp_store.specs.Records.{records_text}
-use Rattle.rp_model.specs.Parts.{NodePart}
+use Rattle.rp_model.specs.Parts.{NodePart, Running as Known}
 use Rattle.rp_model.specs.declared.effect.Dropped.{Dropped}
 use Rattle.rp_model.specs.Effect.{Setting, Done, NodeInput, node_effect, cut_part}
 use Rattle.rp_replica.specs.State.{ReplicaState, part_of}
@@ -63,6 +64,20 @@ node_step next answers member input part =
 abbrev pub IsNotRefused : Result (Done NodePart) Fault → Type 0
 IsNotRefused (Ok done) = Unit {0}
 IsNotRefused (Err refusal) = ⊥
+
+-- the votes that a node has heard, none while it is stopped
+abbrev pub heard_while : Option Known → List HeardVote
+heard_while None = []
+heard_while (Some known) = known.heard
+
+-- The result of an input for a part takes no memory: the node writes no record, sends no packet and
+-- counts no vote.
+pub record IsLight (part : NodePart) (effect : Result (Done NodePart) Fault) : Type 0 where
+  pub done : Done NodePart
+  pub resulted : effect ≡ Ok done
+  pub written : done.written ≡ None
+  pub sends : done.sends ≡ []
+  pub heard : heard_while done.part.running ≡ heard_while part.running
 
 -- a replica is the part of the member: it runs as it, or has failed, and its device rests
 abbrev pub RepresentsWhile : {S : Type 0} → Member S → ReplicaState S → NodePart → Bool → Type 0

@@ -1,24 +1,28 @@
 -- A cluster as one value, and what a step of it answers.
 use Rattle.std.specs.Borrow.{Bor}
-use Rattle.std.specs.Prelude.{◌≡◌, ◌⊎◌, Result, Ok, Err, ℕ, Option, Some, None, List, IsOkAnd}
+use Rattle.std.specs.Prelude.{◌≡◌, ◌⊎◌, Result, Ok, Err, ℕ, Option, Some, None, List, [], IsOkAnd}
 use Rattle.std.specs.Prelude.{IsSome}
+use Rattle.std.specs.Option.{IsSomeAnd}
 use Rattle.rp_base.specs.declared.action.Action.{Action}
 use Rattle.rp_base.specs.declared.config.Config.{Config}
 use Rattle.rp_base.specs.declared.fault.Fault.{Fault}
 use Rattle.rp_base.specs.declared.fault.Fault.TheVariants.{OutOfMemory, NotRunning, BadConfig}
 use Rattle.rp_base.specs.declared.record.Rec.{Rec}
 use Rattle.rp_base.specs.declared.reply.Answer.{Answer}
+use Rattle.rp_base.specs.Promises.{HeardVote}
+use Rattle.rp_codec.specs.Decoding.{IsLongBody}
 use Rattle.rp_model.specs.declared.effect.Effect.{Effect}
 use Rattle.rp_model.specs.declared.event.Event.{Event}
 use Rattle.rp_model.specs.Parts.{NodePart}
 use Rattle.rp_model.specs.Parts.{Running}
 use Rattle.rp_model.specs.Effect.{Setting}
-use Rattle.rp_model.specs.Events.{event_of}
-use Rattle.rp_model.specs.World.{World, node_of}
+use Rattle.rp_model.specs.Events.{Step, Deliver, event_of}
+use Rattle.rp_model.specs.World.{World, Transition, node_of, part_at, step_effect, step_writes}
+use Rattle.rp_model.specs.World.{stepping}
 use Rattle.rp_model.specs.Answers.{Steps}
 use Rattle.rp_replica.specs.State.{ReplicaState}
 use Rattle.rp_world.specs.Failures.{AreCounted}
-use Rattle.rp_world.specs.Nodes.{stored_length}
+use Rattle.rp_world.specs.Nodes.{heard_while, stored_length}
 
 -- a cluster: its configuration, the program that its nodes run, its world, and how often the device
 -- of each node has failed, in order of nodes
@@ -47,6 +51,28 @@ module _ {S P : Type 0} (next : S → Action → S) (answers : S → Action → 
     pub world : Steps (setting_of old) old.world (event_of event) new.world answer
     pub setup : IsSameSetup old new
     pub failures : AreCounted (node_of old.world (event_of event)) old.failures new.failures answer
+
+-- the votes that the node of this number has heard, none where there is no such node
+abbrev pub votes_heard : Option NodePart → List HeardVote
+votes_heard None = []
+votes_heard (Some part) = heard_while part.running
+
+-- the step delivers a packet that takes memory to read
+abbrev pub IsLongDelivery : World → Step → Type 0
+IsLongDelivery w (Deliver number) = IsSomeAnd (part_at w.sent number) (λ m. IsLongBody m.body)
+IsLongDelivery w _ = ⊥
+
+-- By the definitions the step is a node's, sends no packet, writes no record and counts no vote,
+-- and it delivers no long packet: it takes no memory.
+pub record IsLightStep {S : Type 0} (s : Setting S) (w : World) (step : Step) : Type 0 where
+  pub me : ℕ
+  pub node : stepping w step ≡ Some me
+  pub transition : Transition
+  pub resulted : step_effect s w step ≡ Ok transition
+  pub written : step_writes s w step ≡ None
+  pub sends : transition.sends ≡ []
+  pub heard : votes_heard (part_at transition.world.nodes me) ≡ votes_heard (part_at w.nodes me)
+  pub short : ¬ IsLongDelivery w step
 
 -- the same of a part that runs or is stopped
 abbrev pub IsRunningQueryAnswer : {A : Type 0} → Result A Fault → (A → List Rec → Type 0) → List Rec

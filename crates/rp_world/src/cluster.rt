@@ -1,6 +1,6 @@
 //! The cluster: all nodes and tasks, and every message that was sent.
 
-ghost use Rattle.std.specs.Prelude.{◌≡◌, ◌<◌, ◌-◌, ◌^◌, ℕ, min, ◌↔◌, ◌⊎◌, length, map, All, List, [], Option, None, Some, IfOk, IfErr, IfSome, IsErrOf, IsTrue};
+ghost use Rattle.std.specs.Prelude.{◌≡◌, ◌<◌, ◌-◌, ◌^◌, ℕ, min, ◌↔◌, ◌⊎◌, length, map, All, List, [], Option, None, Some, IfOk, IfErr, IfSome, IsErrOf, IsOk, IsTrue};
 ghost use Rattle.rp_base.specs.Config.{IsRightConfig};
 ghost use Rattle.rp_base.specs.Records.{applied_of};
 ghost use Rattle.rp_codec.specs.Message.{IsPacket};
@@ -11,6 +11,8 @@ ghost use Rattle.rp_base.specs.declared.record.Rec.TheVariants as records;
 ghost use Rattle.rp_base.specs.declared.record.Vote.{Vote};
 ghost use Rattle.rp_codec.specs.declared.packet.Body.{Body};
 ghost use Rattle.rp_codec.specs.declared.packet.Body.TheVariants.{Decided};
+ghost use Rattle.rp_model.specs.Events as events;
+ghost use Rattle.rp_model.specs.Events.{event_of};
 ghost use Rattle.rp_model.specs.Facts.{HasPromised, HasVoted, IsOffered, IsDecided, IsOrder};
 ghost use Rattle.rp_model.specs.Parts.{NodePart, TaskPart};
 ghost use Rattle.rp_model.specs.World.{opening_world, part_at};
@@ -24,7 +26,7 @@ ghost use Rattle.rp_world.specs.Failures.{SomeHasFailed};
 ghost use Rattle.rp_world.specs.Going.{stated};
 ghost use Rattle.rp_world.specs.Runs.{IsRun};
 ghost use Rattle.rp_world.specs.Shape.{IsCluster};
-ghost use Rattle.rp_world.specs.Steps.{IsStep, IsStored, IsQueryAnswer, IsQueryAnswerUnlessMemory, setting_of};
+ghost use Rattle.rp_world.specs.Steps.{IsLightStep, IsStep, IsStored, IsQueryAnswer, IsQueryAnswerUnlessMemory, setting_of};
 
 use crate::effect::{Refused, no_effect};
 use crate::world::World;
@@ -113,6 +115,9 @@ impl<M: Machine, D: CutDevice> Cluster<M, D> {
     pub fn step(&mut self, alloc: Global, event: &Event) -> Result<Effect, Fault>
         // claim as Cluster::step_into
         ensures step { IsStep M.next M.answers M.begin self.old event.now self.new result }
+        ensures certain { (step : events.Step) → event_of event.now ≡ events.Makes step
+            → IsLightStep (setting_of M.next M.answers M.begin self.old) self.old.world step
+            → IsOk result }
     {
         let mut effect = no_effect(0);
         self.step_into(alloc, event, &mut effect)?;
@@ -143,6 +148,11 @@ impl<M: Machine, D: CutDevice> Cluster<M, D> {
         //   that node's device rose, and no other count changes; the step is then cut
         ensures step { IsStep M.next M.answers M.begin self.old event.now self.new
             (stated result effect.new) }
+        // claim: A step that sends no packet, writes no record and counts no vote takes no memory:
+        //   at a node that runs it takes effect, unless a long packet is delivered by it
+        ensures certain { (step : events.Step) → event_of event.now ≡ events.Makes step
+            → IsLightStep (setting_of M.next M.answers M.begin self.old) self.old.world step
+            → IsOk result }
     {
         event.keeps_ranges();
         events_keep_replies::<M>();

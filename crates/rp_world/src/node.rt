@@ -1,15 +1,16 @@
 //! A node: a replica that runs, or a device that rests.
 
-ghost use Rattle.std.specs.Prelude.{◌≡◌, ◌⊎◌, ◌≤◌, ◌<◌, ℕ, [], false, min, length, slice_get, Ok, Some, None, IfOk, IfErr, IfSome, IfNone, OnErr, IsErrOf, IsSome, IsTrue};
+ghost use Rattle.std.specs.Prelude.{◌≡◌, ◌⊎◌, ◌≤◌, ◌<◌, ℕ, [], false, min, length, slice_get, Ok, Some, None, IfOk, IfErr, IfSome, IfNone, OnErr, IsErrOf, IsOk, IsSome, IsTrue};
 ghost use Rattle.rp_base.specs.Config.{IsRightConfig};
+ghost use Rattle.rp_codec.specs.Decoding.{IsLongBody};
 ghost use Rattle.rp_codec.specs.Message.{Message};
-ghost use Rattle.rp_rules.specs.Inputs.{IsRightInput, given_by};
+ghost use Rattle.rp_rules.specs.Inputs.{IsLong, IsRightInput, given_by};
 ghost use Rattle.rp_base.specs.declared.fault.Fault.TheVariants as faults;
 ghost use Rattle.rp_model.specs.Effect.{NodeInput, stop_effect, restart_part};
 ghost use Rattle.rp_model.specs.Parts.{fresh_node};
 ghost use Rattle.rp_model.specs.Parts.{NodePart};
 ghost use Rattle.rp_world.specs.Failures.{SomeHasFailed};
-ghost use Rattle.rp_world.specs.Nodes.{Member, member_of, RunsAs, RestsAs, Represents, GoesBy, IsCutBy, IsCounted, IsResting, RefusedBy, IsLeftTorn, NotTaken, DescribesNothing, DescribesOpened, DescribesSending, failures_in, node_step, stored_length};
+ghost use Rattle.rp_world.specs.Nodes.{Member, member_of, RunsAs, RestsAs, Represents, GoesBy, IsCutBy, IsCounted, IsLight, IsResting, RefusedBy, IsLeftTorn, NotTaken, DescribesNothing, DescribesOpened, DescribesSending, failures_in, node_step, stored_length};
 
 use rp_base::{Config, Fault, NodeId};
 use rp_machine::Machine;
@@ -149,9 +150,9 @@ impl<M: Machine, D: CutDevice> Node<M, D> {
         }
     }
 
-    /// The node makes the step of an input, whose packets are put after the others. `NotRunning`
-    /// where it is stopped, and else as the replica says; where its device failed it is stopped
-    /// within the step.
+    /// The node makes the step of an input, whose packets are put after the others. `NotRunning` if
+    /// it is stopped, and otherwise as the replica says; if its device failed it is stopped within
+    /// the step. A step that takes no memory takes effect.
     #[inline(always)]
     pub(crate) fn turn(
         &mut self,
@@ -170,6 +171,10 @@ impl<M: Machine, D: CutDevice> Node<M, D> {
         ensures unsent { OnErr result (messages.new.sent ≡ messages.old.sent) }
         ensures failures { IsCounted (failures_in D.disk self.old) (failures_in D.disk self.new)
             result }
+        ensures certain { (member : Member M) (part : NodePart) (given : NodeInput)
+            → Represents D.disk member self.old part → given_by input.now ≡ Ok given
+            → (¬ IsLong input.now) → IsLight part (node_step M.next M.answers member given part)
+            → IsOk result }
     {
         match self {
             Node::Running(replica) => {
@@ -201,6 +206,11 @@ impl<M: Machine, D: CutDevice> Node<M, D> {
         ensures unsent { OnErr result (messages.new.sent ≡ messages.old.sent) }
         ensures failures { IsCounted (failures_in D.disk self.old) (failures_in D.disk self.new)
             result }
+        ensures certain { (member : Member M) (part : NodePart) (m : Message)
+            → Represents D.disk member self.old part → slice_get messages.old.sent place ≡ Some m
+            → (¬ IsLongBody m.body)
+            → IsLight part (node_step M.next M.answers member (NodeInput.Receive m) part)
+            → IsOk result }
     {
         match self {
             Node::Running(replica) => {

@@ -1,6 +1,6 @@
 //! The steps of nodes, whole or cut, and the function that makes the step of each event.
 
-ghost use Rattle.std.specs.Prelude.{◌≡◌, Ok, Some, IfOk, IfErr, OnErr, IsSome, option_copied, option_map};
+ghost use Rattle.std.specs.Prelude.{◌≡◌, Ok, Some, IfOk, IfErr, OnErr, IsOk, IsSome, option_copied, option_map};
 ghost use Rattle.std.specs.List.{AllByRecursion};
 ghost use Rattle.rp_base.specs.Config.{IsRightConfig};
 ghost use Rattle.rp_base.specs.Sets.{Has};
@@ -16,10 +16,11 @@ ghost use Rattle.rp_model.specs.Events.{IsRightEvent, event_of, step_of};
 ghost use Rattle.rp_model.specs.World as worlds;
 ghost use Rattle.rp_model.specs.World.{part_at, node_takes, node_is_cut, step_effect, cut_step, stepping, step_writes, node_writes};
 ghost use Rattle.rp_agreement.specs.Ranges.{IsRangedWorld};
-ghost use Rattle.rp_rules.specs.Inputs.{IsRightInput, given_by};
+ghost use Rattle.rp_rules.specs.Inputs.{IsLong, IsRightInput, given_by};
 ghost use Rattle.rp_world.specs.Choosing.{AreNodesOf, Chosen, IsRefused};
 ghost use Rattle.rp_world.specs.Going.{Answers, AnswersDelivery, Counts, CountsDelivery, reply_read, stated};
-ghost use Rattle.rp_world.specs.Steps.{IsStep, IsSameSetup, setting_of};
+ghost use Rattle.rp_world.specs.Nodes.{IsLight};
+ghost use Rattle.rp_world.specs.Steps.{IsLightStep, IsStep, IsSameSetup, setting_of};
 
 use crate::effect::{no_effect, of_step, taken};
 use crate::node;
@@ -59,6 +60,9 @@ impl<M: Machine, D: CutDevice> World<M, D> {
         requires event { IsRightEvent (event_of event.now) }
         ensures step { IsStep M.next M.answers M.begin self.old event.now self.new
             (stated result effect.new) }
+        ensures certain { (step : events.Step) → event_of event.now ≡ events.Makes step
+            → IsLightStep (setting_of M.next M.answers M.begin self.old) self.old.world step
+            → IsOk result }
     {
         match *event {
             Event::Submit {
@@ -117,6 +121,8 @@ impl<M: Machine, D: CutDevice> World<M, D> {
         ensures failures { let setting = setting_of M.next M.answers M.begin self.old in
             Counts (IsSome (step_writes setting self.old.world (step_of step)))
             (stepping self.old.world (step_of step)) self.old.failures self.new.failures result }
+        ensures certain { IsLightStep (setting_of M.next M.answers M.begin self.old) self.old.world
+            (step_of step) → IsOk result }
     {
         events_keep_ranges::<M>();
         match step {
@@ -274,6 +280,10 @@ impl<M: Machine, D: CutDevice> World<M, D> {
             → let setting = setting_of M.next M.answers M.begin self.old in
             Counts (IsSome (node_writes setting node given (part_at self.old.world.nodes node)))
             (Some node) self.old.failures self.new.failures result }
+        ensures certain { (given : NodeInput) (part : NodePart) → given_by input.now ≡ Ok given
+            → (¬ IsLong input.now) → part_at self.old.world.nodes node ≡ Some part
+            → IsLight part (node_effect (setting_of M.next M.answers M.begin self.old) node
+            part given) → IsOk result }
     {
         let first = self.messages() + 1;
         let Some(node) = self.nodes.get_mut(usize::from(node.get()) - 1) else {
@@ -310,6 +320,8 @@ impl<M: Machine, D: CutDevice> World<M, D> {
         ensures setup { IsSameSetup self.old self.new }
         ensures failures { CountsDelivery (setting_of M.next M.answers M.begin self.old)
             self.old.world number self.old.failures self.new.failures result }
+        ensures certain { IsLightStep (setting_of M.next M.answers M.begin self.old) self.old.world
+            (events.Deliver number) → IsOk result }
     {
         let Some(receiver) = self.receiver_of_number(number) else {
             return Err(Fault::NoSuchMessage);

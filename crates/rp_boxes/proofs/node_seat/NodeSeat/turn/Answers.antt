@@ -25,7 +25,7 @@ returns-then-has_failed-clause-err g c =
 
 pub note_turn-requires-clause-event : goal.note_turn-requires-clause-event
 note_turn-requires-clause-event g c =
-    has_stepped (step g (goal.at.note_turn-requires-clause-event g c).After-has_failed) (sym c.has_failed.ensures ∙ c.if-has_failed.false) c.turn_with.new.self c.in-Ok.sent c.in-Ok.ensures _ c.deref.ensures
+    has_stepped (step g (goal.at.note_turn-requires-clause-event g c).After-has_failed) (sym c.has_failed.ensures ∙ c.if-has_failed.false) c.turn_with.new.self c.in-Ok.sent c.in-Ok.ensures.answer _ c.deref.ensures
 
 pub invariant_of-self : goal.invariant_of-self
 invariant_of-self g c =
@@ -33,7 +33,7 @@ invariant_of-self g c =
 
 pub note_stop-requires-clause-event : goal.note_stop-requires-clause-event
 note_stop-requires-clause-event g c =
-    stopped_event (step g (goal.at.note_stop-requires-clause-event g c).After-has_failed) (sym c.has_failed.ensures ∙ c.if-has_failed.false) c.turn_with.new.self c.in-Err.fault c.in-Err.ensures
+    stopped_event (step g (goal.at.note_stop-requires-clause-event g c).After-has_failed) (sym c.has_failed.ensures ∙ c.if-has_failed.false) c.turn_with.new.self c.in-Err.fault c.in-Err.ensures.answer
     (sym c.has_failed-in-Err.ensures ∙ c.if-not-has_failed.false) _ c.deref-in-Err.ensures
 
 pub invariant_of-self-in-Err : goal.invariant_of-self-in-Err
@@ -46,7 +46,7 @@ returns-then-not-has_failed-clause-err g c =
     let at = step g (goal.at.returns-then-not-has_failed-clause-err g c).After-has_failed in
     let new = seat_state at c.self.inside.place.table_id c.turn_with.new.self.disk.failures (part_in c.self.inside.place.me.0) in
     inr (subst (λ (seat : SeatState g.row.M-Program.Denot). IsNoTurn m.next m.answers m.begin seat c.args.input.now new c.in-Err.fault) c.self.view_is
-    (unstepped_state at (sym c.has_failed.ensures ∙ c.if-has_failed.false) c.turn_with.new.self c.in-Err.fault c.in-Err.ensures (sym c.has_failed-in-Err.ensures ∙ c.if-not-has_failed.true)))
+    (unstepped_state at (sym c.has_failed.ensures ∙ c.if-has_failed.false) c.turn_with.new.self c.in-Err.fault c.in-Err.ensures.answer (sym c.has_failed-in-Err.ensures ∙ c.if-not-has_failed.true)))
 
 pub returns-else-not-has_failed-clause-err : goal.returns-else-not-has_failed-clause-err
 returns-else-not-has_failed-clause-err g c =
@@ -55,7 +55,7 @@ returns-else-not-has_failed-clause-err g c =
     let place = c.note_stop.new.place in
     inl (subst (λ (seat : SeatState g.row.M-Program.Denot). IsCutTurn m.next m.answers m.begin seat c.args.input.now (seat_state at place.table_id c.turn_with.new.self.disk.failures (part_in place.me.0)) c.in-Err.fault) c.self.view_is
     (stopped_state at place c.note_stop.ensures.table c.turn_with.new.self _ c.deref-in-Err.ensures c.note_stop.ensures.noted
-    (sym c.has_failed.ensures ∙ c.if-has_failed.false) c.in-Err.fault c.in-Err.ensures (sym c.has_failed-in-Err.ensures ∙ c.if-not-has_failed.false)))
+    (sym c.has_failed.ensures ∙ c.if-has_failed.false) c.in-Err.fault c.in-Err.ensures.answer (sym c.has_failed-in-Err.ensures ∙ c.if-not-has_failed.false)))
 
 pub returns-in-Ok-clause-ok : goal.returns-in-Ok-clause-ok
 returns-in-Ok-clause-ok g c =
@@ -63,4 +63,4 @@ returns-in-Ok-clause-ok g c =
     let at = step g (goal.at.returns-in-Ok-clause-ok g c).After-has_failed in
     let place = c.note_turn.new.place in
     subst (λ (seat : SeatState g.row.M-Program.Denot). IsTurn m.next m.answers m.begin seat c.args.input.now (seat_state at place.table_id c.turn_with.new.self.disk.failures (part_in place.me.0)) c.in-Ok.sent) c.self.view_is
-    (stepped_state at place c.note_turn.ensures.table c.turn_with.new.self _ c.deref.ensures c.in-Ok.sent c.note_turn.ensures.noted (sym c.has_failed.ensures ∙ c.if-has_failed.false) c.in-Ok.ensures)
+    (stepped_state at place c.note_turn.ensures.table c.turn_with.new.self _ c.deref.ensures c.in-Ok.sent c.note_turn.ensures.noted (sym c.has_failed.ensures ∙ c.if-has_failed.false) c.in-Ok.ensures.answer)

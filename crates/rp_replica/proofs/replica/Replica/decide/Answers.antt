@@ -4,6 +4,7 @@ use Rattle.rp_rules.specs.Inputs.{IsLong, Refuses}
 use Rattle.rp_rules.specs.Plans.{turn_of, MayCommit}
 use Rattle.rp_replica.specs.Inputs.{input_effect}
 use Rattle.rp_replica.specs.State.{ReplicaState, server_of}
+use Rattle.rp_replica.proofs.Certain.{is_planned}
 use Rattle.rp_replica.proofs.Planning.{unplanned_if}
 use Rattle.rp_replica.proofs.replica.Replica.decide.Goals as goal
 
@@ -22,3 +23,10 @@ returns-clause-err g c =
     let working : h.failed ≡ false = sym c.has_failed.ensures ∙ c.if-has_failed.false in
     unplanned_if (IsLong c.args.input.now) h (input_effect m.next m.answers h c.args.input.now) c.decide.result working
     (subst (λ (k : ReplicaState g.row.M.Denot). IfErr c.decide.result (Refuses (IsLong c.args.input.now) (input_effect m.next m.answers k c.args.input.now))) c.self.view_is c.decide.ensures.err)
+
+pub returns-clause-certain : goal.returns-clause-certain
+returns-clause-certain g c = λ turn is short working.
+    let m = g.M.Machine in
+    let h = c.args.self.now in
+    is_planned (IsLong c.args.input.now) (input_effect m.next m.answers h c.args.input.now) c.decide.result turn
+    (subst (λ (k : ReplicaState g.row.M.Denot). IfErr c.decide.result (Refuses (IsLong c.args.input.now) (input_effect m.next m.answers k c.args.input.now))) c.self.view_is c.decide.ensures.err) is short

@@ -1,5 +1,5 @@
 -- A delivery is a step, and what it leads to satisfies the invariant.
-use Rattle.std.proofs.Common.{sym, ap, subst, ◌∙◌}
+use Rattle.std.proofs.Common.{◌≡◌, sym, ap, subst, ◌∙◌}
 use Rattle.std.specs.Prelude.{IsSome}
 use Rattle.rp_model.specs.declared.event.Event.TheVariants.{Node}
 use Rattle.rp_model.specs.Effect.{Setting}
@@ -7,7 +7,7 @@ use Rattle.rp_model.specs.Events.{IsRightEvent, Makes, Deliver, event_of}
 use Rattle.rp_model.specs.World.{stepping, step_writes}
 use Rattle.rp_world.specs.Going.{stated}
 use Rattle.rp_world.specs.Shape.{IsCluster}
-use Rattle.rp_world.specs.Steps.{IsStep, setting_of}
+use Rattle.rp_world.specs.Steps.{IsLightStep, IsStep, setting_of}
 use Rattle.rp_world.proofs.Answering.{made, counts_stated, same_setting}
 use Rattle.rp_world.proofs.Stepping.{made_whole}
 use Rattle.rp_world.proofs.cluster.Cluster.step_into.Goals as goal
@@ -43,4 +43,13 @@ returns-in-Deliver g c =
     record {
       step = subst (λ was. IsStep m.next m.answers m.begin was c.args.event.now new answer) c.self.view_is
           (made_whole m.next m.answers m.begin old new c.args.event.now answer c.deliver.ensures.setup step counts (ap event_of c.in-Node.is ∙ ap (λ taken. event_of (Node taken)) c.in-Deliver.is) c.deliver.ensures.answer);
+      certain = λ taken is light.
+          let made : event_of c.args.event.now ≡ Makes step = ap event_of c.in-Node.is ∙ ap (λ taken. event_of (Node taken)) c.in-Deliver.is in
+          let same : taken ≡ step = cc in
+          c.deliver.ensures.certain (subst (λ was. IsLightStep (setting_of m.next m.answers m.begin was) was.world step) (sym c.self.view_is) (subst (IsLightStep (setting_of m.next m.answers m.begin c.args.self.now) c.args.self.now.world) same light));
     }
+
+pub returns-clause-certain : goal.returns-clause-certain
+returns-clause-certain g c = λ taken is light.
+    let m = g.M.Machine in
+    c.step_into.ensures.certain taken is (subst (λ was. IsLightStep (setting_of m.next m.answers m.begin was) was.world taken) (sym c.self.view_is) light)

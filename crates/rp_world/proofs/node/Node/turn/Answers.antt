@@ -1,7 +1,8 @@
-use Rattle.std.proofs.Common.{◌≡◌, Ok}
-use Rattle.rp_replica.specs.Inputs.{input_effect}
+use Rattle.std.proofs.Common.{◌≡◌, Ok, ap, ◌∙◌}
+use Rattle.rp_replica.specs.Inputs.{effect_if_given, input_effect}
 use Rattle.rp_rules.specs.Inputs.{given_by}
 use Rattle.rp_world.proofs.Failing.{turn_counts, input_so}
+use Rattle.rp_world.proofs.Light.{light_turn}
 use Rattle.rp_world.proofs.Represented.{node_runs}
 use Rattle.rp_world.proofs.Turning.{each_ok, each_err, each_given, unsent}
 use Rattle.rp_world.proofs.node.Node.turn.Goals as goal
@@ -14,10 +15,13 @@ returns-else-has_failed g c =
     let sent = c.args.messages.now.sent in
     let later = c.turn_into.new.out.sent in
     let effect = input_effect r.next r.answers r.replica input in
-    let each = each_given r input new sent later c.turn_into.result c.turn_into.ensures in
+    let each = each_given r input new sent later c.turn_into.result c.turn_into.ensures.answer in
     record {
       ok = each_ok r (λ given. given) (λ given. given_by input ≡ Ok given) new sent later c.turn_into.result each;
       err = each_err r (λ given. given) (λ given. given_by input ≡ Ok given) new sent later c.turn_into.result each;
-      unsent = unsent effect r.replica new sent later c.turn_into.result c.turn_into.ensures;
-      failures = turn_counts r new sent later effect (input_so r.next r.answers r.replica input) c.turn_into.result c.turn_into.ensures;
+      unsent = unsent effect r.replica new sent later c.turn_into.result c.turn_into.ensures.answer;
+      failures = turn_counts r new sent later effect (input_so r.next r.answers r.replica input) c.turn_into.result c.turn_into.ensures.answer;
+      certain = λ member part given is gives short light.
+          let t = light_turn r given member part is light in
+          c.turn_into.ensures.certain short t.turn (ap (effect_if_given r.next r.answers r.replica) gives ∙ t.resulted) t.free r.working;
     }

@@ -1,9 +1,10 @@
-use Rattle.std.proofs.Common.{◌-◌, ◌<◌, length, inl, refl, ap, arith}
+use Rattle.std.proofs.Common.{◌≡◌, ◌-◌, ◌<◌, true, false, length, inl, refl, ap, arith}
 use Rattle.rp_model.specs.World.{node_takes}
 use Rattle.rp_world.proofs.Ending.{none_seen}
 use Rattle.rp_world.proofs.Failing.{same_seen}
 use Rattle.rp_world.proofs.Fields.{fields_of, member, same_setup, setting_by}
-use Rattle.rp_world.proofs.NodeTurns.{goes_given, answers_given, counts_given}
+use Rattle.rp_world.proofs.Moving.{part, represents_now}
+use Rattle.rp_world.proofs.NodeTurns.{goes_given, answers_given, counts_given, light_given}
 use Rattle.rp_world.proofs.Placing.{found_at, placed_at}
 use Rattle.rp_world.proofs.Taking.{still_turned, still_refused, sent_more}
 use Rattle.rp_world.proofs.world.World.give_input.Goals as goal
@@ -31,6 +32,7 @@ returns-in_err-dropped g c =
       answer = λ given gives. answers_given f at c.turn.new.self given c.in_err-dropped.field-0.0 (err.err (member f at.me) given gives) c.from_residual.result c.from_residual.ensures.1 c.turn.new.messages err.unsent c.args.effect.now;
       setup = same_setup f _ refl refl;
       failures = λ given gives. counts_given f at c.turn.new.self given c.in_err-dropped.field-0.0 (err.err (member f at.me) given gives) c.from_residual.result c.from_residual.ensures.1 err.failures;
+      certain = λ given p gives short here light. let never : false ≡ true = err.certain (member f at.me) (part f at) given (represents_now f at) gives short (light_given f at given p here light) in cc;
     }
 
 pub invariant_of-self-2 : goal.invariant_of-self-2
@@ -57,4 +59,5 @@ returns g c =
           c.messages-first.ensures.value c.messages.ensures.value c.of_step.ensures;
       setup = same_setup f _ refl refl;
       failures = λ given gives. same_seen f at c.turn.new.self c.in_ok-dropped.ensures.failures;
+      certain = λ given p gives short here light. refl;
     }

@@ -1,5 +1,5 @@
-use Rattle.std.proofs.Common.{◌≡◌, ℕ, Some, Result, Ok, List, inl, refl, sym, ap, subst, ◌∙◌}
-use Rattle.std.specs.Prelude.{IsSome}
+use Rattle.std.proofs.Common.{◌≡◌, ℕ, Some, Result, Ok, Err, List, inl, refl, sym, ap, subst, ◌∙◌}
+use Rattle.std.specs.Prelude.{IsOk, IsSome}
 use Rattle.rp_base.specs.declared.action.Action.{Action}
 use Rattle.rp_base.specs.declared.fault.Fault.{Fault}
 use Rattle.rp_base.specs.declared.reply.Answer.{Answer}
@@ -11,11 +11,12 @@ use Rattle.rp_model.specs.Events.{Step, step_of}
 use Rattle.rp_model.specs.Parts.{NodePart}
 use Rattle.rp_model.specs.World.{World, part_at, node_done, node_done_if, node_takes, step_effect, cut_step, step_writes, stepping}
 use Rattle.rp_world.specs.Going.{Answers, Counts, stated}
-use Rattle.rp_world.specs.Steps.{Setup, IsSameSetup, setting_of}
+use Rattle.rp_world.specs.Steps.{IsLightStep, Setup, IsSameSetup, setting_of}
 use Rattle.rp_world.proofs.Choosing.{nodes_seen}
 use Rattle.rp_world.proofs.Failing.{none_counted}
 use Rattle.rp_world.proofs.Fields.{fields_of, setting_by}
 use Rattle.rp_world.proofs.Hearing.{same_input}
+use Rattle.rp_world.proofs.Light.{light_input}
 use Rattle.rp_world.proofs.Messages.{sends_are}
 use Rattle.rp_world.proofs.world.World.make_step.Goals as goal
 
@@ -28,6 +29,7 @@ module _ {S P : Type 0} (next : S → Action → S) (answers : S → Action → 
         answer : Answers was.world (step_effect s was.world step) (λ kept. cut_step s was.world step kept) new.world (stated result effect);
         setup : IsSameSetup was new;
         failures : Counts (IsSome (step_writes s was.world step)) (stepping was.world step) was.failures new.failures result;
+        certain : IsLightStep s was.world step → IsOk result;
       }
 
 -- the result of a step that gives a node this input
@@ -78,34 +80,34 @@ give_input-requires-in-Report-clause-sends g c = λ given part done is here resu
 pub returns-in-Deliver : goal.returns-in-Deliver
 returns-in-Deliver g c =
     subst (λ step. IsMade g.M.Machine.next g.M.Machine.answers g.M.Machine.begin c.args.self.now c.deliver.new.self c.deliver.result c.deliver.new.effect (step_of step)) (sym c.in-Deliver.is)
-    (record { answer = c.deliver.ensures.answer; setup = c.deliver.ensures.setup; failures = c.deliver.ensures.failures })
+    (record { answer = c.deliver.ensures.answer; setup = c.deliver.ensures.setup; failures = c.deliver.ensures.failures; certain = c.deliver.ensures.certain })
 
 pub returns-in-Lead : goal.returns-in-Lead
 returns-in-Lead g c =
     let given = inputs.Lead c.in-Lead.position in
     subst (λ step. IsMade g.M.Machine.next g.M.Machine.answers g.M.Machine.begin c.args.self.now c.give_input.new.self c.give_input.result c.give_input.new.effect (step_of step)) (sym c.in-Lead.is)
-    (record { answer = c.give_input.ensures.answer given refl; setup = c.give_input.ensures.setup; failures = c.give_input.ensures.failures given refl })
+    (record { answer = c.give_input.ensures.answer given refl; setup = c.give_input.ensures.setup; failures = c.give_input.ensures.failures given refl; certain = λ light. let t = light_input (setting_of g.M.Machine.next g.M.Machine.answers g.M.Machine.begin c.args.self.now) c.args.self.now.world (events.Lead c.in-Lead.node c.in-Lead.position) light c.in-Lead.node refl given refl refl in c.give_input.ensures.certain given t.part refl (λ long. long) t.here t.takes_none })
 
 pub returns-in-Tick : goal.returns-in-Tick
 returns-in-Tick g c =
     let given = inputs.Tick c.in-Tick.now in
     let made = c.give_input-in-Tick in
     subst (λ step. IsMade g.M.Machine.next g.M.Machine.answers g.M.Machine.begin c.args.self.now made.new.self made.result made.new.effect (step_of step)) (sym c.in-Tick.is)
-    (record { answer = made.ensures.answer given refl; setup = made.ensures.setup; failures = made.ensures.failures given refl })
+    (record { answer = made.ensures.answer given refl; setup = made.ensures.setup; failures = made.ensures.failures given refl; certain = λ light. let t = light_input (setting_of g.M.Machine.next g.M.Machine.answers g.M.Machine.begin c.args.self.now) c.args.self.now.world (events.Tick c.in-Tick.node c.in-Tick.now) light c.in-Tick.node refl given refl refl in made.ensures.certain given t.part refl (λ long. long) t.here t.takes_none })
 
 pub returns-in-Report : goal.returns-in-Report
 returns-in-Report g c =
     let given = inputs.Report c.in-Report.first in
     let made = c.give_input-in-Report in
     subst (λ step. IsMade g.M.Machine.next g.M.Machine.answers g.M.Machine.begin c.args.self.now made.new.self made.result made.new.effect (step_of step)) (sym c.in-Report.is)
-    (record { answer = made.ensures.answer given refl; setup = made.ensures.setup; failures = made.ensures.failures given refl })
+    (record { answer = made.ensures.answer given refl; setup = made.ensures.setup; failures = made.ensures.failures given refl; certain = λ light. let t = light_input (setting_of g.M.Machine.next g.M.Machine.answers g.M.Machine.begin c.args.self.now) c.args.self.now.world (events.Report c.in-Report.node c.in-Report.first) light c.in-Report.node refl given refl refl in made.ensures.certain given t.part refl (λ long. long) t.here t.takes_none })
 
 pub returns-in-Ok : goal.returns-in-Ok
 returns-in-Ok g c =
     let given = inputs.LeadRange c.in-LeadRange.first c.in-LeadRange.count in
     let made = c.give_input-in-Ok in
     subst (λ step. IsMade g.M.Machine.next g.M.Machine.answers g.M.Machine.begin c.args.self.now made.new.self made.result made.new.effect (step_of step)) (sym c.in-LeadRange.is)
-    (record { answer = made.ensures.answer given c.in-Ok.ensures.ok; setup = made.ensures.setup; failures = made.ensures.failures given c.in-Ok.ensures.ok })
+    (record { answer = made.ensures.answer given c.in-Ok.ensures.ok; setup = made.ensures.setup; failures = made.ensures.failures given c.in-Ok.ensures.ok; certain = λ light. let t = light_input (setting_of g.M.Machine.next g.M.Machine.answers g.M.Machine.begin c.args.self.now) c.args.self.now.world (events.LeadRange c.in-LeadRange.node c.in-LeadRange.first c.in-LeadRange.count) light c.in-LeadRange.node refl given refl refl in made.ensures.certain given t.part c.in-Ok.ensures.ok (λ long. long) t.here t.takes_none })
 
 pub returns-in-Err : goal.returns-in-Err
 returns-in-Err g c =
@@ -116,4 +118,8 @@ returns-in-Err g c =
       answer = inl (record { resulted = ap (λ step. step_effect s f.was.world (step_of step)) c.in-LeadRange.is ∙ refused.whole; unchanged = refl });
       setup = record { config = refl; program = refl };
       failures = none_counted _ _ f.was.failures c.in-Err.fault refused.none.reason;
+      certain = λ light.
+          let refuses : step_effect s f.was.world (step_of c.args.step) ≡ Err c.in-Err.fault = ap (λ step. step_effect s f.was.world (step_of step)) c.in-LeadRange.is ∙ refused.whole in
+          let resulted : step_effect s f.was.world (step_of c.args.step) ≡ Ok light.transition = light.resulted in
+          absurd (cc);
     }

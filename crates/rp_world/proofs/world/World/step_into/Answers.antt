@@ -1,12 +1,12 @@
 -- Each event's answer is a step of the world, and the counts of failures are as it says.
-use Rattle.std.proofs.Common.{sym, ap, subst}
+use Rattle.std.proofs.Common.{◌≡◌, sym, ap, subst}
 use Rattle.std.specs.Prelude.{ℤ, IsSome}
 use Rattle.std.specs.Int.{w64}
 use Rattle.std.proofs.lemmas.Int.{to_z-of_z}
-use Rattle.rp_model.specs.Events.{Submit, Again, Stop, Restart, IsRightEvent, event_of, step_of}
+use Rattle.rp_model.specs.Events.{Submit, Again, Makes, Stop, Restart, IsRightEvent, event_of, step_of}
 use Rattle.rp_model.specs.World.{event_effect, step_writes, stepping}
 use Rattle.rp_world.specs.Going.{Answers, no_cut, stated}
-use Rattle.rp_world.specs.Steps.{IsStep, setting_of}
+use Rattle.rp_world.specs.Steps.{IsLightStep, IsStep, setting_of}
 use Rattle.rp_world.proofs.Answering.{submitted, asked, stopped, restarted, as_answers, counts_stated}
 use Rattle.rp_world.proofs.Stepping.{stepped_as, without_device, made_whole, made_cut}
 use Rattle.rp_world.proofs.world.World.step_into.Goals as goal
@@ -25,6 +25,7 @@ returns-in-Submit g c =
       step = subst (IsStep m.next m.answers m.begin old c.args.event.now made.new.self) (sym c.write_effect.ensures)
           (without_device m.next m.answers m.begin old made.new.self c.args.event.now made.result made.ensures.setup (Submit v.task v.node v.object v.operation v.arg) (ap event_of v.is)
           (submitted s old.world made.new.self.world made.result v.task v.node v.object v.operation v.arg answer) answer made.ensures.failures);
+      certain = λ step is light. let other = ap event_of c.in-Submit.is in cc;
     }
 
 pub returns-in-Again : goal.returns-in-Again
@@ -37,6 +38,7 @@ returns-in-Again g c =
       step = subst (IsStep m.next m.answers m.begin old c.args.event.now made.new.self) (sym c.write_effect-in-Again.ensures)
           (without_device m.next m.answers m.begin old made.new.self c.args.event.now made.result made.ensures.setup (Again v.task v.node) (ap event_of v.is)
           (asked (setting_of m.next m.answers m.begin old) old.world made.new.self.world made.result v.task v.node made.ensures.answer) made.ensures.answer made.ensures.failures);
+      certain = λ step is light. let other = ap event_of c.in-Again.is in cc;
     }
 
 pub returns-in-Node : goal.returns-in-Node
@@ -49,6 +51,10 @@ returns-in-Node g c =
     let counts = counts_stated (IsSome (step_writes s old.world step)) (stepping old.world step) old.failures made.new.self.failures made.result made.new.effect made.ensures.failures in
     record {
       step = made_whole m.next m.answers m.begin old made.new.self c.args.event.now (stated made.result made.new.effect) made.ensures.setup step counts (ap event_of c.in-Node.is) made.ensures.answer;
+      certain = λ taken is light.
+          let made_by : event_of c.args.event.now ≡ Makes step = ap event_of c.in-Node.is in
+          let same : taken ≡ step = cc in
+          made.ensures.certain (subst (IsLightStep s old.world) same light);
     }
 
 pub returns-in-Cut : goal.returns-in-Cut
@@ -58,6 +64,7 @@ returns-in-Cut g c =
     record {
       step = subst (IsStep m.next m.answers m.begin c.args.self.now c.args.event.now made.new.self) (sym c.write_effect-in-Cut.ensures)
           (made_cut m.next m.answers m.begin c.args.self.now made.new.self c.args.event.now made.result made.ensures.setup (step_of c.in-Cut.step) made.ensures.failures c.in-Cut.kept (ap event_of c.in-Cut.is) made.ensures.answer);
+      certain = λ step is light. let other = ap event_of c.in-Cut.is in cc;
     }
 
 pub returns-in-Stop : goal.returns-in-Stop
@@ -71,6 +78,7 @@ returns-in-Stop g c =
       step = subst (IsStep m.next m.answers m.begin old c.args.event.now made.new.self) (sym c.write_effect-in-Stop.ensures)
           (without_device m.next m.answers m.begin old made.new.self c.args.event.now made.result made.ensures.setup (Stop v.node) (ap event_of v.is)
           (stopped s old.world made.new.self.world made.result v.node made.ensures.answer) (as_answers old.world (event_effect s old.world (Stop v.node)) made.new.self.world made.result made.ensures.answer) made.ensures.failures);
+      certain = λ step is light. let other = ap event_of c.in-Stop.is in cc;
     }
 
 pub returns-in-Restart : goal.returns-in-Restart
@@ -83,4 +91,5 @@ returns-in-Restart g c =
       step = subst (IsStep m.next m.answers m.begin old c.args.event.now made.new.self) (sym c.write_effect-in-Restart.ensures)
           (stepped_as m.next m.answers m.begin old made.new.self c.args.event.now made.result made.ensures.setup (Restart v.node) (ap event_of v.is)
           (restarted (setting_of m.next m.answers m.begin old) old.world made.new.self.world made.result v.node made.ensures.answer) made.ensures.failures);
+      certain = λ step is light. let other = ap event_of c.in-Restart.is in cc;
     }

@@ -63,8 +63,9 @@ impl<M: Machine, D: Device> Replica<M, D> {
         self.turn_with(alloc, Vec::new(alloc), &mut Vec::new(alloc), input)
     }
 
-    /// The same, in buffers for the texts of the packets and for the places where these end, in
-    /// place of what they hold: so steps that use them again take no memory for their packets.
+    /// The same, in buffers that the caller lends in place of new ones, whatever they hold: `bytes`
+    /// comes back with the texts of the packets, and `ends` has the memory for the places where they
+    /// end, so that steps that use them again take no memory for their packets.
     #[inline(always)]
     pub fn turn_with(
         &mut self,

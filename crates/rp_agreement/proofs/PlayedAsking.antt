@@ -1,19 +1,18 @@
 -- A history in which a node asks for a decision that was lost on its way, and applies two calls.
-use Rattle.std.proofs.Common.{◌≡◌, pos, Some, Ok, List, [], ◌∷◌, ◌++◌, Bool, map, filter, if◌then◌else◌, refl, sym, ap, subst, ◌∙◌, arith}
+use Rattle.std.proofs.Common.{◌≡◌, Some, Ok, List, [], ◌∷◌, ◌++◌, Bool, map, filter, if◌then◌else◌, refl, sym, ap, subst, ◌∙◌, arith}
 use Rattle.std.specs.Prelude.{nat_eq}
 use Rattle.std.specs.List.{list_any}
 use Rattle.std.proofs.lemmas.List.Elements.{filter-append}
 use Rattle.rp_base.specs.Records.{applied_of}
 use Rattle.rp_base.specs.declared.action.Action.{Action}
 use Rattle.rp_base.specs.declared.action.Action.TheVariants as actions
-use Rattle.rp_base.specs.declared.action.Operation.TheVariants.{Procedure}
 use Rattle.rp_base.specs.declared.reply.Answer.{Answer}
 use Rattle.rp_base.specs.declared.reply.Reply.{Reply}
 use Rattle.rp_codec.specs.Message.{Message}
 use Rattle.rp_codec.specs.declared.packet.Body.TheVariants.{Ask, Decided, PrepareRange, Reply as Answers}
 use Rattle.rp_machine.specs.Replay.{replay_answers}
 use Rattle.rp_model.specs.Answers.{Happen}
-use Rattle.rp_model.specs.Events.{Event, Submit, Makes, Deliver, Lead, LeadRange}
+use Rattle.rp_model.specs.Events.{Event, Makes, Deliver}
 use Rattle.rp_model.specs.Parts.{NodePart}
 use Rattle.rp_model.specs.Pending.{is_answered_by, replies_to}
 use Rattle.rp_model.specs.Says.{says, says_to_all, says_to_task}
@@ -21,67 +20,22 @@ use Rattle.rp_model.specs.World.{World, Transition, opening_world, part_at, even
 use Rattle.rp_agreement.specs.Possible.{three_nodes, is_prepare, IsCaughtUp}
 use Rattle.rp_agreement.proofs.PartPlaces.{part_has}
 use Rattle.rp_agreement.proofs.Playing.{AllRight, right_on, history_of, happen_on, Votes, two_decide, first_call, first_answer}
-use Rattle.rp_agreement.proofs.PlayedRanges.{first_two, other_call}
+use Rattle.rp_agreement.proofs.PlayedRanges.{first_two, other_call, both_voted, right_both_voted}
 
 -- the answer to the second call
 abbrev pub other_answer : Reply → Answer
 other_answer reply = record { task = 2; number = 1; reply = reply }
 
--- The tasks 1 and 2 call node 1, which leads two positions; the nodes 1 and 2 promise both and vote for both calls. Node
--- 1 learns the second one; node 3 learns it too, and asks for the first position; node 1 learns the first one.
+-- Once both voted for both calls, node 1 learns the second one; node 3 learns it too, and asks for the first position;
+-- node 1 learns the first one.
+abbrev learning_late : List Event
+learning_late = Makes (Deliver 16) ∷ Makes (Deliver 17) ∷ Makes (Deliver 19) ∷ Makes (Deliver 14) ∷ Makes (Deliver 15) ∷ []
+
 abbrev asking : List Event
-asking =
-    Submit 1 1 1 (Procedure 1) (pos 5)
-    ∷ Submit 2 1 1 (Procedure 1) (pos 7)
-    ∷ Makes (Deliver 1)
-    ∷ Makes (Deliver 2)
-    ∷ Makes (LeadRange 1 1 2)
-    ∷ Makes (Deliver 3)
-    ∷ Makes (Deliver 4)
-    ∷ Makes (Deliver 6)
-    ∷ Makes (Deliver 7)
-    ∷ Makes (Lead 1 (Some 1))
-    ∷ Makes (Lead 1 (Some 2))
-    ∷ Makes (Deliver 8)
-    ∷ Makes (Deliver 9)
-    ∷ Makes (Deliver 11)
-    ∷ Makes (Deliver 12)
-    ∷ Makes (Deliver 16)
-    ∷ Makes (Deliver 17)
-    ∷ Makes (Deliver 19)
-    ∷ Makes (Deliver 14)
-    ∷ Makes (Deliver 15)
-    ∷ []
+asking = both_voted ++ learning_late
 
 right_asking : AllRight asking
-right_asking = (
-  ((omega arith, omega arith), (omega arith, omega arith), omega arith, omega arith, omega arith),
-  (
-    ((omega arith, omega arith), (omega arith, omega arith), omega arith, omega arith, omega arith),
-    (
-      tt,
-      (
-        tt,
-        (
-          ((omega arith, omega arith), (omega arith, omega arith), omega arith),
-          (
-            tt,
-            (
-              tt,
-              (
-                tt,
-                (
-                  tt,
-                  (((omega arith, omega arith), (omega arith, omega arith)), (((omega arith, omega arith), (omega arith, omega arith)), (tt, (tt, (tt, (tt, (tt, (tt, (tt, (tt, (tt, tt))))))))))),
-                ),
-              ),
-            ),
-          ),
-        ),
-      ),
-    ),
-  ),
-)
+right_asking = right_on both_voted learning_late right_both_voted (tt, (tt, (tt, (tt, (tt, tt)))))
 
 -- a machine that gives these answers to the calls of task 1, and those to all others
 abbrev pub fixed : {S : Type 0} → List Answer → List Answer → S → Action → List Answer

@@ -12,7 +12,7 @@ use Rattle.rp_model.specs.Events.{Event, Submit, Makes, Deliver, Lead, LeadRange
 use Rattle.rp_model.specs.Says.{says_to_all}
 use Rattle.rp_model.specs.World.{World, opening_world}
 use Rattle.rp_agreement.specs.Possible.{three_nodes, is_prepare, IsRepliedInRange}
-use Rattle.rp_agreement.proofs.Playing.{AllRight, history_on, GetsReply, Votes, two_decide, first_call, first_answer}
+use Rattle.rp_agreement.proofs.Playing.{AllRight, right_on, history_on, GetsReply, Votes, two_decide, first_call, first_answer}
 
 abbrev pub first_two : Range
 first_two = record { first = 1; count = 2 }
@@ -21,9 +21,9 @@ abbrev pub other_call : Action
 other_call = Call 2 1 1 (Procedure 1) (pos 7)
 
 -- The tasks 1 and 2 call node 1, which leads both positions; the nodes 1 and 2 promise both at once, node 1 offers a
--- call at each, and both vote for both; node 1 hears the votes at the first position, and learns and applies the call.
-abbrev ranging : List Event
-ranging =
+-- call at each, and both vote for both.
+abbrev pub both_voted : List Event
+both_voted =
     Submit 1 1 1 (Procedure 1) (pos 5)
     ∷ Submit 2 1 1 (Procedure 1) (pos 7)
     ∷ Makes (Deliver 1)
@@ -39,12 +39,10 @@ ranging =
     ∷ Makes (Deliver 9)
     ∷ Makes (Deliver 11)
     ∷ Makes (Deliver 12)
-    ∷ Makes (Deliver 14)
-    ∷ Makes (Deliver 15)
     ∷ []
 
-right_ranging : AllRight ranging
-right_ranging = (
+pub right_both_voted : AllRight both_voted
+right_both_voted = (
   ((omega arith, omega arith), (omega arith, omega arith), omega arith, omega arith, omega arith),
   (
     ((omega arith, omega arith), (omega arith, omega arith), omega arith, omega arith, omega arith),
@@ -60,10 +58,7 @@ right_ranging = (
               tt,
               (
                 tt,
-                (
-                  tt,
-                  (((omega arith, omega arith), (omega arith, omega arith)), (((omega arith, omega arith), (omega arith, omega arith)), (tt, (tt, (tt, (tt, (tt, (tt, tt)))))))),
-                ),
+                (tt, (((omega arith, omega arith), (omega arith, omega arith)), (((omega arith, omega arith), (omega arith, omega arith)), (tt, (tt, (tt, (tt, tt))))))),
               ),
             ),
           ),
@@ -72,6 +67,13 @@ right_ranging = (
     ),
   ),
 )
+
+-- node 1 hears the votes at the first position, and learns and applies the call
+abbrev ranging : List Event
+ranging = both_voted ++ Makes (Deliver 14) ∷ Makes (Deliver 15) ∷ []
+
+right_ranging : AllRight ranging
+right_ranging = right_on both_voted (Makes (Deliver 14) ∷ Makes (Deliver 15) ∷ []) right_both_voted (tt, (tt, tt))
 
 module _ {S : Type 0} (next : S → Action → S) (answers : S → Action → List Answer) (begin : S) where
   -- the world in which node 1 has applied the first call

@@ -9,7 +9,7 @@ use Rattle.rp_model.specs.Events.{Event, Submit, Again, Makes, Stop, Deliver, Le
 use Rattle.rp_model.specs.World.{World, opening_world}
 use Rattle.rp_agreement.specs.Computed.{order_of}
 use Rattle.rp_agreement.specs.Possible.{three_nodes, WaitsFirst, IsRepliedAfterTakeover}
-use Rattle.rp_agreement.proofs.Playing.{AllRight, right_on, history_of, history_on, GetsReply, Votes, has_voted, VotesToTwo, others_decide, first_call, first_answer}
+use Rattle.rp_agreement.proofs.Playing.{AllRight, right_on, history_of, history_on, GetsReply, Votes, has_voted, VotesTo, others_decide, first_call, first_answer}
 use Rattle.rp_agreement.proofs.PlayedRanges.{other_call}
 
 -- Task 1 calls node 1 and task 2 node 2; node 1 leads, the nodes 1 and 2 promise, and node 2 votes for the first call.
@@ -90,7 +90,7 @@ module _ {S : Type 0} (next : S → Action → S) (answers : S → Action → Li
   -- what the reply leads to from there
   abbrev Ends : Reply → World → Type 0
   Ends reply w =
-      (last : GetsReply (three_nodes 1 next answers begin) w 25 (first_answer reply)) × VotesToTwo last.transition.world.sent 21 2 1 10 first_call × VotesToTwo last.transition.world.sent 22 3 1 10 first_call
+      (last : GetsReply (three_nodes 1 next answers begin) w 25 (first_answer reply)) × VotesTo 2 last.transition.world.sent 21 2 1 10 first_call × VotesTo 2 last.transition.world.sent 22 3 1 10 first_call
 
   ends : (reply : Reply) → answers begin first_call ≡ first_answer reply ∷ [] → Ends reply (taken_world (answers begin first_call))
   unfolding take_over
@@ -110,7 +110,7 @@ module _ {S : Type 0} (next : S → Action → S) (answers : S → Action → Li
         stops = history_of 1 (omega arith, omega arith) next answers begin stopping cut.0 right_stopping cut.1;
         is_stopped = cut.2;
         ballot = 9;
-        voted = has_voted cut.0.sent 11 2 1 9 first_call cut.3;
+        voted = has_voted 1 cut.0.sent 11 2 1 9 first_call cut.3;
         undecided = cut.4;
         waits_first = cut.5;
         history = history_on 1 (omega arith, omega arith) next answers begin takeover 25 (take_over next answers begin).0 (first_answer reply) right_takeover (take_over next answers begin).1 end.0;

@@ -66,53 +66,44 @@ right_learning sent = (tt, (tt, tt))
 
 -- ---- what is decided
 
--- the packet of this number is a vote of the node
-abbrev pub Votes : List Message → ℕ → ℕ → ℕ → ℕ → Action → Type 0
-Votes sent number a i b v = part_at sent number ≡ Some (record { from = Node a; to = Node 1; body = Accepted i b v })
+-- the packet of this number is a vote of the node, to the other
+abbrev pub VotesTo : ℕ → List Message → ℕ → ℕ → ℕ → ℕ → Action → Type 0
+VotesTo to sent number a i b v = part_at sent number ≡ Some (record { from = Node a; to = Node to; body = Accepted i b v })
 
-pub has_voted : (sent : List Message) (number a i b : ℕ) (v : Action) → Votes sent number a i b v → HasVoted sent a i b v
-has_voted sent number a i b v there = (1, part_has sent number (record { from = Node a; to = Node 1; body = Accepted i b v }) there)
+pub has_voted : (to : ℕ) (sent : List Message) (number a i b : ℕ) (v : Action) → VotesTo to sent number a i b v → HasVoted sent a i b v
+has_voted to sent number a i b v there = (to, part_has sent number (record { from = Node a; to = Node to; body = Accepted i b v }) there)
 
 -- of three nodes two decide
+decide : (to a c : ℕ) → (1 ≤ a) × (a ≤ 3) → (1 ≤ c) × (c ≤ 3) → ¬ (a ≡ c)
+    → (sent : List Message) (one two i b : ℕ) (v : Action) → VotesTo to sent one a i b v → VotesTo to sent two c i b v → IsDecided 3 sent i v
+decide to a c first_in second_in apart sent one two i b v first second = record {
+  ballot = b;
+  voters = a ∷ c ∷ [];
+  members = record {
+    members = λ x has. elim has [
+      | inl is ↦ (omega (arith, is, first_in), omega (arith, is, first_in))
+      | inr rest ↦ elim rest [ inl is ↦ (omega (arith, is, second_in), omega (arith, is, second_in)) | inr none ↦ absurd none ]
+    ];
+    distinct = (λ has. elim has [ inl is ↦ apart is | inr none ↦ none ], (λ none. none, tt));
+  };
+  majority = omega arith;
+  voted = λ x has.
+      elim has [
+        | inl is ↦ subst (λ (y : ℕ). HasVoted sent y i b v) (sym is) (has_voted to sent one a i b v first)
+        | inr rest ↦ elim rest [ inl is ↦ subst (λ (y : ℕ). HasVoted sent y i b v) (sym is) (has_voted to sent two c i b v second) | inr none ↦ absurd none ]
+      ];
+}
+
+-- the nodes 1 and 2, asked by node 1
+abbrev pub Votes : List Message → ℕ → ℕ → ℕ → ℕ → Action → Type 0
+Votes = VotesTo 1
+
 pub two_decide : (sent : List Message) (one two i b : ℕ) (v : Action) → Votes sent one 1 i b v → Votes sent two 2 i b v → IsDecided 3 sent i v
-two_decide sent one two i b v first second = record {
-  ballot = b;
-  voters = 1 ∷ 2 ∷ [];
-  members = record {
-    members = λ x has. elim has [ inl is ↦ (omega (arith, is), omega (arith, is)) | inr rest ↦ elim rest [ inl is ↦ (omega (arith, is), omega (arith, is)) | inr none ↦ absurd none ] ];
-    distinct = (λ has. elim has [ inl is ↦ omega (arith, is) | inr none ↦ none ], (λ none. none, tt));
-  };
-  majority = omega arith;
-  voted = λ a has.
-      elim has [
-        | inl is ↦ subst (λ (a : ℕ). HasVoted sent a i b v) (sym is) (has_voted sent one 1 i b v first)
-        | inr rest ↦ elim rest [ inl is ↦ subst (λ (a : ℕ). HasVoted sent a i b v) (sym is) (has_voted sent two 2 i b v second) | inr none ↦ absurd none ]
-      ];
-}
+two_decide = decide 1 1 2 (omega arith, omega arith) (omega arith, omega arith) (λ is. omega (arith, is))
 
--- the packet of this number is a vote of the node, to the node 2
-abbrev pub VotesToTwo : List Message → ℕ → ℕ → ℕ → ℕ → Action → Type 0
-VotesToTwo sent number a i b v = part_at sent number ≡ Some (record { from = Node a; to = Node 2; body = Accepted i b v })
-
-pub voted_to_two : (sent : List Message) (number a i b : ℕ) (v : Action) → VotesToTwo sent number a i b v → HasVoted sent a i b v
-voted_to_two sent number a i b v there = (2, part_has sent number (record { from = Node a; to = Node 2; body = Accepted i b v }) there)
-
--- of three nodes the other two decide
-pub others_decide : (sent : List Message) (one two i b : ℕ) (v : Action) → VotesToTwo sent one 2 i b v → VotesToTwo sent two 3 i b v → IsDecided 3 sent i v
-others_decide sent one two i b v first second = record {
-  ballot = b;
-  voters = 2 ∷ 3 ∷ [];
-  members = record {
-    members = λ x has. elim has [ inl is ↦ (omega (arith, is), omega (arith, is)) | inr rest ↦ elim rest [ inl is ↦ (omega (arith, is), omega (arith, is)) | inr none ↦ absurd none ] ];
-    distinct = (λ has. elim has [ inl is ↦ omega (arith, is) | inr none ↦ none ], (λ none. none, tt));
-  };
-  majority = omega arith;
-  voted = λ a has.
-      elim has [
-        | inl is ↦ subst (λ (a : ℕ). HasVoted sent a i b v) (sym is) (voted_to_two sent one 2 i b v first)
-        | inr rest ↦ elim rest [ inl is ↦ subst (λ (a : ℕ). HasVoted sent a i b v) (sym is) (voted_to_two sent two 3 i b v second) | inr none ↦ absurd none ]
-      ];
-}
+-- the nodes 2 and 3, asked by node 2
+pub others_decide : (sent : List Message) (one two i b : ℕ) (v : Action) → VotesTo 2 sent one 2 i b v → VotesTo 2 sent two 3 i b v → IsDecided 3 sent i v
+others_decide = decide 2 2 3 (omega arith, omega arith) (omega arith, omega arith) (λ is. omega (arith, is))
 
 -- ---- histories
 

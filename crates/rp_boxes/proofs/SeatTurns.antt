@@ -1,33 +1,35 @@
 -- What a turn of a replica is for the seat of its node.
+use Rattle.std.specs.Prelude.{IsOk}
 use Rattle.std.proofs.Common.{◌≡◌, ◌⊎◌, ℕ, ◌<◌, true, false, Option, Some, None, Result, Ok, Err, List, [], inl, inr, refl, sym, ap, subst, ◌∙◌}
 use Rattle.std.specs.Arc.{arc_value}
 use Rattle.atomic_table.specs.Seated.{TableId}
 use Rattle.rp_base.specs.declared.fault.Fault.{Fault}
-use Rattle.rp_base.specs.declared.fault.Fault.TheVariants.{OutOfMemory, Device, Failed}
+use Rattle.rp_base.specs.declared.fault.Fault.TheVariants.{OutOfMemory, Device, Failed, NotRunning}
 use Rattle.rp_base.specs.declared.record.Rec.{Rec}
 use Rattle.rp_codec.specs.Message.{Message, IsPacket}
 use Rattle.rp_codec.specs.Reading.{all_of}
 use Rattle.rp_codec.specs.Text.{text_of}
 use Rattle.rp_store.specs.Disk.{Disk}
 use Rattle.rp_model.specs.Effect as nodes
-use Rattle.rp_model.specs.Effect.{Setting, Done, NodeInput, node_effect, cut_effect, cut_if, cut_part, turn_done, turn_done_if, goes_on_as}
+use Rattle.rp_model.specs.Effect.{Setting, Done, NodeInput, effect_while, node_effect, cut_effect, cut_if, cut_part, turn_done, turn_done_if, goes_on_as}
 use Rattle.rp_model.specs.Parts.{NodePart, Running, Turn}
 use Rattle.rp_machine.specs.declared.machine.Machine.{Ghosts}
 use Rattle.rp_agreement.specs.Inputs.{IsInput}
 use Rattle.rp_replica.specs.State.{ReplicaState, with_text}
 use Rattle.rp_replica.specs.Inputs.{effect_if_given, input_effect, effect_of}
-use Rattle.rp_rules.specs.Inputs.{IsRightInput, packet_given, given_by}
-use Rattle.rp_replica.specs.Turning.{TurnsIf, FailsAt, Stops, StopsIf}
+use Rattle.rp_rules.specs.Inputs.{IsLong, IsRightInput, packet_given, given_by}
+use Rattle.rp_replica.specs.Turning.{TurnsIf, FailsAt, IsCertain, Stops, StopsIf}
 use Rattle.rp_rules.specs.declared.input.Input.{Input}
 use Rattle.rp_rules.specs.declared.input.Input.TheVariants.{Receive, Lead, LeadRange, Interrupt, Tick, Report}
 use Rattle.rp_replica.specs.declared.sent.Sent.{Sent}
-use Rattle.rp_world.specs.Nodes.{Member, member_of, RunsAs, RepresentsWhile}
+use Rattle.rp_world.specs.Nodes.{Member, member_of, RunsAs, RepresentsWhile, IsLight}
+use Rattle.rp_world.proofs.Light.{light_turn}
 use Rattle.rp_world.proofs.Represented.{represents, represents_failed, as_running, as_resting}
 use Rattle.rp_world.proofs.Turning.{same_effect, is_cut, taken, false_true}
 use Rattle.rp_boxes.specs.Parts.{Part, OfNode, part_in, part_after}
 use Rattle.rp_boxes.specs.Rule.{HasOwnPackets}
 use Rattle.rp_boxes.specs.Plays.{Sight, IsNoted, alone}
-use Rattle.rp_boxes.specs.Seats.{SeatState, IsAtTable, IsNodePlace, HasInputRanges, IsGot, IsReason, IsTurn, IsCutTurn, IsNoTurn, setting_of}
+use Rattle.rp_boxes.specs.Seats.{SeatState, IsAtTable, IsNodePlace, HasInputRanges, IsGot, IsReason, IsTurn, IsCutTurn, IsLightTurn, IsNoTurn, setting_of}
 use Rattle.rp_boxes.specs.Steps.{IsEvent, HasEvent}
 use Rattle.rp_boxes.specs.CountedTurns.{HasStepped, HasStopped}
 use Rattle.rp_boxes.specs.declared.board.Setup.{Setup}
@@ -154,6 +156,32 @@ module _ {M D P : Type 0} {machine : Ghosts M P} (at : NodeStep machine D) where
     was = sits.is;
     why = subst (λ (running : Option Running). IsReason running step Failed) (sym (as_resting member old sits.node failed sits.represents).stopped) refl;
   }
+
+  -- ---- a turn that takes no memory
+
+  module _ (t : IsLightTurn machine.next machine.answers machine.begin seat input) where
+    -- it is the turn of the seat's node
+    light_step : IsLight sits.node step
+    light_step =
+        let roles = sym t.was ∙ sits.is in
+        let same_node : t.node ≡ sits.node = cc in
+        let inputs = sym t.gives ∙ is.gives in
+        let same_given : t.given ≡ is.given = cc in
+        subst (λ (p : NodePart). IsLight p (node_effect s number p is.given)) same_node
+        (subst (λ (i : NodeInput). IsLight t.node (node_effect s number t.node i)) same_given t.light)
+
+    -- which runs
+    pub light_runs : old.failed ≡ true → ⊥
+    light_runs failed =
+        let refused : step ≡ Err NotRunning = ap (effect_while s number sits.node is.given) (as_resting member old sits.node failed sits.represents).stopped in
+        let resulted : step ≡ Ok light_step.done = light_step.resulted in
+        cc
+
+    -- and takes it
+    pub light_made : {T : Type 0} (r : Result T Fault) → old.failed ≡ false → ((¬ IsLong input) → IsCertain (input_effect machine.next machine.answers old input) old r) → IsOk r
+    light_made r working certain =
+        let turn = light_turn machine.next machine.answers member old sits.node (as_running member old sits.node working sits.represents) is.given light_step in
+        certain t.short turn.turn (same_input ∙ turn.resulted) turn.free working
 
   module _ (working : old.failed ≡ false) (new : ReplicaState M) where
     runs : RunsAs member old sits.node

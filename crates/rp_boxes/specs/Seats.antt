@@ -22,13 +22,13 @@ use Rattle.rp_model.specs.Parts.{NodePart, Running}
 use Rattle.rp_agreement.specs.Answered.{setting_for}
 use Rattle.rp_agreement.specs.Sound.{IsMember}
 use Rattle.rp_replica.specs.State.{ReplicaState}
-use Rattle.rp_rules.specs.Inputs.{given_by}
+use Rattle.rp_rules.specs.Inputs.{IsLong, given_by}
 use Rattle.rp_rules.specs.declared.input.Input.{Input}
 use Rattle.rp_rules.specs.declared.input.Input.TheVariants.{Receive, Lead, LeadRange, Interrupt}
 use Rattle.rp_rules.specs.declared.input.Input.TheVariants.{Tick, Report}
 use Rattle.rp_replica.specs.declared.sent.Sent.{Sent}
 use Rattle.rp_world.specs.Callers.{Caller}
-use Rattle.rp_world.specs.Nodes.{member_of, RepresentsWhile, DescribesSent}
+use Rattle.rp_world.specs.Nodes.{member_of, RepresentsWhile, DescribesSent, IsLight}
 use Rattle.rp_boxes.specs.declared.board.Setup.{Setup}
 use Rattle.rp_boxes.specs.Parts.{Part, OfNode, OfTask, part_in, part_after, with_put, with_got}
 use Rattle.rp_boxes.specs.Rule.{HasOwnPackets}
@@ -125,6 +125,16 @@ module _ {S P : Type 0} (next : S → Action → S) (answers : S → Action → 
     pub results : node_effect (setting_at next answers begin old) old.number node given ≡ Ok done
     pub after : new ≡ record old { part = part_after old.part (OfNode done.part) done.sends }
     pub describes : DescribesSent sent done
+
+  -- The input takes no memory at the seat's node: it sends no packet, writes no record, counts no
+  -- vote and is no long packet.
+  pub record IsLightTurn (old : SeatState P) (input : Input) : Type 0 where
+    pub given : NodeInput
+    pub gives : given_by input ≡ Ok given
+    pub node : NodePart
+    pub was : old.part.role ≡ OfNode node
+    pub light : IsLight node (node_effect (setting_at next answers begin old) old.number node given)
+    pub short : ¬ IsLong input
 
   -- One event: the device failed while the step wrote its record, of which some bytes were kept,
   -- and the node stopped.

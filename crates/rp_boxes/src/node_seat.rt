@@ -1,6 +1,6 @@
 //! The seat of a node.
 
-ghost use Rattle.std.specs.Prelude.{◌≡◌, ◌⊎◌, [], nat_lt, length, false, IfOk, IfErr, IfSome, IfNone, OnOk, IsOkUnless};
+ghost use Rattle.std.specs.Prelude.{◌≡◌, ◌⊎◌, [], nat_lt, length, false, IfOk, IfErr, IfSome, IfNone, OnOk, IsOk, IsOkUnless};
 ghost use Rattle.rp_base.specs.Sets.{Has};
 ghost use Rattle.rp_base.specs.declared.fault.Fault.TheVariants as faults;
 ghost use Rattle.rp_codec.specs.Message.{Message, IsPacket};
@@ -10,7 +10,7 @@ ghost use Rattle.rp_rules.specs.Inputs.{IsRightInput};
 ghost use Rattle.rp_rules.specs.declared.input.Input.TheVariants.{Report};
 ghost use Rattle.rp_boxes.specs.Looks.{WasSent};
 ghost use Rattle.rp_boxes.specs.Moments.{WasInUse, WasNotFull, WasPut};
-ghost use Rattle.rp_boxes.specs.Seats.{IsGot, IsTurn, IsCutTurn, IsNoTurn, IsSentText, IsPut, IsFetched, HasApplied, IsRunning, IsStopped, IsReport};
+ghost use Rattle.rp_boxes.specs.Seats.{IsGot, IsTurn, IsCutTurn, IsLightTurn, IsNoTurn, IsSentText, IsPut, IsFetched, HasApplied, IsRunning, IsStopped, IsReport};
 
 use crate::actors::{actor_of, receiver};
 use crate::board::{Board, Place};
@@ -83,6 +83,9 @@ impl<M: Machine, D: Device> NodeSeat<M, D> {
         ensures err { IfErr result (λ fault. IsCutTurn M.next M.answers M.begin
             self.old input.now self.new fault
             ⊎ IsNoTurn M.next M.answers M.begin self.old input.now self.new fault) }
+        // claim: A turn of a node's seat that sends no packet, writes no record and counts no vote
+        //   takes no memory: at a node that runs it is made, unless a long packet is read for it
+        ensures certain { IsLightTurn M.next M.answers M.begin self.old input.now → IsOk result }
     {
         keeps_ranges(input);
         texts_are_packets();

@@ -1,41 +1,40 @@
 -- Steps that take no memory.
-use Rattle.std.proofs.Common.{◌≡◌, ℕ, Option, Some, None, Result, Ok, Err, refl, sym, ap, subst, ◌∙◌}
+use Rattle.std.proofs.Common.{◌≡◌, ℕ, Option, Some, None, Result, Ok, Err, List, refl, sym, ap, subst, ◌∙◌}
+use Rattle.rp_base.specs.declared.action.Action.{Action}
 use Rattle.rp_base.specs.declared.fault.Fault.{Fault}
 use Rattle.rp_base.specs.declared.fault.Fault.TheVariants.{BadConfig}
+use Rattle.rp_base.specs.declared.reply.Answer.{Answer}
 use Rattle.rp_agreement.proofs.PartPlaces.{put_there}
 use Rattle.rp_model.specs.Effect.{Done, NodeInput, Setting, node_effect, turn_done, turn_done_if}
 use Rattle.rp_model.specs.Events.{Step}
 use Rattle.rp_model.specs.Parts.{NodePart, Turn}
 use Rattle.rp_model.specs.World.{World, Transition, part_at, with_part, node_done, node_done_if, node_takes, node_writes, step_effect, step_writes, stepping, written_by}
 use Rattle.rp_replica.specs.Inputs.{effect_of}
+use Rattle.rp_replica.specs.State.{ReplicaState}
 use Rattle.rp_rules.specs.Plans.{TakesNoMemory}
-use Rattle.rp_world.specs.Nodes.{Member, RunsAs, Represents, IsLight, heard_while, node_step}
+use Rattle.rp_world.specs.Nodes.{Member, RunsAs, IsLight, heard_while, node_step}
 use Rattle.rp_world.specs.Steps.{IsLightStep, votes_heard}
-use Rattle.rp_world.proofs.Represented.{NodeRuns, runs_as}
 use Rattle.rp_world.proofs.Turning.{same_effect}
 
 -- ---- a node
 
--- the turn of one that runs
-module _ {S D P : Type 0} (r : NodeRuns S D P) (input : NodeInput) (member : Member S) (part : NodePart) (is : Represents r.disk member r.node part) (light : IsLight part (node_step r.next r.answers member input part)) where
+-- the turn of a replica that runs as the part
+module _ {S : Type 0} (next : S → Action → S) (answers : S → Action → List Answer) (member : Member S) (replica : ReplicaState S) (part : NodePart) (runs : RunsAs member replica part) (input : NodeInput) (light : IsLight part (node_step next answers member input part)) where
   abbrev effect : Result Turn Fault
-  effect = effect_of r.next r.answers r.replica input
+  effect = effect_of next answers replica input
 
   -- it takes no memory
   pub record LightTurn : Type 0 where
     pub turn : Turn
     pub resulted : effect ≡ Ok turn
-    pub free : TakesNoMemory r.replica.running turn
+    pub free : TakesNoMemory replica.running turn
 
-  runs : RunsAs member r.replica part
-  runs = runs_as r member part is
-
-  stated : (e : Result Turn Fault) → effect ≡ e → turn_done_if part e ≡ Ok light.done
-  stated e resulted = sym (same_effect r.next r.answers member r.replica part runs input ∙ ap (turn_done_if part) resulted) ∙ light.resulted
+  whole : (e : Result Turn Fault) → effect ≡ e → turn_done_if part e ≡ Ok light.done
+  whole e resulted = sym (same_effect next answers member replica part runs input ∙ ap (turn_done_if part) resulted) ∙ light.resulted
 
   by_turn : (e : Result Turn Fault) → effect ≡ e → LightTurn
   by_turn (Ok turn) resulted =
-      let whole = stated (Ok turn) resulted in
+      let done = whole (Ok turn) resulted in
       let same : turn_done part turn ≡ light.done = cc in
       record {
         turn = turn;
@@ -46,7 +45,7 @@ module _ {S D P : Type 0} (r : NodeRuns S D P) (input : NodeInput) (member : Mem
           heard = ap (λ (d : Done NodePart). heard_while d.part.running) same ∙ light.heard ∙ ap (λ (p : NodePart). heard_while p.running) runs.known;
         };
       }
-  by_turn (Err refusal) resulted = let whole = stated (Err refusal) resulted in absurd (cc)
+  by_turn (Err refusal) resulted = let refused = whole (Err refusal) resulted in absurd (cc)
 
   pub light_turn : LightTurn
   light_turn = by_turn effect refl

@@ -1,8 +1,10 @@
 -- The turn is one event of the node, a cut of it, or none.
-use Rattle.std.proofs.Common.{inl, inr, sym, subst, ◌∙◌}
+use Rattle.std.proofs.Common.{◌≡◌, true, false, Result, Err, inl, inr, sym, subst, ◌∙◌}
+use Rattle.rp_base.specs.declared.fault.Fault.{Fault}
+use Rattle.rp_replica.specs.declared.sent.Sent.{Sent}
 use Rattle.rp_boxes.specs.Parts.{part_in}
-use Rattle.rp_boxes.specs.Seats.{SeatState, IsGot, IsTurn, IsCutTurn, IsNoTurn}
-use Rattle.rp_boxes.proofs.SeatTurns.{NodeStep, input_given, seat_state, was_stopped, has_stepped, stopped_event, stepped_seat, stepped_state, stopped_seat, stopped_state, unstepped_state}
+use Rattle.rp_boxes.specs.Seats.{SeatState, IsGot, IsTurn, IsCutTurn, IsLightTurn, IsNoTurn}
+use Rattle.rp_boxes.proofs.SeatTurns.{NodeStep, input_given, seat_state, was_stopped, has_stepped, light_made, light_runs, stopped_event, stepped_seat, stepped_state, stopped_seat, stopped_state, unstepped_state}
 use Rattle.rp_boxes.proofs.node_seat.NodeSeat.turn.Given as given
 use Rattle.rp_boxes.proofs.node_seat.NodeSeat.turn.Goals as goal
 use Rattle.rp_boxes.proofs.node_seat.NodeSeat.turn.Goals.{After-has_failed}
@@ -64,3 +66,28 @@ returns-in-Ok-clause-ok g c =
     let place = c.note_turn.new.place in
     subst (λ (seat : SeatState g.row.M-Program.Denot). IsTurn m.next m.answers m.begin seat c.args.input.now (seat_state at place.table_id c.turn_with.new.self.disk.failures (part_in place.me.0)) c.in-Ok.sent) c.self.view_is
     (stepped_state at place c.note_turn.ensures.table c.turn_with.new.self _ c.deref.ensures c.in-Ok.sent c.note_turn.ensures.noted (sym c.has_failed.ensures ∙ c.if-has_failed.false) c.in-Ok.ensures.answer)
+
+pub returns-then-has_failed-clause-certain : goal.returns-then-has_failed-clause-certain
+returns-then-has_failed-clause-certain g c = λ light.
+    let m = g.M.Machine in
+    let at = step g (goal.at.returns-then-has_failed-clause-certain g c).After-has_failed in
+    let here = subst (λ (seat : SeatState g.row.M-Program.Denot). IsLightTurn m.next m.answers m.begin seat c.args.input.now) (sym c.self.view_is) light in
+    absurd (light_runs at here (sym c.has_failed.ensures ∙ c.if-has_failed.true))
+
+pub returns-then-not-has_failed-clause-certain : goal.returns-then-not-has_failed-clause-certain
+returns-then-not-has_failed-clause-certain g c = λ light.
+    let m = g.M.Machine in
+    let at = step g (goal.at.returns-then-not-has_failed-clause-certain g c).After-has_failed in
+    let here = subst (λ (seat : SeatState g.row.M-Program.Denot). IsLightTurn m.next m.answers m.begin seat c.args.input.now) (sym c.self.view_is) light in
+    let ended : Result Sent Fault = Err c.in-Err.fault in
+    let never : false ≡ true = light_made at here ended (sym c.has_failed.ensures ∙ c.if-has_failed.false) c.in-Err.ensures.certain in
+    cc
+
+pub returns-else-not-has_failed-clause-certain : goal.returns-else-not-has_failed-clause-certain
+returns-else-not-has_failed-clause-certain g c = λ light.
+    let m = g.M.Machine in
+    let at = step g (goal.at.returns-else-not-has_failed-clause-certain g c).After-has_failed in
+    let here = subst (λ (seat : SeatState g.row.M-Program.Denot). IsLightTurn m.next m.answers m.begin seat c.args.input.now) (sym c.self.view_is) light in
+    let ended : Result Sent Fault = Err c.in-Err.fault in
+    let never : false ≡ true = light_made at here ended (sym c.has_failed.ensures ∙ c.if-has_failed.false) c.in-Err.ensures.certain in
+    cc

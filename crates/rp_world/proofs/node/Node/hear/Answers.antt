@@ -3,7 +3,7 @@ use Rattle.rp_model.specs.Effect.{Receive}
 use Rattle.rp_replica.specs.Inputs.{effect_of}
 use Rattle.rp_world.proofs.Failing.{turn_counts}
 use Rattle.rp_world.proofs.Light.{light_turn}
-use Rattle.rp_world.proofs.Represented.{node_runs}
+use Rattle.rp_world.proofs.Represented.{node_runs, runs_as}
 use Rattle.rp_world.proofs.Turning.{each_ok, each_err, got_at, unsent}
 use Rattle.rp_world.proofs.node.Node.hear.Goals as goal
 
@@ -21,6 +21,6 @@ returns-else-has_failed g c =
       unsent = unsent effect r.replica new sent later c.deliver.result (c.deliver.ensures.answer there.0 there.1);
       failures = turn_counts r new sent later effect tt c.deliver.result (c.deliver.ensures.answer there.0 there.1);
       certain = λ member part m is at short light.
-          let t = light_turn r (Receive m) member part is light in
+          let t = light_turn r.next r.answers member r.replica part (runs_as r member part is) (Receive m) light in
           c.deliver.ensures.certain m at short t.turn t.resulted t.free r.working;
     }

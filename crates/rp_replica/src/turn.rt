@@ -64,8 +64,8 @@ impl<M: Machine, D: Device> Replica<M, D> {
     }
 
     /// The same, in buffers that the caller lends in place of new ones, whatever they hold: `bytes`
-    /// comes back with the texts of the packets, and `ends` has the memory for the places where they
-    /// end, so that steps that use them again take no memory for their packets.
+    /// comes back with the texts of the packets, and `ends` has the memory for the places where
+    /// they end, so that steps that use them again take no memory for their packets.
     #[inline(always)]
     pub fn turn_with(
         &mut self,

@@ -6,8 +6,7 @@ use Rattle.rp_deck.specs.Live.{IsDeckFor}
 use Rattle.rp_deck.specs.declared.deck.Deck.{Deck}
 use Rattle.rp_deck.specs.declared.deck.Mode.TheVariants.{Live}
 use Rattle.rp_live.specs.declared.run.LiveOutcome.{LiveOutcome}
-use Rattle.rp_script.specs.Faults.{IsProgramFault}
-use Rattle.rp_script.specs.Given.{IsMeant, MeansDeck}
+use Rattle.rp_script.specs.Given.{FailsRun, MeansDeck}
 use Rattle.rp_script.specs.LiveOutput.{outcome_text}
 use Rattle.rp_script.specs.LiveRun.{IsLiveText, IsOutcome}
 use Rattle.rp_run.specs.Output.{names_of}
@@ -40,9 +39,7 @@ faulted {A = A} Q fault (Err other) is q = subst Q (sym is) q
 
 pub returns-in_err-outcome-clause-fault : goal.returns-in_err-outcome-clause-fault
 returns-in_err-outcome-clause-fault g c =
-    faulted IsProgramFault _ c.from_residual-in_err-outcome.result c.from_residual-in_err-outcome.ensures.1 (inr c.in_err-outcome.ensures.fault)
-
-pub returns-in_err-outcome-clause-meant : goal.returns-in_err-outcome-clause-meant
-returns-in_err-outcome-clause-meant g c =
     let given = g.R.Read.remaining c.args.reader.now in
-    faulted (IsMeant Live given) _ c.from_residual-in_err-outcome.result c.from_residual-in_err-outcome.ensures.1 (meant_run Live given _ c.in_err-outcome.ensures.fault)
+    let output = g.W.Write.contents c.args.writer.now in
+    faulted (FailsRun Live given output output) _ c.from_residual-in_err-outcome.result c.from_residual-in_err-outcome.ensures.1
+    (record { meant = meant_run Live given _ c.in_err-outcome.ensures.fault; unwritten = λ bad. refl; known = inr c.in_err-outcome.ensures.fault })

@@ -13,12 +13,10 @@ use Rattle.rp_model.specs.Parts.{Turn, is_in_log, records_in_log, with_record}
 use Rattle.rp_server.specs.Invariant.{AllInLog}
 use Rattle.rp_server.specs.State.{ServerState, server_after}
 use Rattle.rp_store.specs.Disk.{Disk, appended, synced, AppendFailed}
-use Rattle.rp_store.specs.Opening.{IsOpened}
 use Rattle.rp_store.specs.Stored.{Stored, IsUnchanged, IsPut, IsNotPut}
 use Rattle.rp_store.proofs.Whole.{one_more}
 use Rattle.rp_replica.specs.Cutting.{MayWrite}
 use Rattle.rp_replica.specs.Invariant.{IsOnDisk}
-use Rattle.rp_replica.specs.State.{ReplicaState, replica_of, after_turn, with_text}
 
 -- ---- on the device
 

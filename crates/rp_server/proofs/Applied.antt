@@ -3,15 +3,14 @@ use Rattle.std.proofs.Common.{◌≡◌, ℕ, ◌<◌, ◌≤◌, Bool, true, fa
 use Rattle.std.proofs.lemmas.Bool.{lt-ltb, le-ltb}
 use Rattle.std.specs.List.{AllByRecursion}
 use Rattle.std.specs.Prelude.{IfSome}
-use Rattle.rp_base.specs.declared.action.Action.TheVariants.{Interrupt}
 use Rattle.rp_base.specs.declared.reply.Reply.{Reply}
 use Rattle.rp_base.specs.declared.reply.Answer.{Answer}
 use Rattle.rp_codec.specs.declared.packet.Body.TheVariants as bodies
-use Rattle.rp_machine.specs.Asked.{last_number, last_occurrence}
+use Rattle.rp_machine.specs.Asked.{last_number}
 use Rattle.rp_machine.specs.Replay.{replay_of}
 use Rattle.rp_model.specs.Parts.{Running}
 use Rattle.rp_model.specs.Says.{says_to_task, sends, notes}
-use Rattle.rp_model.specs.Pending.{adds_pending, on_numbered, on_interrupt}
+use Rattle.rp_model.specs.Pending.{adds_pending, on_numbered}
 use Rattle.rp_base.specs.declared.action.Action.{Action}
 use Rattle.rp_base.specs.declared.record.Rec.{Rec}
 use Rattle.rp_base.specs.declared.record.Rec.TheVariants.{Started, Promised, Voted, Learned, PromisedRange}

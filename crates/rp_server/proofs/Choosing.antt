@@ -1,10 +1,10 @@
 -- The first free item.
-use Rattle.std.proofs.Common.{◌≡◌, ℕ, Bool, true, false, ◌||◌, cond, not, ◌&&◌, Option, Some, None, List, [], ◌∷◌, ◌++◌, find, refl, ap, ◌∙◌}
+use Rattle.std.proofs.Common.{◌≡◌, Bool, true, false, ◌||◌, cond, Option, Some, None, List, [], ◌∷◌, ◌++◌, find, refl, ap, ◌∙◌}
 use Rattle.std.specs.List.{list_any}
 use Rattle.rp_base.specs.declared.action.Action.{Action}
-use Rattle.rp_base.specs.Proposals.{Proposal, without_proposal}
-use Rattle.rp_proposer.specs.Proposing.{is_equal_item, is_own_elsewhere}
-use Rattle.rp_model.specs.Pending.{is_own, is_ahead, is_free_item}
+use Rattle.rp_base.specs.Proposals.{Proposal}
+use Rattle.rp_proposer.specs.Proposing.{is_equal_item}
+use Rattle.rp_model.specs.Pending.{is_own}
 
 same_own : (item : Action) (own : Option Action) → is_equal_item item own ≡ is_own item own
 same_own item None = refl

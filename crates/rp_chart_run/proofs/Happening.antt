@@ -1,6 +1,6 @@
 -- What happens in a line, by what the run finds in it.
-use Rattle.std.proofs.Common.{inl, inr, ◌≡◌, ◌∙◌, ℕ, zero, suc, ◌+◌, ◌-◌, ◌<◌, ◌≤◌, Bool, true, false, cond, ◌&&◌, Some, None, Option, Result, Ok, Err, List, [], ◌∷◌, ◌++◌, drop, length, map, arith, refl, sym, ap}
-use Rattle.std.specs.Prelude.{◌⊎◌, filter, nat_le, slice_index_or}
+use Rattle.std.proofs.Common.{inl, inr, ◌≡◌, ◌∙◌, ℕ, zero, suc, ◌+◌, ◌-◌, ◌<◌, ◌≤◌, Bool, true, false, cond, ◌&&◌, Some, None, Option, Result, Ok, Err, List, [], ◌∷◌, ◌++◌, drop, length, map, arith, refl, sym, ap, subst}
+use Rattle.std.specs.Prelude.{◌⊎◌, filter, max, nat_le, slice_index_or}
 use Rattle.std.proofs.lemmas.Bool.Decides.{nat_tests}
 use Rattle.std.proofs.lemmas.List.{drop_more, drop_all, map-append}
 use Rattle.rp_base.specs.declared.fault.Fault.{Fault}
@@ -80,17 +80,26 @@ pub lost_none : (first : ℕ) → 1 ≤ first → map MessageLost (from_to first
 lost_none first one = ap (λ (l : List ℕ). map MessageLost l) (from_to_none first (first - 1) (omega arith))
 
 -- all of them, once the number is past the last
-pub lost_all : (first last number : ℕ) → 1 ≤ first → last < number → (number ≡ first) ⊎ (number ≤ last + 1)
+pub lost_all : (first last number : ℕ) → 1 ≤ first → first ≤ number → last < number → number ≤ max first (last + 1)
     → map MessageLost (from_to first (number - 1)) ≡ map MessageLost (from_to first last)
-lost_all first last number one past (inl at) =
-    let none : last < first = omega (arith, at) in
-    let here : number - 1 ≡ first - 1 = omega (arith, at) in
-    ap (λ (k : ℕ). map MessageLost (from_to first k)) here
-    ∙ lost_none first one
-    ∙ sym (ap (λ (l : List ℕ). map MessageLost l) (from_to_none first last none))
-lost_all first last number one past (inr within) =
-    let here : number - 1 ≡ last = omega arith in
-    ap (λ (k : ℕ). map MessageLost (from_to first k)) here
+lost_all first last number one from past within = at (nat_le first (last + 1)) refl
+  where
+    at : (b : Bool) → nat_le first (last + 1) ≡ b → map MessageLost (from_to first (number - 1)) ≡ map MessageLost (from_to first last)
+    at true is =
+        let here : number - 1 ≡ last = grind (arith, nat_tests, is, within, past) in
+        ap (λ (k : ℕ). map MessageLost (from_to first k)) here
+    at false is =
+        let none : last < first = grind (arith, nat_tests, is) in
+        let here : number - 1 ≡ first - 1 = grind (arith, nat_tests, is, within, past, from) in
+        ap (λ (k : ℕ). map MessageLost (from_to first k)) here
+        ∙ lost_none first one
+        ∙ sym (ap (λ (l : List ℕ). map MessageLost l) (from_to_none first last none))
+
+pub up_to_first : (first last : ℕ) → first ≤ max first (last + 1)
+up_to_first first last = grind (arith, nat_tests)
+
+pub up_to_next : (first last number : ℕ) → number < last + 1 → number + 1 ≤ max first (last + 1)
+up_to_next first last number below = grind (arith, nat_tests, below)
 
 module _ (first last : ℕ) (play : Play) (world : World) (settled : Settled) (follows : Follows world settled play) where
   sent_is : length world.sent ≡ length play.world.sent

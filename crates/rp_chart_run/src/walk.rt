@@ -49,10 +49,10 @@ pub fn draw_lines<M: Machine, D: CutDevice>(
     requires lines { All (λ line. FitsIn scene.now.options.now.config.nodes 8 8 line.command)
         scene.now.options.now.lines.now }
     requires lanes { length scene.now.lanes.now ≤ 16 }
-    // claim: The arrows of the drawing of a script, and it has no other, are the messages of its run,
-    //   each from where it was sent down to where it was settled, in the history in which just that
-    //   happens, in order, what the lines of the script say in the worlds that they come to: a
-    //   message is drawn as lost exactly if a line loses it before it is delivered
+    // claim: The arrows of the drawing of a script, and it has no other, are the messages of its
+    //   run, each from where it was sent down to where it was settled, in the history in which its
+    //   lines happen in order: each event of a line that is not refused, each delivery of a
+    //   `drain`, and the loss of each message that a line loses. No other message is drawn as lost
     ensures drawing { IfOk result (λ text. let s = run_setting M.next M.answers M.begin M.image
         (opening_setup scene.now.options.now.config program) scene.now.options.now in
         IsDrawingOf s.setting scene.now.stage (length scene.now.lanes.now)
@@ -101,7 +101,8 @@ impl<M: Machine, D: CutDevice> Walk<M, D> {
             → Follows self.old.cluster.world self.old.settled play
             → IsCharted M.next M.answers M.begin self.old.cluster self.old.chart happened
             → OnOk result (IsCharted M.next M.answers M.begin self.new.cluster self.new.chart
-            (happened ++ command_happens (run_setting M.next M.answers M.begin M.image self.old.cluster
+            (happened
+            ++ command_happens (run_setting M.next M.answers M.begin M.image self.old.cluster
             scene.now.options.now)
             scene.now.options.now.most line.now.number play line.now.command)) }
     {
@@ -133,7 +134,8 @@ impl<M: Machine, D: CutDevice> Walk<M, D> {
             → Follows self.old.cluster.world self.old.settled play
             → IsCharted M.next M.answers M.begin self.old.cluster self.old.chart happened
             → OnOk result (IsCharted M.next M.answers M.begin self.new.cluster self.new.chart
-            (happened ++ event_happens (run_setting M.next M.answers M.begin M.image self.old.cluster
+            (happened
+            ++ event_happens (run_setting M.next M.answers M.begin M.image self.old.cluster
             scene.now.options.now)
             play event.now ∷ [])) }
     {
@@ -278,7 +280,8 @@ impl<M: Machine, D: CutDevice> Walk<M, D> {
             → Follows self.old.cluster.world self.old.settled play
             → IsCharted M.next M.answers M.begin self.old.cluster self.old.chart happened
             → OnOk result (IsCharted M.next M.answers M.begin self.new.cluster self.new.chart
-            (happened ++ drain_happens (run_setting M.next M.answers M.begin M.image self.old.cluster
+            (happened
+            ++ drain_happens (run_setting M.next M.answers M.begin M.image self.old.cluster
             scene.now.options.now)
             line scene.now.options.now.most play)) }
     {

@@ -52,9 +52,10 @@ impl Chart {
         requires ending { IsEndingWithin (length self.old.sketch.ways.items) ending }
         ensures stage { self.new.stage ≡ self.old.stage }
         ensures drawable { OnOk result (IsDrawable self.new.sketch) }
-        // claim (moment, happened): An event that happened is the last moment of the chart of its run,
-        //   under its label: the messages that it sent begin their ways there, and the one that it
-        //   delivered ends there, taken or, at a stopped node, not heard
+        // claim (moment, happened): An event that happened is the last moment of the chart of its
+        //   run, under its label, and the last thing that happened in its history: the messages that
+        //   it sent begin their ways there, and the one that it delivered ends there, taken or, at a
+        //   stopped node, not heard
         ensures moment { OnOk result (HasMoment self.old.stage self.old.sketch self.new.sketch
             packets.now ending label) }
         ensures happened { (s : Setting M) (so_far : List Happening) (before after : World)
@@ -89,9 +90,10 @@ impl Chart {
         requires lost { IsEndingWithin (length self.old.sketch.ways.items) (lost_of lost) }
         ensures stage { self.new.stage ≡ self.old.stage }
         ensures drawable { OnOk result (IsDrawable self.new.sketch) }
-        // claim (moment, stays): A line that was refused, a message that was lost and a node that was
-        //   shown is the last moment of the chart, under its label, in which the world stays. The way
-        //   of a message ends there exactly if it is the one that was lost
+        // claim (moment, stays): A line that was refused, a message that was lost and a node that
+        //   was shown is the last moment of the chart, under its label, in which the world stays. The
+        //   way of a message ends there exactly if it is the one that was lost, and its loss is then
+        //   the last thing that happened in the history; else nothing is
         ensures moment { OnOk result (HasMoment self.old.stage self.old.sketch self.new.sketch
             [] (lost_of lost) label) }
         ensures stays { (s : Setting M) (so_far : List Happening) (world : World)
@@ -122,10 +124,11 @@ impl Chart {
     pub fn draw<M: Machine>(&self, alloc: Global, lanes: &[Lane]) -> Result<String, Fault>
         requires drawable { IsDrawable self.now.sketch }
         requires lanes { length lanes.now ≤ 16 }
-        // claim: The arrows of a chart are the messages of its run's history, each from its sender's
-        //   lane, where it was sent, down to its receiver's, where it was taken, not heard or lost;
-        //   none goes upwards, there is no other arrow, and the drawing is short. It is the page of the
-        //   chart under the lanes that were given. Only `OutOfMemory` is returned in its place
+        // claim: The arrows of a chart are the messages of its run's history, in which just that
+        //   happened which the chart was given, in order: each from its sender's lane, where it was
+        //   sent, down to its receiver's, where it was taken, not heard or lost; none goes upwards,
+        //   there is no other arrow, and the drawing is short. It is the page of the chart under the
+        //   lanes that were given. Only `OutOfMemory` is returned in its place
         ensures page { IfOk result (λ text. string_bytes text
             ≡ page_text lanes.now self.now.sketch) }
         ensures drawn { (s : Setting M) (happened : List Happening) (last : World)

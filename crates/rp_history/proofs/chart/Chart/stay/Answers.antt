@@ -1,5 +1,5 @@
 -- The world stays.
-use Rattle.std.proofs.Common.{◌∙◌, None, List, [], map, length, arith, refl, sym, ap}
+use Rattle.std.proofs.Common.{◌∙◌, List, [], map, length, arith, sym, ap}
 use Rattle.std.proofs.lemmas.List.{drop_all}
 use Rattle.rp_codec.specs.Message.{Message}
 use Rattle.rp_drawing.specs.declared.sketch.Moment.{Moment}

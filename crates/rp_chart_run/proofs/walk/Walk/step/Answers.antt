@@ -116,8 +116,8 @@ returns-in-Err-clause-charted g c = λ play happened follows charted.
     (ap (λ (h : Happening). happened ++ h ∷ []) (sym (event_refused s play event old.world c.args.self.now.settled follows c.in-Err.fault refused.refusal)))
     (c.refuse.ensures.charted happened kept)
 
-pub refuse-requires-clause-ways : goal.refuse-requires-clause-ways
-refuse-requires-clause-ways g c =
+pub refuse-requires : goal.refuse-requires
+refuse-requires g c =
     let m = g.M.Machine in
     let old = c.args.self.now.cluster in
     let s = run_setting m.next m.answers m.begin m.image old c.args.scene.now.options.now in

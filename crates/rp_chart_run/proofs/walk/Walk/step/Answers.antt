@@ -124,6 +124,8 @@ refuse-requires g c =
     let numbered : 5 ≤ code_of c.in-Err.fault = (c.is_refusal.ensures.0 c.if-is_refusal.true).0 in
     let refused = refused_of s.setting old.world c.step.new.self.world c.args.event.now c.in-Err.fault c.in-Err.ensures.step.world numbered in
     record {
-      drawable = c.requires.ways.drawable;
-      count = c.requires.ways.count ∙ sym (ap (λ (w : World). length w.sent) refused.unchanged);
+      ways = record {
+        drawable = c.requires.ways.drawable;
+        count = c.requires.ways.count ∙ sym (ap (λ (w : World). length w.sent) refused.unchanged);
+      };
     }

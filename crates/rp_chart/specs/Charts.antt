@@ -2,6 +2,7 @@
 use Rattle.std.specs.Prelude.{◌≡◌, ◌⊎◌, ℕ, ◌+◌, false, Option, List}
 use Rattle.std.specs.Io.KnownBytes.{Appends}
 use Rattle.indexmap.specs.IndexMap.{index_map_len}
+use Rattle.rp_chart_run.specs.Happenings.{script_happens}
 use Rattle.rp_deck.specs.declared.deck.Deck.{Deck}
 use Rattle.rp_deck.specs.declared.deck.Mode.TheVariants.{Script}
 use Rattle.rp_deck_declarations.specs.declared.deck_program.DeckProgram.{DeckProgram}
@@ -22,12 +23,13 @@ tasks_of deck = index_map_len deck.tasks
 abbrev pub stage_of : Deck → View → Stage
 stage_of deck view = record { tasks = tasks_of deck; view = view }
 
--- The text is the drawing of the history to which the deck's script leads. It has the messages of
--- that history as its arrows, and no others, each from where it was sent down to where it was
--- settled.
+-- The text is the drawing of the history in which the lines of the deck's script happen, in order.
+-- It has the messages of that history as its arrows, and no others, each from where it was sent
+-- down to where it was settled.
 abbrev pub IsChartAt : {S : Type 0} → Deck → View → List ℕ → RunSetting S → Type 0
 IsChartAt deck view text s =
     IsDrawingOf s.setting (stage_of deck view) (tasks_of deck + deck.config.nodes)
+    (script_happens s drain_limit deck.script.items)
     (run_said s drain_limit deck.script.items).play.world text
 
 abbrev pub IsChartBy : Deck → View → List ℕ → DeckProgram → Type 0

@@ -28,6 +28,7 @@ pub fn command<'a>(alloc: Global) -> Result<Command<'a>, AllocError>
         .about(
             "Reads a deck from standard input, runs its script and prints a drawing of what happens",
         )
+        .after_help("Example: rp_chart < DECK > RUN.svg; decks are described in docs/DECK.md")
         .version(VERSION)
         .arg(position)?
         .arg(hide_self)

@@ -31,10 +31,10 @@ pub fn draw_script<R: Read, W: Write>(
 ) -> Result<(), Fault>
     // claim: From bytes to a drawing: what is written is the drawing of the run of the deck that all
     //   bytes of the reader mean. Its arrows are the messages of that run, each from where it was
-    //   sent down to where it was settled, in some history that leads to the run's last world, and
-    //   it has no other arrow. If the bytes mean none, nothing is written, and the fault has the first
-    //   bad line and the first reason on it. After every other fault nothing was written, or a prefix
-    //   of that drawing
+    //   sent down to where it was settled, in the history in which the lines of the deck's script
+    //   happen in order, and it has no other arrow. If the bytes mean none, nothing is written, and
+    //   the fault has the first bad line and the first reason on it. After every other fault nothing
+    //   was written, or a prefix of that drawing
     ensures drawing { OnOk result (DrawsScript view (R.remaining reader.old)
         (W.contents writer.old) (W.contents writer.new)) }
     ensures begun { OnErr result (DrawingBegins view (R.remaining reader.old)

@@ -1,1 +1,2 @@
+pub mod Happenings
 pub mod Charts

@@ -1,10 +1,11 @@
 //! Runs the lines of a script, and charts what happens from its events and their effects.
 
-ghost use Rattle.std.specs.Prelude.{◌≡◌, ◌<◌, ◌≤◌, ◌^◌, [], length, All, IfOk, OnOk, string_bytes};
-ghost use Rattle.rp_chart_run.specs.Charts.{IsCharted};
+ghost use Rattle.std.specs.Prelude.{◌≡◌, ◌<◌, ◌≤◌, ◌^◌, List, [], ◌∷◌, ◌++◌, length, replicate, All, IfOk, OnOk, string_bytes};
+ghost use Rattle.rp_chart_run.specs.Charts.{HasWays, IsCharted};
+ghost use Rattle.rp_chart_run.specs.Happenings.{command_happens, drain_happens, event_happens, lose_happens, script_happens};
 ghost use Rattle.rp_deck.specs.Script.{FitsIn, IsEventWithin};
 ghost use Rattle.rp_drawing.specs.Ways.{IsEndingWithin};
-ghost use Rattle.rp_history.specs.Histories.{IsDrawingOf, lost_of};
+ghost use Rattle.rp_history.specs.Histories.{Happening, IsDrawingOf, loss_of, lost_of, MessageLost, NothingHappened};
 ghost use Rattle.rp_run.specs.Output.{Play, event_said, lost, drained, command_said, run_said};
 ghost use Rattle.rp_run.specs.Runs.{run_setting, opening_setup, HasParts, Follows};
 ghost use Rattle.rp_world.specs.Steps.{IsSameSetup};
@@ -48,12 +49,14 @@ pub fn draw_lines<M: Machine, D: CutDevice>(
     requires lines { All (λ line. FitsIn scene.now.options.now.config.nodes 8 8 line.command)
         scene.now.options.now.lines.now }
     requires lanes { length scene.now.lanes.now ≤ 16 }
-    // claim: The arrows of the drawing of a script, and it has no other, are the messages of its run,
-    //   each from where it was sent down to where it was settled, in some history that leads to the
-    //   run's last world
+    // claim: The arrows of the drawing of a script, and it has no other, are the messages of its
+    //   run, each from where it was sent down to where it was settled, in the history in which its
+    //   lines happen in order: each event of a line that is not refused, each delivery of a
+    //   `drain`, and the loss of each message that a line loses. No other message is drawn as lost
     ensures drawing { IfOk result (λ text. let s = run_setting M.next M.answers M.begin M.image
         (opening_setup scene.now.options.now.config program) scene.now.options.now in
         IsDrawingOf s.setting scene.now.stage (length scene.now.lanes.now)
+        (script_happens s scene.now.options.now.most scene.now.options.now.lines.now)
         (run_said s scene.now.options.now.most scene.now.options.now.lines.now).play.world
         (string_bytes text)) }
 {
@@ -83,7 +86,7 @@ impl<M: Machine, D: CutDevice> Walk<M, D> {
     fn take(&mut self, scene: &Scene<'_>, line: &Line) -> Result<(), Fault>
         requires parts { HasParts scene.now.options.now.config.nodes self.old.cluster }
         requires line { FitsIn scene.now.options.now.config.nodes 8 8 line.now.command }
-        requires charted { IsCharted M.next M.answers M.begin self.old.cluster self.old.chart }
+        requires ways { HasWays self.old.cluster self.old.chart }
         ensures parts { OnOk result (HasParts scene.now.options.now.config.nodes
             self.new.cluster) }
         ensures setup { IsSameSetup self.old.cluster self.new.cluster }
@@ -93,8 +96,15 @@ impl<M: Machine, D: CutDevice> Walk<M, D> {
             (command_said (run_setting M.next M.answers M.begin M.image self.old.cluster
             scene.now.options.now)
             scene.now.options.now.most line.now.number play line.now.command).play) }
-        ensures charted { OnOk result (IsCharted M.next M.answers M.begin
-            self.new.cluster self.new.chart) }
+        ensures ways { OnOk result (HasWays self.new.cluster self.new.chart) }
+        ensures charted { (play : Play) (happened : List Happening)
+            → Follows self.old.cluster.world self.old.settled play
+            → IsCharted M.next M.answers M.begin self.old.cluster self.old.chart happened
+            → OnOk result (IsCharted M.next M.answers M.begin self.new.cluster self.new.chart
+            (happened
+            ++ command_happens (run_setting M.next M.answers M.begin M.image self.old.cluster
+            scene.now.options.now)
+            scene.now.options.now.most line.now.number play line.now.command)) }
     {
         let number = line.number;
         match line.command {
@@ -109,7 +119,7 @@ impl<M: Machine, D: CutDevice> Walk<M, D> {
     fn step(&mut self, scene: &Scene<'_>, line: u32, event: &Event) -> Result<(), Fault>
         requires parts { HasParts scene.now.options.now.config.nodes self.old.cluster }
         requires event { IsEventWithin scene.now.options.now.config.nodes 8 8 event.now }
-        requires charted { IsCharted M.next M.answers M.begin self.old.cluster self.old.chart }
+        requires ways { HasWays self.old.cluster self.old.chart }
         ensures parts { OnOk result (HasParts scene.now.options.now.config.nodes
             self.new.cluster) }
         ensures setup { IsSameSetup self.old.cluster self.new.cluster }
@@ -119,8 +129,15 @@ impl<M: Machine, D: CutDevice> Walk<M, D> {
             (event_said (run_setting M.next M.answers M.begin M.image self.old.cluster
             scene.now.options.now)
             line play event.now).play) }
-        ensures charted { OnOk result (IsCharted M.next M.answers M.begin
-            self.new.cluster self.new.chart) }
+        ensures ways { OnOk result (HasWays self.new.cluster self.new.chart) }
+        ensures charted { (play : Play) (happened : List Happening)
+            → Follows self.old.cluster.world self.old.settled play
+            → IsCharted M.next M.answers M.begin self.old.cluster self.old.chart happened
+            → OnOk result (IsCharted M.next M.answers M.begin self.new.cluster self.new.chart
+            (happened
+            ++ event_happens (run_setting M.next M.answers M.begin M.image self.old.cluster
+            scene.now.options.now)
+            play event.now ∷ [])) }
     {
         worlds_grow::<M>();
         let prospect = prospect_of(self.alloc, &self.cluster, event)?;
@@ -154,12 +171,15 @@ impl<M: Machine, D: CutDevice> Walk<M, D> {
 
     /// Charts that a line was refused.
     fn refuse(&mut self, scene: &Scene<'_>, line: u32, fault: Fault) -> Result<(), Fault>
-        requires charted { IsCharted M.next M.answers M.begin self.old.cluster self.old.chart }
+        requires ways { HasWays self.old.cluster self.old.chart }
         ensures cluster { self.new.cluster ≡ self.old.cluster }
         ensures settled { self.new.settled ≡ self.old.settled }
         ensures stage { self.new.chart.stage ≡ self.old.chart.stage }
-        ensures charted { OnOk result (IsCharted M.next M.answers M.begin
-            self.new.cluster self.new.chart) }
+        ensures ways { OnOk result (HasWays self.new.cluster self.new.chart) }
+        ensures charted { (happened : List Happening)
+            → IsCharted M.next M.answers M.begin self.old.cluster self.old.chart happened
+            → OnOk result (IsCharted M.next M.answers M.begin self.new.cluster self.new.chart
+            (happened ++ NothingHappened ∷ [])) }
     {
         let code = fault.code();
         let name = fault.name();
@@ -176,12 +196,15 @@ impl<M: Machine, D: CutDevice> Walk<M, D> {
     /// Charts a moment in which nothing happens, except that a message may be lost.
     fn stay(&mut self, lost: Option<u64>, label: Label) -> Result<(), Fault>
         requires lost { IsEndingWithin (length self.old.cluster.world.sent) (lost_of lost) }
-        requires charted { IsCharted M.next M.answers M.begin self.old.cluster self.old.chart }
+        requires ways { HasWays self.old.cluster self.old.chart }
         ensures cluster { self.new.cluster ≡ self.old.cluster }
         ensures settled { self.new.settled ≡ self.old.settled }
         ensures stage { self.new.chart.stage ≡ self.old.chart.stage }
-        ensures charted { OnOk result (IsCharted M.next M.answers M.begin
-            self.new.cluster self.new.chart) }
+        ensures ways { OnOk result (HasWays self.new.cluster self.new.chart) }
+        ensures charted { (happened : List Happening)
+            → IsCharted M.next M.answers M.begin self.old.cluster self.old.chart happened
+            → OnOk result (IsCharted M.next M.answers M.begin self.new.cluster self.new.chart
+            (happened ++ loss_of lost ∷ [])) }
     {
         self.chart.stay::<M>(self.alloc, lost, label)
     }
@@ -190,14 +213,18 @@ impl<M: Machine, D: CutDevice> Walk<M, D> {
     fn lose(&mut self, scene: &Scene<'_>, line: u32, first: u64, last: u64) -> Result<(), Fault>
         requires first { 1 ≤ first }
         requires last { last < 2 ^ 63 }
-        requires charted { IsCharted M.next M.answers M.begin self.old.cluster self.old.chart }
+        requires ways { HasWays self.old.cluster self.old.chart }
         ensures cluster { self.new.cluster ≡ self.old.cluster }
         ensures stage { self.new.chart.stage ≡ self.old.chart.stage }
         ensures reached { (play : Play) → Follows self.old.cluster.world self.old.settled play
             → OnOk result (Follows self.new.cluster.world self.new.settled
             (lost line play first last).play) }
-        ensures charted { OnOk result (IsCharted M.next M.answers M.begin
-            self.new.cluster self.new.chart) }
+        ensures ways { OnOk result (HasWays self.new.cluster self.new.chart) }
+        ensures charted { (play : Play) (happened : List Happening)
+            → Follows self.old.cluster.world self.old.settled play
+            → IsCharted M.next M.answers M.begin self.old.cluster self.old.chart happened
+            → OnOk result (IsCharted M.next M.answers M.begin self.new.cluster self.new.chart
+            (happened ++ lose_happens play first last)) }
     {
         let sent = self.cluster.messages();
         if first > sent || last > sent {
@@ -213,12 +240,15 @@ impl<M: Machine, D: CutDevice> Walk<M, D> {
     fn lose_one(&mut self, scene: &Scene<'_>, number: u64) -> Result<(), Fault>
         requires from_one { 1 ≤ number }
         requires sent { number ≤ length self.old.cluster.world.sent }
-        requires charted { IsCharted M.next M.answers M.begin self.old.cluster self.old.chart }
+        requires ways { HasWays self.old.cluster self.old.chart }
         ensures cluster { self.new.cluster ≡ self.old.cluster }
         ensures settled { self.new.settled ≡ self.old.settled }
         ensures stage { self.new.chart.stage ≡ self.old.chart.stage }
-        ensures charted { OnOk result (IsCharted M.next M.answers M.begin
-            self.new.cluster self.new.chart) }
+        ensures ways { OnOk result (HasWays self.new.cluster self.new.chart) }
+        ensures charted { (happened : List Happening)
+            → IsCharted M.next M.answers M.begin self.old.cluster self.old.chart happened
+            → OnOk result (IsCharted M.next M.answers M.begin self.new.cluster self.new.chart
+            (happened ++ MessageLost number ∷ [])) }
     {
         let Some(packet) = sent_packet(self.alloc, &self.cluster, number)? else {
             return Ok(());
@@ -235,7 +265,7 @@ impl<M: Machine, D: CutDevice> Walk<M, D> {
     /// Delivers the least message that is not settled, until none is left or n were delivered.
     fn drain(&mut self, scene: &Scene<'_>, line: u32) -> Result<(), Fault>
         requires parts { HasParts scene.now.options.now.config.nodes self.old.cluster }
-        requires charted { IsCharted M.next M.answers M.begin self.old.cluster self.old.chart }
+        requires ways { HasWays self.old.cluster self.old.chart }
         ensures parts { OnOk result (HasParts scene.now.options.now.config.nodes
             self.new.cluster) }
         ensures setup { IsSameSetup self.old.cluster self.new.cluster }
@@ -245,8 +275,15 @@ impl<M: Machine, D: CutDevice> Walk<M, D> {
             (drained (run_setting M.next M.answers M.begin M.image self.old.cluster
             scene.now.options.now)
             line scene.now.options.now.most play).play) }
-        ensures charted { OnOk result (IsCharted M.next M.answers M.begin
-            self.new.cluster self.new.chart) }
+        ensures ways { OnOk result (HasWays self.new.cluster self.new.chart) }
+        ensures charted { (play : Play) (happened : List Happening)
+            → Follows self.old.cluster.world self.old.settled play
+            → IsCharted M.next M.answers M.begin self.old.cluster self.old.chart happened
+            → OnOk result (IsCharted M.next M.answers M.begin self.new.cluster self.new.chart
+            (happened
+            ++ drain_happens (run_setting M.next M.answers M.begin M.image self.old.cluster
+            scene.now.options.now)
+            line scene.now.options.now.most play)) }
     {
         for delivered in 0..scene.options.most {
             let message = self.settled.least();
@@ -270,12 +307,15 @@ impl<M: Machine, D: CutDevice> Walk<M, D> {
 
     /// Charts every node's state.
     fn show(&mut self, scene: &Scene<'_>) -> Result<(), Fault>
-        requires charted { IsCharted M.next M.answers M.begin self.old.cluster self.old.chart }
+        requires ways { HasWays self.old.cluster self.old.chart }
         ensures cluster { self.new.cluster ≡ self.old.cluster }
         ensures settled { self.new.settled ≡ self.old.settled }
         ensures stage { self.new.chart.stage ≡ self.old.chart.stage }
-        ensures charted { OnOk result (IsCharted M.next M.answers M.begin
-            self.new.cluster self.new.chart) }
+        ensures ways { OnOk result (HasWays self.new.cluster self.new.chart) }
+        ensures charted { (happened : List Happening)
+            → IsCharted M.next M.answers M.begin self.old.cluster self.old.chart happened
+            → OnOk result (IsCharted M.next M.answers M.begin self.new.cluster self.new.chart
+            (happened ++ replicate scene.now.options.now.config.nodes NothingHappened)) }
     {
         for place in 0..scene.options.config.nodes {
             let node = NodeId::new(place + 1).unwrap();
@@ -286,12 +326,15 @@ impl<M: Machine, D: CutDevice> Walk<M, D> {
 
     /// Charts a node's state.
     fn show_node(&mut self, scene: &Scene<'_>, node: NodeId) -> Result<(), Fault>
-        requires charted { IsCharted M.next M.answers M.begin self.old.cluster self.old.chart }
+        requires ways { HasWays self.old.cluster self.old.chart }
         ensures cluster { self.new.cluster ≡ self.old.cluster }
         ensures settled { self.new.settled ≡ self.old.settled }
         ensures stage { self.new.chart.stage ≡ self.old.chart.stage }
-        ensures charted { OnOk result (IsCharted M.next M.answers M.begin
-            self.new.cluster self.new.chart) }
+        ensures ways { OnOk result (HasWays self.new.cluster self.new.chart) }
+        ensures charted { (happened : List Happening)
+            → IsCharted M.next M.answers M.begin self.old.cluster self.old.chart happened
+            → OnOk result (IsCharted M.next M.answers M.begin self.new.cluster self.new.chart
+            (happened ++ NothingHappened ∷ [])) }
     {
         let mark = Mark {
             lane: scene.stage.lane_of(Party::Node(node)),

@@ -82,36 +82,52 @@ lost_of (Some number) = Some (record { message = number; end = Lost })
 
 -- ---- histories
 
--- A step of a history: a moment, the event that happened in it, if one did, and the world after it.
+-- What happened in a moment: an event, the loss of the message of this number, or nothing, as where
+-- a line was refused or a node was shown.
+pub data Happening : Type 0 where
+  EventHappened : Event → Happening
+  MessageLost : ℕ → Happening
+  NothingHappened : Happening
+
+-- a message was lost, or nothing happened
+abbrev pub loss_of : Option ℕ → Happening
+loss_of None = NothingHappened
+loss_of (Some number) = MessageLost number
+
+-- A step of a history: a moment, what happened in it, and the world after it.
 pub record HistoryStep : Type 0 where
   pub moment : Moment
-  pub event : Option Event
+  pub happening : Happening
   pub after : World
 
 module _ {S : Type 0} (s : Setting S) (stage : Stage) where
-  -- An event happened, and ended the way of the message that it delivered; or none did, and the
-  -- world does not change: a line was refused, a message was lost, or a node was shown.
-  abbrev pub HappensBy : World → Option Event → World → Option Ending → Type 0
-  HappensBy w None after ending = (after ≡ w) × (lost : Option ℕ) × (ending ≡ lost_of lost)
-  HappensBy w (Some event) after ending =
+  -- An event leads to the world after it, and ends the way of the message that it delivered. The
+  -- loss of a message ends that message's way. Neither a loss nor nothing changes the world.
+  abbrev pub HappensBy : World → Happening → World → Option Ending → Type 0
+  HappensBy w (EventHappened event) after ending =
       ResultsIn s w (event_of event) after × (ending ≡ ending_by w event)
+  HappensBy w (MessageLost number) after ending = (after ≡ w) × (ending ≡ lost_of (Some number))
+  HappensBy w NothingHappened after ending = (after ≡ w) × (ending ≡ lost_of None)
 
   -- the packets that a moment sends are the messages after those that were sent before it
   pub record IsStepFrom (w : World) (step : HistoryStep) : Type 0 where
     pub before : step.moment.before ≡ length w.sent
     pub sends : step.moment.sends.items
         ≡ map (sending_of stage) (drop (length w.sent) step.after.sent)
-    pub happens : HappensBy w step.event step.after step.moment.ending
+    pub happens : HappensBy w step.happening step.after step.moment.ending
 
   -- steps lead from one world to another
   abbrev pub Leads : World → List HistoryStep → World → Type 0
   Leads w [] last = last ≡ w
   Leads w (step ∷ rest) last = IsStepFrom w step × Leads step.after rest last
 
-  -- The moments are those of a history that leads from the opening world to this one.
-  pub record IsHistory (moments : List Moment) (last : World) : Type 0 where
+  -- The moments are those of the history in which this happened, in this order: it leads from the
+  -- opening world to this one.
+  pub record IsHistory (moments : List Moment) (happened : List Happening) (last : World)
+      : Type 0 where
     pub steps : List HistoryStep
     pub moments_are : moments ≡ map (λ step. step.moment) steps
+    pub happened_are : happened ≡ map (λ step. step.happening) steps
     pub leads : Leads (opening_world s.config.nodes) steps last
 
 -- Each message has its way in the sketch, none of them upwards.
@@ -131,20 +147,21 @@ pub record HasMoment (stage : Stage) (old new : Sketch) (packets : List Message)
   pub ending_is : moment.ending ≡ ending
   pub added : AddsMoment old new moment label
 
--- The sketch is that of a history that leads to this world, and each message of the history has its
--- way.
-pub record IsSketchOf {S : Type 0} (s : Setting S) (stage : Stage) (sketch : Sketch) (last : World)
+-- The sketch is that of the history in which this happened, which leads to this world, and each
+-- message of the history has its way.
+pub record IsSketchOf {S : Type 0} (s : Setting S) (stage : Stage) (sketch : Sketch)
+    (happened : List Happening) (last : World)
     : Type 0 where
-  pub history : IsHistory s stage (moments_of sketch) last
+  pub history : IsHistory s stage (moments_of sketch) happened last
   pub drawable : IsDrawable sketch
   pub count : length sketch.ways.items ≡ length last.sent
 
--- The text is the drawing of a sketch of a history that leads to this world. It has the ways of
--- the messages of that history as its arrows, and no others, each from the moment in which the
--- message was sent down to the one in which it was settled.
-pub record IsDrawingOf {S : Type 0} (s : Setting S) (stage : Stage) (lanes : ℕ) (last : World)
-    (text : List ℕ)
+-- The text is the drawing of a sketch of the history in which this happened, which leads to this
+-- world. It has the ways of the messages of that history as its arrows, and no others, each from
+-- the moment in which the message was sent down to the one in which it was settled.
+pub record IsDrawingOf {S : Type 0} (s : Setting S) (stage : Stage) (lanes : ℕ)
+    (happened : List Happening) (last : World) (text : List ℕ)
     : Type 0 where
   pub sketch : Sketch
-  pub sketched : IsSketchOf s stage sketch last
+  pub sketched : IsSketchOf s stage sketch happened last
   pub drawn : IsDrawnBy sketch lanes text

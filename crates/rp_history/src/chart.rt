@@ -1,8 +1,8 @@
 //! The chart of the run so far.
 
-ghost use Rattle.std.specs.Prelude.{◌≡◌, ◌≤◌, [], length, drop, IfErr, IfOk, OnOk, string_bytes};
+ghost use Rattle.std.specs.Prelude.{◌≡◌, ◌≤◌, ◌+◌, List, [], ◌∷◌, ◌++◌, length, drop, IfErr, IfOk, OnOk, string_bytes};
 ghost use Rattle.rp_drawing.specs.Drawings.{page_text};
-ghost use Rattle.rp_history.specs.Histories.{ending_by, HasMoment, IsDrawable, IsDrawingOf, IsSketchOf, lost_of};
+ghost use Rattle.rp_history.specs.Histories.{ending_by, EventHappened, Happening, HasMoment, IsDrawable, IsDrawingOf, IsSketchOf, loss_of, lost_of};
 ghost use Rattle.rp_drawing.specs.Ways.{IsEndingWithin};
 ghost use Rattle.rp_model.specs.Answers.{ResultsIn};
 ghost use Rattle.rp_model.specs.Effect.{Setting};
@@ -30,7 +30,7 @@ impl Chart {
     pub fn new<M: Machine>(alloc: Global, stage: Stage) -> Self
         ensures stage { result.stage ≡ stage }
         ensures drawable { IsDrawable result.sketch }
-        ensures opening { (s : Setting M) → IsSketchOf s result.stage result.sketch
+        ensures opening { (s : Setting M) → IsSketchOf s result.stage result.sketch []
             (opening_world s.config.nodes) }
     {
         Chart {
@@ -52,17 +52,21 @@ impl Chart {
         requires ending { IsEndingWithin (length self.old.sketch.ways.items) ending }
         ensures stage { self.new.stage ≡ self.old.stage }
         ensures drawable { OnOk result (IsDrawable self.new.sketch) }
-        // claim (moment, happened): An event that happened is the last moment of the chart of its run,
-        //   under its label: the messages that it sent begin their ways there, and the one that it
-        //   delivered ends there, taken or, at a stopped node, not heard
+        // claim (moment, happened): An event that happened is the last moment of the chart of its
+        //   run, under its label, and the last thing that happened in its history: the messages that
+        //   it sent begin their ways there, and the one that it delivered ends there, taken or, at a
+        //   stopped node, not heard
         ensures moment { OnOk result (HasMoment self.old.stage self.old.sketch self.new.sketch
             packets.now ending label) }
-        ensures happened { (s : Setting M) (before after : World) (event : Event)
-            → IsSketchOf s self.old.stage self.old.sketch before
+        ensures happened { (s : Setting M) (so_far : List Happening) (before after : World)
+            (event : Event) → IsSketchOf s self.old.stage self.old.sketch so_far before
             → ResultsIn s before (event_of event) after
             → packets.now ≡ drop (length before.sent) after.sent
             → ending ≡ ending_by before event
-            → OnOk result (IsSketchOf s self.new.stage self.new.sketch after) }
+            → OnOk result (IsSketchOf s self.new.stage self.new.sketch
+            (so_far ++ EventHappened event ∷ []) after) }
+        ensures count { OnOk result (length self.new.sketch.ways.items
+            ≡ length self.old.sketch.ways.items + length packets.now) }
         ensures fault { IfErr result (λ fault. fault ≡ Fault.OutOfMemory) }
     {
         worlds_grow::<M>();
@@ -86,14 +90,18 @@ impl Chart {
         requires lost { IsEndingWithin (length self.old.sketch.ways.items) (lost_of lost) }
         ensures stage { self.new.stage ≡ self.old.stage }
         ensures drawable { OnOk result (IsDrawable self.new.sketch) }
-        // claim (moment, stays): A line that was refused, a message that was lost and a node that was
-        //   shown is the last moment of the chart, under its label, in which the world stays. The way
-        //   of a message ends there exactly if it is the one that was lost
+        // claim (moment, stays): A line that was refused, a message that was lost and a node that
+        //   was shown is the last moment of the chart, under its label, in which the world stays. The
+        //   way of a message ends there exactly if it is the one that was lost, and its loss is then
+        //   the last thing that happened in the history; else nothing is
         ensures moment { OnOk result (HasMoment self.old.stage self.old.sketch self.new.sketch
             [] (lost_of lost) label) }
-        ensures stays { (s : Setting M) (world : World)
-            → IsSketchOf s self.old.stage self.old.sketch world
-            → OnOk result (IsSketchOf s self.new.stage self.new.sketch world) }
+        ensures stays { (s : Setting M) (so_far : List Happening) (world : World)
+            → IsSketchOf s self.old.stage self.old.sketch so_far world
+            → OnOk result (IsSketchOf s self.new.stage self.new.sketch
+            (so_far ++ loss_of lost ∷ []) world) }
+        ensures count { OnOk result (length self.new.sketch.ways.items
+            ≡ length self.old.sketch.ways.items) }
         ensures fault { IfErr result (λ fault. fault ≡ Fault.OutOfMemory) }
     {
         let moment = Moment {
@@ -116,15 +124,16 @@ impl Chart {
     pub fn draw<M: Machine>(&self, alloc: Global, lanes: &[Lane]) -> Result<String, Fault>
         requires drawable { IsDrawable self.now.sketch }
         requires lanes { length lanes.now ≤ 16 }
-        // claim: The arrows of a chart are the messages of its run's history, each from its sender's
-        //   lane, where it was sent, down to its receiver's, where it was taken, not heard or lost;
-        //   none goes upwards, there is no other arrow, and the drawing is short. It is the page of the
-        //   chart under the lanes that were given. Only `OutOfMemory` is returned in its place
+        // claim: The arrows of a chart are the messages of its run's history, in which just that
+        //   happened which the chart was given, in order: each from its sender's lane, where it was
+        //   sent, down to its receiver's, where it was taken, not heard or lost; none goes upwards,
+        //   there is no other arrow, and the drawing is short. It is the page of the chart under the
+        //   lanes that were given. Only `OutOfMemory` is returned in its place
         ensures page { IfOk result (λ text. string_bytes text
             ≡ page_text lanes.now self.now.sketch) }
-        ensures drawn { (s : Setting M) (last : World)
-            → IsSketchOf s self.now.stage self.now.sketch last
-            → IfOk result (λ text. IsDrawingOf s self.now.stage (length lanes.now) last
+        ensures drawn { (s : Setting M) (happened : List Happening) (last : World)
+            → IsSketchOf s self.now.stage self.now.sketch happened last
+            → IfOk result (λ text. IsDrawingOf s self.now.stage (length lanes.now) happened last
             (string_bytes text)) }
         ensures fault { IfErr result (λ fault. fault ≡ Fault.OutOfMemory) }
     {

@@ -14,6 +14,6 @@ returns c =
     let one : rule_of c.value_parser-position.result ≡ position = search (rules, many) in
     let other : rule_of c.action-hide_self.result ≡ hide_self = search rules in
     let top : app_of c.version.result ≡ on_top with_version (new_app (codes "rp_chart")) =
-    rw (ap app_of_fields c.version.ensures, c.about.ensures) (ap (on_top with_version) c.new-3.ensures.app) in
+    rw (ap app_of_fields c.version.ensures, c.after_help.ensures, c.about.ensures) (ap (on_top with_version) c.new-3.ensures.app) in
     let first = c.in_ok-arg.ensures.shape (search rules) ∙ ap₂ with_rule top one in
     IfOk-weaker c.arg-2.result _ _ (λ r added. added.shape (search rules) ∙ ap₂ with_rule first other) c.arg-2.ensures

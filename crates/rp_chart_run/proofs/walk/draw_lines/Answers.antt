@@ -1,16 +1,18 @@
 -- One line more, or the end.
-use Rattle.std.proofs.Common.{◌≡◌, ◌∙◌, None, length, drop, string_bytes, arith, sym, ap, subst}
+use Rattle.std.proofs.Common.{◌≡◌, ◌∙◌, ◌+◌, None, [], length, drop, string_bytes, arith, refl, sym, ap, subst}
 use Rattle.std.proofs.lemmas.Result.{IfOk-weaker}
 use Rattle.rp_model.specs.Effect.{Setting}
 use Rattle.rp_model.specs.World.{World, opening_world}
-use Rattle.rp_run.specs.Output.{Play, opening_play, script_said}
-use Rattle.rp_run.specs.Runs.{opening_setup, run_setting}
+use Rattle.rp_run.specs.Output.{Play, command_said, opening_play, script_said}
+use Rattle.rp_run.specs.Runs.{Follows, opening_setup, run_setting}
 use Rattle.rp_history.specs.Histories.{IsSketchOf, IsDrawingOf}
 use Rattle.rp_history.specs.declared.stage.Stage.{Stage}
 use Rattle.rp_run.proofs.RunParts.{sets_out, ends, no_line, line_goes_on}
 use Rattle.rp_run.proofs.Stepping.{same_setting, same_trans, opening_parts}
 use Rattle.rp_world.specs.Steps.{setting_of}
-use Rattle.rp_chart_run.proofs.Charting.{one_setting}
+use Rattle.rp_chart_run.specs.Happenings.{command_happens, lines_happen, script_happens}
+use Rattle.rp_chart_run.proofs.Charting.{one_setting, goes_on as chart_goes_on, ends as chart_ends}
+use Rattle.rp_chart_run.proofs.Happening.{next_line, no_line as none_left}
 use Rattle.rp_chart_run.proofs.walk.draw_lines.Goals as goal
 
 pub loop-line-init : goal.loop-line-init
@@ -24,13 +26,15 @@ loop-line-init g c =
     let t = setting_of m.next m.answers m.begin cluster in
     let nodes : opening_world t.config.nodes ≡ cluster.world = ap (λ k. opening_world k.config.nodes) opened ∙ sym world in
     let chart = c.new-3.result in
+    let opens = subst (λ (w : World). IsSketchOf t chart.stage chart.sketch [] w) nodes (c.new-3.ensures.opening t) in
+    let follows : Follows cluster.world c.new-2.result (opening_play s) = record { world_is = world; settled_are = c.new-2.ensures } in
     record {
       parts = opening_parts options.config.nodes cluster (ap (λ k. k.config.nodes) opened) world;
       setup = record { config = ap (λ k. k.config) opened; program = ap (λ k. k.program) opened };
       stage = c.new-3.ensures.stage;
-      so_far = sets_out cluster.world c.new-2.result None (opening_play s) (λ (now : Play). script_said s options.most now options.lines.now)
-          (record { world_is = world; settled_are = c.new-2.ensures });
-      charted = subst (λ (w : World). IsSketchOf t chart.stage chart.sketch w) nodes (c.new-3.ensures.opening t);
+      so_far = sets_out cluster.world c.new-2.result None (opening_play s) (λ (now : Play). script_said s options.most now options.lines.now) follows;
+      ways = record { drawable = c.new-3.ensures.drawable; count = opens.count };
+      charted = record { play = opening_play s; follows = follows; so_far = []; charted = opens; parts = refl };
     }
 
 pub loop-line-preserved : goal.loop-line-preserved
@@ -43,12 +47,22 @@ loop-line-preserved g c =
     let so_far = c.loop-line.invariant.so_far in
     let same = same_setting m.next m.answers m.begin m.image options opening walk.cluster c.loop-line.invariant.setup in
     let reached = c.in_ok-take.ensures.reached so_far.said.play so_far.follows in
+    let line = c.line-item.result in
+    let charted = c.loop-line.invariant.charted in
+    let further = c.in_ok-take.ensures.reached charted.play charted.follows in
+    let drawn = c.in_ok-take.ensures.charted charted.play charted.so_far charted.follows charted.charted in
     record {
       parts = c.in_ok-take.ensures.parts;
       setup = same_trans opening walk.cluster c.take.new.self.cluster c.loop-line.invariant.setup c.take.ensures.setup;
       stage = c.take.ensures.stage ∙ c.loop-line.invariant.stage;
       so_far = line_goes_on s options.most options.lines.now c.loop-line.line-index c.line-item.result (omega arith) c.line-item.is so_far (rw same at reached) tt;
-      charted = c.in_ok-take.ensures.charted;
+      ways = c.in_ok-take.ensures.ways;
+      charted = chart_goes_on m.next m.answers m.begin walk.cluster c.take.new.self.cluster walk.settled c.take.new.self.settled walk.chart c.take.new.self.chart
+          (script_happens s options.most options.lines.now) (λ (now : Play). lines_happen s options.most now (drop c.loop-line.line-index options.lines.now))
+          (λ (now : Play). lines_happen s options.most now (drop (c.loop-line.line-index + 1) options.lines.now)) charted
+          (command_happens s options.most line.number charted.play line.command) (command_said s options.most line.number charted.play line.command).play
+          (next_line s options.most charted.play options.lines.now c.loop-line.line-index line (omega arith) c.line-item.is)
+          (rw same at further) (rw same at drawn);
     }
 
 pub returns : goal.returns
@@ -64,10 +78,14 @@ returns g c =
     let done = ends walk.cluster.world walk.settled None None (script_said s most (opening_play s) lines) (λ (p : Play). script_said s most p (drop c.loop-line.line-index lines)) so_far tt
     (no_line s most so_far.said.play lines c.loop-line.line-index (omega arith)) in
     let setting = one_setting m.next m.answers m.begin opening walk.cluster c.loop-line.invariant.setup in
-    let charted = subst (λ (t : Setting _). IsSketchOf t walk.chart.stage walk.chart.sketch walk.cluster.world) setting c.loop-line.invariant.charted in
+    let happened = script_happens s most lines in
+    let lanes = length c.args.scene.now.lanes.now in
+    let drawn = chart_ends m.next m.answers m.begin walk.cluster walk.settled walk.chart happened (λ (p : Play). lines_happen s most p (drop c.loop-line.line-index lines)) c.loop-line.invariant.charted
+    (none_left s most c.loop-line.invariant.charted.play lines c.loop-line.line-index (omega arith)) in
+    let charted = subst (λ (t : Setting _). IsSketchOf t walk.chart.stage walk.chart.sketch happened walk.cluster.world) setting drawn in
     record {
       drawing = IfOk-weaker c.draw.result _ _
-          (λ text drawn. subst (λ (w : World). IsDrawingOf s.setting c.args.scene.now.stage (length c.args.scene.now.lanes.now) w (string_bytes text)) done.0.world_is
-          (subst (λ (stage : Stage). IsDrawingOf s.setting stage (length c.args.scene.now.lanes.now) walk.cluster.world (string_bytes text)) c.loop-line.invariant.stage drawn))
-          (c.draw.ensures.drawn s.setting walk.cluster.world charted);
+          (λ text drawn. subst (λ (w : World). IsDrawingOf s.setting c.args.scene.now.stage lanes happened w (string_bytes text)) done.0.world_is
+          (subst (λ (stage : Stage). IsDrawingOf s.setting stage lanes happened walk.cluster.world (string_bytes text)) c.loop-line.invariant.stage drawn))
+          (c.draw.ensures.drawn s.setting happened walk.cluster.world charted);
     }

@@ -3,7 +3,9 @@ use Rattle.rp_run.specs.Output.{opening_play, script_said}
 use Rattle.rp_run.specs.Runs.{HasParts, opening_setup, run_setting}
 use Rattle.rp_run.proofs.RunParts.{Underway}
 use Rattle.rp_world.specs.Steps.{IsSameSetup}
-use Rattle.rp_chart_run.specs.Charts.{IsCharted}
+use Rattle.rp_chart_run.specs.Charts.{HasWays}
+use Rattle.rp_chart_run.specs.Happenings.{lines_happen, script_happens}
+use Rattle.rp_chart_run.proofs.Charting.{Underway as ChartUnderway}
 use Rattle.rp_chart_run.proofs.walk.draw_lines.Given as goal
 
 -- what happened so far, and then the lines that are left, is the whole script
@@ -19,5 +21,7 @@ invariant-loop-line g l =
       stage : l.walk.chart.stage ≡ l.scene.stage;
       so_far : Underway l.walk.cluster.world l.walk.settled None None (script_said s options.most (opening_play s) options.lines.now)
           (λ now. script_said s options.most now (drop l.line-index options.lines.now));
-      charted : IsCharted m.next m.answers m.begin l.walk.cluster l.walk.chart;
+      ways : HasWays l.walk.cluster l.walk.chart;
+      charted : ChartUnderway m.next m.answers m.begin l.walk.cluster l.walk.settled l.walk.chart (script_happens s options.most options.lines.now)
+          (λ now. lines_happen s options.most now (drop l.line-index options.lines.now));
     }

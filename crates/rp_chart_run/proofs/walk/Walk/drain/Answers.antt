@@ -1,5 +1,6 @@
 -- One delivery more, or the end.
-use Rattle.std.proofs.Common.{◌≡◌, ◌∙◌, ℕ, ◌+◌, ◌-◌, ◌<◌, ◌≤◌, None, length, arith, refl, subst}
+use Rattle.std.proofs.Common.{◌≡◌, ◌∙◌, ℕ, ◌+◌, ◌-◌, ◌<◌, ◌≤◌, None, List, [], ◌∷◌, ◌++◌, length, arith, refl, subst}
+use Rattle.rp_history.specs.Histories.{NothingHappened}
 use Rattle.rp_model.specs.declared.event.Event.TheVariants.{Node as NodeStep}
 use Rattle.rp_model.specs.declared.event.Step.TheVariants.{Deliver}
 use Rattle.rp_run.specs.Items.{DrainLimit}
@@ -8,7 +9,9 @@ use Rattle.rp_run.specs.Runs.{run_setting}
 use Rattle.rp_run.proofs.LeastUnsettled.{least_is_left, none_is_left}
 use Rattle.rp_run.proofs.RunParts.{Underway, sets_out, goes_on, ends, ends_by, says_by, drained_none, drained_full, drained_more}
 use Rattle.rp_run.proofs.Stepping.{same_setting, same_trans}
-use Rattle.rp_chart_run.proofs.Charting.{follows_of, writes_none}
+use Rattle.rp_chart_run.specs.Happenings.{drain_happens, event_happens}
+use Rattle.rp_chart_run.proofs.Charting.{Underway as ChartUnderway, goes_on as chart_goes_on, ends as chart_ends, ends_by as chart_ends_by, follows_of, writes_none}
+use Rattle.rp_chart_run.proofs.Happening.{drain_none, drain_full, drain_more}
 use Rattle.rp_chart_run.proofs.walk.Walk.drain.Goals as goal
 
 pub loop-delivered-init : goal.loop-delivered-init
@@ -25,7 +28,10 @@ loop-delivered-init g c =
       so_far = λ play follows.
           subst (λ (n : ℕ). Underway c.args.self.now.cluster.world c.args.self.now.settled None None (drained s c.args.line most play) (λ (now : Play). drained s c.args.line n now)) all
           (sets_out c.args.self.now.cluster.world c.args.self.now.settled None play (λ (now : Play). drained s c.args.line most now) follows);
-      charted = c.requires.charted;
+      ways = c.requires.ways;
+      charted = λ play happened follows charted.
+          subst (λ (n : ℕ). ChartUnderway m.next m.answers m.begin c.args.self.now.cluster c.args.self.now.settled c.args.self.now.chart (happened ++ drain_happens s c.args.line most play) (λ (now : Play). drain_happens s c.args.line n now)) all
+          (record { play = play; follows = follows; so_far = happened; charted = charted; parts = refl });
     }
 
 pub loop-delivered-preserved : goal.loop-delivered-preserved
@@ -55,7 +61,20 @@ loop-delivered-preserved g c =
           (drained_more s c.args.line now most delivered message below
           (least_is_left run.cluster.world run.settled now so_far.follows message least.ensures.least least.ensures.from_one within least.ensures.unsettled))
           (rw same at reached) tt;
-      charted = c.in_ok-step.ensures.charted;
+      ways = c.in_ok-step.ensures.ways;
+      charted = λ play happened follows charted.
+          let so_far = c.loop-delivered.invariant.charted play happened follows charted in
+          let now = so_far.play in
+          let event = NodeStep (Deliver message) in
+          let after = (event_said s c.args.line now event).play in
+          let reached = c.in_ok-step.ensures.reached now so_far.follows in
+          let here = c.in_ok-step.ensures.charted now so_far.so_far so_far.follows so_far.charted in
+          chart_goes_on m.next m.answers m.begin run.cluster c.step.new.self.cluster run.settled c.step.new.self.settled run.chart c.step.new.self.chart
+          (happened ++ drain_happens s c.args.line most play) (λ (p : Play). drain_happens s c.args.line (most - delivered) p) (λ (p : Play). drain_happens s c.args.line (most - (delivered + 1)) p)
+          so_far (event_happens s now event ∷ []) after
+          (drain_more s c.args.line now most delivered message below
+          (least_is_left run.cluster.world run.settled now so_far.follows message least.ensures.least least.ensures.from_one within least.ensures.unsettled))
+          (rw same at reached) (rw same at here);
     }
 
 pub returns-then-message-messages-clause-reached : goal.returns-then-message-messages-clause-reached
@@ -112,3 +131,52 @@ returns-clause-reached g c =
     (drained_full s c.args.line now most delivered least.result c.loop-delivered-test.false
     (least_is_left run.cluster.world run.settled now so_far.follows least.result least.ensures.least least.ensures.from_one within least.ensures.unsettled))
     (says_by run.cluster.world run.settled None None here c.stay.result so_far.follows (writes_none _ c.stay.result))))
+
+pub returns-then-message-messages-clause-charted : goal.returns-then-message-messages-clause-charted
+returns-then-message-messages-clause-charted g c =
+    let m = g.M.Machine in
+    let options = c.args.scene.now.options.now in
+    let s = run_setting m.next m.answers m.begin m.image c.args.self.now.cluster options in
+    let run = c.loop-delivered.self in
+    let least = c.least-message in
+    let past : length run.cluster.world.sent < least.result = omega arith in
+    λ play happened follows charted.
+    let so_far = c.loop-delivered.invariant.charted play happened follows charted in
+    let most = options.most - c.loop-delivered.delivered in
+    chart_ends m.next m.answers m.begin run.cluster run.settled run.chart
+    (happened ++ drain_happens s c.args.line options.most play) (λ (p : Play). drain_happens s c.args.line most p) so_far
+    (drain_none s c.args.line so_far.play most (none_is_left run.cluster.world run.settled so_far.play so_far.follows least.result least.ensures.least past))
+
+pub returns-then-least-messages-clause-charted : goal.returns-then-least-messages-clause-charted
+returns-then-least-messages-clause-charted g c =
+    let m = g.M.Machine in
+    let options = c.args.scene.now.options.now in
+    let s = run_setting m.next m.answers m.begin m.image c.args.self.now.cluster options in
+    let run = c.loop-delivered.self in
+    let least = c.least in
+    let past : length run.cluster.world.sent < least.result = omega arith in
+    λ play happened follows charted.
+    let so_far = c.loop-delivered.invariant.charted play happened follows charted in
+    let most = options.most - c.loop-delivered.delivered in
+    chart_ends m.next m.answers m.begin run.cluster run.settled run.chart
+    (happened ++ drain_happens s c.args.line options.most play) (λ (p : Play). drain_happens s c.args.line most p) so_far
+    (drain_none s c.args.line so_far.play most (none_is_left run.cluster.world run.settled so_far.play so_far.follows least.result least.ensures.least past))
+
+pub returns-clause-charted : goal.returns-clause-charted
+returns-clause-charted g c =
+    let m = g.M.Machine in
+    let options = c.args.scene.now.options.now in
+    let s = run_setting m.next m.answers m.begin m.image c.args.self.now.cluster options in
+    let run = c.loop-delivered.self in
+    let least = c.least in
+    let within : least.result ≤ length run.cluster.world.sent = omega arith in
+    let delivered = c.loop-delivered.delivered in
+    let most = options.most in
+    λ play happened follows charted.
+    let so_far = c.loop-delivered.invariant.charted play happened follows charted in
+    chart_ends_by m.next m.answers m.begin run.cluster c.stay.new.self.cluster run.settled run.chart c.stay.new.self.chart
+    (happened ++ drain_happens s c.args.line most play) (λ (p : Play). drain_happens s c.args.line (most - delivered) p) so_far
+    (NothingHappened ∷ []) c.stay.result
+    (drain_full s c.args.line so_far.play most delivered least.result c.loop-delivered-test.false
+    (least_is_left run.cluster.world run.settled so_far.play so_far.follows least.result least.ensures.least least.ensures.from_one within least.ensures.unsettled))
+    (c.stay.ensures.charted so_far.so_far so_far.charted)

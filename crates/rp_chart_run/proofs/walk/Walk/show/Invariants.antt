@@ -1,5 +1,6 @@
-use Rattle.std.proofs.Common.{◌≡◌}
-use Rattle.rp_chart_run.specs.Charts.{IsCharted}
+use Rattle.std.proofs.Common.{◌≡◌, ◌≤◌, List, ◌++◌, replicate}
+use Rattle.rp_history.specs.Histories.{Happening, NothingHappened}
+use Rattle.rp_chart_run.specs.Charts.{HasWays, IsCharted}
 use Rattle.rp_chart_run.proofs.walk.Walk.show.Given as goal
 
 -- the nodes so far are shown, and nothing else changes
@@ -7,8 +8,11 @@ abbrev pub invariant-loop-place : goal.invariant-loop-place
 invariant-loop-place g l =
     let m = g.M.Machine in
     record {
+      within : l.place ≤ l.scene.options.now.config.nodes;
       cluster : l.self.cluster ≡ l.fn.self.cluster;
       settled : l.self.settled ≡ l.fn.self.settled;
       stage : l.self.chart.stage ≡ l.fn.self.chart.stage;
-      charted : IsCharted m.next m.answers m.begin l.self.cluster l.self.chart;
+      ways : HasWays l.self.cluster l.self.chart;
+      charted : (happened : List Happening) → IsCharted m.next m.answers m.begin l.fn.self.cluster l.fn.self.chart happened
+          → IsCharted m.next m.answers m.begin l.self.cluster l.self.chart (happened ++ replicate l.place NothingHappened);
     }

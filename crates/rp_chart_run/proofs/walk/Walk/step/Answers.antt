@@ -1,8 +1,10 @@
 -- By what the step of the cluster was.
-use Rattle.std.proofs.Common.{◌≡◌, ◌∙◌, ◌-◌, ℕ, ◌≤◌, Option, None, length, length-append, drop, arith, sym, ap, subst}
+use Rattle.std.proofs.Common.{◌≡◌, ◌∙◌, ◌+◌, ◌-◌, ℕ, ◌≤◌, Option, None, Ok, List, [], ◌∷◌, ◌++◌, length, length-append, drop, arith, sym, ap, subst}
+use Rattle.std.proofs.lemmas.List.{length-drop}
 use Rattle.rp_base.specs.Fault.{code_of}
 use Rattle.rp_drawing.specs.Ways.{IsEndingWithin}
 use Rattle.rp_drawing.specs.declared.sketch.Ending.{Ending}
+use Rattle.rp_history.specs.Histories.{Happening, EventHappened, NothingHappened, IsSketchOf}
 use Rattle.rp_history.proofs.HistoryLemmas.{ending_within}
 use Rattle.rp_model.specs.Events.{event_of}
 use Rattle.rp_model.specs.World.{World}
@@ -11,7 +13,9 @@ use Rattle.rp_run.specs.Runs.{run_setting}
 use Rattle.rp_run.proofs.Taken.{settled_alike}
 use Rattle.rp_run.proofs.RunParts.{happened, was_refused}
 use Rattle.rp_run.proofs.Stepping.{always_ok, parts_stay, refused_of}
-use Rattle.rp_chart_run.proofs.Charting.{charted_by, follows_of, writes_none}
+use Rattle.rp_chart_run.specs.Happenings.{event_happens}
+use Rattle.rp_chart_run.proofs.Charting.{charted_as, charted_by, follows_of, has_ways, writes_none}
+use Rattle.rp_chart_run.proofs.Happening.{event_happened, event_refused}
 use Rattle.rp_chart_run.proofs.walk.Walk.step.Goals as goal
 
 pub packets_from-requires-clause-low : goal.packets_from-requires-clause-low
@@ -31,7 +35,7 @@ packets_from-requires-clause-high g c =
 pub happen-requires-clause-ending : goal.happen-requires-clause-ending
 happen-requires-clause-ending g c =
     let world = c.args.self.now.cluster.world in
-    subst (λ (n : ℕ). IsEndingWithin n c.in_ok-prospect.prospect.ending) (sym c.requires.charted.count)
+    subst (λ (n : ℕ). IsEndingWithin n c.in_ok-prospect.prospect.ending) (sym c.requires.ways.count)
     (subst (λ (o : Option Ending). IsEndingWithin (length world.sent) o) (sym c.in_ok-prospect.ensures) (ending_within world c.args.event.now))
 
 pub returns-in_ok-packets-in-Ok-clause-parts : goal.returns-in_ok-packets-in-Ok-clause-parts
@@ -51,19 +55,38 @@ returns-in_ok-packets-in-Ok-clause-reached g c =
     (happened s c.args.line play c.args.event.now old.world c.args.self.now.settled follows c.step.new.self.world c.settle_any.new.self c.in-Ok.effect None None c.happen.result
     done (c.worlds_grow.ensures s.setting old.world (event_of c.args.event.now) done.transition done.resulted) (settled_alike c.args.self.now.settled c.settle_any.new.self _ _ c.settled_by.ensures.value c.in_ok-settle_any-in-Ok.ensures.ok) (writes_none _ c.happen.result))
 
-pub returns-in_ok-packets-in-Ok-clause-charted : goal.returns-in_ok-packets-in-Ok-clause-charted
-returns-in_ok-packets-in-Ok-clause-charted g c =
+pub returns-in_ok-packets-in-Ok-clause-ways : goal.returns-in_ok-packets-in-Ok-clause-ways
+returns-in_ok-packets-in-Ok-clause-ways g c =
+    let done = c.in-Ok.ensures.step.world in
     let m = g.M.Machine in
     let old = c.args.self.now.cluster in
     let new = c.step.new.self in
     let s = run_setting m.next m.answers m.begin m.image old c.args.scene.now.options.now in
+    let grows = c.worlds_grow.ensures s.setting old.world (event_of c.args.event.now) done.transition done.resulted in
+    let grown = ap (λ (w : World). length w.sent) done.world ∙ ap length grows.sent in
+    let longer = length-append old.world.sent done.transition.sends in
+    let packets : length c.deref.result.now ≡ length new.world.sent - (c.in-Ok.effect.first - 1) =
+    ap length (c.deref.ensures.value ∙ c.in_ok-packets-in-Ok.ensures) ∙ length-drop (c.in-Ok.effect.first - 1) new.world.sent in
+    has_ways new c.happen.new.self c.happen.result (length c.args.self.now.chart.sketch.ways.items + length c.deref.result.now)
+    c.happen.ensures.drawable c.happen.ensures.count
+    (omega (arith, c.requires.ways.count, packets, done.describes.first, grown, longer))
+
+pub returns-in_ok-packets-in-Ok-clause-charted : goal.returns-in_ok-packets-in-Ok-clause-charted
+returns-in_ok-packets-in-Ok-clause-charted g c = λ play happened follows charted.
+    let m = g.M.Machine in
+    let old = c.args.self.now.cluster in
+    let new = c.step.new.self in
+    let event = c.args.event.now in
+    let s = run_setting m.next m.answers m.begin m.image old c.args.scene.now.options.now in
     let done = c.in-Ok.ensures.step.world in
     let place : c.in-Ok.effect.first - 1 ≡ length old.world.sent = omega (arith, done.describes.first) in
-    charted_by m.next m.answers m.begin old new c.happen.new.self c.happen.result c.in-Ok.ensures.step.setup
-    (c.happen.ensures.happened s.setting old.world new.world c.args.event.now c.requires.charted
+    charted_as m.next m.answers m.begin new c.happen.new.self (happened ++ EventHappened event ∷ []) (happened ++ event_happens s play event ∷ []) c.happen.result
+    (ap (λ (h : Happening). happened ++ h ∷ []) (sym (event_happened s play event old.world c.args.self.now.settled follows done.transition done.resulted)))
+    (charted_by m.next m.answers m.begin old new c.happen.new.self (happened ++ EventHappened event ∷ []) c.happen.result c.in-Ok.ensures.step.setup
+    (c.happen.ensures.happened s.setting happened old.world new.world event charted
     (record { transition = done.transition; effect = done.resulted; world = done.world })
     (c.deref.ensures.value ∙ c.in_ok-packets-in-Ok.ensures ∙ ap (λ (n : ℕ). drop n new.world.sent) place)
-    c.in_ok-prospect.ensures)
+    c.in_ok-prospect.ensures))
 
 pub returns-in-Err-clause-reached : goal.returns-in-Err-clause-reached
 returns-in-Err-clause-reached g c =
@@ -76,3 +99,33 @@ returns-in-Err-clause-reached g c =
     (follows_of c.step.new.self.world c.args.self.now.settled (event_said s c.args.line play c.args.event.now) c.refuse.result
     (was_refused s c.args.line play c.args.event.now old.world c.args.self.now.settled follows c.step.new.self.world c.in-Err.fault None None c.refuse.result
     (refused_of s.setting old.world c.step.new.self.world c.args.event.now c.in-Err.fault c.in-Err.ensures.step.world numbered) (writes_none _ c.refuse.result)))
+
+pub returns-in-Err-clause-charted : goal.returns-in-Err-clause-charted
+returns-in-Err-clause-charted g c = λ play happened follows charted.
+    let m = g.M.Machine in
+    let old = c.args.self.now.cluster in
+    let left = c.step.new.self in
+    let chart = c.args.self.now.chart in
+    let event = c.args.event.now in
+    let s = run_setting m.next m.answers m.begin m.image old c.args.scene.now.options.now in
+    let numbered : 5 ≤ code_of c.in-Err.fault = (c.is_refusal.ensures.0 c.if-is_refusal.true).0 in
+    let refused = refused_of s.setting old.world left.world event c.in-Err.fault c.in-Err.ensures.step.world numbered in
+    let kept = charted_by m.next m.answers m.begin old left chart happened (Ok tt) c.in-Err.ensures.step.setup
+    (subst (λ (w : World). IsSketchOf s.setting chart.stage chart.sketch happened w) (sym refused.unchanged) charted) in
+    charted_as m.next m.answers m.begin c.refuse.new.self.cluster c.refuse.new.self.chart (happened ++ NothingHappened ∷ []) (happened ++ event_happens s play event ∷ []) c.refuse.result
+    (ap (λ (h : Happening). happened ++ h ∷ []) (sym (event_refused s play event old.world c.args.self.now.settled follows c.in-Err.fault refused.refusal)))
+    (c.refuse.ensures.charted happened kept)
+
+pub refuse-requires : goal.refuse-requires
+refuse-requires g c =
+    let m = g.M.Machine in
+    let old = c.args.self.now.cluster in
+    let s = run_setting m.next m.answers m.begin m.image old c.args.scene.now.options.now in
+    let numbered : 5 ≤ code_of c.in-Err.fault = (c.is_refusal.ensures.0 c.if-is_refusal.true).0 in
+    let refused = refused_of s.setting old.world c.step.new.self.world c.args.event.now c.in-Err.fault c.in-Err.ensures.step.world numbered in
+    record {
+      ways = record {
+        drawable = c.requires.ways.drawable;
+        count = c.requires.ways.count ∙ sym (ap (λ (w : World). length w.sent) refused.unchanged);
+      };
+    }

@@ -84,8 +84,8 @@ IsCommandDeclared program interrupts Drain = Unit {0}
 IsCommandDeclared program interrupts Show = Unit {0}
 
 -- an event names what is declared
-abbrev pub IsEventOf : Declared → Event → Type 0
-IsEventOf declared event =
+abbrev pub IsEventOfDeck : Declared → Event → Type 0
+IsEventOfDeck declared event =
     IsEventWithin declared.nodes (index_map_len declared.tasks) (index_set_len declared.objects)
     event
     × IsEventDeclared declared.program (index_map_len declared.interrupts) event

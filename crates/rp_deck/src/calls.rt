@@ -12,7 +12,7 @@ ghost use Rattle.rp_deck.specs.Live.{IsLiveEvent, IsLiveStep};
 ghost use Rattle.rp_deck_objects.specs.ObjectViews.{operation_of};
 ghost use Rattle.rp_deck_declarations.specs.Programs.{IsOffered};
 ghost use Rattle.rp_words.specs.Reading.{Gives};
-ghost use Rattle.rp_deck.specs.Script.{IsEventOf, IsStepDeclared, IsStepWithin, IsUpTo};
+ghost use Rattle.rp_deck.specs.Script.{IsEventOfDeck, IsStepDeclared, IsStepWithin, IsUpTo};
 ghost use Rattle.rp_deck.specs.ScriptLines.{operation_at, timer_at, argument_at, call_at, arm_at, disarm_at, interrupt_at, tick_at};
 ghost use Rattle.rp_deck_declarations.specs.DeclaredViews.{names_of};
 ghost use Rattle.rp_words.specs.Tables.{find, key_names};
@@ -31,7 +31,7 @@ pub fn read_call(words: &mut Words<'_>, declared: &Declared) -> Result<Event, De
     requires { IsComplete declared.now }
     ensures read { Gives (λ event. (event_of event, unread words.new)) result
         (call_at (names_of declared.now) (unread words.old)) }
-    ensures right { IfOk result (IsEventOf declared.now) }
+    ensures right { IfOk result (IsEventOfDeck declared.now) }
     ensures live { IfOk result IsLiveEvent }
 {
     let task = read_task(words, declared)?;
@@ -104,7 +104,7 @@ pub fn read_arm(words: &mut Words<'_>, declared: &Declared) -> Result<Event, Dec
     requires { IsComplete declared.now }
     ensures read { Gives (λ event. (event_of event, unread words.new)) result
         (arm_at (names_of declared.now) (unread words.old)) }
-    ensures right { IfOk result (IsEventOf declared.now) }
+    ensures right { IfOk result (IsEventOfDeck declared.now) }
     ensures live { IfOk result IsLiveEvent }
 {
     let task = read_task(words, declared)?;
@@ -126,7 +126,7 @@ pub fn read_disarm(words: &mut Words<'_>, declared: &Declared) -> Result<Event, 
     requires { IsComplete declared.now }
     ensures read { Gives (λ event. (event_of event, unread words.new)) result
         (disarm_at (names_of declared.now) (unread words.old)) }
-    ensures right { IfOk result (IsEventOf declared.now) }
+    ensures right { IfOk result (IsEventOfDeck declared.now) }
     ensures live { IfOk result IsLiveEvent }
 {
     let task = read_task(words, declared)?;

@@ -7,7 +7,7 @@ ghost use Rattle.rp_deck_declarations.specs.Declarations.{IsComplete};
 ghost use Rattle.rp_words.specs.LineFaults.{IsDeckFault, Reads};
 ghost use Rattle.rp_deck.specs.Live.{IsLiveCommand, IsTaken};
 ghost use Rattle.rp_words.specs.Reading.{Gives};
-ghost use Rattle.rp_deck.specs.Script.{IsRightCommand, IsRightLine, IsEventOf, IsStepDeclared, IsStepWithin, IsEventDeclared, IsEventWithin, IsCommandDeclared, IsMessage, FitsIn};
+ghost use Rattle.rp_deck.specs.Script.{IsRightCommand, IsRightLine, IsEventOfDeck, IsStepDeclared, IsStepWithin, IsEventDeclared, IsEventWithin, IsCommandDeclared, IsMessage, FitsIn};
 ghost use Rattle.rp_deck.specs.ScriptLines.{script_of, command_line, command_at, is_live, lose_at, last_at, message_at, lead_at, range_at, deliver_at, position_at, step_from, again_at, cut_at};
 ghost use Rattle.rp_deck_declarations.specs.DeclaredViews.{names_of};
 ghost use Rattle.rp_deck.specs.DeckViews.{command_text, line_command};
@@ -112,7 +112,7 @@ fn read_again(words: &mut Words<'_>, declared: &Declared) -> Result<Event, DeckR
     requires { IsComplete declared.now }
     ensures read { Gives (λ event. (event_of event, unread words.new)) result
         (again_at (names_of declared.now) (unread words.old)) }
-    ensures right { IfOk result (IsEventOf declared.now) }
+    ensures right { IfOk result (IsEventOfDeck declared.now) }
 {
     let task = read_task(words, declared)?;
     let node = read_node(words, declared.nodes)?;

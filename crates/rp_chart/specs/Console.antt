@@ -14,8 +14,7 @@ use Rattle.rp_output.specs.Endings.{RefusesAs, status_after}
 use Rattle.rp_output.specs.FaultMessage.{fault_message_of, with_line_feed}
 use Rattle.rp_output.specs.Stream.{Writes}
 use Rattle.rp_output.specs.declared.ending.Ending.{Ending}
-use Rattle.rp_script.specs.Faults.{IsBadDeck, IsProgramFault}
-use Rattle.rp_script.specs.Given.{IsMeant}
+use Rattle.rp_script.specs.Given.{FailsRun}
 
 -- the bytes that a stream has, if the contract of its type says which they are
 abbrev pub Content : Type 0
@@ -44,9 +43,7 @@ pub record DrawsAs (view : View) (given output output_after errors errors_after 
   pub drawn : Result Unit Fault
   pub drawing : OnOk drawn (DrawsScript view given output output_after)
   pub begun : OnErr drawn (DrawingBegins view given output output_after)
-  pub meant : IfErr drawn (IsMeant Script given)
-  pub bad : IfErr drawn (λ fault. IsBadDeck fault → output_after ≡ output)
-  pub fault : IfErr drawn IsProgramFault
+  pub fault : IfErr drawn (FailsRun Script given output output_after)
   pub status : ending.status ≡ status_after drawn
   pub reported : Writes errors errors_after (report_of drawn) ending.reported
   pub silent : report_of drawn ≡ [] → errors_after ≡ errors

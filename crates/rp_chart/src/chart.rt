@@ -4,8 +4,7 @@ ghost use Rattle.std.specs.Prelude.{◌≡◌, ◌+◌, ◌≤◌, IfErr, IfOk, 
 ghost use Rattle.indexmap.specs.IndexMap.{index_map_len};
 ghost use Rattle.rp_chart.specs.Charts.{DrawingBegins, DrawsScript, IsChartOf};
 ghost use Rattle.rp_deck.specs.Deck.{IsRightDeck};
-ghost use Rattle.rp_script.specs.Faults.{IsBadDeck, IsProgramFault};
-ghost use Rattle.rp_script.specs.Given.{IsMeant};
+ghost use Rattle.rp_script.specs.Given.{FailsRun};
 
 use indexmap::IndexMap;
 use rp_base::Fault;
@@ -39,10 +38,8 @@ pub fn draw_script<R: Read, W: Write>(
         (W.contents writer.old) (W.contents writer.new)) }
     ensures begun { OnErr result (DrawingBegins view (R.remaining reader.old)
         (W.contents writer.old) (W.contents writer.new)) }
-    ensures meant { IfErr result (IsMeant Mode.Script (R.remaining reader.old)) }
-    ensures bad { IfErr result (λ fault. IsBadDeck fault
-        → W.contents writer.new ≡ W.contents writer.old) }
-    ensures fault { IfErr result IsProgramFault }
+    ensures fault { IfErr result (FailsRun Mode.Script (R.remaining reader.old)
+        (W.contents writer.old) (W.contents writer.new)) }
 {
     let text = read_whole(alloc, reader)?;
     let deck = read_deck(alloc, &text, Mode::Script)?;

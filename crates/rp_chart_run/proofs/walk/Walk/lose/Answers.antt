@@ -7,7 +7,6 @@ use Rattle.rp_chart_run.specs.Charts.{IsCharted}
 use Rattle.rp_chart_run.specs.Happenings.{lose_happens}
 use Rattle.rp_chart_run.proofs.Charting.{charted_as}
 use Rattle.rp_chart_run.proofs.Happening.{are_lost, are_not_lost, lost_all, lost_more, lost_none, up_to_first, up_to_next}
-use Rattle.rp_run.proofs.Stepping.{always_ok}
 use Rattle.rp_chart_run.proofs.walk.Walk.lose.Goals as goal
 
 pub loop-number-init : goal.loop-number-init
@@ -59,9 +58,8 @@ returns-clause-charted g c = λ play happened follows charted.
     let low : first ≤ sent = omega arith in
     let high : last ≤ sent = omega arith in
     let past : last < number = omega (arith, c.loop-number.invariant.within) in
-    always_ok c.map.result
-    (subst (λ (l : List Happening). IsCharted m.next m.answers m.begin run.cluster run.chart l)
+    subst (λ (l : List Happening). IsCharted m.next m.answers m.begin run.cluster run.chart l)
     (ap (λ (l : List Happening). happened ++ l)
     (lost_all first last number c.requires.first c.loop-number.invariant.above past c.loop-number.invariant.within
     ∙ sym (are_lost first last play old.cluster.world old.settled follows low high)))
-    (c.loop-number.invariant.charted happened charted))
+    (c.loop-number.invariant.charted happened charted)

@@ -116,14 +116,16 @@ returns-in-Err-clause-charted g c = λ play happened follows charted.
     (ap (λ (h : Happening). happened ++ h ∷ []) (sym (event_refused s play event old.world c.args.self.now.settled follows c.in-Err.fault refused.refusal)))
     (c.refuse.ensures.charted happened kept)
 
-pub refuse-requires-clause-ways : goal.refuse-requires-clause-ways
-refuse-requires-clause-ways g c =
+pub refuse-requires : goal.refuse-requires
+refuse-requires g c =
     let m = g.M.Machine in
     let old = c.args.self.now.cluster in
     let s = run_setting m.next m.answers m.begin m.image old c.args.scene.now.options.now in
     let numbered : 5 ≤ code_of c.in-Err.fault = (c.is_refusal.ensures.0 c.if-is_refusal.true).0 in
     let refused = refused_of s.setting old.world c.step.new.self.world c.args.event.now c.in-Err.fault c.in-Err.ensures.step.world numbered in
     record {
-      drawable = c.requires.ways.drawable;
-      count = c.requires.ways.count ∙ sym (ap (λ (w : World). length w.sent) refused.unchanged);
+      ways = record {
+        drawable = c.requires.ways.drawable;
+        count = c.requires.ways.count ∙ sym (ap (λ (w : World). length w.sent) refused.unchanged);
+      };
     }

@@ -36,9 +36,9 @@ pub fn draw_script<R: Read, W: Write>(
     //   was written, or a prefix of that drawing
     ensures drawing { OnOk result (DrawsScript view (R.remaining reader.old)
         (W.contents writer.old) (W.contents writer.new)) }
-    ensures begun { OnErr result (DrawingBegins view (R.remaining reader.old)
-        (W.contents writer.old) (W.contents writer.new)) }
     ensures fault { IfErr result (FailsRun Mode.Script (R.remaining reader.old)
+        (W.contents writer.old) (W.contents writer.new)) }
+    ensures begun { OnErr result (DrawingBegins view (R.remaining reader.old)
         (W.contents writer.old) (W.contents writer.new)) }
 {
     let text = read_whole(alloc, reader)?;

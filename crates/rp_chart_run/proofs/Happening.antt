@@ -15,6 +15,7 @@ use Rattle.rp_model.specs.declared.event.Step.TheVariants.{Deliver}
 use Rattle.rp_run.specs.Output.{RunSetting, Play, command_said, effect_of, event_said, from_to, least_unsettled}
 use Rattle.rp_run.specs.Runs.{Follows}
 use Rattle.rp_run.specs.declared.settled.Settled.{Settled}
+use Rattle.rp_run.proofs.Among.{filter-following}
 use Rattle.rp_chart_run.specs.Happenings.{happening_of, event_happens, lose_happens, happens_from, drain_happens, command_happens, lines_happen}
 
 -- ---- an event
@@ -34,18 +35,6 @@ module _ {S : Type 0} (s : RunSetting S) (play : Play) (event : Event) (world : 
   event_refused fault is = at_play ∙ ap (λ (r : Result Transition Fault). happening_of event r) is
 
 -- ---- messages that are lost
-
-filter-following : (test : ℕ → Bool) (xs : List ℕ) (x : ℕ) → filter test (xs ++ x ∷ []) ≡ filter test xs ++ cond (test x) (x ∷ []) []
-filter-following test [] x = at (test x)
-  where
-    at : (b : Bool) → cond b (x ∷ []) [] ≡ cond b (x ∷ []) []
-    at b = refl
-filter-following test (y ∷ ys) x = at (test y) (filter-following test ys x)
-  where
-    at : (b : Bool) → filter test (ys ++ x ∷ []) ≡ filter test ys ++ cond (test x) (x ∷ []) []
-        → cond b (y ∷ filter test (ys ++ x ∷ [])) (filter test (ys ++ x ∷ [])) ≡ cond b (y ∷ filter test ys) (filter test ys) ++ cond (test x) (x ∷ []) []
-    at true e = ap (λ l. y ∷ l) e
-    at false e = e
 
 from_to_next : (first n : ℕ) (b : Bool) → nat_le first (suc n) ≡ b → from_to first (suc n) ≡ from_to first n ++ cond b (suc n ∷ []) []
 from_to_next first n b is =

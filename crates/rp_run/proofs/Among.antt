@@ -6,7 +6,7 @@ use Rattle.std.proofs.lemmas.Bool.Decides.{nat_tests}
 use Rattle.rp_machine.specs.Replay.{one_to}
 use Rattle.rp_run.specs.Output.{is_among, from_to}
 
-filter-following : (test : ℕ → Bool) (xs : List ℕ) (x : ℕ) → filter test (xs ++ x ∷ []) ≡ filter test xs ++ cond (test x) (x ∷ []) []
+pub filter-following : (test : ℕ → Bool) (xs : List ℕ) (x : ℕ) → filter test (xs ++ x ∷ []) ≡ filter test xs ++ cond (test x) (x ∷ []) []
 filter-following test [] x = at (test x)
   where
     at : (b : Bool) → cond b (x ∷ []) [] ≡ cond b (x ∷ []) []

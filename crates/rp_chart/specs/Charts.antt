@@ -2,7 +2,7 @@
 use Rattle.std.specs.Prelude.{◌≡◌, ◌⊎◌, ℕ, ◌+◌, false, Option, List}
 use Rattle.std.specs.Io.KnownBytes.{Appends}
 use Rattle.indexmap.specs.IndexMap.{index_map_len}
-use Rattle.rp_chart_run.specs.Happenings.{script_happens}
+use Rattle.rp_chart_run.specs.ScriptHistory.{script_happens}
 use Rattle.rp_deck.specs.declared.deck.Deck.{Deck}
 use Rattle.rp_deck.specs.declared.deck.Mode.TheVariants.{Script}
 use Rattle.rp_deck_declarations.specs.declared.deck_program.DeckProgram.{DeckProgram}

@@ -1,2 +1,2 @@
 pub mod Charting
-pub mod Happening
+pub mod ScriptHistory

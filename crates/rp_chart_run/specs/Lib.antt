@@ -1,2 +1,2 @@
-pub mod Happenings
+pub mod ScriptHistory
 pub mod Charts

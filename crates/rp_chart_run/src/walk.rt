@@ -2,10 +2,10 @@
 
 ghost use Rattle.std.specs.Prelude.{◌≡◌, ◌<◌, ◌≤◌, ◌^◌, List, [], ◌∷◌, ◌++◌, length, replicate, All, IfOk, OnOk, string_bytes};
 ghost use Rattle.rp_chart_run.specs.Charts.{HasWays, IsCharted};
-ghost use Rattle.rp_chart_run.specs.Happenings.{command_happens, drain_happens, event_happens, lose_happens, script_happens};
+ghost use Rattle.rp_chart_run.specs.ScriptHistory.{command_happens, drain_happens, event_happens, lose_happens, script_happens};
 ghost use Rattle.rp_deck.specs.Script.{FitsIn, IsEventWithin};
 ghost use Rattle.rp_drawing.specs.Ways.{IsEndingWithin};
-ghost use Rattle.rp_history.specs.Histories.{Happening, IsDrawingOf, loss_of, lost_of, MessageLost, NothingHappened};
+ghost use Rattle.rp_history.specs.Histories.{HistoryItem, IsDrawingOf, loss_of, lost_of, MessageLost, NothingHappened};
 ghost use Rattle.rp_run.specs.Output.{Play, event_said, lost, drained, command_said, run_said};
 ghost use Rattle.rp_run.specs.Runs.{run_setting, opening_setup, HasParts, Follows};
 ghost use Rattle.rp_world.specs.Steps.{IsSameSetup};
@@ -97,7 +97,7 @@ impl<M: Machine, D: CutDevice> Walk<M, D> {
             scene.now.options.now)
             scene.now.options.now.most line.now.number play line.now.command).play) }
         ensures ways { OnOk result (HasWays self.new.cluster self.new.chart) }
-        ensures charted { (play : Play) (happened : List Happening)
+        ensures charted { (play : Play) (happened : List HistoryItem)
             → Follows self.old.cluster.world self.old.settled play
             → IsCharted M.next M.answers M.begin self.old.cluster self.old.chart happened
             → OnOk result (IsCharted M.next M.answers M.begin self.new.cluster self.new.chart
@@ -130,7 +130,7 @@ impl<M: Machine, D: CutDevice> Walk<M, D> {
             scene.now.options.now)
             line play event.now).play) }
         ensures ways { OnOk result (HasWays self.new.cluster self.new.chart) }
-        ensures charted { (play : Play) (happened : List Happening)
+        ensures charted { (play : Play) (happened : List HistoryItem)
             → Follows self.old.cluster.world self.old.settled play
             → IsCharted M.next M.answers M.begin self.old.cluster self.old.chart happened
             → OnOk result (IsCharted M.next M.answers M.begin self.new.cluster self.new.chart
@@ -176,7 +176,7 @@ impl<M: Machine, D: CutDevice> Walk<M, D> {
         ensures settled { self.new.settled ≡ self.old.settled }
         ensures stage { self.new.chart.stage ≡ self.old.chart.stage }
         ensures ways { OnOk result (HasWays self.new.cluster self.new.chart) }
-        ensures charted { (happened : List Happening)
+        ensures charted { (happened : List HistoryItem)
             → IsCharted M.next M.answers M.begin self.old.cluster self.old.chart happened
             → OnOk result (IsCharted M.next M.answers M.begin self.new.cluster self.new.chart
             (happened ++ NothingHappened ∷ [])) }
@@ -201,7 +201,7 @@ impl<M: Machine, D: CutDevice> Walk<M, D> {
         ensures settled { self.new.settled ≡ self.old.settled }
         ensures stage { self.new.chart.stage ≡ self.old.chart.stage }
         ensures ways { OnOk result (HasWays self.new.cluster self.new.chart) }
-        ensures charted { (happened : List Happening)
+        ensures charted { (happened : List HistoryItem)
             → IsCharted M.next M.answers M.begin self.old.cluster self.old.chart happened
             → OnOk result (IsCharted M.next M.answers M.begin self.new.cluster self.new.chart
             (happened ++ loss_of lost ∷ [])) }
@@ -220,7 +220,7 @@ impl<M: Machine, D: CutDevice> Walk<M, D> {
             → OnOk result (Follows self.new.cluster.world self.new.settled
             (lost line play first last).play) }
         ensures ways { OnOk result (HasWays self.new.cluster self.new.chart) }
-        ensures charted { (play : Play) (happened : List Happening)
+        ensures charted { (play : Play) (happened : List HistoryItem)
             → Follows self.old.cluster.world self.old.settled play
             → IsCharted M.next M.answers M.begin self.old.cluster self.old.chart happened
             → OnOk result (IsCharted M.next M.answers M.begin self.new.cluster self.new.chart
@@ -245,7 +245,7 @@ impl<M: Machine, D: CutDevice> Walk<M, D> {
         ensures settled { self.new.settled ≡ self.old.settled }
         ensures stage { self.new.chart.stage ≡ self.old.chart.stage }
         ensures ways { OnOk result (HasWays self.new.cluster self.new.chart) }
-        ensures charted { (happened : List Happening)
+        ensures charted { (happened : List HistoryItem)
             → IsCharted M.next M.answers M.begin self.old.cluster self.old.chart happened
             → OnOk result (IsCharted M.next M.answers M.begin self.new.cluster self.new.chart
             (happened ++ MessageLost number ∷ [])) }
@@ -276,7 +276,7 @@ impl<M: Machine, D: CutDevice> Walk<M, D> {
             scene.now.options.now)
             line scene.now.options.now.most play).play) }
         ensures ways { OnOk result (HasWays self.new.cluster self.new.chart) }
-        ensures charted { (play : Play) (happened : List Happening)
+        ensures charted { (play : Play) (happened : List HistoryItem)
             → Follows self.old.cluster.world self.old.settled play
             → IsCharted M.next M.answers M.begin self.old.cluster self.old.chart happened
             → OnOk result (IsCharted M.next M.answers M.begin self.new.cluster self.new.chart
@@ -312,7 +312,7 @@ impl<M: Machine, D: CutDevice> Walk<M, D> {
         ensures settled { self.new.settled ≡ self.old.settled }
         ensures stage { self.new.chart.stage ≡ self.old.chart.stage }
         ensures ways { OnOk result (HasWays self.new.cluster self.new.chart) }
-        ensures charted { (happened : List Happening)
+        ensures charted { (happened : List HistoryItem)
             → IsCharted M.next M.answers M.begin self.old.cluster self.old.chart happened
             → OnOk result (IsCharted M.next M.answers M.begin self.new.cluster self.new.chart
             (happened ++ replicate scene.now.options.now.config.nodes NothingHappened)) }
@@ -331,7 +331,7 @@ impl<M: Machine, D: CutDevice> Walk<M, D> {
         ensures settled { self.new.settled ≡ self.old.settled }
         ensures stage { self.new.chart.stage ≡ self.old.chart.stage }
         ensures ways { OnOk result (HasWays self.new.cluster self.new.chart) }
-        ensures charted { (happened : List Happening)
+        ensures charted { (happened : List HistoryItem)
             → IsCharted M.next M.answers M.begin self.old.cluster self.old.chart happened
             → OnOk result (IsCharted M.next M.answers M.begin self.new.cluster self.new.chart
             (happened ++ NothingHappened ∷ [])) }

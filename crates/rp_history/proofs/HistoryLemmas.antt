@@ -12,7 +12,7 @@ use Rattle.rp_drawing.specs.declared.sketch.Sketch.{Sketch}
 use Rattle.rp_model.specs.Effect.{Setting}
 use Rattle.rp_model.specs.World.{World, opening_world, part_at}
 use Rattle.rp_model.specs.declared.event.Event.{Event}
-use Rattle.rp_history.specs.Histories.{Happening, HasMoment, HistoryStep, IsStepFrom, Leads, IsHistory, IsDrawable, IsSketchOf, ending_of, ending_at, ending_by, delivered_by, HappensBy, loss_of, lost_of}
+use Rattle.rp_history.specs.Histories.{HistoryItem, HasMoment, HistoryStep, IsStepFrom, Leads, IsHistory, IsDrawable, IsSketchOf, ending_of, ending_at, ending_by, delivered_by, HappensBy, loss_of, lost_of}
 use Rattle.rp_history.specs.Views.{sending_of}
 use Rattle.rp_history.specs.declared.stage.Stage.{Stage}
 
@@ -41,11 +41,11 @@ module _ {S : Type 0} (s : Setting S) (stage : Stage) where
   lead_more w [] last step lead is = (subst (λ (x : World). IsStepFrom s stage x step) lead is, refl)
   lead_more w (first ∷ rest) last step lead is = (lead.0, lead_more first.after rest last step lead.1 is)
 
-  history_more : (moments : List Moment) (so_far : List Happening) (last : World) (step : HistoryStep) → IsHistory s stage moments so_far last → IsStepFrom s stage last step
-      → IsHistory s stage (moments ++ step.moment ∷ []) (so_far ++ step.happening ∷ []) step.after
+  history_more : (moments : List Moment) (so_far : List HistoryItem) (last : World) (step : HistoryStep) → IsHistory s stage moments so_far last → IsStepFrom s stage last step
+      → IsHistory s stage (moments ++ step.moment ∷ []) (so_far ++ step.item ∷ []) step.after
   history_more moments so_far last step history is = record {
     steps = history.steps ++ step ∷ [];
-    happened_are = ap (λ (l : List Happening). l ++ step.happening ∷ []) history.happened_are ∙ sym (map-append (λ (x : HistoryStep). x.happening) history.steps (step ∷ []));
+    happened_are = ap (λ (l : List HistoryItem). l ++ step.item ∷ []) history.happened_are ∙ sym (map-append (λ (x : HistoryStep). x.item) history.steps (step ∷ []));
     moments_are = ap (λ (l : List Moment). l ++ step.moment ∷ []) history.moments_are ∙ sym (map-append (λ (x : HistoryStep). x.moment) history.steps (step ∷ []));
     leads = lead_more (opening_world s.config.nodes) history.steps last step history.leads is;
   }
@@ -64,19 +64,19 @@ drawable_now (Err fault) new ways down few = tt
 
 module _ {S : Type 0} (s : Setting S) (stage : Stage) (old new : Sketch) (moment : Moment) (before after : World) where
   -- all goes well, or nothing is promised
-  pub sketch_more : (answer : Result Unit Fault) (happened : List Happening) (happening : Happening) → OnOk answer (moments_of new ≡ moments_of old ++ moment ∷ [])
+  pub sketch_more : (answer : Result Unit Fault) (happened : List HistoryItem) (item : HistoryItem) → OnOk answer (moments_of new ≡ moments_of old ++ moment ∷ [])
       → OnOk answer (length new.ways.items ≡ moment.before + length moment.sends.items)
-      → IsStepFrom s stage before (record { moment = moment; happening = happening; after = after }) → length before.sent ≤ length after.sent
-      → IsSketchOf s stage old happened before → OnOk answer (IsDrawable new) → OnOk answer (IsSketchOf s stage new (happened ++ happening ∷ []) after)
-  sketch_more (Ok done) happened happening is count step grows so_far drawable =
+      → IsStepFrom s stage before (record { moment = moment; item = item; after = after }) → length before.sent ≤ length after.sent
+      → IsSketchOf s stage old happened before → OnOk answer (IsDrawable new) → OnOk answer (IsSketchOf s stage new (happened ++ item ∷ []) after)
+  sketch_more (Ok done) happened item is count step grows so_far drawable =
       let sends = ap length step.sends ∙ length-map (drop (length before.sent) after.sent) (sending_of stage) ∙ length-drop (length before.sent) after.sent in
       record {
-        history = subst (λ (l : List Moment). IsHistory s stage l (happened ++ happening ∷ []) after) (sym is)
-            (history_more s stage (moments_of old) happened before (record { moment = moment; happening = happening; after = after }) so_far.history step);
+        history = subst (λ (l : List Moment). IsHistory s stage l (happened ++ item ∷ []) after) (sym is)
+            (history_more s stage (moments_of old) happened before (record { moment = moment; item = item; after = after }) so_far.history step);
         drawable = drawable;
         count = omega (arith, count, sends, step.before, grows);
       }
-  sketch_more (Err fault) happened happening is count step grows so_far drawable = tt
+  sketch_more (Err fault) happened item is count step grows so_far drawable = tt
 
 -- what is added is a moment under this label
 pub moment_now : (answer : Result Unit Fault) (stage : Stage) (old new : Sketch) (moment : Moment) (packets : List Message) (ending : Option Ending) (label : Label)

@@ -84,26 +84,26 @@ lost_of (Some number) = Some (record { message = number; end = Lost })
 
 -- What happened in a moment: an event, the loss of the message of this number, or nothing, as where
 -- a line was refused or a node was shown.
-pub data Happening : Type 0 where
-  EventHappened : Event → Happening
-  MessageLost : ℕ → Happening
-  NothingHappened : Happening
+pub data HistoryItem : Type 0 where
+  EventHappened : Event → HistoryItem
+  MessageLost : ℕ → HistoryItem
+  NothingHappened : HistoryItem
 
 -- a message was lost, or nothing happened
-abbrev pub loss_of : Option ℕ → Happening
+abbrev pub loss_of : Option ℕ → HistoryItem
 loss_of None = NothingHappened
 loss_of (Some number) = MessageLost number
 
 -- A step of a history: a moment, what happened in it, and the world after it.
 pub record HistoryStep : Type 0 where
   pub moment : Moment
-  pub happening : Happening
+  pub item : HistoryItem
   pub after : World
 
 module _ {S : Type 0} (s : Setting S) (stage : Stage) where
   -- An event leads to the world after it, and ends the way of the message that it delivered. The
   -- loss of a message ends that message's way. Neither a loss nor nothing changes the world.
-  abbrev pub HappensBy : World → Happening → World → Option Ending → Type 0
+  abbrev pub HappensBy : World → HistoryItem → World → Option Ending → Type 0
   HappensBy w (EventHappened event) after ending =
       ResultsIn s w (event_of event) after × (ending ≡ ending_by w event)
   HappensBy w (MessageLost number) after ending = (after ≡ w) × (ending ≡ lost_of (Some number))
@@ -114,7 +114,7 @@ module _ {S : Type 0} (s : Setting S) (stage : Stage) where
     pub before : step.moment.before ≡ length w.sent
     pub sends : step.moment.sends.items
         ≡ map (sending_of stage) (drop (length w.sent) step.after.sent)
-    pub happens : HappensBy w step.happening step.after step.moment.ending
+    pub happens : HappensBy w step.item step.after step.moment.ending
 
   -- steps lead from one world to another
   abbrev pub Leads : World → List HistoryStep → World → Type 0
@@ -123,11 +123,11 @@ module _ {S : Type 0} (s : Setting S) (stage : Stage) where
 
   -- The moments are those of the history in which this happened, in this order: it leads from the
   -- opening world to this one.
-  pub record IsHistory (moments : List Moment) (happened : List Happening) (last : World)
+  pub record IsHistory (moments : List Moment) (happened : List HistoryItem) (last : World)
       : Type 0 where
     pub steps : List HistoryStep
     pub moments_are : moments ≡ map (λ step. step.moment) steps
-    pub happened_are : happened ≡ map (λ step. step.happening) steps
+    pub happened_are : happened ≡ map (λ step. step.item) steps
     pub leads : Leads (opening_world s.config.nodes) steps last
 
 -- Each message has its way in the sketch, none of them upwards.
@@ -150,7 +150,7 @@ pub record HasMoment (stage : Stage) (old new : Sketch) (packets : List Message)
 -- The sketch is that of the history in which this happened, which leads to this world, and each
 -- message of the history has its way.
 pub record IsSketchOf {S : Type 0} (s : Setting S) (stage : Stage) (sketch : Sketch)
-    (happened : List Happening) (last : World)
+    (happened : List HistoryItem) (last : World)
     : Type 0 where
   pub history : IsHistory s stage (moments_of sketch) happened last
   pub drawable : IsDrawable sketch
@@ -160,7 +160,7 @@ pub record IsSketchOf {S : Type 0} (s : Setting S) (stage : Stage) (sketch : Ske
 -- world. It has the ways of the messages of that history as its arrows, and no others, each from
 -- the moment in which the message was sent down to the one in which it was settled.
 pub record IsDrawingOf {S : Type 0} (s : Setting S) (stage : Stage) (lanes : ℕ)
-    (happened : List Happening) (last : World) (text : List ℕ)
+    (happened : List HistoryItem) (last : World) (text : List ℕ)
     : Type 0 where
   pub sketch : Sketch
   pub sketched : IsSketchOf s stage sketch happened last

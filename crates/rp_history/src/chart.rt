@@ -2,7 +2,7 @@
 
 ghost use Rattle.std.specs.Prelude.{◌≡◌, ◌≤◌, ◌+◌, List, [], ◌∷◌, ◌++◌, length, drop, IfErr, IfOk, OnOk, string_bytes};
 ghost use Rattle.rp_drawing.specs.Drawings.{page_text};
-ghost use Rattle.rp_history.specs.Histories.{ending_by, EventHappened, Happening, HasMoment, IsDrawable, IsDrawingOf, IsSketchOf, loss_of, lost_of};
+ghost use Rattle.rp_history.specs.Histories.{ending_by, EventHappened, HistoryItem, HasMoment, IsDrawable, IsDrawingOf, IsSketchOf, loss_of, lost_of};
 ghost use Rattle.rp_drawing.specs.Ways.{IsEndingWithin};
 ghost use Rattle.rp_model.specs.Answers.{ResultsIn};
 ghost use Rattle.rp_model.specs.Effect.{Setting};
@@ -58,7 +58,7 @@ impl Chart {
         //   stopped node, not heard
         ensures moment { OnOk result (HasMoment self.old.stage self.old.sketch self.new.sketch
             packets.now ending label) }
-        ensures happened { (s : Setting M) (so_far : List Happening) (before after : World)
+        ensures happened { (s : Setting M) (so_far : List HistoryItem) (before after : World)
             (event : Event) → IsSketchOf s self.old.stage self.old.sketch so_far before
             → ResultsIn s before (event_of event) after
             → packets.now ≡ drop (length before.sent) after.sent
@@ -96,7 +96,7 @@ impl Chart {
         //   the last thing that happened in the history; else nothing is
         ensures moment { OnOk result (HasMoment self.old.stage self.old.sketch self.new.sketch
             [] (lost_of lost) label) }
-        ensures stays { (s : Setting M) (so_far : List Happening) (world : World)
+        ensures stays { (s : Setting M) (so_far : List HistoryItem) (world : World)
             → IsSketchOf s self.old.stage self.old.sketch so_far world
             → OnOk result (IsSketchOf s self.new.stage self.new.sketch
             (so_far ++ loss_of lost ∷ []) world) }
@@ -131,7 +131,7 @@ impl Chart {
         //   lanes that were given. Only `OutOfMemory` is returned in its place
         ensures page { IfOk result (λ text. string_bytes text
             ≡ page_text lanes.now self.now.sketch) }
-        ensures drawn { (s : Setting M) (happened : List Happening) (last : World)
+        ensures drawn { (s : Setting M) (happened : List HistoryItem) (last : World)
             → IsSketchOf s self.now.stage self.now.sketch happened last
             → IfOk result (λ text. IsDrawingOf s self.now.stage (length lanes.now) happened last
             (string_bytes text)) }

@@ -10,9 +10,9 @@ use Rattle.rp_history.specs.declared.stage.Stage.{Stage}
 use Rattle.rp_run.proofs.RunParts.{sets_out, ends, no_line, line_goes_on}
 use Rattle.rp_run.proofs.Stepping.{same_setting, same_trans, opening_parts}
 use Rattle.rp_world.specs.Steps.{setting_of}
-use Rattle.rp_chart_run.specs.Happenings.{command_happens, lines_happen, script_happens}
+use Rattle.rp_chart_run.specs.ScriptHistory.{command_happens, lines_happen, script_happens}
 use Rattle.rp_chart_run.proofs.Charting.{one_setting, goes_on as chart_goes_on, ends as chart_ends}
-use Rattle.rp_chart_run.proofs.Happening.{next_line, no_line as none_left}
+use Rattle.rp_chart_run.proofs.ScriptHistory.{next_line, no_line as none_left}
 use Rattle.rp_chart_run.proofs.walk.draw_lines.Goals as goal
 
 pub loop-line-init : goal.loop-line-init

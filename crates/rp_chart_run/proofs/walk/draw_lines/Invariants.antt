@@ -4,7 +4,7 @@ use Rattle.rp_run.specs.Runs.{HasParts, opening_setup, run_setting}
 use Rattle.rp_run.proofs.RunParts.{Underway}
 use Rattle.rp_world.specs.Steps.{IsSameSetup}
 use Rattle.rp_chart_run.specs.Charts.{HasWays}
-use Rattle.rp_chart_run.specs.Happenings.{lines_happen, script_happens}
+use Rattle.rp_chart_run.specs.ScriptHistory.{lines_happen, script_happens}
 use Rattle.rp_chart_run.proofs.Charting.{Underway as ChartUnderway}
 use Rattle.rp_chart_run.proofs.walk.draw_lines.Given as goal
 

@@ -9,9 +9,9 @@ use Rattle.rp_run.specs.Runs.{run_setting}
 use Rattle.rp_run.proofs.LeastUnsettled.{least_is_left, none_is_left}
 use Rattle.rp_run.proofs.RunParts.{Underway, sets_out, goes_on, ends, ends_by, says_by, drained_none, drained_full, drained_more}
 use Rattle.rp_run.proofs.Stepping.{same_setting, same_trans}
-use Rattle.rp_chart_run.specs.Happenings.{drain_happens, event_happens}
+use Rattle.rp_chart_run.specs.ScriptHistory.{drain_happens, event_happens}
 use Rattle.rp_chart_run.proofs.Charting.{Underway as ChartUnderway, goes_on as chart_goes_on, ends as chart_ends, ends_by as chart_ends_by, follows_of, writes_none}
-use Rattle.rp_chart_run.proofs.Happening.{drain_none, drain_full, drain_more}
+use Rattle.rp_chart_run.proofs.ScriptHistory.{drain_none, drain_full, drain_more}
 use Rattle.rp_chart_run.proofs.walk.Walk.drain.Goals as goal
 
 pub loop-delivered-init : goal.loop-delivered-init

@@ -1,11 +1,11 @@
 use Rattle.std.proofs.Common.{◌≡◌, ◌-◌, None, List, ◌++◌}
-use Rattle.rp_history.specs.Histories.{Happening}
+use Rattle.rp_history.specs.Histories.{HistoryItem}
 use Rattle.rp_run.specs.Output.{Play, drained}
 use Rattle.rp_run.specs.Runs.{HasParts, Follows, run_setting}
 use Rattle.rp_run.proofs.RunParts.{Underway}
 use Rattle.rp_world.specs.Steps.{IsSameSetup}
 use Rattle.rp_chart_run.specs.Charts.{HasWays, IsCharted}
-use Rattle.rp_chart_run.specs.Happenings.{drain_happens}
+use Rattle.rp_chart_run.specs.ScriptHistory.{drain_happens}
 use Rattle.rp_chart_run.proofs.Charting.{Underway as ChartUnderway}
 use Rattle.rp_chart_run.proofs.walk.Walk.drain.Given as goal
 
@@ -22,7 +22,7 @@ invariant-loop-delivered g l =
       so_far : (play : Play) → Follows l.fn.self.cluster.world l.fn.self.settled play
           → Underway l.self.cluster.world l.self.settled None None (drained s l.line most play) (λ now. drained s l.line (most - l.delivered) now);
       ways : HasWays l.self.cluster l.self.chart;
-      charted : (play : Play) (happened : List Happening) → Follows l.fn.self.cluster.world l.fn.self.settled play
+      charted : (play : Play) (happened : List HistoryItem) → Follows l.fn.self.cluster.world l.fn.self.settled play
           → IsCharted m.next m.answers m.begin l.fn.self.cluster l.fn.self.chart happened
           → ChartUnderway m.next m.answers m.begin l.self.cluster l.self.settled l.self.chart (happened ++ drain_happens s l.line most play) (λ now. drain_happens s l.line (most - l.delivered) now);
     }

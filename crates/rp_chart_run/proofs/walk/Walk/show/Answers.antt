@@ -1,7 +1,7 @@
 -- One node more, or the end.
 use Rattle.std.proofs.Common.{◌≡◌, ◌∙◌, ℕ, ◌+◌, ◌≤◌, List, [], ◌∷◌, ◌++◌, replicate, arith, refl, sym, ap, subst, append_assoc, append-nil}
 use Rattle.std.proofs.lemmas.List.{replicate_more}
-use Rattle.rp_history.specs.Histories.{Happening, NothingHappened}
+use Rattle.rp_history.specs.Histories.{HistoryItem, NothingHappened}
 use Rattle.rp_chart_run.specs.Charts.{IsCharted}
 use Rattle.rp_chart_run.proofs.walk.Walk.show.Goals as goal
 
@@ -15,7 +15,7 @@ loop-place-init g c =
       settled = refl;
       stage = refl;
       ways = c.requires.ways;
-      charted = λ happened charted. subst (λ (l : List Happening). IsCharted m.next m.answers m.begin run.cluster run.chart l) (sym (append-nil happened)) charted;
+      charted = λ happened charted. subst (λ (l : List HistoryItem). IsCharted m.next m.answers m.begin run.cluster run.chart l) (sym (append-nil happened)) charted;
     }
 
 pub loop-place-preserved : goal.loop-place-preserved
@@ -30,8 +30,8 @@ loop-place-preserved g c =
       stage = c.show_node.ensures.stage ∙ c.loop-place.invariant.stage;
       ways = c.in_ok-show_node.ensures.ways;
       charted = λ happened charted.
-          subst (λ (l : List Happening). IsCharted m.next m.answers m.begin shown.cluster shown.chart l)
-          (append_assoc happened (replicate place NothingHappened) (NothingHappened ∷ []) ∙ ap (λ (l : List Happening). happened ++ l) (replicate_more place NothingHappened))
+          subst (λ (l : List HistoryItem). IsCharted m.next m.answers m.begin shown.cluster shown.chart l)
+          (append_assoc happened (replicate place NothingHappened) (NothingHappened ∷ []) ∙ ap (λ (l : List HistoryItem). happened ++ l) (replicate_more place NothingHappened))
           (c.in_ok-show_node.ensures.charted (happened ++ replicate place NothingHappened) (c.loop-place.invariant.charted happened charted));
     }
 

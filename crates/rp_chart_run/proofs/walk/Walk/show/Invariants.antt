@@ -1,5 +1,5 @@
 use Rattle.std.proofs.Common.{◌≡◌, ◌≤◌, List, ◌++◌, replicate}
-use Rattle.rp_history.specs.Histories.{Happening, NothingHappened}
+use Rattle.rp_history.specs.Histories.{HistoryItem, NothingHappened}
 use Rattle.rp_chart_run.specs.Charts.{HasWays, IsCharted}
 use Rattle.rp_chart_run.proofs.walk.Walk.show.Given as goal
 
@@ -13,6 +13,6 @@ invariant-loop-place g l =
       settled : l.self.settled ≡ l.fn.self.settled;
       stage : l.self.chart.stage ≡ l.fn.self.chart.stage;
       ways : HasWays l.self.cluster l.self.chart;
-      charted : (happened : List Happening) → IsCharted m.next m.answers m.begin l.fn.self.cluster l.fn.self.chart happened
+      charted : (happened : List HistoryItem) → IsCharted m.next m.answers m.begin l.fn.self.cluster l.fn.self.chart happened
           → IsCharted m.next m.answers m.begin l.self.cluster l.self.chart (happened ++ replicate l.place NothingHappened);
     }

@@ -4,7 +4,7 @@ use Rattle.std.proofs.lemmas.List.{length-drop}
 use Rattle.rp_base.specs.Fault.{code_of}
 use Rattle.rp_drawing.specs.Ways.{IsEndingWithin}
 use Rattle.rp_drawing.specs.declared.sketch.Ending.{Ending}
-use Rattle.rp_history.specs.Histories.{Happening, EventHappened, NothingHappened, IsSketchOf}
+use Rattle.rp_history.specs.Histories.{HistoryItem, EventHappened, NothingHappened, IsSketchOf}
 use Rattle.rp_history.proofs.HistoryLemmas.{ending_within}
 use Rattle.rp_model.specs.Events.{event_of}
 use Rattle.rp_model.specs.World.{World}
@@ -13,9 +13,9 @@ use Rattle.rp_run.specs.Runs.{run_setting}
 use Rattle.rp_run.proofs.Taken.{settled_alike}
 use Rattle.rp_run.proofs.RunParts.{happened, was_refused}
 use Rattle.rp_run.proofs.Stepping.{always_ok, parts_stay, refused_of}
-use Rattle.rp_chart_run.specs.Happenings.{event_happens}
+use Rattle.rp_chart_run.specs.ScriptHistory.{event_happens}
 use Rattle.rp_chart_run.proofs.Charting.{charted_as, charted_by, follows_of, has_ways, writes_none}
-use Rattle.rp_chart_run.proofs.Happening.{event_happened, event_refused}
+use Rattle.rp_chart_run.proofs.ScriptHistory.{event_happened, event_refused}
 use Rattle.rp_chart_run.proofs.walk.Walk.step.Goals as goal
 
 pub packets_from-requires-clause-low : goal.packets_from-requires-clause-low
@@ -81,7 +81,7 @@ returns-in_ok-packets-in-Ok-clause-charted g c = λ play happened follows charte
     let done = c.in-Ok.ensures.step.world in
     let place : c.in-Ok.effect.first - 1 ≡ length old.world.sent = omega (arith, done.describes.first) in
     charted_as m.next m.answers m.begin new c.happen.new.self (happened ++ EventHappened event ∷ []) (happened ++ event_happens s play event ∷ []) c.happen.result
-    (ap (λ (h : Happening). happened ++ h ∷ []) (sym (event_happened s play event old.world c.args.self.now.settled follows done.transition done.resulted)))
+    (ap (λ (h : HistoryItem). happened ++ h ∷ []) (sym (event_happened s play event old.world c.args.self.now.settled follows done.transition done.resulted)))
     (charted_by m.next m.answers m.begin old new c.happen.new.self (happened ++ EventHappened event ∷ []) c.happen.result c.in-Ok.ensures.step.setup
     (c.happen.ensures.happened s.setting happened old.world new.world event charted
     (record { transition = done.transition; effect = done.resulted; world = done.world })
@@ -113,7 +113,7 @@ returns-in-Err-clause-charted g c = λ play happened follows charted.
     let kept = charted_by m.next m.answers m.begin old left chart happened (Ok tt) c.in-Err.ensures.step.setup
     (subst (λ (w : World). IsSketchOf s.setting chart.stage chart.sketch happened w) (sym refused.unchanged) charted) in
     charted_as m.next m.answers m.begin c.refuse.new.self.cluster c.refuse.new.self.chart (happened ++ NothingHappened ∷ []) (happened ++ event_happens s play event ∷ []) c.refuse.result
-    (ap (λ (h : Happening). happened ++ h ∷ []) (sym (event_refused s play event old.world c.args.self.now.settled follows c.in-Err.fault refused.refusal)))
+    (ap (λ (h : HistoryItem). happened ++ h ∷ []) (sym (event_refused s play event old.world c.args.self.now.settled follows c.in-Err.fault refused.refusal)))
     (c.refuse.ensures.charted happened kept)
 
 pub refuse-requires : goal.refuse-requires

@@ -5,7 +5,7 @@ use Rattle.std.proofs.lemmas.Bool.Decides.{nat_tests}
 use Rattle.std.proofs.lemmas.List.{drop_more, drop_all, map-append}
 use Rattle.rp_base.specs.declared.fault.Fault.{Fault}
 use Rattle.rp_deck.specs.declared.deck.Line.{Line}
-use Rattle.rp_history.specs.Histories.{Happening, EventHappened, MessageLost, NothingHappened}
+use Rattle.rp_history.specs.Histories.{HistoryItem, EventHappened, MessageLost, NothingHappened}
 use Rattle.rp_machine.specs.Replay.{one_to}
 use Rattle.rp_model.specs.Events.{event_of}
 use Rattle.rp_model.specs.World.{World, Transition, event_effect}
@@ -16,23 +16,23 @@ use Rattle.rp_run.specs.Output.{RunSetting, Play, command_said, effect_of, event
 use Rattle.rp_run.specs.Runs.{Follows}
 use Rattle.rp_run.specs.declared.settled.Settled.{Settled}
 use Rattle.rp_run.proofs.Among.{filter-following}
-use Rattle.rp_chart_run.specs.Happenings.{happening_of, event_happens, lose_happens, happens_from, drain_happens, command_happens, lines_happen}
+use Rattle.rp_chart_run.specs.ScriptHistory.{item_of, event_happens, lose_happens, happens_from, drain_happens, command_happens, lines_happen}
 
 -- ---- an event
 
 module _ {S : Type 0} (s : RunSetting S) (play : Play) (event : Event) (world : World) (settled : Settled) (follows : Follows world settled play) where
-  event_is : event_happens s play event ≡ happening_of event (effect_of s play.world event)
+  event_is : event_happens s play event ≡ item_of event (effect_of s play.world event)
   unfolding event_happens
   event_is = refl
 
-  at_play : event_happens s play event ≡ happening_of event (event_effect s.setting world (event_of event))
-  at_play = event_is ∙ ap (λ (w : World). happening_of event (event_effect s.setting w (event_of event))) (sym follows.world_is)
+  at_play : event_happens s play event ≡ item_of event (event_effect s.setting world (event_of event))
+  at_play = event_is ∙ ap (λ (w : World). item_of event (event_effect s.setting w (event_of event))) (sym follows.world_is)
 
   pub event_happened : (transition : Transition) → event_effect s.setting world (event_of event) ≡ Ok transition → event_happens s play event ≡ EventHappened event
-  event_happened transition is = at_play ∙ ap (λ (r : Result Transition Fault). happening_of event r) is
+  event_happened transition is = at_play ∙ ap (λ (r : Result Transition Fault). item_of event r) is
 
   pub event_refused : (fault : Fault) → event_effect s.setting world (event_of event) ≡ Err fault → event_happens s play event ≡ NothingHappened
-  event_refused fault is = at_play ∙ ap (λ (r : Result Transition Fault). happening_of event r) is
+  event_refused fault is = at_play ∙ ap (λ (r : Result Transition Fault). item_of event r) is
 
 -- ---- messages that are lost
 
@@ -95,7 +95,7 @@ module _ (first last : ℕ) (play : Play) (world : World) (settled : Settled) (f
   sent_is = ap (λ (w : World). length w.sent) follows.world_is
 
   -- all of them were sent
-  all_sent : (one other : Bool) (there here : List Happening) → one ≡ nat_le first (length play.world.sent) → other ≡ nat_le last (length play.world.sent)
+  all_sent : (one other : Bool) (there here : List HistoryItem) → one ≡ nat_le first (length play.world.sent) → other ≡ nat_le last (length play.world.sent)
       → first ≤ length play.world.sent → last ≤ length play.world.sent → cond (one && other) there here ≡ there
   all_sent true true there here first_is last_is from to = refl
   all_sent true false there here first_is last_is from to = absurd (grind (arith, nat_tests, last_is, to))
@@ -108,7 +108,7 @@ module _ (first last : ℕ) (play : Play) (world : World) (settled : Settled) (f
       all_sent (nat_le first (length play.world.sent)) (nat_le last (length play.world.sent)) (map MessageLost (from_to first last)) (NothingHappened ∷ []) refl refl low high
 
   -- one was not
-  one_unsent : (one other : Bool) (there here : List Happening) → one ≡ nat_le first (length play.world.sent) → other ≡ nat_le last (length play.world.sent)
+  one_unsent : (one other : Bool) (there here : List HistoryItem) → one ≡ nat_le first (length play.world.sent) → other ≡ nat_le last (length play.world.sent)
       → (length play.world.sent < first) ⊎ (length play.world.sent < last) → cond (one && other) there here ≡ here
   one_unsent true true there here first_is last_is (inl above) = absurd (grind (arith, nat_tests, first_is, above))
   one_unsent true true there here first_is last_is (inr above) = absurd (grind (arith, nat_tests, last_is, above))

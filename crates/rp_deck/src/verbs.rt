@@ -26,23 +26,37 @@ const VERBS: [(&[u8], Verb); 15] = [
 ];
 
 /// The first word of a line of the script.
-#[derive(Clone, Copy)]
+#[derive(Clone, Copy, Debug)]
 pub enum Verb {
+    /// A task calls an operation of an object.
     Call,
+    /// A task sets a timing event.
     Arm,
+    /// A task cancels a timing event.
     Disarm,
+    /// A task sends its outstanding call again.
     Again,
+    /// A node leads at a position.
     Lead,
+    /// A node leads at a range of positions.
     Range,
+    /// A message is delivered.
     Deliver,
+    /// Messages are lost.
     Lose,
+    /// All messages that are not settled are delivered, and those that this sends.
     Drain,
+    /// A node stops.
     Stop,
+    /// A node starts again from its device.
     Restart,
+    /// A node stops within a step.
     Cut,
-    /// `irq`
+    /// `irq`: a node notes an interrupt.
     Interrupt,
+    /// A node notes a tick of the clock.
     Tick,
+    /// The state of each node that runs is printed.
     Show,
 }
 

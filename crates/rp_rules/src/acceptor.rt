@@ -13,6 +13,7 @@ use rp_base::{
     AcceptAnswer, Action, Ballot, NodeId, Position, PositionRange, PrepareAnswer,
     last_votes_lie_below, range_votes_are_reported,
 };
+use rp_codec::Header;
 use rp_machine::Machine;
 use rp_model::Dropped;
 use rp_server::Server;
@@ -24,25 +25,26 @@ pub(crate) fn on_prepare<M: Machine>(
     from: NodeId,
     position: Position,
     ballot: Ballot,
-) -> Plan
+    plan: &mut Plan,
+)
     requires place { position ≤ server.now.config.max_positions }
-    ensures turn { turn_of M.next M.answers server.now result
+    ensures turn { turn_of M.next M.answers server.now plan.new
         ≡ on_prepare server.now.me server.now.records server.now.running from position ballot }
-    ensures may { MayCommit server.now result }
+    ensures may { MayCommit server.now plan.new }
 {
     last_votes_lie_below();
     server.has_right_records();
     match server.prepare(position, ballot) {
         PrepareAnswer::Promise { last, rec: _ } => {
-            Plan::Promise(server.header_to(from, position, ballot), last)
+            *plan = Plan::Promise(server.header_to(from, position, ballot), last);
         }
-        PrepareAnswer::Nack(bound) => Plan::Refuse {
+        PrepareAnswer::Nack(bound) => *plan = Plan::Refuse {
             to: from,
             position,
             ballot,
             bound,
         },
-        PrepareAnswer::Silent => Plan::Pass(Dropped::No),
+        PrepareAnswer::Silent => *plan = Plan::Pass(Dropped::No),
     }
 }
 
@@ -81,29 +83,31 @@ pub(crate) fn on_prepare_range<M: Machine>(
 #[inline(always)]
 pub(crate) fn on_accept<M: Machine>(
     server: &Server<M>,
-    from: NodeId,
-    position: Position,
-    ballot: Ballot,
+    header: &Header,
     action: &Action,
-) -> Plan
-    requires place { position ≤ server.now.config.max_positions }
+    plan: &mut Plan,
+)
+    requires place { header.now.position ≤ server.now.config.max_positions }
     requires right { IsRight action.now }
-    ensures turn { turn_of M.next M.answers server.now result
+    ensures turn { turn_of M.next M.answers server.now plan.new
         ≡ on_accept server.now.me server.now.records server.now.running
-        from position ballot action.now }
-    ensures may { MayCommit server.now result }
+        header.now.from header.now.position header.now.ballot action.now }
+    ensures may { MayCommit server.now plan.new }
 {
-    match server.accept(position, ballot, action) {
+    match server.accept(header.position, header.ballot, action) {
         AcceptAnswer::Vote { rec: _vote } => {
-            Plan::Vote(server.header_to(from, position, ballot), *action)
+            let answer = server.header_to(header.from, header.position, header.ballot);
+            *plan = Plan::Vote(answer, *action);
         }
-        AcceptAnswer::Again => Plan::Repeat(from, position, ballot, *action),
-        AcceptAnswer::Nack(bound) => Plan::Refuse {
-            to: from,
-            position,
-            ballot,
+        AcceptAnswer::Again => {
+            *plan = Plan::Repeat(header.from, header.position, header.ballot, *action);
+        }
+        AcceptAnswer::Nack(bound) => *plan = Plan::Refuse {
+            to: header.from,
+            position: header.position,
+            ballot: header.ballot,
             bound,
         },
-        AcceptAnswer::Silent => Plan::Pass(Dropped::No),
+        AcceptAnswer::Silent => *plan = Plan::Pass(Dropped::No),
     }
 }

@@ -88,11 +88,12 @@ fn on_lead_unprepared<M: Machine>(server: &Server<M>, position: Position) -> Res
 
 /// A `Promise` comes from one of the nodes, with a right vote.
 #[inline(always)]
-pub(crate) fn on_promise<M: Machine>(server: &Server<M>, promise: CountedPromise) -> Plan
+pub(crate) fn on_promise<M: Machine>(server: &Server<M>, promise: CountedPromise, plan: &mut Plan)
     requires may { MayCount server.now promise }
-    ensures turn { turn_of M.next M.answers server.now result ≡ on_promise server.now.config.nodes
-        server.now.me server.now.running promise.from promise.position promise.ballot promise.last }
-    ensures may { MayCommit server.now result }
+    ensures turn { turn_of M.next M.answers server.now plan.new
+        ≡ on_promise server.now.config.nodes server.now.me server.now.running
+        promise.from promise.position promise.ballot promise.last }
+    ensures may { MayCommit server.now plan.new }
 {
     let CountedPromise {
         from,
@@ -101,8 +102,8 @@ pub(crate) fn on_promise<M: Machine>(server: &Server<M>, promise: CountedPromise
         last,
     } = promise;
     match server.promise(from, position, ballot, last) {
-        Progress::Offer(action) => Plan::Offer(promise, action),
-        Progress::Waiting => Plan::CountPromise(promise),
-        Progress::Stale => Plan::Pass(Dropped::No),
+        Progress::Offer(action) => *plan = Plan::Offer(promise, action),
+        Progress::Waiting => *plan = Plan::CountPromise(promise),
+        Progress::Stale => *plan = Plan::Pass(Dropped::No),
     }
 }

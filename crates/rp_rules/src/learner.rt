@@ -10,7 +10,8 @@ ghost use Rattle.rp_rules.specs.Plans.{turn_of, MayCommit};
 ghost use Rattle.rp_server.specs.Status.{status_of};
 
 use crate::plan::Plan;
-use rp_base::{Action, Ballot, NodeId, Position, Vote};
+use rp_base::{Action, NodeId, Position, Vote};
+use rp_codec::Header;
 use rp_learner::VoteStatus;
 use rp_machine::Machine;
 use rp_model::Dropped;
@@ -32,29 +33,29 @@ pub(crate) fn on_ask<M: Machine>(server: &Server<M>, from: NodeId, position: Pos
 #[inline(always)]
 pub(crate) fn on_accepted<M: Machine>(
     server: &Server<M>,
-    from: NodeId,
-    position: Position,
-    ballot: Ballot,
+    header: &Header,
     action: &Action,
-) -> Plan
-    requires sender { from ≤ server.now.config.nodes }
-    requires place { IsPosition position × (position ≤ server.now.config.max_positions) }
+    plan: &mut Plan,
+)
+    requires sender { header.now.from ≤ server.now.config.nodes }
+    requires place { IsPosition header.now.position
+        × (header.now.position ≤ server.now.config.max_positions) }
     requires right { IsRight action.now }
-    ensures turn { turn_of M.next M.answers server.now result ≡ on_accepted M.next M.answers
+    ensures turn { turn_of M.next M.answers server.now plan.new ≡ on_accepted M.next M.answers
         server.now.begin server.now.config.nodes server.now.me server.now.records server.now.running
-        from position (vote_for ballot action.now) }
-    ensures may { MayCommit server.now result }
+        header.now.from header.now.position (vote_for header.now.ballot action.now) }
+    ensures may { MayCommit server.now plan.new }
 {
-    match server.status(from, position, ballot, action) {
-        VoteStatus::Known | VoteStatus::Beyond => Plan::Pass(Dropped::No),
+    match server.status(header.from, header.position, header.ballot, action) {
+        VoteStatus::Known | VoteStatus::Beyond => *plan = Plan::Pass(Dropped::No),
         VoteStatus::Counting => {
             let vote = Vote {
-                ballot,
+                ballot: header.ballot,
                 action: *action,
             };
-            Plan::CountVote(from, position, vote)
+            *plan = Plan::CountVote(header.from, header.position, vote);
         }
-        VoteStatus::Learned => Plan::Learn(position, *action),
+        VoteStatus::Learned => *plan = Plan::Learn(header.position, *action),
     }
 }
 
@@ -65,17 +66,18 @@ pub(crate) fn on_decided<M: Machine>(
     from: NodeId,
     position: Position,
     action: &Action,
-) -> Plan
+    plan: &mut Plan,
+)
     requires place { position ≤ server.now.config.max_positions }
     requires right { IsRight action.now }
-    ensures turn { turn_of M.next M.answers server.now result
+    ensures turn { turn_of M.next M.answers server.now plan.new
         ≡ on_decided M.next M.answers server.now.begin server.now.me
         server.now.records server.now.running from position action.now }
-    ensures may { MayCommit server.now result }
+    ensures may { MayCommit server.now plan.new }
 {
     if server.is_learned(position) {
-        Plan::Pass(Dropped::No)
+        *plan = Plan::Pass(Dropped::No);
     } else {
-        Plan::Follow(from, position, *action)
+        *plan = Plan::Follow(from, position, *action);
     }
 }

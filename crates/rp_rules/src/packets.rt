@@ -15,7 +15,7 @@ use crate::leader::on_promise;
 use crate::learner::{on_accepted, on_ask, on_decided};
 use crate::plan::{CountedPromise, CountedRange, Plan};
 use rp_base::{Ballot, Config, Fault, NodeId, PositionRange};
-use rp_codec::{Body, Packet, Party};
+use rp_codec::{Body, Header, Packet, Party};
 use rp_machine::Machine;
 use rp_model::Dropped;
 use rp_server::Server;
@@ -64,9 +64,11 @@ fn on_node<M: Machine>(
     ensures memory { IfErr result (λ fault. (fault ≡ faults.OutOfMemory)
         × IsLongBody packet.now.body) }
 {
-    *plan = match packet.body() {
-        Body::Prepare { position, ballot } => on_prepare(server, from, *position, *ballot),
-        Body::PrepareRange { range, ballot } => on_prepare_range(server, from, *range, *ballot),
+    match packet.body() {
+        Body::Prepare { position, ballot } => on_prepare(server, from, *position, *ballot, plan),
+        Body::PrepareRange { range, ballot } => {
+            *plan = on_prepare_range(server, from, *range, *ballot);
+        }
         Body::Promise {
             position,
             ballot,
@@ -79,12 +81,13 @@ fn on_node<M: Machine>(
                 ballot: *ballot,
                 last: *last,
             },
+            plan,
         ),
         Body::PromiseRange {
             range,
             ballot,
             votes,
-        } => Plan::CountRangePromise(CountedRange {
+        } => *plan = Plan::CountRangePromise(CountedRange {
             from,
             range: *range,
             ballot: *ballot,
@@ -94,25 +97,43 @@ fn on_node<M: Machine>(
             position,
             ballot,
             action,
-        } => on_accept(server, from, *position, *ballot, action),
+        } => {
+            let header = Header {
+                from,
+                to: server.me(),
+                position: *position,
+                ballot: *ballot,
+            };
+            on_accept(server, &header, action, plan);
+        }
         Body::Accepted {
             position,
             ballot,
             action,
-        } => on_accepted(server, from, *position, *ballot, action),
-        Body::Decided { position, action } => on_decided(server, from, *position, action),
-        Body::Ask { position } => on_ask(server, from, *position),
+        } => {
+            let header = Header {
+                from,
+                to: server.me(),
+                position: *position,
+                ballot: *ballot,
+            };
+            on_accepted(server, &header, action, plan);
+        }
+        Body::Decided { position, action } => on_decided(server, from, *position, action, plan),
+        Body::Ask { position } => *plan = on_ask(server, from, *position),
         Body::Nack {
             position,
             ballot,
             bound,
-        } => Plan::Yield {
+        } => *plan = Plan::Yield {
             position: *position,
             ballot: *ballot,
             bound: *bound,
         },
-        Body::Call { .. } | Body::Reply { .. } | Body::Report { .. } => Plan::Pass(Dropped::No),
-    };
+        Body::Call { .. } | Body::Reply { .. } | Body::Report { .. } => {
+            *plan = Plan::Pass(Dropped::No);
+        }
+    }
     Ok(())
 }
 

@@ -132,7 +132,7 @@ fn on_prepare_text<M: Machine>(server: &Server<M>, bytes: &[u8], plan: &mut Plan
     if !takes_from_owner(server, &header) {
         return drop_foreign(plan);
     }
-    *plan = on_prepare(server, header.from, header.position, header.ballot);
+    on_prepare(server, header.from, header.position, header.ballot, plan);
     true
 }
 
@@ -147,7 +147,7 @@ fn on_promise_text<M: Machine>(server: &Server<M>, bytes: &[u8], plan: &mut Plan
     if !takes(server, header.from, header.to, header.position) {
         return drop_foreign(plan);
     }
-    *plan = on_promise(
+    on_promise(
         server,
         CountedPromise {
             from: header.from,
@@ -155,6 +155,7 @@ fn on_promise_text<M: Machine>(server: &Server<M>, bytes: &[u8], plan: &mut Plan
             ballot: header.ballot,
             last: None,
         },
+        plan,
     );
     true
 }
@@ -170,7 +171,7 @@ fn on_accept_text<M: Machine>(server: &Server<M>, bytes: &[u8], plan: &mut Plan)
     if !takes_from_owner(server, &header) {
         return drop_foreign(plan);
     }
-    *plan = on_accept(server, header.from, header.position, header.ballot, &action);
+    on_accept(server, &header, &action, plan);
     true
 }
 
@@ -185,7 +186,7 @@ fn on_accepted_text<M: Machine>(server: &Server<M>, bytes: &[u8], plan: &mut Pla
     if !takes(server, header.from, header.to, header.position) {
         return drop_foreign(plan);
     }
-    *plan = on_accepted(server, header.from, header.position, header.ballot, &action);
+    on_accepted(server, &header, &action, plan);
     true
 }
 
@@ -200,7 +201,13 @@ fn on_decided_text<M: Machine>(server: &Server<M>, bytes: &[u8], plan: &mut Plan
     if !takes(server, decision.from, decision.to, decision.position) {
         return drop_foreign(plan);
     }
-    *plan = on_decided(server, decision.from, decision.position, &decision.action);
+    on_decided(
+        server,
+        decision.from,
+        decision.position,
+        &decision.action,
+        plan,
+    );
     true
 }
 

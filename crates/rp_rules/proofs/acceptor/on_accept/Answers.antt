@@ -11,10 +11,10 @@ use Rattle.rp_rules.proofs.acceptor.on_accept.Goals as goal
 pub returns-in-Vote-clause-turn : goal.returns-in-Vote-clause-turn
 returns-in-Vote-clause-turn g c =
     let h = c.args.server.now in
-    let i = c.args.position in
-    let b = c.args.ballot in
+    let i = c.args.header.now.position in
+    let b = c.args.header.now.ballot in
     let v = c.args.action.now in
     let is : c.in-Vote._vote ≡ Voted i b v = voted h.records i b v c.in-Vote._vote c.in-Vote.ensures.answer in
-    ap (λ (p : Header). writes (Voted p.position p.ballot v) h.running (says h.me (bodies.Accepted p.position p.ballot v) p.to ∷ [])) c.header_to.ensures
-    ∙ ap (λ (rec : Rec). writes rec h.running (says h.me (bodies.Accepted i b v) c.args.from ∷ [])) (sym is)
-    ∙ ap (answers_accept h.me h.running c.args.from i b v) c.in-Vote.ensures.answer
+    ap (λ (p : Header). writes (Voted p.position p.ballot v) h.running (says h.me (bodies.Accepted p.position p.ballot v) p.to ∷ [])) c.header_to-answer.ensures
+    ∙ ap (λ (rec : Rec). writes rec h.running (says h.me (bodies.Accepted i b v) c.args.header.now.from ∷ [])) (sym is)
+    ∙ ap (answers_accept h.me h.running c.args.header.now.from i b v) c.in-Vote.ensures.answer

@@ -1,6 +1,6 @@
 //! A device in memory.
 
-ghost use Rattle.std.specs.Prelude.{◌≡◌, [], length, All, IfOk};
+ghost use Rattle.std.specs.Prelude.{◌≡◌, ◌≤◌, [], length, take, All, IfOk, OnOk, OnErr};
 ghost use Rattle.rp_store.specs.Disk.{disk_of, empty_disk};
 
 use crate::count::Count;
@@ -9,10 +9,15 @@ use rp_base::Fault;
 use std::alloc::{AllocError, Global};
 use std::marker::Model;
 
-/// A device in memory. It never fails.
+/// How many bytes of room are left after an append that had to make room.
+const ROOM: usize = 1024;
+
+/// A device in memory. It never fails. After the bytes that it holds there is room, so that an
+/// append mostly moves no more than the bytes appended.
 #[derive(Drop)]
 pub struct MemDevice {
     bytes: Vec<u8>,
+    used: usize,
     synced: usize,
     appends: Count,
     syncs: Count,
@@ -21,13 +26,13 @@ pub struct MemDevice {
 }
 
 impl Model for MemDevice {
-    ghost use Rattle.std.specs.Prelude.{◌≤◌, length};
+    ghost use Rattle.std.specs.Prelude.{◌≤◌, length, take};
     ghost use Rattle.rp_store.specs.Disk.{Memory};
 
     ghost Value = { Memory };
 
     ghost view = { λ m. record {
-      contents = m.bytes.items;
+      contents = take m.used m.bytes.items;
       stable = m.synced;
       appends = m.appends;
       syncs = m.syncs;
@@ -35,7 +40,7 @@ impl Model for MemDevice {
       cuts = m.cuts;
     } };
 
-    ghost invariant = { λ m. m.synced ≤ length m.bytes.items };
+    ghost invariant = { λ m. (m.synced ≤ m.used) × (m.used ≤ length m.bytes.items) };
 }
 
 impl MemDevice {
@@ -45,6 +50,7 @@ impl MemDevice {
     {
         MemDevice {
             bytes: Vec::new(alloc),
+            used: 0,
             synced: 0,
             appends: Count::new(),
             syncs: Count::new(),
@@ -72,8 +78,21 @@ impl MemDevice {
     pub fn contents(&self) -> &[u8]
         ensures { result.now ≡ self.now.contents }
     {
-        &self.bytes
+        &self.bytes[..self.used]
     }
+}
+
+/// Makes room for `end` bytes in all, and for `ROOM` more. If it is refused when out of memory, the
+/// bytes stay as they are.
+#[cold]
+#[inline(never)]
+fn make_room(bytes: &mut Vec<u8>, end: usize) -> Result<(), AllocError>
+    requires { length bytes.old.items ≤ end }
+    ensures kept { take (length bytes.old.items) bytes.new.items ≡ bytes.old.items }
+    ensures room { OnOk result (end ≤ length bytes.new.items) }
+    ensures refused { OnErr result (bytes.new.items ≡ bytes.old.items) }
+{
+    bytes.resize(end.saturating_add(ROOM), 0)
 }
 
 impl Device for MemDevice {
@@ -83,31 +102,36 @@ impl Device for MemDevice {
 
     #[inline(always)]
     fn append(&mut self, bytes: &[u8]) -> Result<(), Fault> {
-        self.bytes.extend_from_slice(bytes)?;
+        let end = self.used + bytes.len();
+        if end > self.bytes.len() {
+            make_room(&mut self.bytes, end)?;
+        }
+        self.bytes[self.used..end].copy_from_slice(bytes);
+        self.used = end;
         self.appends.raise();
         Ok(())
     }
 
     #[inline(always)]
     fn sync(&mut self) -> Result<(), Fault> {
-        self.synced = self.bytes.len();
+        self.synced = self.used;
         self.syncs.raise();
         Ok(())
     }
 
     fn read(&mut self, alloc: Global) -> Result<Vec<u8>, Fault> {
-        let bytes = self.bytes.to_vec(alloc)?;
+        let bytes = self.bytes[..self.used].to_vec(alloc)?;
         self.reads.raise();
         Ok(bytes)
     }
 
     fn len(&self) -> u64 {
-        self.bytes.len() as u64
+        self.used as u64
     }
 
     fn cut(&mut self, len: u64) -> Result<(), Fault> {
         let len = len as usize;
-        self.bytes.truncate(len);
+        self.used = len;
         self.synced = self.synced.min(len);
         self.cuts.raise();
         Ok(())
@@ -116,9 +140,9 @@ impl Device for MemDevice {
 
 impl CutDevice for MemDevice {
     fn stop(&mut self, kept: u64) {
-        let unsynced = self.bytes.len() - self.synced;
+        let unsynced = self.used - self.synced;
         if kept < unsynced as u64 {
-            self.bytes.truncate(self.synced + kept as usize);
+            self.used = self.synced + kept as usize;
         }
     }
 }

@@ -328,10 +328,7 @@ impl<M: Machine, D: CutDevice> World<M, D> {
         };
         let node = match receiver {
             Party::Node(node) => node,
-            Party::Task(task) => {
-                self.give_to_task(alloc, number, task, effect)?;
-                return Ok(());
-            }
+            Party::Task(task) => return self.give_to_task(alloc, number, task, effect),
             Party::Audit => {
                 *effect = no_effect(self.messages() + 1);
                 return Ok(());

@@ -39,9 +39,9 @@ returns-in_err-dropped g c =
     let err = c.in_err-dropped.ensures in
     let runs = c.is_running.ensures.runs (subst (λ b. IsTrue b) (sym c.if-not-is_running.false) refl) in
     record {
-      answer = answers_heard f at packet c.hear.new.self c.in_err-dropped.field-0.0 err.err c.from_residual-in_err-dropped.result c.from_residual-in_err-dropped.ensures.1 runs c.hear.new.messages err.unsent c.args.effect.now;
+      answer = answers_heard f at packet c.hear.new.self c.in_err-dropped.field-0.0 err.err c.from_residual.result c.from_residual.ensures.1 runs c.hear.new.messages err.unsent c.args.effect.now;
       setup = same_setup f _ refl refl;
-      failures = counts_heard f at packet c.hear.new.self c.in_err-dropped.field-0.0 err.err c.from_residual-in_err-dropped.result c.from_residual-in_err-dropped.ensures.1 err.failures;
+      failures = counts_heard f at packet c.hear.new.self c.in_err-dropped.field-0.0 err.err c.from_residual.result c.from_residual.ensures.1 err.failures;
       certain = λ light. let never : false ≡ true = err.certain (member f at.me) (part f at) packet.packet (represents_now f at) (at_place packet) (short_heard f at packet runs light) (light_heard f at packet runs light) in cc;
     }
 

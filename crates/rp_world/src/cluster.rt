@@ -160,7 +160,8 @@ impl<M: Machine, D: CutDevice> Cluster<M, D> {
         // A delivery is by far the most frequent, and goes the shortest way.
         if let Event::Node(step) = *event {
             if let Step::Deliver(number) = step {
-                return self.world.deliver(alloc, number, effect);
+                self.world.deliver(alloc, number, effect)?;
+                return Ok(());
             }
         }
         self.world.step_into(alloc, event, effect)

@@ -64,20 +64,21 @@ impl<M: Machine, D: CutDevice> World<M, D> {
             → IsLightStep (setting_of M.next M.answers M.begin self.old) self.old.world step
             → IsOk result }
     {
-        match *event {
+        let answer = match *event {
+            Event::Node(step) => return self.make_step(alloc, step, effect),
             Event::Submit {
                 task,
                 node,
                 object,
                 operation,
                 arg,
-            } => write_effect(self.submit(task, node, object, operation, arg), effect),
-            Event::Again { task, node } => write_effect(self.again(task, node), effect),
-            Event::Node(step) => self.make_step(alloc, step, effect),
-            Event::Cut { step, kept } => write_effect(self.make_cut(alloc, step, kept), effect),
-            Event::Stop(node) => write_effect(self.stop(node), effect),
-            Event::Restart(node) => write_effect(self.restart(alloc, node), effect),
-        }
+            } => self.submit(task, node, object, operation, arg),
+            Event::Again { task, node } => self.again(task, node),
+            Event::Cut { step, kept } => self.make_cut(alloc, step, kept),
+            Event::Stop(node) => self.stop(node),
+            Event::Restart(node) => self.restart(alloc, node),
+        };
+        write_effect(answer, effect)
     }
 }
 

@@ -10,36 +10,7 @@ use Rattle.rp_world.specs.Steps.{IsLightStep, IsStep, setting_of}
 use Rattle.rp_world.proofs.Answering.{submitted, asked, stopped, restarted, as_answers, counts_stated}
 use Rattle.rp_world.proofs.Stepping.{stepped_as, without_device, made_whole, made_cut}
 use Rattle.rp_world.proofs.world.World.step_into.Goals as goal
-
-pub returns-in-Submit : goal.returns-in-Submit
-returns-in-Submit g c =
-    let m = g.M.Machine in
-    let old = c.args.self.now in
-    let s = setting_of m.next m.answers m.begin old in
-    let v = c.in-Submit in
-    let made = c.submit in
-    let range = subst (λ e. IsRightEvent (event_of e)) v.is c.requires.event in
-    let answer : Answers old.world (event_effect s old.world (Submit v.task v.node v.object v.operation v.arg)) no_cut made.new.self.world made.result =
-    subst (λ (z : ℤ). Answers old.world (event_effect s old.world (Submit v.task v.node v.object v.operation z)) no_cut made.new.self.world made.result) (to_z-of_z w64 v.arg range.4) made.ensures.answer in
-    record {
-      step = subst (IsStep m.next m.answers m.begin old c.args.event.now made.new.self) (sym c.write_effect.ensures)
-          (without_device m.next m.answers m.begin old made.new.self c.args.event.now made.result made.ensures.setup (Submit v.task v.node v.object v.operation v.arg) (ap event_of v.is)
-          (submitted s old.world made.new.self.world made.result v.task v.node v.object v.operation v.arg answer) answer made.ensures.failures);
-      certain = λ step is light. let other = ap event_of c.in-Submit.is in cc;
-    }
-
-pub returns-in-Again : goal.returns-in-Again
-returns-in-Again g c =
-    let m = g.M.Machine in
-    let old = c.args.self.now in
-    let v = c.in-Again in
-    let made = c.again in
-    record {
-      step = subst (IsStep m.next m.answers m.begin old c.args.event.now made.new.self) (sym c.write_effect-in-Again.ensures)
-          (without_device m.next m.answers m.begin old made.new.self c.args.event.now made.result made.ensures.setup (Again v.task v.node) (ap event_of v.is)
-          (asked (setting_of m.next m.answers m.begin old) old.world made.new.self.world made.result v.task v.node made.ensures.answer) made.ensures.answer made.ensures.failures);
-      certain = λ step is light. let other = ap event_of c.in-Again.is in cc;
-    }
+use Rattle.rp_world.proofs.world.World.step_into.Goals.{in-Submit, in-Again, in-Cut, in-Stop, in-Restart}
 
 pub returns-in-Node : goal.returns-in-Node
 returns-in-Node g c =
@@ -57,39 +28,52 @@ returns-in-Node g c =
           made.ensures.certain (subst (IsLightStep s old.world) same light);
     }
 
-pub returns-in-Cut : goal.returns-in-Cut
-returns-in-Cut g c =
-    let m = g.M.Machine in
-    let made = c.make_cut in
-    record {
-      step = subst (IsStep m.next m.answers m.begin c.args.self.now c.args.event.now made.new.self) (sym c.write_effect-in-Cut.ensures)
-          (made_cut m.next m.answers m.begin c.args.self.now made.new.self c.args.event.now made.result made.ensures.setup (step_of c.in-Cut.step) made.ensures.failures c.in-Cut.kept (ap event_of c.in-Cut.is) made.ensures.answer);
-      certain = λ step is light. let other = ap event_of c.in-Cut.is in cc;
-    }
-
-pub returns-in-Stop : goal.returns-in-Stop
-returns-in-Stop g c =
+pub returns-clause-step : goal.returns-clause-step
+returns-clause-step g c =
     let m = g.M.Machine in
     let old = c.args.self.now in
     let s = setting_of m.next m.answers m.begin old in
-    let v = c.in-Stop in
-    let made = c.stop in
-    record {
-      step = subst (IsStep m.next m.answers m.begin old c.args.event.now made.new.self) (sym c.write_effect-in-Stop.ensures)
+    let stepped = IsStep m.next m.answers m.begin old c.args.event.now in
+    subst (stepped c.match-event.self) (sym c.write_effect.ensures) (elim c.match-event.branch [
+      | in-Submit w ↦
+          let v = w.in-Submit in
+          let made = w.submit-answer in
+          let range = subst (λ e. IsRightEvent (event_of e)) v.is c.requires.event in
+          let answer : Answers old.world (event_effect s old.world (Submit v.task v.node v.object v.operation v.arg)) no_cut made.new.self.world made.result =
+          subst (λ (z : ℤ). Answers old.world (event_effect s old.world (Submit v.task v.node v.object v.operation z)) no_cut made.new.self.world made.result) (to_z-of_z w64 v.arg range.4) made.ensures.answer in
+          subst (λ now. stepped now c.match-event.answer) (sym w.self-is) (subst (stepped made.new.self) (sym w.answer-is)
+          (without_device m.next m.answers m.begin old made.new.self c.args.event.now made.result made.ensures.setup (Submit v.task v.node v.object v.operation v.arg) (ap event_of v.is)
+          (submitted s old.world made.new.self.world made.result v.task v.node v.object v.operation v.arg answer) answer made.ensures.failures))
+      | in-Again w ↦
+          let v = w.in-Again in
+          let made = w.again-answer in
+          subst (λ now. stepped now c.match-event.answer) (sym w.self-is) (subst (stepped made.new.self) (sym w.answer-is)
+          (without_device m.next m.answers m.begin old made.new.self c.args.event.now made.result made.ensures.setup (Again v.task v.node) (ap event_of v.is)
+          (asked s old.world made.new.self.world made.result v.task v.node made.ensures.answer) made.ensures.answer made.ensures.failures))
+      | in-Cut w ↦
+          let made = w.make_cut-answer in
+          subst (λ now. stepped now c.match-event.answer) (sym w.self-is) (subst (stepped made.new.self) (sym w.answer-is)
+          (made_cut m.next m.answers m.begin old made.new.self c.args.event.now made.result made.ensures.setup (step_of w.in-Cut.step) made.ensures.failures w.in-Cut.kept (ap event_of w.in-Cut.is) made.ensures.answer))
+      | in-Stop w ↦
+          let v = w.in-Stop in
+          let made = w.stop-answer in
+          subst (λ now. stepped now c.match-event.answer) (sym w.self-is) (subst (stepped made.new.self) (sym w.answer-is)
           (without_device m.next m.answers m.begin old made.new.self c.args.event.now made.result made.ensures.setup (Stop v.node) (ap event_of v.is)
-          (stopped s old.world made.new.self.world made.result v.node made.ensures.answer) (as_answers old.world (event_effect s old.world (Stop v.node)) made.new.self.world made.result made.ensures.answer) made.ensures.failures);
-      certain = λ step is light. let other = ap event_of c.in-Stop.is in cc;
-    }
-
-pub returns-in-Restart : goal.returns-in-Restart
-returns-in-Restart g c =
-    let m = g.M.Machine in
-    let old = c.args.self.now in
-    let v = c.in-Restart in
-    let made = c.restart in
-    record {
-      step = subst (IsStep m.next m.answers m.begin old c.args.event.now made.new.self) (sym c.write_effect-in-Restart.ensures)
+          (stopped s old.world made.new.self.world made.result v.node made.ensures.answer) (as_answers old.world (event_effect s old.world (Stop v.node)) made.new.self.world made.result made.ensures.answer) made.ensures.failures))
+      | in-Restart w ↦
+          let v = w.in-Restart in
+          let made = w.restart-answer in
+          subst (λ now. stepped now c.match-event.answer) (sym w.self-is) (subst (stepped made.new.self) (sym w.answer-is)
           (stepped_as m.next m.answers m.begin old made.new.self c.args.event.now made.result made.ensures.setup (Restart v.node) (ap event_of v.is)
-          (restarted (setting_of m.next m.answers m.begin old) old.world made.new.self.world made.result v.node made.ensures.answer) made.ensures.failures);
-      certain = λ step is light. let other = ap event_of c.in-Restart.is in cc;
-    }
+          (restarted s old.world made.new.self.world made.result v.node made.ensures.answer) made.ensures.failures))
+    ])
+
+-- only a step may be light, and these events are none
+pub returns-clause-certain : goal.returns-clause-certain
+returns-clause-certain g c = λ step is light. elim c.match-event.branch [
+      | in-Submit w ↦ let other = ap event_of w.in-Submit.is in cc
+      | in-Again w ↦ let other = ap event_of w.in-Again.is in cc
+      | in-Cut w ↦ let other = ap event_of w.in-Cut.is in cc
+      | in-Stop w ↦ let other = ap event_of w.in-Stop.is in cc
+      | in-Restart w ↦ let other = ap event_of w.in-Restart.is in cc
+    ]

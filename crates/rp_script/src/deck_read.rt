@@ -22,7 +22,15 @@ const CHUNK: usize = 4096;
 
 /// Reads the deck that the reader's bytes mean in a mode. If they mean none, the fault has the
 /// first bad line and the first reason on it. More than 1,048,576 bytes are never read as a deck.
-pub fn read_given<R: Read>(alloc: Global, reader: &mut R, mode: Mode) -> Result<Deck, Fault>
+/// The bytes are put into `text`, which is to be kept until the deck's run has ended: once a block
+/// of more than 128 KiB is freed, glibc's `malloc` takes later blocks of up to that size from its
+/// heap, where they are copied when they grow.
+pub fn read_given<R: Read>(
+    alloc: Global,
+    reader: &mut R,
+    mode: Mode,
+    text: &mut Vec<u8>,
+) -> Result<Deck, Fault>
     // claim: All bytes that the reader gives, at most 1,048,576, mean a deck, which is read and is
     //   right, or the fault has the first bad line that they mean and the first reason on it, for a
     //   script and for live mode; more bytes are neither a deck nor a bad one
@@ -31,8 +39,8 @@ pub fn read_given<R: Read>(alloc: Global, reader: &mut R, mode: Mode) -> Result<
     ensures meant { IfErr result (IsMeant mode (R.remaining reader.old)) }
     ensures fault { IfErr result IsProgramFault }
 {
-    let text = read_whole(alloc, reader)?;
-    read_deck(alloc, &text, mode)
+    *text = read_whole(alloc, reader)?;
+    read_deck(alloc, text, mode)
 }
 
 /// Reads all that the reader gives. `Io` if a read fails, if there are more than 1,048,576 bytes,

@@ -44,7 +44,9 @@ pub fn run_script<R: Read, W: Write>(
     ensures fault { IfErr result (FailsRun Mode.Script (R.remaining reader.old)
         (W.contents writer.old) (W.contents writer.new)) }
 {
-    let deck = read_given(alloc, reader, Mode::Script)?;
+    // The text is freed after the run: see `read_given`.
+    let mut text = Vec::new(alloc);
+    let deck = read_given(alloc, reader, Mode::Script, &mut text)?;
     run_deck(alloc, deck, traced, writer)?;
     write_out(writer)
 }

@@ -62,7 +62,9 @@ pub fn run_live<T: Threads + Wait + Clock, R: Read, W: Write>(
     ensures fault { IfErr result (FailsRun Mode.Live (R.remaining reader.old)
         (W.contents writer.old) (W.contents writer.new)) }
 {
-    let deck = read_given(alloc, reader, Mode::Live)?;
+    // The text is freed after the run: see `read_given`.
+    let mut text = Vec::new(alloc);
+    let deck = read_given(alloc, reader, Mode::Live, &mut text)?;
     let begun = Instant::now(rt);
     let outcome = live_deck(rt, alloc, &deck, request)?;
     let milliseconds = milliseconds_since(rt, begun);

@@ -284,10 +284,10 @@ pub(crate) fn print_taken<W: Write>(
         (taken_text (names_of tasks.now) taken) result }
     ensures fault { IfErr result IsRunFault }
 {
-    match taken {
-        Some(answer) => print_reply(alloc, tasks, answer, writer),
-        None => Ok(()),
+    if let Some(answer) = taken {
+        print_reply(alloc, tasks, answer, writer)?;
     }
+    Ok(())
 }
 
 /// Prints a reply under the name of its task.

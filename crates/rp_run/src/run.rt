@@ -134,13 +134,14 @@ impl<M: Machine, D: CutDevice> Run<M, D> {
         match self.cluster.step_into(self.alloc, event, &mut self.effect) {
             Ok(()) => {
                 self.settled.settle_any(settled)?;
-                self.print_effect(options, event, restarts, writer)
+                self.print_effect(options, event, restarts, writer)?;
             }
             Err(fault) if is_refusal(&fault) => {
-                print(self.alloc, writer, RefusedLine { line, fault })
+                print(self.alloc, writer, RefusedLine { line, fault })?;
             }
-            Err(fault) => Err(fault),
+            Err(fault) => return Err(fault),
         }
+        Ok(())
     }
 
     /// Prints the effect of an event: usually only the reply that a task takes.
@@ -160,10 +161,11 @@ impl<M: Machine, D: CutDevice> Run<M, D> {
         ensures fault { IfErr result IsRunFault }
     {
         if self.prints_more(options, restarts) {
-            self.print_whole_effect(options, event, writer)
+            self.print_whole_effect(options, event, writer)?;
         } else {
-            print_taken(self.alloc, options.tasks, self.effect.taken, writer)
+            print_taken(self.alloc, options.tasks, self.effect.taken, writer)?;
         }
+        Ok(())
     }
 
     /// Whether an event prints more than the reply that a task takes.

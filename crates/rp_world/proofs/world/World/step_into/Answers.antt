@@ -71,9 +71,9 @@ returns-clause-step g c =
 -- only a step may be light, and these events are none
 pub returns-clause-certain : goal.returns-clause-certain
 returns-clause-certain g c = λ step is light. elim c.match-event.branch [
-      | in-Submit w ↦ let other = ap event_of w.in-Submit.is in cc
-      | in-Again w ↦ let other = ap event_of w.in-Again.is in cc
-      | in-Cut w ↦ let other = ap event_of w.in-Cut.is in cc
-      | in-Stop w ↦ let other = ap event_of w.in-Stop.is in cc
-      | in-Restart w ↦ let other = ap event_of w.in-Restart.is in cc
-    ]
+  | in-Submit w ↦ let other = ap event_of w.in-Submit.is in cc
+  | in-Again w ↦ let other = ap event_of w.in-Again.is in cc
+  | in-Cut w ↦ let other = ap event_of w.in-Cut.is in cc
+  | in-Stop w ↦ let other = ap event_of w.in-Stop.is in cc
+  | in-Restart w ↦ let other = ap event_of w.in-Restart.is in cc
+]

@@ -1,6 +1,6 @@
 //! The command to lead, at a position or at the least free one: what a server decides.
 
-ghost use Rattle.std.specs.Prelude.{◌≡◌, ◌<◌, ◌≤◌, ◌^◌, true, IfNone, IfSome, IfOk, IfErr, Some, Ok, Err};
+ghost use Rattle.std.specs.Prelude.{◌≡◌, ◌<◌, ◌≤◌, ◌^◌, true, IfNone, IfSome, IfErr, OnOk, Some, Ok, Err};
 ghost use Rattle.rp_base.specs.declared.fault.Fault.TheVariants.{LogFull};
 ghost use Rattle.rp_model.specs.Effect as inputs;
 ghost use Rattle.rp_model.specs.Leader.{is_free_position, is_out_of_reach, least_free};
@@ -20,15 +20,16 @@ use rp_server::Server;
 pub(crate) fn on_lead<M: Machine>(
     server: &Server<M>,
     choice: Option<Position>,
-) -> Result<Plan, Fault>
-    ensures ok { IfOk result (λ plan. Ok (turn_of M.next M.answers server.now plan)
+    plan: &mut Plan,
+) -> Result<(), Fault>
+    ensures ok { OnOk result (Ok (turn_of M.next M.answers server.now plan.new)
         ≡ effect_of M.next M.answers server.now (inputs.NodeInput.Lead choice)) }
-    ensures may { IfOk result (λ plan. MayCommit server.now plan) }
+    ensures may { OnOk result (MayCommit server.now plan.new) }
     ensures err { IfErr result (λ fault. Err fault
         ≡ effect_of M.next M.answers server.now (inputs.NodeInput.Lead choice)) }
 {
     match position_to_lead(server, choice) {
-        Some(position) => on_lead_at(server, position),
+        Some(position) => on_lead_at(server, position, plan),
         None => Err(Fault::LogFull),
     }
 }

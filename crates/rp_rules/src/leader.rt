@@ -1,7 +1,7 @@
 //! What a server decides as a leader: how it leads at a position, and of promises (Lamport, "Paxos
 //! Made Simple", section 2.2).
 
-ghost use Rattle.std.specs.Prelude.{◌≡◌, ◌+◌, ◌^◌, ◌<◌, ◌≤◌, Some, is_some, unwrap_or, Ok, Err, IfNone, IfOk, IfErr, IfSome, false};
+ghost use Rattle.std.specs.Prelude.{◌≡◌, ◌+◌, ◌^◌, ◌<◌, ◌≤◌, Some, is_some, unwrap_or, Ok, Err, IfNone, IfErr, IfSome, OnOk, false};
 ghost use Rattle.rp_base.specs.Action.{IsRight};
 ghost use Rattle.rp_base.specs.Ballot.{IsAbove, next_ballot, round_of};
 ghost use Rattle.rp_base.specs.Proposals.{without_proposal};
@@ -24,15 +24,20 @@ use rp_server::Server;
 /// there offers its action. It is refused with `LogFull` above the log or 64 positions above the
 /// first unlearned one, with `BallotsSpent` if the node has no ballot left.
 #[inline(always)]
-pub(crate) fn on_lead_at<M: Machine>(server: &Server<M>, position: Position) -> Result<Plan, Fault>
-    ensures ok { IfOk result (λ plan. Ok (turn_of M.next M.answers server.now plan)
+pub(crate) fn on_lead_at<M: Machine>(
+    server: &Server<M>,
+    position: Position,
+    plan: &mut Plan,
+) -> Result<(), Fault>
+    ensures ok { OnOk result (Ok (turn_of M.next M.answers server.now plan.new)
         ≡ effect_of M.next M.answers server.now (inputs.NodeInput.Lead (Some position))) }
-    ensures may { IfOk result (λ plan. MayCommit server.now plan) }
+    ensures may { OnOk result (MayCommit server.now plan.new) }
     ensures err { IfErr result (λ fault. Err fault
         ≡ effect_of M.next M.answers server.now (inputs.NodeInput.Lead (Some position))) }
 {
     if server.is_learned(position) {
-        return Ok(Plan::Pass(Dropped::No));
+        *plan = Plan::Pass(Dropped::No);
+        return Ok(());
     }
     if server.is_out_of_reach(position) {
         return Err(Fault::LogFull);
@@ -40,9 +45,10 @@ pub(crate) fn on_lead_at<M: Machine>(server: &Server<M>, position: Position) -> 
     match server.prepared(position) {
         Some((ballot, reported)) => {
             let action = prepared_action(server, position, reported);
-            Ok(Plan::OfferPrepared(position, ballot, action))
+            *plan = Plan::OfferPrepared(position, ballot, action);
+            Ok(())
         }
-        None => on_lead_unprepared(server, position),
+        None => on_lead_unprepared(server, position, plan),
     }
 }
 
@@ -65,14 +71,18 @@ fn prepared_action<M: Machine>(
 }
 
 /// The command to lead at a position within reach at which nothing is learned or prepared.
-fn on_lead_unprepared<M: Machine>(server: &Server<M>, position: Position) -> Result<Plan, Fault>
+fn on_lead_unprepared<M: Machine>(
+    server: &Server<M>,
+    position: Position,
+    plan: &mut Plan,
+) -> Result<(), Fault>
     requires unlearned { is_some (learned_at server.now.records position) ≡ false }
     requires reach { is_out_of_reach server.now.config.max_positions server.now.records position
         ≡ false }
-    ensures ok { IfOk result (λ plan. Ok (turn_of M.next M.answers server.now plan)
+    ensures ok { OnOk result (Ok (turn_of M.next M.answers server.now plan.new)
         ≡ begins_if M.next M.answers server.now.begin server.now.config.nodes server.now.me
         server.now.records server.now.running position) }
-    ensures may { IfOk result (λ plan. MayCommit server.now plan) }
+    ensures may { OnOk result (MayCommit server.now plan.new) }
     ensures err { IfErr result (λ fault. Err fault
         ≡ begins_if M.next M.answers server.now.begin server.now.config.nodes server.now.me
         server.now.records server.now.running position) }
@@ -80,7 +90,8 @@ fn on_lead_unprepared<M: Machine>(server: &Server<M>, position: Position) -> Res
     match server.next_ballot() {
         Some(ballot) => {
             let own = server.own_action(position).get();
-            Ok(Plan::Lead(position, ballot, own))
+            *plan = Plan::Lead(position, ballot, own);
+            Ok(())
         }
         None => Err(Fault::BallotsSpent),
     }

@@ -1,5 +1,5 @@
-//! The rules: what a server decides of an input. They change nothing, and return a plan of all that
-//! the step does.
+//! The rules: what a server decides of an input. They change nothing of it, and give a plan of all
+//! that the step does; the usual ones write it where the caller holds it, so that none is copied.
 //!
 //! In reading order:
 //! - `input`: what a node may be given

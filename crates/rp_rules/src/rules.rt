@@ -35,7 +35,7 @@ pub fn decide<M: Machine>(
 {
     match *input {
         Input::Receive(bytes) => return on_text(server, alloc, bytes, plan),
-        Input::Lead(choice) => *plan = on_lead(server, choice)?,
+        Input::Lead(choice) => return on_lead(server, choice, plan),
         Input::LeadRange(range) => *plan = on_lead_range(server, range)?,
         Input::Interrupt { source, occurrence } => {
             on_interrupt(server, source, occurrence, plan);

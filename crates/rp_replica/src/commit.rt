@@ -103,9 +103,10 @@ impl<M: Machine, D: Device> Replica<M, D> {
             self.old self.new (fault_of fault)) }
         ensures unsent { OnErr result (out.new.sent ≡ out.old.sent) }
     {
+        let header = *header;
         out.reserve(1)?;
         self.keep(&Rec::Promised(header.position, header.ballot))?;
-        out.promise(*header, *last);
+        out.promise(header, *last);
         Ok(())
     }
 
@@ -122,9 +123,10 @@ impl<M: Machine, D: Device> Replica<M, D> {
             self.old self.new (fault_of fault)) }
         ensures unsent { OnErr result (out.new.sent ≡ out.old.sent) }
     {
+        let (header, action) = (*header, *action);
         out.reserve(1)?;
-        self.keep(&Rec::Voted(header.position, header.ballot, *action))?;
-        out.accepted(*header, action);
+        self.keep(&Rec::Voted(header.position, header.ballot, action))?;
+        out.accepted(header, &action);
         Ok(())
     }
 

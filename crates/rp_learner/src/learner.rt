@@ -203,6 +203,7 @@ impl Learner {
     /// then. Position `first + j` is settled if bit j of `settled` is set, the lowest bit being bit
     /// 0; only the bits of positions that were above the window are read. It takes no memory, and
     /// time in proportion to how far the window moves, at most 64 places.
+    #[inline(always)]
     pub fn advance(&mut self, first: u32, settled: u64)
         requires on { self.old.first ≤ first }
         // claim: A window that moves on keeps the votes and the marks of the positions that stay;

@@ -109,6 +109,7 @@ impl Proposer {
 
     /// Begins a proposal, in place of any other at its position, in a ballot of the node's above
     /// all that it counted. The ballot counts as started.
+    #[inline(always)]
     pub fn begin(&mut self, position: Position, ballot: Ballot, own: Option<Action>)
         requires room { HasRoom self.old.proposals position }
         requires ballot { IsAbove self.old.node (counted_by self.old) ballot }
@@ -439,6 +440,7 @@ fn index_in(proposals: &[Proposal], position: Position) -> Option<usize>
 
 /// Puts a proposal in place of the one at its position, or after the others. It returns how many
 /// actions of its own the one there had.
+#[inline(always)]
 fn put(proposals: &mut VecDeque<Proposal>, proposal: Proposal) -> usize
     requires { length (without_proposal proposals.old.items proposal.position)
         < deque_capacity proposals.old }

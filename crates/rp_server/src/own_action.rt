@@ -14,6 +14,7 @@ use rp_model::RightAction;
 impl<M: Machine> Server<M> {
     /// What a proposal at the position takes as its own action: the first pending item that is
     /// free, else nothing. It looks at 32 items and 64 proposals at most.
+    #[inline(always)]
     pub fn own_action(&self, position: Position) -> RightAction
         ensures { result ≡ own_action
             (kept_of M.next M.answers self.now.begin (applied_of self.now.records))
@@ -30,6 +31,7 @@ impl<M: Machine> Server<M> {
     }
 
     /// The first of these items that is free.
+    #[inline(always)]
     fn first_free<'a>(
         &self,
         position: Position,
@@ -49,6 +51,7 @@ impl<M: Machine> Server<M> {
 
     /// Whether the item is free: it did not count yet, and its equal is not the own action of a
     /// proposal at another position.
+    #[inline(always)]
     fn is_free(&self, position: Position, item: RightAction) -> bool
         ensures { result ≡ is_free_item
             (kept_of M.next M.answers self.now.begin (applied_of self.now.records))

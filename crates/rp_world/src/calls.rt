@@ -33,6 +33,7 @@ pub fn asks(task: TaskId, node: NodeId, call: Action) -> Packet
 }
 
 /// A task's call goes to a node. Refused for memory, nothing is sent.
+#[inline(always)]
 fn send(messages: &mut Outbox, task: TaskId, node: NodeId, call: Action) -> Result<(), AllocError>
     requires own { IsCallBy task call }
     requires right { IsRight call }

@@ -174,7 +174,7 @@ pub fn accepted_text(header: Header, action: &Action) -> [u8; 31]
 }
 
 /// The text of a decided call.
-#[inline(always)]
+#[inline]
 pub fn decided_text(decision: &SentDecision) -> [u8; 23]
     requires { IsCall decision.now.action }
     ensures { result ≡ text_of (decided_of decision.now) }
@@ -208,7 +208,7 @@ pub fn value_reply_text(sent: &SentReply, value: i64) -> [u8; 17]
 }
 
 /// The text of a record of a promise.
-#[inline(always)]
+#[inline]
 pub fn promised_text(position: Position, ballot: Ballot) -> [u8; 12]
     ensures { result ≡ record_text (Promised position ballot) }
 {
@@ -216,7 +216,7 @@ pub fn promised_text(position: Position, ballot: Ballot) -> [u8; 12]
 }
 
 /// The text of a record of a vote for a call.
-#[inline(always)]
+#[inline]
 pub fn voted_text(position: Position, ballot: Ballot, action: &Action) -> [u8; 29]
     requires { IsCall action.now }
     ensures { result ≡ record_text (Voted position ballot action.now) }
@@ -225,7 +225,7 @@ pub fn voted_text(position: Position, ballot: Ballot, action: &Action) -> [u8; 2
 }
 
 /// The text of a record of a call that is learned.
-#[inline(always)]
+#[inline]
 pub fn learned_text(position: Position, action: &Action) -> [u8; 21]
     requires { IsCall action.now }
     ensures { result ≡ record_text (Learned position action.now) }

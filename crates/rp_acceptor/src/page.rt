@@ -37,7 +37,8 @@ impl Model for Kept {
 }
 
 impl Kept {
-    /// Nothing.
+    /// Nothing. It is not inlined, so that a page is filled with stores of whole places.
+    #[inline(never)]
     fn nothing() -> Kept
         ensures { result ≡ nothing_kept }
     {

@@ -63,7 +63,7 @@ pub use rules::report_len;
 pub use short_text::{LONGEST_TEXT, ShortText};
 pub use usual_encoding::{
     accept_text, accepted_text, decided_text, is_call, learned_text, prepare_text, promise_text,
-    promised_text, value_reply_text, voted_text,
+    promised_text, started_text, value_reply_text, voted_text,
 };
 pub use usual_texts::{
     Header, SentCall, SentDecision, SentReply, usual_accept, usual_accepted, usual_call,

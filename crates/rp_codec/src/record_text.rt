@@ -81,7 +81,6 @@ fn read_record(reader: &mut Reader) -> Result<Rec, PacketReason>
 }
 
 /// The record's one text of version 2. It takes no memory.
-#[inline(always)]
 pub fn text_of_record(rec: &Rec) -> ShortText
     ensures { result ≡ record_text rec.now }
 {

@@ -4,7 +4,7 @@
 
 ghost use Rattle.std.specs.Prelude.{◌≡◌, ◌↔◌, ◌+◌, [], ◌∷◌, ◌++◌, IsTrue};
 ghost use Rattle.std.specs.Int.{w32};
-ghost use Rattle.rp_base.specs.declared.record.Rec.TheVariants.{Promised, Voted, Learned};
+ghost use Rattle.rp_base.specs.declared.record.Rec.TheVariants.{Started, Promised, Voted, Learned};
 ghost use Rattle.rp_base.specs.declared.reply.Reply.TheVariants.{Value};
 ghost use Rattle.rp_codec.specs.Kind.{number_of};
 ghost use Rattle.rp_codec.specs.Text.{number_text, signed_text, position_text, ballot_text, operation_text, action_text, vote_text, text_of};
@@ -205,6 +205,14 @@ pub fn value_reply_text(sent: &SentReply, value: i64) -> [u8; 17]
     let reply: [u8; 9] = joined(&[1], &value_bytes(value));
     let body: [u8; 13] = joined(&count_bytes(sent.number), &reply);
     joined(&head, &body)
+}
+
+/// The text of a record of a ballot that is started.
+#[inline]
+pub fn started_text(ballot: Ballot) -> [u8; 10]
+    ensures { result ≡ record_text (Started ballot) }
+{
+    joined(&[VERSION, 1], &ballot_bytes(ballot))
 }
 
 /// The text of a record of a promise.

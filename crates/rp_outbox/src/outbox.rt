@@ -401,7 +401,6 @@ impl Outbox {
     }
 
     /// A reply more, to the call of an answer, into the room.
-    #[inline(always)]
     pub fn reply(&mut self, me: NodeId, answer: &Answer)
         requires count { IsCount answer.now.number }
         requires room { longest_text ≤ self.old.room }

@@ -2,7 +2,6 @@
 
 ghost use Rattle.std.specs.Prelude.{◌≡◌, ◌⊎◌, ◌+◌, ◌<◌, length, IfOk, IfErr, OnOk, OnErr, IsErrOf, false};
 ghost use Rattle.rp_base.specs.declared.fault.Fault.TheVariants as faults;
-ghost use Rattle.rp_base.specs.declared.record.Rec.TheVariants.{Started};
 ghost use Rattle.rp_base.specs.Right.{IsRightRecord};
 ghost use Rattle.rp_base.specs.WriteFaults.{fault_of};
 ghost use Rattle.rp_codec.specs.Record.{record_text};
@@ -11,8 +10,8 @@ ghost use Rattle.rp_store.specs.Opening.{IsOpened, IsNotOpened};
 
 use crate::device::{CutDevice, Device};
 use crate::reading::whole_records;
-use rp_base::{Ballot, Fault, Rec, WriteFault};
-use rp_codec::{is_call, learned_text, promised_text, text_of_record, voted_text};
+use rp_base::{Fault, Rec, WriteFault};
+use rp_codec::{is_call, learned_text, promised_text, started_text, text_of_record, voted_text};
 use std::alloc::Global;
 use std::marker::Model;
 
@@ -108,7 +107,7 @@ fn write_record<D: Device>(device: &mut D, rec: &Rec) -> Result<(), Fault>
         ≡ faults.Device)) }
 {
     match rec {
-        Rec::Started(ballot) => write_started(device, *ballot),
+        Rec::Started(ballot) => write(device, &started_text(*ballot)),
         Rec::Promised(position, ballot) => write(device, &promised_text(*position, *ballot)),
         Rec::Voted(position, ballot, action) if is_call(action) => {
             write(device, &voted_text(*position, *ballot, action))
@@ -116,37 +115,12 @@ fn write_record<D: Device>(device: &mut D, rec: &Rec) -> Result<(), Fault>
         Rec::Learned(position, action) if is_call(action) => {
             write(device, &learned_text(*position, action))
         }
-        _ => write_rare(device, *rec),
+        _ => {
+            // A copy, so that a usual record needs no place in memory.
+            let other = *rec;
+            write(device, text_of_record(&other).as_slice())
+        }
     }
-}
-
-/// Appends the text of a start and syncs.
-fn write_started<D: Device>(device: &mut D, ballot: Ballot) -> Result<(), Fault>
-    ensures ok { OnOk result (D.disk device.new
-        ≡ synced (appended (record_text (Started ballot)) (D.disk device.old))) }
-    ensures refused { IsErrOf result Fault.OutOfMemory → D.disk device.new ≡ D.disk device.old }
-    ensures failed { IsErrOf result Fault.Device
-        → AppendFailed (record_text (Started ballot)) (D.disk device.old) (D.disk device.new) }
-    ensures faults { IfErr result (λ fault. (fault ≡ faults.OutOfMemory) ⊎ (fault
-        ≡ faults.Device)) }
-{
-    write(device, text_of_record(&Rec::Started(ballot)).as_slice())
-}
-
-/// Appends the text of a record that is not a usual one and syncs. It is by itself, so that the
-/// usual ones are compiled where they are written.
-#[cold]
-#[inline(never)]
-fn write_rare<D: Device>(device: &mut D, rec: Rec) -> Result<(), Fault>
-    ensures ok { OnOk result (D.disk device.new
-        ≡ synced (appended (record_text rec) (D.disk device.old))) }
-    ensures refused { IsErrOf result Fault.OutOfMemory → D.disk device.new ≡ D.disk device.old }
-    ensures failed { IsErrOf result Fault.Device
-        → AppendFailed (record_text rec) (D.disk device.old) (D.disk device.new) }
-    ensures faults { IfErr result (λ fault. (fault ≡ faults.OutOfMemory) ⊎ (fault
-        ≡ faults.Device)) }
-{
-    write(device, text_of_record(&rec).as_slice())
 }
 
 impl<D: Device> Store<D> {

@@ -1,13 +1,13 @@
 //! Runs the lines of a script, and charts what happens from its events and their effects.
 
-ghost use Rattle.std.specs.Prelude.{◌≡◌, ◌<◌, ◌≤◌, ◌^◌, List, [], ◌∷◌, ◌++◌, length, replicate, All, IfOk, OnOk, string_bytes};
-ghost use Rattle.rp_chart_run.specs.Charts.{HasWays, IsCharted};
+ghost use Rattle.std.specs.Prelude.{◌≡◌, ◌<◌, ◌≤◌, ◌^◌, [], ◌∷◌, length, replicate, All, IfOk, OnOk, string_bytes};
+ghost use Rattle.rp_chart_run.specs.Charts.{Charts, ChartsPlay, HasWays, Reaches};
 ghost use Rattle.rp_chart_run.specs.ScriptHistory.{command_happens, drain_happens, event_happens, lose_happens, script_happens};
 ghost use Rattle.rp_deck.specs.Script.{FitsIn, IsEventWithin};
 ghost use Rattle.rp_drawing.specs.Ways.{IsEndingWithin};
-ghost use Rattle.rp_history.specs.Histories.{HistoryItem, IsDrawingOf, loss_of, lost_of, MessageLost, NothingHappened};
-ghost use Rattle.rp_run.specs.Output.{Play, event_said, lost, drained, command_said, run_said};
-ghost use Rattle.rp_run.specs.Runs.{run_setting, opening_setup, HasParts, Follows};
+ghost use Rattle.rp_history.specs.Histories.{IsDrawingOf, loss_of, lost_of, MessageLost, NothingHappened};
+ghost use Rattle.rp_run.specs.Output.{event_said, lost, drained, command_said, run_said};
+ghost use Rattle.rp_run.specs.Runs.{run_setting, opening_setup, HasParts};
 ghost use Rattle.rp_world.specs.Steps.{IsSameSetup};
 
 use crate::labels::{
@@ -91,20 +91,15 @@ impl<M: Machine, D: CutDevice> Walk<M, D> {
             self.new.cluster) }
         ensures setup { IsSameSetup self.old.cluster self.new.cluster }
         ensures stage { self.new.chart.stage ≡ self.old.chart.stage }
-        ensures reached { (play : Play) → Follows self.old.cluster.world self.old.settled play
-            → OnOk result (Follows self.new.cluster.world self.new.settled
-            (command_said (run_setting M.next M.answers M.begin M.image self.old.cluster
-            scene.now.options.now)
-            scene.now.options.now.most line.now.number play line.now.command).play) }
+        ensures reached { let options = scene.now.options.now in
+            let s = run_setting M.next M.answers M.begin M.image self.old.cluster options in
+            Reaches self.old self.new result
+            (λ play. (command_said s options.most line.now.number play line.now.command).play) }
         ensures ways { OnOk result (HasWays self.new.cluster self.new.chart) }
-        ensures charted { (play : Play) (happened : List HistoryItem)
-            → Follows self.old.cluster.world self.old.settled play
-            → IsCharted M.next M.answers M.begin self.old.cluster self.old.chart happened
-            → OnOk result (IsCharted M.next M.answers M.begin self.new.cluster self.new.chart
-            (happened
-            ++ command_happens (run_setting M.next M.answers M.begin M.image self.old.cluster
-            scene.now.options.now)
-            scene.now.options.now.most line.now.number play line.now.command)) }
+        ensures charted { let options = scene.now.options.now in
+            let s = run_setting M.next M.answers M.begin M.image self.old.cluster options in
+            ChartsPlay M.next M.answers M.begin self.old self.new result
+            (λ play. command_happens s options.most line.now.number play line.now.command) }
     {
         let number = line.number;
         match line.command {
@@ -124,20 +119,14 @@ impl<M: Machine, D: CutDevice> Walk<M, D> {
             self.new.cluster) }
         ensures setup { IsSameSetup self.old.cluster self.new.cluster }
         ensures stage { self.new.chart.stage ≡ self.old.chart.stage }
-        ensures reached { (play : Play) → Follows self.old.cluster.world self.old.settled play
-            → OnOk result (Follows self.new.cluster.world self.new.settled
-            (event_said (run_setting M.next M.answers M.begin M.image self.old.cluster
-            scene.now.options.now)
-            line play event.now).play) }
+        ensures reached { let options = scene.now.options.now in
+            let s = run_setting M.next M.answers M.begin M.image self.old.cluster options in
+            Reaches self.old self.new result (λ play. (event_said s line play event.now).play) }
         ensures ways { OnOk result (HasWays self.new.cluster self.new.chart) }
-        ensures charted { (play : Play) (happened : List HistoryItem)
-            → Follows self.old.cluster.world self.old.settled play
-            → IsCharted M.next M.answers M.begin self.old.cluster self.old.chart happened
-            → OnOk result (IsCharted M.next M.answers M.begin self.new.cluster self.new.chart
-            (happened
-            ++ event_happens (run_setting M.next M.answers M.begin M.image self.old.cluster
-            scene.now.options.now)
-            play event.now ∷ [])) }
+        ensures charted { let options = scene.now.options.now in
+            let s = run_setting M.next M.answers M.begin M.image self.old.cluster options in
+            ChartsPlay M.next M.answers M.begin self.old self.new result
+            (λ play. event_happens s play event.now ∷ []) }
     {
         worlds_grow::<M>();
         let prospect = prospect_of(self.alloc, &self.cluster, event)?;
@@ -176,10 +165,8 @@ impl<M: Machine, D: CutDevice> Walk<M, D> {
         ensures settled { self.new.settled ≡ self.old.settled }
         ensures stage { self.new.chart.stage ≡ self.old.chart.stage }
         ensures ways { OnOk result (HasWays self.new.cluster self.new.chart) }
-        ensures charted { (happened : List HistoryItem)
-            → IsCharted M.next M.answers M.begin self.old.cluster self.old.chart happened
-            → OnOk result (IsCharted M.next M.answers M.begin self.new.cluster self.new.chart
-            (happened ++ NothingHappened ∷ [])) }
+        ensures charted { Charts M.next M.answers M.begin self.old self.new result
+            (NothingHappened ∷ []) }
     {
         let code = fault.code();
         let name = fault.name();
@@ -201,10 +188,8 @@ impl<M: Machine, D: CutDevice> Walk<M, D> {
         ensures settled { self.new.settled ≡ self.old.settled }
         ensures stage { self.new.chart.stage ≡ self.old.chart.stage }
         ensures ways { OnOk result (HasWays self.new.cluster self.new.chart) }
-        ensures charted { (happened : List HistoryItem)
-            → IsCharted M.next M.answers M.begin self.old.cluster self.old.chart happened
-            → OnOk result (IsCharted M.next M.answers M.begin self.new.cluster self.new.chart
-            (happened ++ loss_of lost ∷ [])) }
+        ensures charted { Charts M.next M.answers M.begin self.old self.new result
+            (loss_of lost ∷ []) }
     {
         self.chart.stay::<M>(self.alloc, lost, label)
     }
@@ -216,15 +201,11 @@ impl<M: Machine, D: CutDevice> Walk<M, D> {
         requires ways { HasWays self.old.cluster self.old.chart }
         ensures cluster { self.new.cluster ≡ self.old.cluster }
         ensures stage { self.new.chart.stage ≡ self.old.chart.stage }
-        ensures reached { (play : Play) → Follows self.old.cluster.world self.old.settled play
-            → OnOk result (Follows self.new.cluster.world self.new.settled
-            (lost line play first last).play) }
+        ensures reached { Reaches self.old self.new result
+            (λ play. (lost line play first last).play) }
         ensures ways { OnOk result (HasWays self.new.cluster self.new.chart) }
-        ensures charted { (play : Play) (happened : List HistoryItem)
-            → Follows self.old.cluster.world self.old.settled play
-            → IsCharted M.next M.answers M.begin self.old.cluster self.old.chart happened
-            → OnOk result (IsCharted M.next M.answers M.begin self.new.cluster self.new.chart
-            (happened ++ lose_happens play first last)) }
+        ensures charted { ChartsPlay M.next M.answers M.begin self.old self.new result
+            (λ play. lose_happens play first last) }
     {
         let sent = self.cluster.messages();
         if first > sent || last > sent {
@@ -245,10 +226,8 @@ impl<M: Machine, D: CutDevice> Walk<M, D> {
         ensures settled { self.new.settled ≡ self.old.settled }
         ensures stage { self.new.chart.stage ≡ self.old.chart.stage }
         ensures ways { OnOk result (HasWays self.new.cluster self.new.chart) }
-        ensures charted { (happened : List HistoryItem)
-            → IsCharted M.next M.answers M.begin self.old.cluster self.old.chart happened
-            → OnOk result (IsCharted M.next M.answers M.begin self.new.cluster self.new.chart
-            (happened ++ MessageLost number ∷ [])) }
+        ensures charted { Charts M.next M.answers M.begin self.old self.new result
+            (MessageLost number ∷ []) }
     {
         let Some(packet) = sent_packet(self.alloc, &self.cluster, number)? else {
             return Ok(());
@@ -270,20 +249,14 @@ impl<M: Machine, D: CutDevice> Walk<M, D> {
             self.new.cluster) }
         ensures setup { IsSameSetup self.old.cluster self.new.cluster }
         ensures stage { self.new.chart.stage ≡ self.old.chart.stage }
-        ensures reached { (play : Play) → Follows self.old.cluster.world self.old.settled play
-            → OnOk result (Follows self.new.cluster.world self.new.settled
-            (drained (run_setting M.next M.answers M.begin M.image self.old.cluster
-            scene.now.options.now)
-            line scene.now.options.now.most play).play) }
+        ensures reached { let options = scene.now.options.now in
+            let s = run_setting M.next M.answers M.begin M.image self.old.cluster options in
+            Reaches self.old self.new result (λ play. (drained s line options.most play).play) }
         ensures ways { OnOk result (HasWays self.new.cluster self.new.chart) }
-        ensures charted { (play : Play) (happened : List HistoryItem)
-            → Follows self.old.cluster.world self.old.settled play
-            → IsCharted M.next M.answers M.begin self.old.cluster self.old.chart happened
-            → OnOk result (IsCharted M.next M.answers M.begin self.new.cluster self.new.chart
-            (happened
-            ++ drain_happens (run_setting M.next M.answers M.begin M.image self.old.cluster
-            scene.now.options.now)
-            line scene.now.options.now.most play)) }
+        ensures charted { let options = scene.now.options.now in
+            let s = run_setting M.next M.answers M.begin M.image self.old.cluster options in
+            ChartsPlay M.next M.answers M.begin self.old self.new result
+            (λ play. drain_happens s line options.most play) }
     {
         for delivered in 0..scene.options.most {
             let message = self.settled.least();
@@ -312,10 +285,8 @@ impl<M: Machine, D: CutDevice> Walk<M, D> {
         ensures settled { self.new.settled ≡ self.old.settled }
         ensures stage { self.new.chart.stage ≡ self.old.chart.stage }
         ensures ways { OnOk result (HasWays self.new.cluster self.new.chart) }
-        ensures charted { (happened : List HistoryItem)
-            → IsCharted M.next M.answers M.begin self.old.cluster self.old.chart happened
-            → OnOk result (IsCharted M.next M.answers M.begin self.new.cluster self.new.chart
-            (happened ++ replicate scene.now.options.now.config.nodes NothingHappened)) }
+        ensures charted { Charts M.next M.answers M.begin self.old self.new result
+            (replicate scene.now.options.now.config.nodes NothingHappened) }
     {
         for place in 0..scene.options.config.nodes {
             let node = NodeId::new(place + 1).unwrap();
@@ -331,10 +302,8 @@ impl<M: Machine, D: CutDevice> Walk<M, D> {
         ensures settled { self.new.settled ≡ self.old.settled }
         ensures stage { self.new.chart.stage ≡ self.old.chart.stage }
         ensures ways { OnOk result (HasWays self.new.cluster self.new.chart) }
-        ensures charted { (happened : List HistoryItem)
-            → IsCharted M.next M.answers M.begin self.old.cluster self.old.chart happened
-            → OnOk result (IsCharted M.next M.answers M.begin self.new.cluster self.new.chart
-            (happened ++ NothingHappened ∷ [])) }
+        ensures charted { Charts M.next M.answers M.begin self.old self.new result
+            (NothingHappened ∷ []) }
     {
         let mark = Mark {
             lane: scene.stage.lane_of(Party::Node(node)),

@@ -30,6 +30,7 @@ fn read_truth(reader: &mut Reader) -> Result<Reply, PacketReason>
     }
 }
 
+#[inline(always)]
 #[tactic(auto, unfolding(crate::specs::Reading::reply_at))]
 pub(crate) fn read_reply(reader: &mut Reader) -> Result<Reply, PacketReason>
     ensures { Gives result reader.new (reply_at reader.old) }

@@ -224,7 +224,7 @@ pub fn promised_text(position: Position, ballot: Ballot) -> [u8; 12]
 }
 
 /// The text of a record of a vote for a call.
-#[inline]
+#[inline(always)]
 pub fn voted_text(position: Position, ballot: Ballot, action: &Action) -> [u8; 29]
     requires { IsCall action.now }
     ensures { result ≡ record_text (Voted position ballot action.now) }

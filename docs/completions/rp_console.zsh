@@ -15,7 +15,7 @@ _rp_console() {
                 '-h[Print help]' \
                 '--help[Print help]' ;;
             live) _arguments '--seed[Seed that determines which packets are lost, duplicated and reordered, 0 to 4294967295 (default: 0)]:S:' \
-                '--turns[How many turns each node and each task makes, 1 to 1000000 (default: 10000)]:T:' \
+                '--turns[At most how many turns each node and each task makes, 1 to 1000000 (default: 10000)]:T:' \
                 '-h[Print help]' \
                 '--help[Print help]' ;;
         esac ;;

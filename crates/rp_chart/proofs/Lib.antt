@@ -1,1 +1,3 @@
 pub mod CommandLineLemmas
+pub mod TaskNames
+pub mod Lanes

@@ -1,9 +1,11 @@
 //! Draws the run of a deck.
 
-ghost use Rattle.std.specs.Prelude.{◌≡◌, ◌+◌, ◌≤◌, IfErr, IfOk, OnErr, OnOk, length, string_bytes};
-ghost use Rattle.indexmap.specs.IndexMap.{index_map_len};
-ghost use Rattle.rp_chart.specs.Charts.{DrawingBegins, DrawsScript, IsChartOf};
+ghost use Rattle.std.specs.Prelude.{◌≡◌, ◌+◌, ◌≤◌, IfErr, IfOk, OnErr, map, option_map, string_bytes};
+ghost use Rattle.rp_chart.specs.Charts.{deck_lines, DrawingBegins, Draws, IsChartIfShort, lanes_of, node_lane, task_lane};
 ghost use Rattle.rp_deck.specs.Deck.{IsRightDeck};
+ghost use Rattle.rp_history.specs.Histories.{lane_text};
+ghost use Rattle.rp_output.specs.Trace.{task_name};
+ghost use Rattle.rp_run.specs.Output.{names_of};
 ghost use Rattle.rp_script.specs.Given.{FailsRun};
 
 use indexmap::IndexMap;
@@ -19,6 +21,15 @@ use rp_store::MemDevice;
 use std::alloc::{AllocError, Global};
 use std::io::{Read, Write};
 
+/// What became of a drawing.
+#[derive(Clone, Copy, Debug, PartialEq, Eq)]
+pub enum Outcome {
+    /// It was written.
+    Drawn,
+    /// It has more than 2,000 lines, and no part of the run is chosen: nothing was written.
+    TooLong,
+}
+
 /// Draws the run of the script of the deck that the reader holds. If its bytes mean no deck,
 /// nothing is written, and the fault has the first bad line and the first reason on it. Any other
 /// fault is `OutOfMemory` or `Io`, after which nothing or a prefix of the drawing was written.
@@ -27,14 +38,16 @@ pub fn draw_script<R: Read, W: Write>(
     reader: &mut R,
     view: View,
     writer: &mut W,
-) -> Result<(), Fault>
+) -> Result<Outcome, Fault>
     // claim: From bytes to a drawing: what is written is the drawing of the run of the deck that all
     //   bytes of the reader mean. Its arrows are the messages of that run, each from where it was
     //   sent down to where it was settled, in the history in which the lines of the deck's script
-    //   happen in order, and it has no other arrow. If the bytes mean none, nothing is written, and
-    //   the fault has the first bad line and the first reason on it. After every other fault nothing
-    //   was written, or a prefix of that drawing
-    ensures drawing { OnOk result (DrawsScript view (R.remaining reader.old)
+    //   happen in order, and it has no other arrow. It is to the byte the page of a sketch whose
+    //   moments have the texts and the marks that the run gives them, under a lane for each task and
+    //   each node, with its name and its colour. If it is too long, or the bytes mean none, nothing is
+    //   written; in the latter case the fault has the first bad line and the first reason on it. After
+    //   every other fault nothing was written, or a prefix of that drawing
+    ensures drawing { IfOk result (λ outcome. Draws outcome view (R.remaining reader.old)
         (W.contents writer.old) (W.contents writer.new)) }
     ensures fault { IfErr result (FailsRun Mode.Script (R.remaining reader.old)
         (W.contents writer.old) (W.contents writer.new)) }
@@ -47,14 +60,24 @@ pub fn draw_script<R: Read, W: Write>(
     let Ok(drawing) = draw_deck(alloc, deck, view, &lines) else {
         return Err(Fault::OutOfMemory);
     };
+    let Some(drawing) = drawing else {
+        return Ok(Outcome::TooLong);
+    };
     write_whole(writer, drawing.as_bytes())?;
-    write_out(writer)
+    write_out(writer)?;
+    Ok(Outcome::Drawn)
 }
 
 /// The drawing of the run of a deck, of which these are the lines.
-fn draw_deck(alloc: Global, deck: Deck, view: View, lines: &[&[u8]]) -> Result<String, Fault>
+fn draw_deck(
+    alloc: Global,
+    deck: Deck,
+    view: View,
+    lines: &[&[u8]],
+) -> Result<Option<String>, Fault>
     requires { IsRightDeck deck }
-    ensures { IfOk result (λ text. IsChartOf deck view (string_bytes text)) }
+    ensures { IfOk result (λ page. IsChartIfShort deck (map (λ line. line.now) lines.now) view
+        (option_map string_bytes page)) }
 {
     let Deck {
         config,
@@ -91,35 +114,51 @@ fn draw_deck(alloc: Global, deck: Deck, view: View, lines: &[&[u8]]) -> Result<S
     }
 }
 
-/// The lanes of the tasks and of the nodes.
+/// The lanes of the tasks, in declared order, and then those of the nodes.
 fn lanes_of(
     alloc: Global,
     tasks: &IndexMap<String, Task>,
     nodes: u8,
 ) -> Result<Vec<Lane>, AllocError>
     requires { nodes ≤ 7 }
-    ensures { IfOk result (λ lanes. length lanes.items ≡ index_map_len tasks.now + nodes) }
+    ensures { IfOk result (λ lanes. map lane_text lanes.items
+        ≡ lanes_of (names_of tasks.now) nodes) }
 {
     let mut lanes = Vec::new(alloc);
     for index in 0..tasks.len() {
-        lanes.push(Lane {
-            name: Words::fitted(alloc, name_at(tasks, index).as_bytes())?,
-            colour: 0,
-        })?;
+        lanes.push(task_lane(alloc, name_at(tasks, index))?)?;
     }
     for place in 0..nodes {
-        let number = place + 1;
-        let name = format!(in alloc; "node {number}")?;
-        lanes.push(Lane {
-            name: Words::fitted(alloc, name.as_bytes())?,
-            colour: number,
-        })?;
+        lanes.push(node_lane(alloc, place + 1)?)?;
     }
     Ok(lanes)
 }
 
+/// The lane of a task, under its name.
+fn task_lane(alloc: Global, name: &str) -> Result<Lane, AllocError>
+    ensures { IfOk result (λ lane. lane_text lane ≡ task_lane name.now) }
+{
+    Ok(Lane {
+        name: Words::fitted(alloc, name.as_bytes())?,
+        colour: 0,
+    })
+}
+
+/// The lane of a node, under its number.
+fn node_lane(alloc: Global, node: u8) -> Result<Lane, AllocError>
+    ensures { IfOk result (λ lane. lane_text lane ≡ node_lane node) }
+{
+    let name = format!(in alloc; "node {node}")?;
+    Ok(Lane {
+        name: Words::fitted(alloc, name.as_bytes())?,
+        colour: node,
+    })
+}
+
 /// The name of the task at this place, from 0, or an empty text.
-fn name_at(tasks: &IndexMap<String, Task>, place: usize) -> &str {
+fn name_at(tasks: &IndexMap<String, Task>, place: usize) -> &str
+    ensures { result.now ≡ task_name (names_of tasks.now) (place + 1) }
+{
     match tasks.get_index(place) {
         Some((name, _)) => name.as_str(),
         None => "",
@@ -127,10 +166,8 @@ fn name_at(tasks: &IndexMap<String, Task>, place: usize) -> &str {
 }
 
 /// The lines of a text, without their ends.
-fn lines_of<'a>(alloc: Global, text: &'a [u8]) -> Result<Vec<&'a [u8]>, AllocError> {
-    let mut lines = Vec::new(alloc);
-    for line in text.split(|byte| *byte == b'\n') {
-        lines.push(line)?;
-    }
-    Ok(lines)
+fn lines_of<'a>(alloc: Global, text: &'a [u8]) -> Result<Vec<&'a [u8]>, AllocError>
+    ensures { IfOk result (λ lines. map (λ line. line.now) lines.items ≡ deck_lines text.now) }
+{
+    text.split(|byte| *byte == b'\n').collect(alloc)
 }

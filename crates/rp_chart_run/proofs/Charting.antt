@@ -1,11 +1,11 @@
 -- The chart of a cluster, and what a run reaches by what it says to a writer of which nothing is known.
-use Rattle.std.proofs.Common.{inl, inr, ◌≡◌, ◌∙◌, ℕ, zero, suc, ◌-◌, ◌<◌, ◌≤◌, Some, None, Result, Ok, Err, OnOk, List, [], ◌∷◌, ◌++◌, drop, length, map, arith, refl, sym, ap, subst, append_assoc, append-nil}
+use Rattle.std.proofs.Common.{◌≡◌, ◌∙◌, ℕ, zero, suc, ◌-◌, Some, None, Result, Ok, Err, OnOk, List, [], ◌∷◌, ◌++◌, drop, length, arith, sym, ap, subst, append_assoc, append-nil}
 use Rattle.std.specs.Prelude.{slice_get}
 use Rattle.rp_base.specs.declared.action.Action.{Action}
 use Rattle.rp_base.specs.declared.fault.Fault.{Fault}
 use Rattle.rp_base.specs.declared.reply.Answer.{Answer}
 use Rattle.rp_codec.specs.Message.{Message}
-use Rattle.rp_history.specs.Histories.{HistoryItem, IsDrawable, IsSketchOf}
+use Rattle.rp_history.specs.Histories.{Happening, IsDrawable, IsSketchOf}
 use Rattle.rp_history.specs.declared.chart.Chart.{Chart}
 use Rattle.rp_model.specs.Effect.{Setting}
 use Rattle.rp_model.specs.World.{World, part_at}
@@ -25,7 +25,7 @@ one_setting next answers start old new same =
     ∙ ap (λ p. setting_of next answers start (record new { config = old.config; program = p })) same.program
 
 -- the chart of a cluster after a step, by the setting before it
-pub charted_by : {S P : Type 0} (next : S → Action → S) (answers : S → Action → List Answer) (start : P → S) (old new : Setup P) (chart : Chart) (happened : List HistoryItem) (answer : Result Unit Fault)
+pub charted_by : {S P : Type 0} (next : S → Action → S) (answers : S → Action → List Answer) (start : P → S) (old new : Setup P) (chart : Chart) (happened : List Happening) (answer : Result Unit Fault)
     → IsSameSetup old new → OnOk answer (IsSketchOf (setting_of next answers start old) chart.stage chart.sketch happened new.world)
     → OnOk answer (IsCharted next answers start new chart happened)
 charted_by next answers start old new chart happened (Ok done) same is =
@@ -33,10 +33,10 @@ charted_by next answers start old new chart happened (Ok done) same is =
 charted_by next answers start old new chart happened (Err fault) same is = tt
 
 -- what happened, under another name
-pub charted_as : {S P : Type 0} (next : S → Action → S) (answers : S → Action → List Answer) (start : P → S) (cluster : Setup P) (chart : Chart) (one other : List HistoryItem) (answer : Result Unit Fault)
+pub charted_as : {S P : Type 0} (next : S → Action → S) (answers : S → Action → List Answer) (start : P → S) (cluster : Setup P) (chart : Chart) (one other : List Happening) (answer : Result Unit Fault)
     → one ≡ other → OnOk answer (IsCharted next answers start cluster chart one) → OnOk answer (IsCharted next answers start cluster chart other)
 charted_as next answers start cluster chart one other answer same is =
-    subst (λ (l : List HistoryItem). OnOk answer (IsCharted next answers start cluster chart l)) same is
+    subst (λ (l : List Happening). OnOk answer (IsCharted next answers start cluster chart l)) same is
 
 -- as many ways as messages
 pub has_ways : {P : Type 0} (cluster : Setup P) (chart : Chart) (answer : Result Unit Fault) (count : ℕ) → OnOk answer (IsDrawable chart.sketch)
@@ -48,17 +48,17 @@ has_ways cluster chart (Err fault) count drawable counted same = tt
 
 -- the chart is that of a part of the whole, and the rest of it begins at the play that the run follows
 pub record Underway {S P : Type 0} (next : S → Action → S) (answers : S → Action → List Answer) (start : P → S) (cluster : Setup P) (settled : Settled) (chart : Chart)
-    (whole : List HistoryItem) (rest : Play → List HistoryItem) : Type 0 where
+    (whole : List Happening) (rest : Play → List Happening) : Type 0 where
   pub play : Play
   pub follows : Follows cluster.world settled play
-  pub so_far : List HistoryItem
+  pub so_far : List Happening
   pub charted : IsCharted next answers start cluster chart so_far
   pub parts : whole ≡ so_far ++ rest play
 
 module _ {S P : Type 0} (next : S → Action → S) (answers : S → Action → List Answer) (start : P → S) where
   -- one thing more
-  pub goes_on : (cluster later : Setup P) (settled after : Settled) (chart chart_after : Chart) (whole : List HistoryItem) (rest further : Play → List HistoryItem)
-      → (so_far : Underway next answers start cluster settled chart whole rest) → (here : List HistoryItem) (now : Play) → rest so_far.play ≡ here ++ further now
+  pub goes_on : (cluster later : Setup P) (settled after : Settled) (chart chart_after : Chart) (whole : List Happening) (rest further : Play → List Happening)
+      → (so_far : Underway next answers start cluster settled chart whole rest) → (here : List Happening) (now : Play) → rest so_far.play ≡ here ++ further now
       → Follows later.world after now → IsCharted next answers start later chart_after (so_far.so_far ++ here)
       → Underway next answers start later after chart_after whole further
   goes_on cluster later settled after chart chart_after whole rest further so_far here now is follows charted = record {
@@ -66,23 +66,23 @@ module _ {S P : Type 0} (next : S → Action → S) (answers : S → Action → 
     follows = follows;
     so_far = so_far.so_far ++ here;
     charted = charted;
-    parts = so_far.parts ∙ ap (λ (l : List HistoryItem). so_far.so_far ++ l) is ∙ sym (append_assoc so_far.so_far here (further now));
+    parts = so_far.parts ∙ ap (λ (l : List Happening). so_far.so_far ++ l) is ∙ sym (append_assoc so_far.so_far here (further now));
   }
 
   -- the last thing
-  pub ends_by : (cluster later : Setup P) (settled : Settled) (chart chart_after : Chart) (whole : List HistoryItem) (rest : Play → List HistoryItem)
-      → (so_far : Underway next answers start cluster settled chart whole rest) → (here : List HistoryItem) (answer : Result Unit Fault) → rest so_far.play ≡ here
+  pub ends_by : (cluster later : Setup P) (settled : Settled) (chart chart_after : Chart) (whole : List Happening) (rest : Play → List Happening)
+      → (so_far : Underway next answers start cluster settled chart whole rest) → (here : List Happening) (answer : Result Unit Fault) → rest so_far.play ≡ here
       → OnOk answer (IsCharted next answers start later chart_after (so_far.so_far ++ here)) → OnOk answer (IsCharted next answers start later chart_after whole)
   ends_by cluster later settled chart chart_after whole rest so_far here answer is charted =
       charted_as next answers start later chart_after (so_far.so_far ++ here) whole answer
-      (sym (so_far.parts ∙ ap (λ (l : List HistoryItem). so_far.so_far ++ l) is)) charted
+      (sym (so_far.parts ∙ ap (λ (l : List Happening). so_far.so_far ++ l) is)) charted
 
   -- nothing more
-  pub ends : (cluster : Setup P) (settled : Settled) (chart : Chart) (whole : List HistoryItem) (rest : Play → List HistoryItem)
+  pub ends : (cluster : Setup P) (settled : Settled) (chart : Chart) (whole : List Happening) (rest : Play → List Happening)
       → (so_far : Underway next answers start cluster settled chart whole rest) → rest so_far.play ≡ [] → IsCharted next answers start cluster chart whole
   ends cluster settled chart whole rest so_far is =
-      subst (λ (l : List HistoryItem). IsCharted next answers start cluster chart l)
-      (sym (so_far.parts ∙ ap (λ (l : List HistoryItem). so_far.so_far ++ l) is ∙ append-nil so_far.so_far)) so_far.charted
+      subst (λ (l : List Happening). IsCharted next answers start cluster chart l)
+      (sym (so_far.parts ∙ ap (λ (l : List Happening). so_far.so_far ++ l) is ∙ append-nil so_far.so_far)) so_far.charted
 
 -- ---- the packets of messages
 

@@ -1,2 +1,3 @@
 pub mod Charting
+pub mod Losses
 pub mod ScriptHistory

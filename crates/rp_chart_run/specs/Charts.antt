@@ -1,14 +1,20 @@
 -- The chart of a cluster's history (no public clause names it).
-use Rattle.std.specs.Prelude.{◌≡◌, ◌++◌, List, Result, OnOk, length}
+use Rattle.std.specs.Prelude.{◌≡◌, ℕ, ◌++◌, List, Result, OnOk, length}
 use Rattle.rp_base.specs.declared.action.Action.{Action}
 use Rattle.rp_base.specs.declared.fault.Fault.{Fault}
 use Rattle.rp_base.specs.declared.reply.Answer.{Answer}
-use Rattle.rp_history.specs.Histories.{HistoryItem, IsDrawable, IsSketchOf}
+use Rattle.rp_history.specs.Histories.{Happening, IsDrawable, IsSketchOf}
 use Rattle.rp_history.specs.declared.chart.Chart.{Chart}
 use Rattle.rp_run.specs.Output.{Play}
 use Rattle.rp_run.specs.Runs.{Follows}
+use Rattle.rp_run.specs.Settled.{is_settled}
+use Rattle.rp_run.specs.declared.settled.Settled.{Settled}
 use Rattle.rp_world.specs.Steps.{Setup, setting_of}
 use Rattle.rp_chart_run.specs.declared.walk.Walk.{Walk}
+
+-- the same messages are settled
+abbrev pub IsSettledAlike : Settled → Settled → Type 0
+IsSettledAlike old new = (m : ℕ) → is_settled new m ≡ is_settled old m
 
 -- each message that the cluster has sent has its way in the chart
 pub record HasWays {P : Type 0} (cluster : Setup P) (chart : Chart) : Type 0 where
@@ -17,7 +23,7 @@ pub record HasWays {P : Type 0} (cluster : Setup P) (chart : Chart) : Type 0 whe
 
 -- the chart is that of the cluster's history so far, in which this happened
 abbrev pub IsCharted : {S P : Type 0} → (S → Action → S) → (S → Action → List Answer) → (P → S)
-    → Setup P → Chart → List HistoryItem → Type 0
+    → Setup P → Chart → List Happening → Type 0
 IsCharted next answers start cluster chart happened =
     IsSketchOf (setting_of next answers start cluster) chart.stage chart.sketch happened
     cluster.world
@@ -32,15 +38,15 @@ module _ {S P : Type 0} (next : S → Action → S) (answers : S → Action → 
     (start : P → S) where
   -- this happens after all that the chart has
   abbrev pub Charts : {M D : Type 0} → Walk M D P → Walk M D P → Result Unit Fault
-      → List HistoryItem → Type 0
-  Charts old new result items = (happened : List HistoryItem)
+      → List Happening → Type 0
+  Charts old new result items = (happened : List Happening)
       → IsCharted next answers start old.cluster old.chart happened
       → OnOk result (IsCharted next answers start new.cluster new.chart (happened ++ items))
 
   -- the same, where what happens is told by the play that the walk is in
   abbrev pub ChartsPlay : {M D : Type 0} → Walk M D P → Walk M D P → Result Unit Fault
-      → (Play → List HistoryItem) → Type 0
-  ChartsPlay old new result items = (play : Play) (happened : List HistoryItem)
+      → (Play → List Happening) → Type 0
+  ChartsPlay old new result items = (play : Play) (happened : List Happening)
       → Follows old.cluster.world old.settled play
       → IsCharted next answers start old.cluster old.chart happened
       → OnOk result (IsCharted next answers start new.cluster new.chart (happened ++ items play))

@@ -1,2 +1,5 @@
+pub mod Causes
+pub mod Effects
+pub mod Prospects
 pub mod ScriptHistory
 pub mod Charts

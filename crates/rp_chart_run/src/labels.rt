@@ -1,13 +1,24 @@
 //! The words in a drawing.
 
+ghost use Rattle.std.specs.Prelude.{◌≡◌, Some, None, IfOk, map, string_bytes};
+ghost use Rattle.rp_chart_run.specs.Causes.{cause_text, line_text};
+ghost use Rattle.rp_chart_run.specs.Effects.{cut_text, effect_text, record_before, record_for, record_of, record_text, refusal_text, restart_text, step_text, taken_text, written_text};
+ghost use Rattle.rp_chart_run.specs.ScriptHistory.{image_text};
+ghost use Rattle.rp_drawing.specs.Words.{fitted_text, whole_text};
+ghost use Rattle.rp_history.specs.Histories.{delivered_by};
+ghost use Rattle.rp_history.specs.declared.happened.Happened.{Happened};
+ghost use Rattle.rp_output.specs.Printed.{applied_line_of, node_line_of, stopped_line_of};
+ghost use Rattle.rp_output.specs.Trace.{message_line_of};
+ghost use Rattle.rp_run.specs.Output.{names_of};
+
 use indexmap::IndexMap;
-use rp_base::{Answer, NodeId, Rec};
+use rp_base::{Answer, Fault, NodeId, Rec};
 use rp_codec::{Body, Packet};
 use rp_deck::Task;
 use rp_drawing::Words;
 use rp_history::{Happened, delivered_by};
-use rp_model::{Dropped, Event, Step};
-use rp_output::{BodyText, ReplyText, TraceLine};
+use rp_model::{Dropped, Event};
+use rp_output::{BodyText, NodeLine, NodeState, ReplyText, TraceLine};
 use rp_run::party_text;
 use std::alloc::{AllocError, Global};
 use std::fmt;
@@ -18,7 +29,10 @@ pub fn message_words(
     tasks: &IndexMap<String, Task>,
     number: u64,
     packet: &Packet,
-) -> Result<Words, AllocError> {
+) -> Result<Words, AllocError>
+    ensures { IfOk result (λ words. string_bytes words.text
+        ≡ fitted_text (message_line_of (names_of tasks.now) number packet.now)) }
+{
     let line = TraceLine {
         number,
         from: party_text(tasks, packet.from()),
@@ -32,16 +46,23 @@ pub fn message_words(
 }
 
 /// A line of a deck, by its number from 1.
-pub fn line_at<'a>(deck: &[&'a [u8]], number: u32) -> &'a [u8] {
-    let place = (number as usize).saturating_sub(1);
-    match deck.get(place) {
-        Some(line) => *line,
-        None => b"".as_slice(),
+pub fn line_at<'a>(deck: &[&'a [u8]], number: u32) -> &'a [u8]
+    ensures { result.now ≡ line_text (map (λ line. line.now) deck.now) number }
+{
+    if number == 0 {
+        return b"".as_slice();
     }
+    let place = number as usize - 1;
+    if place >= deck.len() {
+        return b"".as_slice();
+    }
+    deck[place]
 }
 
 /// The record that a node writes when it takes a packet, if it writes one then.
-fn record_for(body: &Body) -> Option<Rec> {
+fn record_for(body: &Body) -> Option<Rec>
+    ensures { result ≡ record_for body.now }
+{
     match *body {
         Body::Prepare { position, ballot } => Some(Rec::Promised(position, ballot)),
         Body::PrepareRange { range, ballot } => Some(Rec::PromisedRange(range, ballot)),
@@ -61,7 +82,9 @@ fn record_for(body: &Body) -> Option<Rec> {
 }
 
 /// The record that a leader writes before it sends this request, if it writes one then.
-fn record_before(body: &Body) -> Option<Rec> {
+fn record_before(body: &Body) -> Option<Rec>
+    ensures { result ≡ record_before body.now }
+{
     match *body {
         Body::Prepare { ballot, .. } | Body::PrepareRange { ballot, .. } => {
             Some(Rec::Started(ballot))
@@ -77,6 +100,8 @@ struct RecordText {
 }
 
 impl fmt::Display for RecordText {
+    ghost output = { λ l. Some (record_text l.record) };
+
     fn fmt<W: fmt::Write>(&self, f: &mut fmt::Formatter<W>) -> fmt::Result {
         match self.record {
             Rec::Started(ballot) => {
@@ -114,7 +139,13 @@ pub fn cause_words(
     tasks: &IndexMap<String, Task>,
     line: &[u8],
     happened: &Happened,
-) -> Result<Words, AllocError> {
+) -> Result<Words, AllocError>
+    // claim: The text at the left of an event is the line of the packet that it delivers, as a trace
+    //   prints it, or else the line of the deck
+    ensures { IfOk result (λ words. string_bytes words.text
+        ≡ fitted_text (cause_text (names_of tasks.now) line.now
+        (delivered_by happened.now.event) happened.now.packet)) }
+{
     let Some(number) = delivered_by(&happened.event) else {
         return Words::fitted(alloc, line);
     };
@@ -125,10 +156,17 @@ pub fn cause_words(
 }
 
 /// The words for what the actor did.
-pub fn effect_words(alloc: Global, happened: &Happened) -> Result<Words, AllocError> {
+pub fn effect_words(alloc: Global, happened: &Happened) -> Result<Words, AllocError>
+    // claim: The text at the right of an event says what its actor did: the record that it wrote and
+    //   how many actions it has then applied, if these are more than before; the reply that it took; that
+    //   it did not hear a packet, or had no place for an item; that it stopped, and of how many bytes of a
+    //   record; or what it found when it ran again, or that it ran already
+    ensures { IfOk result (λ words. string_bytes words.text
+        ≡ whole_text (effect_text happened.now happened.now.event)) }
+{
     match happened.event {
         Event::Submit { .. } | Event::Again { .. } => Ok(Words::none(alloc)),
-        Event::Stop(_) => Words::fitted(alloc, b"stopped".as_slice()),
+        Event::Stop(_) => Words::whole(alloc, b"stopped".as_slice()),
         Event::Restart(_) => restart_words(alloc, happened),
         Event::Cut { .. } => cut_words(alloc, happened),
         Event::Node(_) => step_words(alloc, happened),
@@ -136,27 +174,47 @@ pub fn effect_words(alloc: Global, happened: &Happened) -> Result<Words, AllocEr
 }
 
 /// The words for a restart.
-fn restart_words(alloc: Global, happened: &Happened) -> Result<Words, AllocError> {
+fn restart_words(alloc: Global, happened: &Happened) -> Result<Words, AllocError>
+    ensures { IfOk result (λ words. string_bytes words.text ≡ whole_text
+        (restart_text happened.now.after.applied happened.now.effect.opened)) }
+{
     let Some((records, bytes)) = happened.effect.opened else {
-        return Words::fitted(alloc, b"already running".as_slice());
+        return Words::whole(alloc, b"already running".as_slice());
     };
     let applied = happened.after.applied;
     let text = format!(in alloc; "records {records}, cut {bytes}, applied {applied}")?;
-    Words::fitted(alloc, text.as_bytes())
+    Words::whole(alloc, text.as_bytes())
 }
 
 /// The words for a stop within a step: how many bytes are kept.
-fn cut_words(alloc: Global, happened: &Happened) -> Result<Words, AllocError> {
+fn cut_words(alloc: Global, happened: &Happened) -> Result<Words, AllocError>
+    ensures { IfOk result (λ words. string_bytes words.text
+        ≡ whole_text (cut_text happened.now.before happened.now.after)) }
+{
     let kept = happened.after.stored.saturating_sub(happened.before.stored);
     let text = format!(in alloc; "stopped, {kept} bytes kept")?;
-    Words::fitted(alloc, text.as_bytes())
+    Words::whole(alloc, text.as_bytes())
 }
 
 /// The words for what a step did.
-fn step_words(alloc: Global, happened: &Happened) -> Result<Words, AllocError> {
-    if happened.effect.dropped == Dropped::Full {
-        return Words::fitted(alloc, b"pending full".as_slice());
+fn step_words(alloc: Global, happened: &Happened) -> Result<Words, AllocError>
+    ensures { IfOk result (λ words. string_bytes words.text
+        ≡ whole_text (step_text happened.now)) }
+{
+    if happened.is_unheard() {
+        return Words::whole(alloc, b"not heard".as_slice());
     }
+    match happened.effect.dropped {
+        Dropped::Full => Words::whole(alloc, b"pending full".as_slice()),
+        Dropped::No | Dropped::Foreign => taken_words(alloc, happened),
+    }
+}
+
+/// The words for the reply that a task took, or else for the record that a node wrote.
+fn taken_words(alloc: Global, happened: &Happened) -> Result<Words, AllocError>
+    ensures { IfOk result (λ words. string_bytes words.text
+        ≡ whole_text (taken_text happened.now happened.now.effect.taken)) }
+{
     match happened.effect.taken {
         Some(answer) => reply_words(alloc, answer),
         None => record_words(alloc, happened),
@@ -165,7 +223,11 @@ fn step_words(alloc: Global, happened: &Happened) -> Result<Words, AllocError> {
 
 /// The words for the record that a step wrote, and for how many actions its node has then applied,
 /// if these are more than before.
-fn record_words(alloc: Global, happened: &Happened) -> Result<Words, AllocError> {
+fn record_words(alloc: Global, happened: &Happened) -> Result<Words, AllocError>
+    ensures { IfOk result (λ words. string_bytes words.text
+        ≡ whole_text (written_text happened.now.before.applied happened.now.after.applied
+        (record_of happened.now))) }
+{
     let Some(record) = record_of(happened) else {
         return Ok(Words::none(alloc));
     };
@@ -176,43 +238,89 @@ fn record_words(alloc: Global, happened: &Happened) -> Result<Words, AllocError>
     } else {
         format!(in alloc; "{record}")?
     };
-    Words::fitted(alloc, text.as_bytes())
+    Words::whole(alloc, text.as_bytes())
 }
 
 /// The record that a step wrote, if it wrote one: then the device holds more than before.
-fn record_of(happened: &Happened) -> Option<Rec> {
+fn record_of(happened: &Happened) -> Option<Rec>
+    ensures { result ≡ record_of happened.now }
+{
     if !happened.has_written() {
         return None;
     }
     let Some(packet) = &happened.packet else {
         return None;
     };
-    match happened.event {
-        Event::Node(Step::Deliver(_)) => record_for(packet.body()),
-        _ => record_before(packet.body()),
+    match delivered_by(&happened.event) {
+        Some(_) => record_for(packet.body()),
+        None => record_before(packet.body()),
     }
 }
 
 /// The words for a reply that a task takes: `reply 1 value 5`.
-fn reply_words(alloc: Global, answer: Answer) -> Result<Words, AllocError> {
+fn reply_words(alloc: Global, answer: Answer) -> Result<Words, AllocError>
+    ensures { (happened : Happened) → IfOk result (λ words. string_bytes words.text
+        ≡ whole_text (taken_text happened (Some answer))) }
+{
     let number = answer.number;
     let reply = ReplyText {
         reply: answer.reply,
     };
     let text = format!(in alloc; "reply {number} {reply}")?;
-    Words::fitted(alloc, text.as_bytes())
+    Words::whole(alloc, text.as_bytes())
+}
+
+/// The words for a line that was refused: `refused 5 NotRunning`.
+pub fn refusal_words(alloc: Global, fault: &Fault) -> Result<Words, AllocError>
+    ensures { IfOk result (λ words. string_bytes words.text
+        ≡ whole_text (refusal_text fault.now)) }
+{
+    let code = fault.code();
+    let name = fault.name();
+    let text = format!(in alloc; "refused {code} {name}")?;
+    Words::whole(alloc, text.as_bytes())
 }
 
 /// The words for how many actions a node has applied: `node 1 applied 3`.
-pub fn applied_words(alloc: Global, node: NodeId, applied: u16) -> Result<Words, AllocError> {
-    let node = node.get();
-    let text = format!(in alloc; "node {node} applied {applied}")?;
-    Words::fitted(alloc, text.as_bytes())
+pub fn applied_words(alloc: Global, node: NodeId, applied: u16) -> Result<Words, AllocError>
+    ensures { IfOk result (λ words. string_bytes words.text
+        ≡ fitted_text (applied_line_of node applied)) }
+{
+    node_words(
+        alloc,
+        NodeLine {
+            node,
+            state: NodeState::Applied(u32::from(applied)),
+        },
+    )
 }
 
 /// The words for a stopped node: `node 1 stopped`.
-pub fn stopped_words(alloc: Global, node: NodeId) -> Result<Words, AllocError> {
-    let node = node.get();
-    let text = format!(in alloc; "node {node} stopped")?;
+pub fn stopped_words(alloc: Global, node: NodeId) -> Result<Words, AllocError>
+    ensures { IfOk result (λ words. string_bytes words.text
+        ≡ fitted_text (stopped_line_of node)) }
+{
+    node_words(
+        alloc,
+        NodeLine {
+            node,
+            state: NodeState::Stopped,
+        },
+    )
+}
+
+/// The words of a node's line.
+fn node_words(alloc: Global, line: NodeLine) -> Result<Words, AllocError>
+    ensures { IfOk result (λ words. string_bytes words.text
+        ≡ fitted_text (node_line_of line.node line.state)) }
+{
+    let text = format!(in alloc; "{line}")?;
     Words::fitted(alloc, text.as_bytes())
+}
+
+/// The words for the image of a node's state.
+pub fn image_words(alloc: Global, image: &[u8]) -> Result<Words, AllocError>
+    ensures { IfOk result (λ words. string_bytes words.text ≡ image_text image.now) }
+{
+    Words::whole(alloc, image)
 }

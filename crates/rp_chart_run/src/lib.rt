@@ -2,12 +2,15 @@
 //!
 //! In reading order:
 //! - `walk`: runs the lines of a script, and charts what happens from its events and their effects
+//! - `scene`: how a script is run and drawn, and what is drawn beside each moment
 //! - `prospect`: what is known before an event, and what happened in it
 //! - `labels`: the words of a drawing
 #![tactic(auto)]
 
 mod labels;
 mod prospect;
+mod scene;
 mod walk;
 
-pub use walk::{Scene, draw_lines};
+pub use scene::Scene;
+pub use walk::draw_lines;

@@ -1,9 +1,11 @@
 //! What is known before an event, and what happened in it.
 
 ghost use Rattle.std.specs.Prelude.{◌≡◌, ◌+◌, ◌-◌, ◌≤◌, length, drop, IfOk};
-ghost use Rattle.rp_history.specs.Histories.{ending_by, end_at};
+ghost use Rattle.rp_chart_run.specs.Prospects.{actor_at, actor_state, node_state, packet_number, party_state, receiver_at};
+ghost use Rattle.rp_history.specs.Histories.{delivered_by, ending_by, end_at};
+ghost use Rattle.rp_model.specs.World.{part_at};
 
-use rp_base::Fault;
+use rp_base::{Fault, NodeId};
 use rp_codec::{Packet, Party};
 use rp_drawing::{End, Ending};
 use rp_history::{Happened, NodeState, actor_of, delivered_by};
@@ -29,7 +31,12 @@ pub fn prospect_of<M: Machine, D: CutDevice>(
     cluster: &Cluster<M, D>,
     event: &Event,
 ) -> Result<Prospect, Fault>
-    ensures { IfOk result (λ prospect. prospect.ending ≡ ending_by cluster.now.world event.now) }
+    ensures ending { IfOk result (λ prospect. prospect.ending
+        ≡ ending_by cluster.now.world event.now) }
+    ensures actor { IfOk result (λ prospect. prospect.actor
+        ≡ actor_at cluster.now.world event.now) }
+    ensures before { IfOk result (λ prospect. prospect.before
+        ≡ actor_state cluster.now.world (actor_at cluster.now.world event.now)) }
 {
     let ending = ending_of(alloc, cluster, event)?;
     let receiver = receiver_of_message(alloc, cluster, event)?;
@@ -38,7 +45,7 @@ pub fn prospect_of<M: Machine, D: CutDevice>(
         actor: actor_of(event, receiver),
         before: NO_NODE,
     };
-    prospect.before = state_of(cluster, prospect.actor);
+    prospect.before = actor_state(cluster, prospect.actor);
     Ok(prospect)
 }
 
@@ -65,7 +72,10 @@ fn receiver_of_message<M: Machine, D: CutDevice>(
     alloc: Global,
     cluster: &Cluster<M, D>,
     event: &Event,
-) -> Result<Option<Party>, Fault> {
+) -> Result<Option<Party>, Fault>
+    ensures { IfOk result (λ receiver. receiver
+        ≡ receiver_at cluster.now.world.sent (delivered_by event.now)) }
+{
     let Some(message) = delivered_by(event) else {
         return Ok(None);
     };
@@ -89,25 +99,41 @@ fn end_at<M: Machine, D: CutDevice>(cluster: &Cluster<M, D>, party: Party) -> En
 }
 
 /// The state of the actor of an event, or `NO_NODE` if that is no node.
-fn state_of<M: Machine, D: CutDevice>(cluster: &Cluster<M, D>, actor: Option<Party>) -> NodeState {
+fn actor_state<M: Machine, D: CutDevice>(cluster: &Cluster<M, D>, actor: Option<Party>) -> NodeState
+    ensures { result ≡ actor_state cluster.now.world actor }
+{
     match actor {
-        Some(party) => state_at(cluster, party),
+        Some(party) => party_state(cluster, party),
         None => NO_NODE,
     }
 }
 
 /// The state of a party, or `NO_NODE` if it is no node.
-fn state_at<M: Machine, D: CutDevice>(cluster: &Cluster<M, D>, party: Party) -> NodeState {
+fn party_state<M: Machine, D: CutDevice>(cluster: &Cluster<M, D>, party: Party) -> NodeState
+    ensures { result ≡ party_state cluster.now.world party }
+{
     match party {
-        Party::Node(node) => {
-            let applied = cluster.applied(node).ok();
-            NodeState {
-                stored: cluster.stored(node).unwrap_or(0),
-                applied: applied.unwrap_or(0),
-                is_stopped: applied.is_none(),
-            }
-        }
+        Party::Node(node) => node_state(cluster, node),
         Party::Task(_) | Party::Audit => NO_NODE,
+    }
+}
+
+/// The state of a node.
+fn node_state<M: Machine, D: CutDevice>(cluster: &Cluster<M, D>, node: NodeId) -> NodeState
+    ensures { result ≡ node_state (part_at cluster.now.world.nodes node) }
+{
+    let stored = cluster.stored(node).unwrap_or(0);
+    match cluster.applied(node) {
+        Ok(applied) => NodeState {
+            stored,
+            applied,
+            is_stopped: false,
+        },
+        Err(_) => NodeState {
+            stored,
+            applied: 0,
+            is_stopped: true,
+        },
     }
 }
 
@@ -125,14 +151,24 @@ pub fn happened_after<M: Machine, D: CutDevice>(
     prospect: &Prospect,
     event: &Event,
     effect: &Effect,
-) -> Result<Happened, Fault> {
+) -> Result<Happened, Fault>
+    ensures { IfOk result (λ happened. happened ≡ record {
+      event = event.now;
+      effect = effect.now;
+      actor = prospect.now.actor;
+      before = prospect.now.before;
+      after = actor_state cluster.now.world prospect.now.actor;
+      packet = part_at cluster.now.world.sent
+          (packet_number event.now effect.now.first);
+    }) }
+{
     let number = delivered_by(event).unwrap_or(effect.first);
     Ok(Happened {
         event: *event,
         effect: *effect,
         actor: prospect.actor,
         before: prospect.before,
-        after: state_of(cluster, prospect.actor),
+        after: actor_state(cluster, prospect.actor),
         packet: sent_packet(alloc, cluster, number)?,
     })
 }

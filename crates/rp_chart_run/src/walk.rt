@@ -1,64 +1,59 @@
 //! Runs the lines of a script, and charts what happens from its events and their effects.
 
-ghost use Rattle.std.specs.Prelude.{◌≡◌, ◌<◌, ◌≤◌, ◌^◌, [], ◌∷◌, length, replicate, All, IfOk, OnOk, string_bytes};
-ghost use Rattle.rp_chart_run.specs.Charts.{Charts, ChartsPlay, HasWays, Reaches};
-ghost use Rattle.rp_chart_run.specs.ScriptHistory.{command_happens, drain_happens, event_happens, lose_happens, script_happens};
+ghost use Rattle.std.specs.Prelude.{◌≡◌, ◌<◌, ◌≤◌, ◌^◌, false, [], ◌∷◌, length, map, option_map, All, IfOk, OnOk, string_bytes};
+ghost use Rattle.rp_chart_run.specs.Charts.{Charts, ChartsPlay, HasWays, IsSettledAlike, Reaches};
+ghost use Rattle.rp_chart_run.specs.ScriptHistory.{command_happens, drain_ended, drain_happens, drawn_run, event_happens, lose_happens, message_lost, lost_nothing, node_shown, nodes_shown, refused, script_happens, unsettled_in};
 ghost use Rattle.rp_deck.specs.Script.{FitsIn, IsEventWithin};
 ghost use Rattle.rp_drawing.specs.Ways.{IsEndingWithin};
-ghost use Rattle.rp_history.specs.Histories.{IsDrawingOf, loss_of, lost_of, MessageLost, NothingHappened};
+ghost use Rattle.rp_history.specs.Histories.{IsDrawnIfShort, label_text, lane_text, loss_of, lost_of};
 ghost use Rattle.rp_run.specs.Output.{event_said, lost, drained, command_said, run_said};
 ghost use Rattle.rp_run.specs.Runs.{run_setting, opening_setup, HasParts};
+ghost use Rattle.rp_run.specs.Settled.{is_settled};
 ghost use Rattle.rp_world.specs.Steps.{IsSameSetup};
 
-use crate::labels::{
-    applied_words, cause_words, effect_words, line_at, message_words, stopped_words,
-};
+use crate::labels::{applied_words, image_words, refusal_words, stopped_words};
 use crate::prospect::{happened_after, packets_from, prospect_of};
+use crate::scene::Scene;
 use rp_base::{Fault, NodeId};
-use rp_codec::Party;
 use rp_deck::{Command, Line};
-use rp_drawing::{Kind, Label, Lane, Mark, Words};
-use rp_history::{Chart, Happened, Stage};
+use rp_drawing::{Label, Words};
+use rp_history::Chart;
 use rp_machine::Machine;
 use rp_model::{Event, Step, worlds_grow};
 use rp_output::is_refusal;
-use rp_run::{RunOptions, Settled, sent_packet, settled_by};
+use rp_run::{Settled, sent_packet, settled_by};
 use rp_store::CutDevice;
 use rp_world::Cluster;
 use std::alloc::Global;
 
-/// How a script is run and drawn.
-#[derive(Clone, Copy)]
-pub struct Scene<'a> {
-    pub options: &'a RunOptions<'a>,
-    /// The lines of the deck.
-    pub deck: &'a [&'a [u8]],
-    pub stage: Stage,
-    pub lanes: &'a [Lane],
-}
-
-/// The drawing of the lines of a script, over a cluster of new devices.
+/// The drawing of the lines of a script, over a cluster of new devices; `None` if it has more than
+/// 2,000 lines and no part of the run is chosen.
 pub fn draw_lines<M: Machine, D: CutDevice>(
     alloc: Global,
     scene: &Scene<'_>,
     program: M::Program,
     devices: Vec<D>,
-) -> Result<String, Fault>
+) -> Result<Option<String>, Fault>
     requires devices { length devices.items ≡ scene.now.options.now.config.nodes }
     requires empty { All (λ d. (D.disk d).contents ≡ []) devices.items }
     requires lines { All (λ line. FitsIn scene.now.options.now.config.nodes 8 8 line.command)
         scene.now.options.now.lines.now }
     requires lanes { length scene.now.lanes.now ≤ 16 }
-    // claim: The arrows of the drawing of a script, and it has no other, are the messages of its
-    //   run, each from where it was sent down to where it was settled, in the history in which its
-    //   lines happen in order: each event of a line that is not refused, each delivery of a
-    //   `drain`, and the loss of each message that a line loses. No other message is drawn as lost
-    ensures drawing { IfOk result (λ text. let s = run_setting M.next M.answers M.begin M.image
-        (opening_setup scene.now.options.now.config program) scene.now.options.now in
-        IsDrawingOf s.setting scene.now.stage (length scene.now.lanes.now)
-        (script_happens s scene.now.options.now.most scene.now.options.now.lines.now)
-        (run_said s scene.now.options.now.most scene.now.options.now.lines.now).play.world
-        (string_bytes text)) }
+    // claim: The drawing of a script is to the byte the page of a sketch of its run under the lanes
+    //   that are given. Its arrows, and it has no other, are the messages of the run, each from where it
+    //   was sent down to where it was settled, in the history in which its lines happen in order: each
+    //   event of a line that is not refused, each delivery of a `drain`, and the loss of each message that
+    //   a line loses and that was not settled. No other message is drawn as lost. Each moment of that
+    //   history has the texts and the mark that the run gives it: what was delivered or the line of the
+    //   deck, and what the actor did, why a line was refused, that a line lost nothing, or the state of a
+    //   node. There is none exactly if it is too long
+    ensures drawing { IfOk result (λ page. let options = scene.now.options.now in
+        let d = drawn_run M.next M.answers M.begin M.image
+        (opening_setup options.config program) scene.now in
+        IsDrawnIfShort d.run.setting scene.now.stage (map lane_text scene.now.lanes.now)
+        (script_happens d options.most options.lines.now)
+        (run_said d.run options.most options.lines.now).play.world
+        (option_map string_bytes page)) }
 {
     let mut walk = Walk {
         alloc,
@@ -97,9 +92,9 @@ impl<M: Machine, D: CutDevice> Walk<M, D> {
             (λ play. (command_said s options.most line.now.number play line.now.command).play) }
         ensures ways { OnOk result (HasWays self.new.cluster self.new.chart) }
         ensures charted { let options = scene.now.options.now in
-            let s = run_setting M.next M.answers M.begin M.image self.old.cluster options in
+            let d = drawn_run M.next M.answers M.begin M.image self.old.cluster scene.now in
             ChartsPlay M.next M.answers M.begin self.old self.new result
-            (λ play. command_happens s options.most line.now.number play line.now.command) }
+            (λ play. command_happens d options.most line.now.number play line.now.command) }
     {
         let number = line.number;
         match line.command {
@@ -123,10 +118,9 @@ impl<M: Machine, D: CutDevice> Walk<M, D> {
             let s = run_setting M.next M.answers M.begin M.image self.old.cluster options in
             Reaches self.old self.new result (λ play. (event_said s line play event.now).play) }
         ensures ways { OnOk result (HasWays self.new.cluster self.new.chart) }
-        ensures charted { let options = scene.now.options.now in
-            let s = run_setting M.next M.answers M.begin M.image self.old.cluster options in
+        ensures charted { let d = drawn_run M.next M.answers M.begin M.image self.old.cluster scene.now in
             ChartsPlay M.next M.answers M.begin self.old self.new result
-            (λ play. event_happens s play event.now ∷ []) }
+            (λ play. event_happens d line play event.now ∷ []) }
     {
         worlds_grow::<M>();
         let prospect = prospect_of(self.alloc, &self.cluster, event)?;
@@ -140,7 +134,7 @@ impl<M: Machine, D: CutDevice> Walk<M, D> {
                     event,
                     &effect,
                 )?;
-                let label = self.label(scene, line, &happened)?;
+                let label = scene.event_label(self.alloc, line, &happened)?;
                 let packets = packets_from(self.alloc, &self.cluster, effect.first)?;
                 self.chart
                     .happen::<M>(self.alloc, &packets, prospect.ending, label)
@@ -150,14 +144,6 @@ impl<M: Machine, D: CutDevice> Walk<M, D> {
         }
     }
 
-    /// The label of an event that happened, drawn beside the ways of packets.
-    fn label(&self, scene: &Scene<'_>, line: u32, happened: &Happened) -> Result<Label, Fault> {
-        let text = line_at(scene.deck, line);
-        let cause = cause_words(self.alloc, scene.options.tasks, text, happened)?;
-        let effect = effect_words(self.alloc, happened)?;
-        Ok(happened.label(&self.chart.stage, cause, effect))
-    }
-
     /// Charts that a line was refused.
     fn refuse(&mut self, scene: &Scene<'_>, line: u32, fault: Fault) -> Result<(), Fault>
         requires ways { HasWays self.old.cluster self.old.chart }
@@ -165,18 +151,11 @@ impl<M: Machine, D: CutDevice> Walk<M, D> {
         ensures settled { self.new.settled ≡ self.old.settled }
         ensures stage { self.new.chart.stage ≡ self.old.chart.stage }
         ensures ways { OnOk result (HasWays self.new.cluster self.new.chart) }
-        ensures charted { Charts M.next M.answers M.begin self.old self.new result
-            (NothingHappened ∷ []) }
+        ensures charted { let d = drawn_run M.next M.answers M.begin M.image self.old.cluster scene.now in
+            Charts M.next M.answers M.begin self.old self.new result (refused d line fault ∷ []) }
     {
-        let code = fault.code();
-        let name = fault.name();
-        let text = format!(in self.alloc; "refused {code} {name}")?;
-        let label = Label {
-            cause: Words::fitted(self.alloc, line_at(scene.deck, line))?,
-            effect: Words::fitted(self.alloc, text.as_bytes())?,
-            mark: None,
-            is_drawn: scene.stage.view.shows_all(),
-        };
+        let words = refusal_words(self.alloc, &fault)?;
+        let label = scene.line_label(self.alloc, line, words, scene.shows_all())?;
         self.stay(None, label)
     }
 
@@ -189,12 +168,13 @@ impl<M: Machine, D: CutDevice> Walk<M, D> {
         ensures stage { self.new.chart.stage ≡ self.old.chart.stage }
         ensures ways { OnOk result (HasWays self.new.cluster self.new.chart) }
         ensures charted { Charts M.next M.answers M.begin self.old self.new result
-            (loss_of lost ∷ []) }
+            (record { item = loss_of lost; label = label_text label } ∷ []) }
     {
         self.chart.stay::<M>(self.alloc, lost, label)
     }
 
-    /// The messages from the first to the last count as settled, if all of them were sent.
+    /// The messages from the first to the last count as settled, if all of them were sent. Those
+    /// that were not settled before are lost.
     fn lose(&mut self, scene: &Scene<'_>, line: u32, first: u64, last: u64) -> Result<(), Fault>
         requires first { 1 ≤ first }
         requires last { last < 2 ^ 63 }
@@ -204,17 +184,43 @@ impl<M: Machine, D: CutDevice> Walk<M, D> {
         ensures reached { Reaches self.old self.new result
             (λ play. (lost line play first last).play) }
         ensures ways { OnOk result (HasWays self.new.cluster self.new.chart) }
-        ensures charted { ChartsPlay M.next M.answers M.begin self.old self.new result
-            (λ play. lose_happens play first last) }
+        ensures charted { let d = drawn_run M.next M.answers M.begin M.image self.old.cluster scene.now in
+            ChartsPlay M.next M.answers M.begin self.old self.new result
+            (λ play. lose_happens d line play first last) }
     {
         let sent = self.cluster.messages();
         if first > sent || last > sent {
             return self.refuse(scene, line, Fault::NoSuchMessage);
         }
-        for number in first..last + 1 {
-            self.lose_one(scene, number)?;
+        let least = self.settled.next_unsettled(first);
+        if least > last {
+            return self.lose_nothing(scene, line);
         }
+        self.lose_from(scene, least, last)?;
         Ok(self.settled.settle_all(first, last)?)
+    }
+
+    /// Charts that the messages are lost that are not settled, from one of them to the last.
+    fn lose_from(&mut self, scene: &Scene<'_>, first: u64, last: u64) -> Result<(), Fault>
+        requires first { 1 ≤ first }
+        requires unsettled { is_settled self.old.settled first ≡ false }
+        requires within { first ≤ last }
+        requires sent { last ≤ length self.old.cluster.world.sent }
+        requires ways { HasWays self.old.cluster self.old.chart }
+        ensures cluster { self.new.cluster ≡ self.old.cluster }
+        ensures settled { IsSettledAlike self.old.settled self.new.settled }
+        ensures stage { self.new.chart.stage ≡ self.old.chart.stage }
+        ensures ways { OnOk result (HasWays self.new.cluster self.new.chart) }
+        ensures charted { let d = drawn_run M.next M.answers M.begin M.image self.old.cluster scene.now in
+            ChartsPlay M.next M.answers M.begin self.old self.new result
+            (λ play. map (message_lost d play.world) (unsettled_in play first last)) }
+    {
+        let mut number = first;
+        while number <= last {
+            self.lose_one(scene, number)?;
+            number = self.settled.next_unsettled(number + 1);
+        }
+        Ok(())
     }
 
     /// Charts that a message is lost.
@@ -226,19 +232,30 @@ impl<M: Machine, D: CutDevice> Walk<M, D> {
         ensures settled { self.new.settled ≡ self.old.settled }
         ensures stage { self.new.chart.stage ≡ self.old.chart.stage }
         ensures ways { OnOk result (HasWays self.new.cluster self.new.chart) }
-        ensures charted { Charts M.next M.answers M.begin self.old self.new result
-            (MessageLost number ∷ []) }
+        ensures charted { let d = drawn_run M.next M.answers M.begin M.image self.old.cluster scene.now in
+            Charts M.next M.answers M.begin self.old self.new result
+            (message_lost d self.old.cluster.world number ∷ []) }
     {
         let Some(packet) = sent_packet(self.alloc, &self.cluster, number)? else {
             return Ok(());
         };
-        let label = Label {
-            cause: message_words(self.alloc, scene.options.tasks, number, &packet)?,
-            effect: Words::fitted(self.alloc, b"lost".as_slice())?,
-            mark: None,
-            is_drawn: scene.stage.view.shows(&packet),
-        };
+        let label = scene.lost_label(self.alloc, number, packet)?;
         self.stay(Some(number), label)
+    }
+
+    /// Charts that a line lost nothing.
+    fn lose_nothing(&mut self, scene: &Scene<'_>, line: u32) -> Result<(), Fault>
+        requires ways { HasWays self.old.cluster self.old.chart }
+        ensures cluster { self.new.cluster ≡ self.old.cluster }
+        ensures settled { self.new.settled ≡ self.old.settled }
+        ensures stage { self.new.chart.stage ≡ self.old.chart.stage }
+        ensures ways { OnOk result (HasWays self.new.cluster self.new.chart) }
+        ensures charted { let d = drawn_run M.next M.answers M.begin M.image self.old.cluster scene.now in
+            Charts M.next M.answers M.begin self.old self.new result (lost_nothing d line ∷ []) }
+    {
+        let effect = Words::whole(self.alloc, b"lost nothing".as_slice())?;
+        let label = scene.line_label(self.alloc, line, effect, scene.shows_all())?;
+        self.stay(None, label)
     }
 
     /// Delivers the least message that is not settled, until none is left or n were delivered.
@@ -254,9 +271,9 @@ impl<M: Machine, D: CutDevice> Walk<M, D> {
             Reaches self.old self.new result (λ play. (drained s line options.most play).play) }
         ensures ways { OnOk result (HasWays self.new.cluster self.new.chart) }
         ensures charted { let options = scene.now.options.now in
-            let s = run_setting M.next M.answers M.begin M.image self.old.cluster options in
+            let d = drawn_run M.next M.answers M.begin M.image self.old.cluster scene.now in
             ChartsPlay M.next M.answers M.begin self.old self.new result
-            (λ play. drain_happens s line options.most play) }
+            (λ play. drain_happens d line options.most play) }
     {
         for delivered in 0..scene.options.most {
             let message = self.settled.least();
@@ -269,12 +286,21 @@ impl<M: Machine, D: CutDevice> Walk<M, D> {
         if self.settled.least() > self.cluster.messages() {
             return Ok(());
         }
-        let label = Label {
-            cause: Words::fitted(self.alloc, line_at(scene.deck, line))?,
-            effect: Words::fitted(self.alloc, b"drain limit".as_slice())?,
-            mark: None,
-            is_drawn: true,
-        };
+        self.end_drain(scene, line)
+    }
+
+    /// Charts that a `drain` ended at its limit.
+    fn end_drain(&mut self, scene: &Scene<'_>, line: u32) -> Result<(), Fault>
+        requires ways { HasWays self.old.cluster self.old.chart }
+        ensures cluster { self.new.cluster ≡ self.old.cluster }
+        ensures settled { self.new.settled ≡ self.old.settled }
+        ensures stage { self.new.chart.stage ≡ self.old.chart.stage }
+        ensures ways { OnOk result (HasWays self.new.cluster self.new.chart) }
+        ensures charted { let d = drawn_run M.next M.answers M.begin M.image self.old.cluster scene.now in
+            Charts M.next M.answers M.begin self.old self.new result (drain_ended d line ∷ []) }
+    {
+        let effect = Words::whole(self.alloc, b"drain limit".as_slice())?;
+        let label = scene.line_label(self.alloc, line, effect, true)?;
         self.stay(None, label)
     }
 
@@ -285,8 +311,9 @@ impl<M: Machine, D: CutDevice> Walk<M, D> {
         ensures settled { self.new.settled ≡ self.old.settled }
         ensures stage { self.new.chart.stage ≡ self.old.chart.stage }
         ensures ways { OnOk result (HasWays self.new.cluster self.new.chart) }
-        ensures charted { Charts M.next M.answers M.begin self.old self.new result
-            (replicate scene.now.options.now.config.nodes NothingHappened) }
+        ensures charted { let d = drawn_run M.next M.answers M.begin M.image self.old.cluster scene.now in
+            Charts M.next M.answers M.begin self.old self.new result
+            (nodes_shown d self.old.cluster.world scene.now.options.now.config.nodes) }
     {
         for place in 0..scene.options.config.nodes {
             let node = NodeId::new(place + 1).unwrap();
@@ -302,30 +329,20 @@ impl<M: Machine, D: CutDevice> Walk<M, D> {
         ensures settled { self.new.settled ≡ self.old.settled }
         ensures stage { self.new.chart.stage ≡ self.old.chart.stage }
         ensures ways { OnOk result (HasWays self.new.cluster self.new.chart) }
-        ensures charted { Charts M.next M.answers M.begin self.old self.new result
-            (NothingHappened ∷ []) }
+        ensures charted { let d = drawn_run M.next M.answers M.begin M.image self.old.cluster scene.now in
+            Charts M.next M.answers M.begin self.old self.new result
+            (node_shown d self.old.cluster.world node ∷ []) }
     {
-        let mark = Mark {
-            lane: scene.stage.lane_of(Party::Node(node)),
-            colour: 0,
-            kind: Kind::State,
-        };
         let (cause, effect) = match self.cluster.applied(node) {
             Ok(applied) => {
                 let image = self.cluster.image(self.alloc, node)?;
                 (
                     applied_words(self.alloc, node, applied)?,
-                    Words::fitted(self.alloc, &image)?,
+                    image_words(self.alloc, &image)?,
                 )
             }
             Err(_) => (stopped_words(self.alloc, node)?, Words::none(self.alloc)),
         };
-        let label = Label {
-            cause,
-            effect,
-            mark: Some(mark),
-            is_drawn: true,
-        };
-        self.stay(None, label)
+        self.stay(None, scene.shown_label(node, cause, effect))
     }
 }

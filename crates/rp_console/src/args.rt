@@ -69,7 +69,7 @@ fn live_command<'a>(alloc: Global) -> Result<Command<'a>, AllocError>
     let turns = Arg::new(alloc, "turns")
         .long("turns")
         .value_name("T")
-        .help("How many turns each node and each task makes, 1 to 1000000")
+        .help("At most how many turns each node and each task makes, 1 to 1000000")
         .value_parser(value_parser!(u32).range(1..=1_000_000))
         .default_value("10000");
     Command::new(alloc, "live")

@@ -1,2 +1,4 @@
+pub mod LineLemmas
 pub mod Lists
+pub mod StopLemmas
 pub mod WayLemmas

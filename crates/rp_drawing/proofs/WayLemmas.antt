@@ -207,8 +207,8 @@ down_more lines more way le down = record {
   ends = λ arrival ended drawn. let at = down.ends arrival ended drawn in (at.0, omega (arith, le, at.1));
 }
 
--- a way that ends in the next line
-down_ended : (lines more moment : ℕ) (e : Ending) (was : Way) → lines ≤ more → (was.sending.is_drawn ≡ true → more ≡ lines + 1) → IsDown lines was
+-- a way that ends in the next line, which the moment takes
+down_ended : (lines more moment : ℕ) (e : Ending) (was : Way) → lines ≤ more → (was.sending.is_drawn ≡ true → lines < more) → IsDown lines was
     → IsDown more (ended_way (record { moment = moment; line = lines; end = e.end }) was)
 down_ended lines more moment e was le next down = record {
   begins = λ drawn. omega (arith, le, down.begins drawn);
@@ -236,7 +236,7 @@ any_at (s ∷ rest) (suc j) sending there drawn = ap (λ (b : Bool). s.is_drawn 
     or_true false = refl
 
 module _ (lines more moment : ℕ) (ways : List Way) (sends : List Sending) (le : lines ≤ more) (down : AreDown lines ways) where
-  old_down : (o : Option Ending) → (is_end_drawn ways o ≡ true → more ≡ lines + 1) → (k : ℕ) (way : Way) → slice_get (ended_ways ways o moment lines) k ≡ Some way → IsDown more way
+  old_down : (o : Option Ending) → (is_end_drawn ways o ≡ true → lines < more) → (k : ℕ) (way : Way) → slice_get (ended_ways ways o moment lines) k ≡ Some way → IsDown more way
   old_down None next k way there = down_more lines more way le (down k way there)
   old_down (Some e) next k way there =
       let arrival : Arrival = record { moment = moment; line = lines; end = e.end } in
@@ -249,7 +249,7 @@ module _ (lines more moment : ℕ) (ways : List Way) (sends : List Sending) (le 
             (down_ended lines more moment e was.0 le (λ drawn. next (ap is_way_drawn at_place ∙ drawn)) (down k was.0 was.1)))
       ]
 
-  pub down_now : (o : Option Ending) → (is_end_drawn ways o ≡ true → more ≡ lines + 1) → (list_any (λ s. s.is_drawn) sends ≡ true → more ≡ lines + 1)
+  pub down_now : (o : Option Ending) → (is_end_drawn ways o ≡ true → lines < more) → (list_any (λ s. s.is_drawn) sends ≡ true → lines < more)
       → AreDown more (ended_ways ways o moment lines ++ sent_ways sends moment lines)
   down_now o ends_next sends_next k way there =
       elim (get_split (ended_ways ways o moment lines) (sent_ways sends moment lines) k way there) [

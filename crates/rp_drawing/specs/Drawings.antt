@@ -1,9 +1,12 @@
 -- The drawing of a sketch.
 use Rattle.std.specs.Prelude.{◌≡◌, ℕ, ◌+◌, ◌-◌, ◌*◌, ◌/◌, ◌≤◌, nat_eq, Option, Some, None, List, []}
 use Rattle.std.specs.Prelude.{◌∷◌, ◌++◌, codes, flat_map, length, if◌then◌else◌}
+use Rattle.std.specs.List.{sum_by}
 use Rattle.rp_drawing.specs.Elements.{curve_text}
-use Rattle.rp_drawing.specs.Lines.{head_text, lanes_text, row_text}
+use Rattle.rp_drawing.specs.Legend.{legend_text}
+use Rattle.rp_drawing.specs.Lines.{head_text, lanes_text, names_text, row_bytes, row_text}
 use Rattle.rp_drawing.specs.Pages.{arrival_y, departure_y, lane_x, line_y}
+use Rattle.rp_drawing.specs.Stops.{stops_text}
 use Rattle.rp_drawing.specs.declared.drawing.Lane.{Lane}
 use Rattle.rp_drawing.specs.declared.elements.Curve.{Curve}
 use Rattle.rp_drawing.specs.declared.sketch.Arrival.{Arrival}
@@ -52,22 +55,32 @@ abbrev pub way_text : ℕ → Way → List ℕ
 way_text lanes way = if way.sending.is_drawn then curve_text (way_curve lanes way) ++ 10 ∷ []
     else []
 
--- The text of a drawing, all of it: its head, its lanes under these names, the arrows of its ways,
--- in order, and its moments. Names and labels have no `<` (Words), so it has no other arrow.
+-- The text of a drawing, all of it: its head, its legend, its lanes under these names, how they look
+-- while their nodes are stopped, the arrows of its ways, in order, its moments, and the names again.
+-- Names and labels have no `<` (Words), so it has no other arrow.
 abbrev pub page_text : List Lane → Sketch → List ℕ
 page_text names sketch =
     let lanes = length names in
     let end = line_y lanes sketch.lines + 18 in
     head_text end
+    ++ legend_text
     ++ lanes_text lanes end names
+    ++ stops_text lanes end sketch.rows.items
     ++ flat_map (way_text lanes) sketch.ways.items
     ++ flat_map (row_text lanes) sketch.rows.items
+    ++ names_text lanes sketch.lines names
     ++ (codes "</svg>" ++ 10 ∷ [])
+
+-- how many bytes a drawing has at most: 300 for each lane and message, 32 for each line, and for
+-- each moment 400, and 3 for each letter of what an actor does in it
+abbrev pub most_page_bytes : ℕ → Sketch → ℕ
+most_page_bytes lanes sketch =
+    9300 + 300 * (lanes + length sketch.ways.items) + 32 * sketch.lines
+    + 100 * length sketch.rows.items + sum_by row_bytes sketch.rows.items
 
 -- The text is the page of the sketch under names of this many lanes, and is short.
 pub record IsDrawnBy (sketch : Sketch) (lanes : ℕ) (text : List ℕ) : Type 0 where
   pub names : List Lane
   pub count : length names ≡ lanes
   pub page : text ≡ page_text names sketch
-  pub short : length text
-      ≤ 9300 + 300 * (lanes + length sketch.ways.items + length sketch.rows.items)
+  pub short : length text ≤ most_page_bytes lanes sketch

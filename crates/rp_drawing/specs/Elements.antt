@@ -1,18 +1,14 @@
 -- The elements of a drawing as text.
-use Rattle.std.specs.Prelude.{ℕ, List, ◌++◌, codes, decimal, string_bytes}
+use Rattle.std.specs.Prelude.{ℕ, List, ◌++◌, codes, decimal}
 use Rattle.rp_drawing.specs.declared.elements.Curve.{Curve}
 use Rattle.rp_drawing.specs.declared.elements.Dash.{Dash}
 use Rattle.rp_drawing.specs.declared.elements.Look.{Look}
 use Rattle.rp_drawing.specs.declared.elements.Point.{Point}
 use Rattle.rp_drawing.specs.declared.elements.Upright.{Upright}
-use Rattle.rp_drawing.specs.declared.words.Words.{Words}
 
--- how many bytes an element has at most
-abbrev pub most_bytes : ℕ
-most_bytes = 300
-
+-- how many bytes the head of a drawing has at most, and its legend
 abbrev pub most_head_bytes : ℕ
-most_head_bytes = 9000
+most_head_bytes = 4500
 
 -- a look, as two classes
 abbrev pub look_text : Look → List ℕ
@@ -40,9 +36,9 @@ upright_text u =
     codes "<path class='" ++ (look_text u.look ++ (codes "' d='M" ++ (point_text u.from
     ++ (codes "V" ++ (decimal u.to_y ++ codes "'/>")))))
 
--- words of this colour at a place
-abbrev pub words_text : ℕ → Point → Words → List ℕ
-words_text colour place words =
+-- letters of this colour at a place
+abbrev pub words_text : ℕ → Point → List ℕ → List ℕ
+words_text colour place letters =
     codes "<text class='t" ++ (decimal colour ++ (codes "' x='" ++ (decimal place.x
     ++ (codes "' y='" ++ (decimal place.y ++ (codes "'>"
-    ++ (string_bytes words.text ++ codes "</text>")))))))
+    ++ (letters ++ codes "</text>")))))))

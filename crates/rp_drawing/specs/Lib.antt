@@ -1,7 +1,9 @@
 pub mod Drawings
 pub mod Elements
+pub mod Legend
 pub mod Lines
 pub mod Pages
+pub mod Stops
 pub mod Style
 pub mod Ways
 pub mod Words

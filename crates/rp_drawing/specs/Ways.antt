@@ -2,8 +2,9 @@
 -- it was settled, and none upwards.
 use Rattle.std.specs.Prelude.{◌≡◌, ℕ, zero, suc, ◌+◌, ◌-◌, ◌<◌, ◌≤◌, Bool, true, false, ◌||◌}
 use Rattle.std.specs.Prelude.{nat_eq, Option, Some, None, List, [], ◌∷◌, ◌++◌, length, map}
-use Rattle.std.specs.Prelude.{slice_get, unwrap_or, if◌then◌else◌}
+use Rattle.std.specs.Prelude.{max, slice_get, string_bytes, unwrap_or, if◌then◌else◌}
 use Rattle.std.specs.List.{list_any}
+use Rattle.rp_drawing.specs.Words.{text_lines}
 use Rattle.rp_drawing.specs.declared.sketch.Arrival.{Arrival}
 use Rattle.rp_drawing.specs.declared.sketch.Ending.{Ending}
 use Rattle.rp_drawing.specs.declared.sketch.Label.{Label}
@@ -68,7 +69,7 @@ is_row_drawn sketch moment label =
     label.is_drawn || (is_end_drawn sketch.ways.items moment.ending
     || list_any (λ s. s.is_drawn) moment.sends.items)
 
--- the row of a moment under this label: its line is the next one
+-- the row of a moment under this label: its first line is the next one
 abbrev pub row_of : Sketch → Moment → Label → Row
 row_of sketch moment label = record {
   moment = moment;
@@ -83,15 +84,19 @@ ways_after sketch moment =
     ended_ways sketch.ways.items moment.ending (length sketch.rows.items) sketch.lines
     ++ sent_ways moment.sends.items (length sketch.rows.items) sketch.lines
 
--- the lines after a moment: one more exactly if it has one
-abbrev pub lines_after : ℕ → Bool → ℕ
-lines_after lines is_drawn = if is_drawn then lines + 1 else lines
+-- how many lines a moment takes under a label: as many as what an actor does has, and at least one
+abbrev pub label_lines : Label → ℕ
+label_lines label = max 1 (text_lines (string_bytes label.effect.text))
+
+-- the lines after a moment: those of its label more exactly if it is drawn
+abbrev pub lines_after : ℕ → Label → Bool → ℕ
+lines_after lines label is_drawn = if is_drawn then lines + label_lines label else lines
 
 -- The new sketch is the old one and this moment under this label, and nothing else.
 pub record AddsMoment (old new : Sketch) (moment : Moment) (label : Label) : Type 0 where
   pub rows : new.rows.items ≡ old.rows.items ++ row_of old moment label ∷ []
   pub ways : new.ways.items ≡ ways_after old moment
-  pub lines : new.lines ≡ lines_after old.lines (is_row_drawn old moment label)
+  pub lines : new.lines ≡ lines_after old.lines label (is_row_drawn old moment label)
 
 -- ---- what ways are
 

@@ -1,13 +1,19 @@
 //! The drawing of a sketch.
 
 ghost use Rattle.std.specs.Prelude.{◌≡◌, ◌+◌, ◌*◌, ◌++◌, ◌≤◌, ◌<◌, ◌^◌, true, IfErr, IfOk, OnOk, length, string_bytes, flat_map};
+ghost use Rattle.std.specs.List.{sum_by};
 ghost use Rattle.rp_drawing.specs.Drawings.{end_kind, page_text, way_curve, way_text, IsDrawnBy};
-ghost use Rattle.rp_drawing.specs.Lines.{effect_text, head_text, lane_text, lanes_text, mark_kind, mark_text, row_element, row_text, text_point, within_page};
+ghost use Rattle.rp_drawing.specs.Lines.{effect_line, effect_text, head_text, lane_text, lanes_text, mark_kind, mark_text, name_text, names_from, names_text, row_bytes, row_element, row_text, text_point};
 ghost use Rattle.rp_drawing.specs.Ways.{IsDown, AreDown};
 
-use crate::elements::{Curve, Dash, Look, Point, Upright, add_element, add_head, words_at};
-use crate::page::{LEFT, LINE, Page, RIGHT, WIDTH};
-use crate::sketch::{End, Kind, MOST_LINES, Mark, Row, Sketch, Way};
+use crate::elements::{
+    Curve, Dash, Look, MOST_BYTES, MOST_LINE_BYTES, MOST_ROW_BYTES, MOST_SHORT_BYTES, Point,
+    Upright, add_element, add_head, words_at,
+};
+use crate::legend::legend_text;
+use crate::page::{LEFT, LINE, LINES_BETWEEN_NAMES, Page, RIGHT, WIDTH};
+use crate::sketch::{End, Kind, Mark, Row, Sketch, Way};
+use crate::stops::{within_page, write_stops};
 use crate::style::style_text;
 use crate::words::Words;
 use rp_base::Fault;
@@ -20,19 +26,22 @@ pub struct Lane {
     pub colour: u8,
 }
 
-/// The drawing of a sketch, of at most 300 bytes for each message, moment and lane, and 9,300
-/// besides. Each message whose way is drawn has its arrow, from the line of the moment that sent it
-/// down to the line of the one that settled it. `OutOfMemory`.
+/// The drawing of a sketch: a legend, the lanes under their names, the lanes of stopped nodes, the
+/// arrow of each message whose way is drawn, from the line of the moment that sent it down to the
+/// line of the one that settled it, and what is beside each moment. `OutOfMemory`, also where a
+/// lane's name or a cause is longer than fitted words are.
 pub fn draw(alloc: Global, sketch: &Sketch, lanes: &[Lane]) -> Result<String, Fault>
     requires down { AreDown sketch.now.lines sketch.now.ways.items }
     requires lines { sketch.now.lines ≤ 2 ^ 32 }
     requires lanes { length lanes.now ≤ 16 }
     // claim: Each message whose way is drawn has its arrow in the drawing, from its sender's lane, in
     //   the line of the moment that sent it, to its receiver's, in the line of the moment that settled
-    //   it. The text is the page to the byte: a head, the lanes that were given, under their names and
-    //   in their colours, the arrows, and what is beside each moment, and it has no other arrow. It has
-    //   at most 300 bytes for each message, moment and lane, and 9,300 besides. Only `OutOfMemory` is
-    //   returned in its place
+    //   it. The text is the page to the byte: a head with a legend, the lanes that were given, under
+    //   their names and in their colours, each of another look from a stop of its node down to the
+    //   next restart, the arrows, what is beside each moment, and the names again each 50 lines; and
+    //   it has no other arrow. It has at most 300 bytes for each message and lane, 400 for each
+    //   moment, 3 for each letter of what an actor does, 32 for each line, and 9,300 besides. Only
+    //   `OutOfMemory` is returned in its place
     ensures page { IfOk result (λ text. string_bytes text ≡ page_text lanes.now sketch.now) }
     ensures drawn { IfOk result (λ text. IsDrawnBy sketch.now (length lanes.now)
         (string_bytes text)) }
@@ -45,10 +54,13 @@ pub fn draw(alloc: Global, sketch: &Sketch, lanes: &[Lane]) -> Result<String, Fa
     let height = page.line_y(sketch.lines) + LINE;
     let head = head_text(alloc, height)?;
     add_head(&mut text, &head)?;
+    add_head(&mut text, legend_text())?;
     write_lanes(alloc, &mut text, page, lanes, height)?;
+    write_stops(alloc, &mut text, page, &sketch.rows, height)?;
     write_ways(alloc, &mut text, page, &sketch.lines, &sketch.ways)?;
     write_rows(alloc, &mut text, page, &sketch.rows)?;
-    add_element(&mut text, "</svg>")?;
+    write_names(alloc, &mut text, page, lanes, sketch.lines)?;
+    add_element(&mut text, "</svg>", MOST_BYTES)?;
     Ok(text)
 }
 
@@ -79,7 +91,7 @@ fn write_lanes(
 {
     for (place, lane) in lanes.iter().enumerate() {
         let element = lane_text(alloc, page, (place as u32, lane), end)?;
-        add_element(text, &element)?;
+        add_element(text, &element, MOST_BYTES)?;
     }
     Ok(())
 }
@@ -95,19 +107,85 @@ fn lane_text(
         placed.entry.1.now) }
 {
     let (place, lane) = placed;
-    let x = page.lane_x(place);
-    let y = page.name_y(place);
     let upright = Upright {
         look: Look {
             colour: lane.colour,
             kind: 8,
         },
-        from: Point { x, y: y + 4 },
+        from: Point {
+            x: page.lane_x(place),
+            y: page.name_y(0, place) + 4,
+        },
         to_y: end,
     };
     let line = upright.text(alloc)?;
-    let name = words_at(alloc, lane.colour, Point { x, y }, &lane.name)?;
+    let name = name_text(alloc, page, 0, placed)?;
     format!(in alloc; "{line}\n{name}")
+}
+
+/// The name of a lane by its place: at the head of the page, for block 0, or above line `50 * block`.
+fn name_text(
+    alloc: Global,
+    page: Page,
+    block: u64,
+    placed: (u32, &Lane),
+) -> Result<String, AllocError>
+    requires { block ≤ 2 ^ 32 }
+    ensures { IfOk result (λ text. string_bytes text ≡ name_text page.lanes block placed.entry.0
+        placed.entry.1.now) }
+{
+    let (place, lane) = placed;
+    let point = Point {
+        x: page.lane_x(place),
+        y: page.name_y(block, place),
+    };
+    words_at(alloc, lane.colour, point, &lane.name)
+}
+
+/// Writes the names of the lanes again, each 50 of these lines.
+fn write_names(
+    alloc: Global,
+    text: &mut String,
+    page: Page,
+    lanes: &[Lane],
+    lines: u64,
+) -> Result<(), Fault>
+    requires lanes { length lanes.now ≤ 16 }
+    requires lines { lines ≤ 2 ^ 32 }
+    ensures names { OnOk result (string_bytes text.new
+        ≡ string_bytes text.old ++ names_text page.lanes lines lanes.now) }
+    ensures short { OnOk result (length (string_bytes text.new)
+        ≤ length (string_bytes text.old) + 32 * lines) }
+    ensures fault { IfErr result (λ fault. fault ≡ Fault.OutOfMemory) }
+{
+    let blocks = lines / LINES_BETWEEN_NAMES;
+    for block in 0..blocks {
+        write_block(alloc, text, page, lanes, block + 1)?;
+    }
+    Ok(())
+}
+
+/// Writes the names of the lanes again, above line `50 * block`.
+fn write_block(
+    alloc: Global,
+    text: &mut String,
+    page: Page,
+    lanes: &[Lane],
+    block: u64,
+) -> Result<(), Fault>
+    requires lanes { length lanes.now ≤ 16 }
+    requires block { block ≤ 2 ^ 32 }
+    ensures names { OnOk result (string_bytes text.new
+        ≡ string_bytes text.old ++ names_from page.lanes block 0 lanes.now) }
+    ensures short { OnOk result (length (string_bytes text.new)
+        ≤ length (string_bytes text.old) + 100 * length lanes.now) }
+    ensures fault { IfErr result (λ fault. fault ≡ Fault.OutOfMemory) }
+{
+    for (place, lane) in lanes.iter().enumerate() {
+        let element = name_text(alloc, page, block, (place as u32, lane))?;
+        add_element(text, &element, MOST_SHORT_BYTES)?;
+    }
+    Ok(())
 }
 
 /// Writes the ways that are drawn.
@@ -153,7 +231,7 @@ fn write_way(
     }
     let curve = way_curve(page, lines, way);
     let element = curve.text(alloc)?;
-    add_element(text, &element)
+    add_element(text, &element, MOST_BYTES)
 }
 
 /// The curve of a way that is drawn: from its sender's lane to its receiver's, and down. One that
@@ -203,7 +281,7 @@ fn write_rows(alloc: Global, text: &mut String, page: Page, rows: &[Row]) -> Res
     ensures rows { OnOk result (string_bytes text.new
         ≡ string_bytes text.old ++ flat_map (row_text page.lanes) rows.now) }
     ensures short { OnOk result (length (string_bytes text.new)
-        ≤ length (string_bytes text.old) + 300 * length rows.now) }
+        ≤ length (string_bytes text.old) + sum_by row_bytes rows.now) }
     ensures fault { IfErr result (λ fault. fault ≡ Fault.OutOfMemory) }
 {
     for row in rows {
@@ -217,33 +295,25 @@ fn write_row(alloc: Global, text: &mut String, page: Page, row: &Row) -> Result<
     ensures row { OnOk result (string_bytes text.new
         ≡ string_bytes text.old ++ row_text page.lanes row.now) }
     ensures short { OnOk result (length (string_bytes text.new)
-        ≤ length (string_bytes text.old) + 300) }
+        ≤ length (string_bytes text.old) + row_bytes row.now) }
     ensures fault { IfErr result (λ fault. fault ≡ Fault.OutOfMemory) }
 {
     if !row.is_drawn {
         return Ok(());
     }
     let element = row_text(alloc, page, row)?;
-    add_element(text, &element)
+    add_element(text, &element, MOST_ROW_BYTES)?;
+    write_effect(alloc, text, page, row.line, &row.label.effect)
 }
 
-/// A moment: what happens, its mark, and what an actor does.
+/// A moment: what happens, and its mark.
 fn row_text(alloc: Global, page: Page, row: &Row) -> Result<String, AllocError>
     ensures { IfOk result (λ text. string_bytes text ≡ row_element page.lanes row.now) }
 {
     let y = page.line_y(within_page(row.line));
     let cause = words_at(alloc, 0, text_point(LEFT, y), &row.label.cause)?;
     let mark = mark_text(alloc, page, y, row.label.mark)?;
-    let effect = effect_text(alloc, y, &row.label.effect)?;
-    format!(in alloc; "{cause}{mark}{effect}")
-}
-
-/// The line, or the last one that a page has.
-fn within_page(line: u64) -> u64
-    ensures line { result ≡ within_page line }
-    ensures within { result ≤ 2 ^ 32 }
-{
-    if line < MOST_LINES { line } else { MOST_LINES }
+    format!(in alloc; "{cause}{mark}")
 }
 
 /// Where a text is in the line that begins here.
@@ -254,16 +324,43 @@ fn text_point(x: u64, y: u64) -> Point
     Point { x, y: y + 13 }
 }
 
-/// What an actor does, in the line that begins here, if there is something.
-fn effect_text(alloc: Global, y: u64, effect: &Words) -> Result<String, AllocError>
-    requires { y ≤ 2 ^ 40 }
-    ensures { IfOk result (λ text. string_bytes text ≡ effect_text y effect.now) }
+/// Writes what an actor does, from this line on.
+fn write_effect(
+    alloc: Global,
+    text: &mut String,
+    page: Page,
+    line: u64,
+    effect: &Words,
+) -> Result<(), Fault>
+    ensures effect { OnOk result (string_bytes text.new
+        ≡ string_bytes text.old ++ effect_text page.lanes line (string_bytes effect.now.text)) }
+    ensures short { OnOk result (length (string_bytes text.new)
+        ≤ length (string_bytes text.old) + (108 + 3 * length (string_bytes effect.now.text))) }
+    ensures fault { IfErr result (λ fault. fault ≡ Fault.OutOfMemory) }
 {
-    if effect.is_empty() {
-        return Ok(String::new(alloc));
+    let lines = effect.lines();
+    for number in 0..lines {
+        let element = effect_line(alloc, page, line, effect, number)?;
+        add_element(text, &element, MOST_LINE_BYTES)?;
     }
-    let text = words_at(alloc, 0, text_point(RIGHT, y), effect)?;
-    format!(in alloc; "\n{text}")
+    Ok(())
+}
+
+/// The line of this number, from 0, of what an actor does from this line on.
+fn effect_line(
+    alloc: Global,
+    page: Page,
+    line: u64,
+    effect: &Words,
+    number: u64,
+) -> Result<String, AllocError>
+    requires { 36 * number ≤ length (string_bytes effect.now.text) }
+    ensures { IfOk result (λ text. string_bytes text ≡ effect_line page.lanes line
+        (string_bytes effect.now.text) number) }
+{
+    let y = page.line_y(within_page(line.saturating_add(number)));
+    let words = effect.line(alloc, number)?;
+    words_at(alloc, 0, text_point(RIGHT, y), &words)
 }
 
 /// The mark of a moment whose line begins here, if it has one.

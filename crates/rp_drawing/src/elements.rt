@@ -1,18 +1,27 @@
 //! The elements of a drawing, as text.
 
 ghost use Rattle.std.specs.Prelude.{◌≡◌, ◌+◌, ◌++◌, ◌∷◌, [], ◌≤◌, IfErr, IfOk, OnOk, length, string_bytes};
-ghost use Rattle.rp_drawing.specs.Elements.{curve_text, dash_text, upright_text, words_text, most_bytes, most_head_bytes};
+ghost use Rattle.rp_drawing.specs.Elements.{curve_text, dash_text, upright_text, words_text, most_head_bytes};
 
 use crate::words::Words;
 use rp_base::Fault;
 use std::alloc::{AllocError, Global};
 use std::fmt;
 
-/// The most bytes of an element.
+/// The most bytes of the head of a drawing, and of its legend.
+pub const MOST_HEAD_BYTES: usize = 4500;
+
+/// The most bytes of a lane or a way, with the end of its line.
 pub const MOST_BYTES: usize = 300;
 
-/// The most bytes of the head of a drawing.
-pub const MOST_HEAD_BYTES: usize = 9000;
+/// The most bytes of the cause and the mark of a moment.
+pub const MOST_ROW_BYTES: usize = 192;
+
+/// The most bytes of a line of what an actor does.
+pub const MOST_LINE_BYTES: usize = 108;
+
+/// The most bytes of the name of a lane where it is written again, and of the lane of a stopped node.
+pub const MOST_SHORT_BYTES: usize = 100;
 
 /// How an element looks: its colour and its kind.
 #[derive(Clone, Copy)]
@@ -117,30 +126,32 @@ pub fn words_at(
     place: Point,
     words: &Words,
 ) -> Result<String, AllocError>
-    ensures { IfOk result (λ text. string_bytes text ≡ words_text colour place words.now) }
+    ensures { IfOk result (λ text. string_bytes text ≡ words_text colour place
+        (string_bytes words.now.text)) }
 {
     let Point { x, y } = place;
     let text = words.as_str();
     format!(in alloc; "<text class='t{colour}' x='{x}' y='{y}'>{text}</text>")
 }
 
-/// Adds an element, and the end of its line. `OutOfMemory`, also where it has more than 300 bytes,
-/// as none has.
-pub fn add_element(text: &mut String, element: &str) -> Result<(), Fault>
+/// Adds an element, and the end of its line. `OutOfMemory`, also where that makes more than `most`
+/// bytes.
+pub fn add_element(text: &mut String, element: &str, most: usize) -> Result<(), Fault>
     ensures added { OnOk result (string_bytes text.new
         ≡ string_bytes text.old ++ (element.now ++ 10 ∷ [])) }
     ensures short { OnOk result (length (string_bytes text.new)
-        ≤ length (string_bytes text.old) + most_bytes) }
+        ≤ length (string_bytes text.old) + most) }
     ensures fault { IfErr result (λ fault. fault ≡ Fault.OutOfMemory) }
 {
-    if element.len() >= MOST_BYTES {
+    if element.len() >= most {
         return Err(Fault::OutOfMemory);
     }
     text.push_str(element)?;
     Ok(text.push_str("\n")?)
 }
 
-/// Adds the head of a drawing. `OutOfMemory`, also where it has more than 9,000 bytes, as none has.
+/// Adds the head of a drawing, or its legend. `OutOfMemory`, also where it has more than 4,500 bytes,
+/// as none has.
 pub fn add_head(text: &mut String, head: &str) -> Result<(), Fault>
     ensures added { OnOk result (string_bytes text.new ≡ string_bytes text.old ++ head.now) }
     ensures short { OnOk result (length (string_bytes text.new)

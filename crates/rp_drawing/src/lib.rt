@@ -6,13 +6,17 @@
 //! - `words`: words within a drawing
 //! - `elements`: the elements of a drawing, as text
 //! - `style`: how the elements look
+//! - `legend`: what the signs of a drawing mean
+//! - `stops`: how the lane of a stopped node looks
 //! - `drawing`: the drawing of a sketch
 #![tactic(auto)]
 
 mod drawing;
 mod elements;
+mod legend;
 mod page;
 mod sketch;
+mod stops;
 mod style;
 mod words;
 

@@ -1,8 +1,8 @@
 //! What happens in a run, moment by moment, and the way of each packet.
 
-ghost use Rattle.std.specs.Prelude.{◌≡◌, ◌+◌, ◌<◌, ◌≤◌, ◌^◌, ◌||◌, true, ◌++◌, [], ◌∷◌, length, Some, IfOk, OnOk, IfErr};
+ghost use Rattle.std.specs.Prelude.{◌≡◌, ◌+◌, ◌<◌, ◌≤◌, ◌^◌, ◌||◌, if◌then◌else◌, true, ◌++◌, [], ◌∷◌, length, Some, IfOk, OnOk, IfErr};
 ghost use Rattle.std.specs.List.{list_any};
-ghost use Rattle.rp_drawing.specs.Ways.{AddsMoment, AreWays, AreDown, ended_ways, is_end_drawn, lines_after, moments_of, sent_ways, IsEndingWithin};
+ghost use Rattle.rp_drawing.specs.Ways.{AddsMoment, AreWays, AreDown, ended_ways, is_end_drawn, label_lines, moments_of, sent_ways, IsEndingWithin};
 
 use crate::words::Words;
 use rp_base::Fault;
@@ -75,9 +75,10 @@ pub struct Mark {
 }
 
 /// What is drawn of a moment beside the ways of packets: at the left what happens, at the right
-/// what an actor does then.
+/// what an actor does then, on as many lines as that takes.
 #[derive(Drop)]
 pub struct Label {
+    /// Fitted words: it is drawn on one line.
     pub cause: Words,
     pub effect: Words,
     pub mark: Option<Mark>,
@@ -85,7 +86,17 @@ pub struct Label {
     pub is_drawn: bool,
 }
 
-/// A moment in its line of the drawing, from 0.
+impl Label {
+    /// How many lines it takes: one at least.
+    fn lines(&self) -> u64
+        ensures lines { result ≡ label_lines self.now }
+        ensures some { 1 ≤ result }
+    {
+        self.effect.lines().max(1)
+    }
+}
+
+/// A moment in its first line of the drawing, from 0.
 #[derive(Drop)]
 pub struct Row {
     pub moment: Moment,
@@ -136,6 +147,14 @@ impl Sketch {
         }
     }
 
+    /// How many lines the drawing has, beside the names of the lanes that are written again.
+    pub fn lines(&self) -> u64
+        // claim: A sketch says how many lines its drawing has
+        ensures { result ≡ self.now.lines }
+    {
+        self.lines
+    }
+
     /// One more moment: its packets begin their ways in it, and the way of the message that it
     /// settles ends, if it has not ended before. `OutOfMemory`, also above 4,294,967,296 lines.
     pub fn add(&mut self, moment: Moment, label: Label) -> Result<(), Fault>
@@ -144,8 +163,9 @@ impl Sketch {
         requires ways { AreWays self.old.rows.items self.old.ways.items }
         requires down { AreDown self.old.lines self.old.ways.items }
         // claim: A moment that is added to a sketch is its last row, under its label as given, in the
-        //   next line. It is drawn, and takes that line, exactly if its label is to be drawn, or the
-        //   way that ends in it, or one that begins in it
+        //   next line. It is drawn exactly if its label is to be drawn, or the way that ends in it, or
+        //   one that begins in it. It then takes as many lines as what its actor does, and at least
+        //   one, and else none
         ensures added { OnOk result (AddsMoment self.old self.new moment label) }
         ensures moments { OnOk result (moments_of self.new ≡ moments_of self.old ++ moment ∷ []) }
         ensures count { OnOk result (length self.new.ways.items
@@ -158,10 +178,11 @@ impl Sketch {
         ensures few { OnOk result (self.new.lines ≤ 2 ^ 32) }
         ensures fault { IfErr result (λ fault. fault ≡ Fault.OutOfMemory) }
     {
-        if self.lines >= MOST_LINES {
+        let line = self.lines;
+        let taken = label.lines();
+        if taken > MOST_LINES.saturating_sub(line) {
             return Err(Fault::OutOfMemory);
         }
-        let line = self.lines;
         let place = self.rows.len() as u64;
         let ended = self.end(moment.ending, place, line);
         let sent = self.send(&moment.sends, place, line)?;
@@ -172,7 +193,7 @@ impl Sketch {
             is_drawn,
             label,
         })?;
-        self.lines = lines_after(line, is_drawn);
+        self.lines = lines_after(line, taken, is_drawn);
         Ok(())
     }
 
@@ -232,13 +253,14 @@ fn is_one(one: bool, other: bool, third: bool) -> bool
     one || other || third
 }
 
-/// How many lines there are after a moment, by whether it has one.
-fn lines_after(lines: u64, is_drawn: bool) -> u64
-    requires { lines < 2 ^ 32 }
-    ensures after { result ≡ lines_after lines is_drawn }
-    ensures drawn { is_drawn ≡ true → result ≡ lines + 1 }
+/// How many lines there are after a moment that takes one or more if it is drawn.
+fn lines_after(lines: u64, taken: u64, is_drawn: bool) -> u64
+    requires some { 1 ≤ taken }
+    requires few { lines + taken ≤ 2 ^ 32 }
+    ensures after { result ≡ (if is_drawn then lines + taken else lines) }
+    ensures drawn { is_drawn ≡ true → lines < result }
     ensures grows { lines ≤ result }
     ensures few { result ≤ 2 ^ 32 }
 {
-    if is_drawn { lines + 1 } else { lines }
+    if is_drawn { lines + taken } else { lines }
 }

@@ -5,14 +5,14 @@ ghost use Rattle.rp_drawing.specs.Style.{style_text};
 
 /// The elements that come first, after the opening one.
 const STYLE: &str = "\
-    <style>svg{font-family:monospace;font-size:11px}path{fill:none;stroke-width:1.3;stroke:#555}text{fill:#333}\n\
+    <style>svg{font-family:monospace;font-size:11px}path{fill:none;stroke-width:1.3;stroke:#555}text{fill:#333;paint-order:stroke;stroke:#fff;stroke-width:3px}\n\
     .c1{stroke:#0072b2}.c2{stroke:#d97a00}.c3{stroke:#00804f}.c4{stroke:#8e44ad}.c5{stroke:#8a5a00}.c6{stroke:#c2448f}.c7{stroke:#6b7d00}\n\
     .c8{stroke:#00436b}.c9{stroke:#8f5000}.c10{stroke:#004d2f}.c11{stroke:#55296a}.c12{stroke:#4d3200}.c13{stroke:#7a1f55}.c14{stroke:#3d4700}\n\
     .t1{fill:#0072b2}.t2{fill:#d97a00}.t3{fill:#00804f}.t4{fill:#8e44ad}.t5{fill:#8a5a00}.t6{fill:#c2448f}.t7{fill:#6b7d00}\n\
-    .k0{marker-end:url(#a)}.k1,.k2{marker-end:url(#x)}.k2{stroke-dasharray:6 3}.k3{stroke-dasharray:2 2}\n\
+    .k0,.s0{marker-end:url(#a)}.k1,.k2,.s1,.s2{marker-end:url(#x)}.k2,.s2{stroke-dasharray:6 3}.k3,.s3{stroke-dasharray:2 2}\n\
     .k4{stroke-width:4}.k5{stroke-width:8}.k6{stroke-width:8;stroke:#d00;stroke-dasharray:2 1}\n\
     .k7{stroke-width:4;stroke:#d00}.k9{stroke-width:4;stroke:#00a040}.k10{stroke-width:8;stroke:#bbb}\n\
-    .k8{stroke:#b5bac2}</style><defs>\n\
+    .k8{stroke:#b5bac2}.k11{stroke:#ccc;stroke-width:7;stroke-dasharray:2 2}</style><defs>\n\
     <marker id='a' refX='9' refY='4' markerWidth='9' markerHeight='8' markerUnits='userSpaceOnUse' orient='auto'>\n\
     <path d='M0 1L9 4L0 7z' style='fill:#555;fill:context-stroke;stroke:none'/></marker>\n\
     <marker id='x' refX='5' refY='5' markerWidth='10' markerHeight='10' markerUnits='userSpaceOnUse'>\n\

@@ -1,7 +1,7 @@
 -- Which packets are drawn, on which lanes, and in which colour; and what is drawn of an event
 -- beside the ways of packets.
-use Rattle.std.specs.Prelude.{ℕ, ◌+◌, ◌-◌, ◌%◌, Bool, true, false, ◌&&◌, ◌||◌, not, nat_eq}
-use Rattle.std.specs.Prelude.{nat_lt, if◌then◌else◌, Option, Some, None}
+use Rattle.std.specs.Prelude.{ℕ, ◌+◌, ◌-◌, ◌%◌, Bool, true, false, ◌&&◌, ◌||◌, nat_eq}
+use Rattle.std.specs.Prelude.{nat_le, nat_lt, if◌then◌else◌, is_some, Option, Some, None}
 use Rattle.rp_base.specs.Ballot.{owner_of, round_of}
 use Rattle.rp_base.specs.Ranges.{is_covered}
 use Rattle.rp_codec.specs.Message.{Message}
@@ -20,8 +20,6 @@ use Rattle.rp_drawing.specs.declared.words.Words.{Words}
 use Rattle.rp_history.specs.declared.happened.Happened.{Happened}
 use Rattle.rp_history.specs.declared.stage.Stage.{Stage}
 use Rattle.rp_history.specs.declared.view.View.{View}
-use Rattle.rp_model.specs.declared.effect.Dropped.{Dropped}
-use Rattle.rp_model.specs.declared.effect.Dropped.TheVariants.{No, Full, Foreign}
 use Rattle.rp_model.specs.declared.event.Event.{Event}
 use Rattle.rp_model.specs.declared.event.Event.TheVariants as events
 use Rattle.rp_model.specs.declared.event.Step.{Step}
@@ -94,14 +92,35 @@ lane_of tasks (Task task) = task - 1
 lane_of tasks (Node node) = tasks + node - 1
 lane_of tasks Audit = 0
 
--- a message is drawn from its sender's lane to its receiver's
-abbrev pub sending_of : Stage → Message → Sending
-sending_of stage m = record {
+-- a message is drawn from its sender's lane to its receiver's, if it is sent in a moment that is
+-- drawn
+abbrev pub sending_of : Stage → Bool → Message → Sending
+sending_of stage is_within m = record {
   from = lane_of stage.tasks m.from;
   to = lane_of stage.tasks m.to;
   colour = colour_of m.body;
-  is_drawn = shows stage.view m;
+  is_drawn = is_within && shows stage.view m;
 }
+
+-- ---- which moments are drawn
+
+-- the moment of this number, from 1, is not before the first one that is drawn
+abbrev pub is_from : Option ℕ → ℕ → Bool
+is_from None moment = true
+is_from (Some first) moment = nat_le first moment
+
+-- nor after the last one
+abbrev pub is_to : Option ℕ → ℕ → Bool
+is_to None moment = true
+is_to (Some last) moment = nat_le moment last
+
+-- it is in the part that is drawn
+abbrev pub is_within : View → ℕ → Bool
+is_within view moment = is_from view.from moment && is_to view.to moment
+
+-- the first or the last moment that is drawn is chosen
+abbrev pub is_part : View → Bool
+is_part view = is_some view.from || is_some view.to
 
 -- ---- what is drawn of an event
 
@@ -128,61 +147,50 @@ actor_of (events.Cut step kept) receiver = actor_in step receiver
 actor_of (events.Stop node) receiver = Some (Node node)
 actor_of (events.Restart node) receiver = Some (Node node)
 
+-- The moment of an event is drawn if the packet that it delivers or loses, or else sends first,
+-- names the chosen position; with no packet, if no position is chosen.
+abbrev pub is_event_drawn : Option ℕ → Option Message → Bool
+is_event_drawn position None = shows_all position
+is_event_drawn position (Some m) = is_about position m.body
+
 -- the event's node wrote a record or a part of one: its device holds more bytes than before
 abbrev pub has_written : Happened → Bool
 has_written h = nat_lt h.before.stored h.after.stored
 
--- the kind of an event's mark, by whether its node wrote
-abbrev pub kind_of : Event → Bool → Kind
-kind_of (events.Submit task node object operation arg) written = kinds.Act
-kind_of (events.Again task node) written = kinds.Act
-kind_of (events.Node step) written = if written then kinds.Record else kinds.Act
-kind_of (events.Cut step kept) written = if written then kinds.Torn else kinds.Stop
-kind_of (events.Stop node) written = kinds.Stop
-kind_of (events.Restart node) written = kinds.Restart
+-- a packet was delivered to a stopped node, which does not hear it
+abbrev pub is_unheard_by : Event → Bool → Bool
+is_unheard_by (events.Node step) stopped = stopped
+is_unheard_by _ stopped = false
+
+abbrev pub is_unheard : Happened → Bool
+is_unheard h = is_unheard_by h.event h.before.is_stopped
+
+-- The kind of an event's mark. There is none where a stopped node does not hear a packet, or where
+-- a node that is to start again is running already.
+abbrev pub kind_of : Happened → Event → Option Kind
+kind_of h (events.Submit task node object operation arg) = Some kinds.Act
+kind_of h (events.Again task node) = Some kinds.Act
+kind_of h (events.Node step) =
+    if is_unheard h then None else if has_written h then Some kinds.Record else Some kinds.Act
+kind_of h (events.Cut step kept) = if has_written h then Some kinds.Torn else Some kinds.Stop
+kind_of h (events.Stop node) = Some kinds.Stop
+kind_of h (events.Restart node) = if is_some h.effect.opened then Some kinds.Restart else None
 
 -- the colour of the packet's ballot, 0 if there is no packet
 abbrev pub packet_colour : Option Message → ℕ
 packet_colour None = 0
 packet_colour (Some m) = colour_of m.body
 
--- a mark of this colour and kind on the actor's lane, if somebody acts
-abbrev pub mark_on : Stage → ℕ → Kind → Option Party → Option Mark
+-- a mark of this colour and kind on the actor's lane, if somebody acts and there is one
+abbrev pub mark_on : Stage → ℕ → Option Kind → Option Party → Option Mark
 mark_on stage colour kind None = None
-mark_on stage colour kind (Some actor) =
+mark_on stage colour None (Some actor) = None
+mark_on stage colour (Some kind) (Some actor) =
     Some (record { lane = lane_of stage.tasks actor; colour = colour; kind = kind })
 
 -- the mark of an event
 abbrev pub mark_of : Stage → Happened → Option Mark
-mark_of stage h =
-    mark_on stage (packet_colour h.packet) (kind_of h.event (has_written h)) h.actor
-
--- the event is the delivery of a message
-abbrev pub is_delivery_step : Step → Bool
-is_delivery_step (steps.Deliver message) = true
-is_delivery_step _ = false
-
-abbrev pub is_delivery : Event → Bool
-is_delivery (events.Node step) = is_delivery_step step
-is_delivery _ = false
-
--- a task takes a reply
-abbrev pub is_taken : {A : Type 0} → Option A → Bool
-is_taken None = false
-is_taken (Some answer) = true
-
--- a pending item was dropped
-abbrev pub is_full : Dropped → Bool
-is_full No = false
-is_full Full = true
-is_full Foreign = false
-
--- More is to be drawn of an event than the way of a packet: of a delivery only if a task takes a
--- reply, a pending item is dropped, or the node is stopped.
-abbrev pub is_notable : Happened → Bool
-is_notable h =
-    not (is_delivery h.event)
-    || (is_taken h.effect.taken || (is_full h.effect.dropped || h.before.is_stopped))
+mark_of stage h = mark_on stage (packet_colour h.packet) (kind_of h h.event) h.actor
 
 -- what is drawn of an event, with the words for it and for what its actor did
 abbrev pub label_of : Stage → Happened → Words → Words → Label
@@ -190,5 +198,5 @@ label_of stage h cause effect = record {
   cause = cause;
   effect = effect;
   mark = mark_of stage h;
-  is_drawn = shows_all stage.view.position && is_notable h;
+  is_drawn = is_event_drawn stage.view.position h.packet;
 }

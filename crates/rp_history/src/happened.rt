@@ -2,13 +2,13 @@
 
 ghost use Rattle.std.specs.Prelude.{◌≡◌};
 ghost use Rattle.rp_history.specs.Histories.{delivered_by};
-ghost use Rattle.rp_history.specs.Views.{actor_of, has_written, is_notable, kind_of, label_of, mark_of};
+ghost use Rattle.rp_history.specs.Views.{actor_of, has_written, is_unheard, kind_of, label_of, mark_of, packet_colour};
 
 use crate::stage::Stage;
 use crate::view::colour_of;
 use rp_codec::{Packet, Party};
 use rp_drawing::{Kind, Label, Mark, Words};
-use rp_model::{Dropped, Effect, Event, Step};
+use rp_model::{Effect, Event, Step};
 
 /// What is noted of a node before an event and after it.
 #[derive(Clone, Copy)]
@@ -72,20 +72,32 @@ impl Happened {
         self.after.stored > self.before.stored
     }
 
+    /// Whether a packet was delivered to a stopped node, which does not hear it.
+    pub fn is_unheard(&self) -> bool
+        ensures { result ≡ is_unheard self.now }
+    {
+        match self.event {
+            Event::Node(_) => self.before.is_stopped,
+            _ => false,
+        }
+    }
+
     /// The label that is drawn beside the ways of packets, with the words for the event and for
     /// what its actor then did.
     pub fn label(&self, stage: &Stage, cause: Words, effect: Words) -> Label
         // claim: The label of an event has the words that it is given, and its mark is on the lane of
         //   who acted, in the colour of its packet's ballot. The mark is that of a record exactly if more
         //   bytes of the device are noted after a node's step than before it, and that of a torn one
-        //   exactly if they are after a step within which the node was stopped
+        //   exactly if they are after a step within which the node was stopped. A packet that a stopped
+        //   node does not hear and a restart of a running node have no mark. The label is drawn, also
+        //   where no arrow is, exactly if no position is chosen or its packet names the one that is
         ensures { result ≡ label_of stage.now self.now cause effect }
     {
         Label {
             cause,
             effect,
             mark: self.mark(stage),
-            is_drawn: stage.view.shows_all() && self.is_notable(),
+            is_drawn: stage.view.shows_event(&self.packet),
         }
     }
 
@@ -94,43 +106,38 @@ impl Happened {
         ensures { result ≡ mark_of stage.now self.now }
     {
         let actor = self.actor?;
-        let colour = match &self.packet {
-            Some(packet) => colour_of(packet.body()),
-            None => 0,
-        };
+        let kind = self.kind()?;
         Some(Mark {
             lane: stage.lane_of(actor),
-            colour,
-            kind: self.kind(),
+            colour: self.colour(),
+            kind,
         })
     }
 
-    /// The kind of the mark: what it means.
-    fn kind(&self) -> Kind
-        ensures { result ≡ kind_of self.now.event (has_written self.now) }
+    /// The colour of the packet's ballot, 0 if there is no packet.
+    fn colour(&self) -> u8
+        ensures { result ≡ packet_colour self.now.packet }
     {
-        match self.event {
-            Event::Stop(_) => Kind::Stop,
-            Event::Restart(_) => Kind::Restart,
-            Event::Cut { .. } if self.has_written() => Kind::Torn,
-            Event::Cut { .. } => Kind::Stop,
-            Event::Submit { .. } | Event::Again { .. } => Kind::Act,
-            Event::Node(_) if self.has_written() => Kind::Record,
-            Event::Node(_) => Kind::Act,
+        match &self.packet {
+            Some(packet) => colour_of(packet.body()),
+            None => 0,
         }
     }
 
-    /// Whether more is to be drawn of the event than the way of a packet.
-    fn is_notable(&self) -> bool
-        ensures { result ≡ is_notable self.now }
+    /// The kind of the mark, or `None` if the event has no mark: nobody acts where a packet is not
+    /// heard, or where a node that is to start again is running already.
+    fn kind(&self) -> Option<Kind>
+        ensures { result ≡ kind_of self.now self.now.event }
     {
         match self.event {
-            Event::Node(Step::Deliver(_)) => {
-                self.effect.taken.is_some()
-                    || self.effect.dropped == Dropped::Full
-                    || self.before.is_stopped
-            }
-            _ => true,
+            Event::Submit { .. } | Event::Again { .. } => Some(Kind::Act),
+            Event::Node(_) if self.is_unheard() => None,
+            Event::Node(_) if self.has_written() => Some(Kind::Record),
+            Event::Node(_) => Some(Kind::Act),
+            Event::Cut { .. } if self.has_written() => Some(Kind::Torn),
+            Event::Cut { .. } | Event::Stop(_) => Some(Kind::Stop),
+            Event::Restart(_) if self.effect.opened.is_some() => Some(Kind::Restart),
+            Event::Restart(_) => None,
         }
     }
 }

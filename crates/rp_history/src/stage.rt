@@ -28,25 +28,32 @@ impl Stage {
         }
     }
 
-    /// How a packet is sent: its lanes and its colour, or whether it is drawn at all.
-    pub fn sending_of(&self, packet: &Packet) -> Sending
-        ensures { result ≡ sending_of self.now packet.now }
+    /// How a packet is sent: its lanes and its colour, or whether it is drawn at all, which it is
+    /// only in a moment that is drawn.
+    fn sending_of(&self, packet: &Packet, is_within: bool) -> Sending
+        ensures { result ≡ sending_of self.now is_within packet.now }
     {
         Sending {
             from: self.lane_of(packet.from()),
             to: self.lane_of(packet.to()),
             colour: colour_of(packet.body()),
-            is_drawn: self.view.shows(packet),
+            is_drawn: is_within && self.view.shows(packet),
         }
     }
 
-    /// How packets are sent.
-    pub fn sends_of(&self, alloc: Global, packets: &[Packet]) -> Result<Vec<Sending>, AllocError>
-        ensures { IfOk result (λ sends. sends.items ≡ map (sending_of self.now) packets.now) }
+    /// How packets are sent in a moment.
+    pub fn sends_of(
+        &self,
+        alloc: Global,
+        packets: &[Packet],
+        is_within: bool,
+    ) -> Result<Vec<Sending>, AllocError>
+        ensures { IfOk result (λ sends. sends.items
+            ≡ map (sending_of self.now is_within) packets.now) }
     {
         let mut sends = Vec::new(alloc);
         for packet in packets {
-            sends.push(self.sending_of(packet))?;
+            sends.push(self.sending_of(packet, is_within))?;
         }
         Ok(sends)
     }

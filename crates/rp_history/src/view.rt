@@ -1,7 +1,7 @@
 //! Which part of a run is drawn.
 
 ghost use Rattle.std.specs.Prelude.{◌≡◌};
-ghost use Rattle.rp_history.specs.Views.{named_ballot, colour_of, is_about, is_node, is_to_itself, names_position, shows, shows_all};
+ghost use Rattle.rp_history.specs.Views.{colour_of, is_about, is_event_drawn, is_from, is_node, is_part, is_to, is_to_itself, is_within, named_ballot, names_position, shows, shows_all};
 
 use rp_base::{Ballot, NodeId, Position};
 use rp_codec::{Body, Packet, Party};
@@ -13,6 +13,10 @@ pub struct View {
     pub position: Option<Position>,
     /// Packets from a node to itself are not drawn.
     pub hides_self: bool,
+    /// The number of the first moment that is drawn, from 1, if one is chosen.
+    pub from: Option<u32>,
+    /// That of the last one.
+    pub to: Option<u32>,
 }
 
 impl View {
@@ -34,6 +38,51 @@ impl View {
             Some(position) => names_position(body, position),
             None => true,
         }
+    }
+
+    /// Whether the moment of an event is drawn, also where no packet's arrow is, by the packet that
+    /// it delivers or loses, or else sends first.
+    pub fn shows_event(&self, packet: &Option<Packet>) -> bool
+        ensures { result ≡ is_event_drawn self.now.position packet.now }
+    {
+        match packet {
+            Some(packet) => self.is_about(packet.body()),
+            None => self.shows_all(),
+        }
+    }
+
+    /// Whether the moment of this number, from 1, is in the part that is drawn.
+    pub fn is_within(&self, moment: u64) -> bool
+        ensures { result ≡ is_within self.now moment }
+    {
+        self.is_from(moment) && self.is_to(moment)
+    }
+
+    /// Whether a moment is not before the first one that is drawn.
+    fn is_from(&self, moment: u64) -> bool
+        ensures { result ≡ is_from self.now.from moment }
+    {
+        match self.from {
+            Some(first) => u64::from(first) <= moment,
+            None => true,
+        }
+    }
+
+    /// Whether a moment is not after the last one that is drawn.
+    fn is_to(&self, moment: u64) -> bool
+        ensures { result ≡ is_to self.now.to moment }
+    {
+        match self.to {
+            Some(last) => moment <= u64::from(last),
+            None => true,
+        }
+    }
+
+    /// Whether the first or the last moment that is drawn is chosen.
+    pub fn is_part(&self) -> bool
+        ensures { result ≡ is_part self.now }
+    {
+        self.from.is_some() || self.to.is_some()
     }
 
     /// Whether events that name no position, as calls, are drawn.

@@ -29,7 +29,7 @@ use Rattle.rp_live.specs.Calls.{CountsCalls}
 use Rattle.rp_live.specs.Events.{calls_at}
 use Rattle.rp_live.specs.Lines.{party_line}
 use Rattle.rp_live.specs.LiveOutcome.{HasRun, IsLiveRun, IsAudited, IsNodeEnd, IsTaskEnd}
-use Rattle.rp_live.specs.Pace.{paced, heard, heard_task}
+use Rattle.rp_live.specs.Pace.{paced, heard, over, ended}
 use Rattle.rp_live.specs.Seats.{AreNumbered, HasAppliedAt, HasReportedSince, IsEndOfRun, StillRuns}
 use Rattle.rp_live.specs.declared.run.LiveOutcome.{LiveOutcome}
 use Rattle.rp_boxes.proofs.OneWorld.{made_at}
@@ -44,22 +44,22 @@ use Rattle.rp_live.proofs.Zips.{all_both, zip_all, zip_kinds, zip_places}
 module _ {S P : Type 0} (next : S → Action → S) (answers : S → Action → List Answer) (begin : P → S) (config : Config) (events : List Event) (seed turns : ℕ) where
   -- the loops of what was ready to run
   pub node_loops_by : {A : Type 0} (noted : List (SeatState P)) (nodes : List (NodeEnd S Memory P)) (f : A → SeatState P) (g : A → Line) (starts : List A) (count : ℕ) → map f starts ≡ noted → All (λ s. g s ≡ party_line seed (Node (f s).number)) starts
-      → count ≡ config.nodes → AllZip (λ s end. IsLooped next answers begin paced heard count turns (f s) (g s) end) starts nodes → AllZip (IsNodeEnd next answers begin config events seed turns) noted nodes
+      → count ≡ config.nodes → AllZip (λ s end. IsLooped next answers begin paced heard over ended count turns (f s) (g s) end) starts nodes → AllZip (IsNodeEnd next answers begin config events seed turns) noted nodes
   node_loops_by noted nodes f g starts count is lines same zip =
       subst (λ (l : List (SeatState P)). AllZip (IsNodeEnd next answers begin config events seed turns) l nodes) is
-      (zip_kinds f g (λ seat. party_line seed (Node seat.number)) (λ seat line end. IsLooped next answers begin paced heard config.nodes turns seat line end) starts nodes lines
-      (subst (λ (n : ℕ). AllZip (λ s end. IsLooped next answers begin paced heard n turns (f s) (g s) end) starts nodes) same zip))
+      (zip_kinds f g (λ seat. party_line seed (Node seat.number)) (λ seat line end. IsLooped next answers begin paced heard over ended config.nodes turns seat line end) starts nodes lines
+      (subst (λ (n : ℕ). AllZip (λ s end. IsLooped next answers begin paced heard over ended n turns (f s) (g s) end) starts nodes) same zip))
 
   pub task_loops_by : {A : Type 0} (first_tasks : List (SeatState P)) (tasks : List (TaskEnd S P)) (f : A → SeatState P) (h : A → List TaskCall) (g : A → Line) (starts : List A) (count : ℕ) → map f starts ≡ first_tasks
       → All (λ s. h s ≡ calls_at events (f s).number) starts → All (λ s. g s ≡ party_line seed (Task (f s).number)) starts → count ≡ config.nodes
-      → AllZip (λ s end. IsTaskLooped next answers begin heard_task count turns (h s) (f s) (g s) end) starts tasks → AllZip (IsTaskEnd next answers begin config events seed turns) first_tasks tasks
+      → AllZip (λ s end. IsTaskLooped next answers begin over ended count turns (h s) (f s) (g s) end) starts tasks → AllZip (IsTaskEnd next answers begin config events seed turns) first_tasks tasks
   task_loops_by {A} first_tasks tasks f h g starts count is calls lines same zip =
       let kind : A → List TaskCall × Line = λ s. (h s, g s) in
       let by : SeatState P → List TaskCall × Line = λ seat. (calls_at events seat.number, party_line seed (Task seat.number)) in
       let both = all_both (λ s. h s ≡ calls_at events (f s).number) (λ s. g s ≡ party_line seed (Task (f s).number)) (λ s. kind s ≡ by (f s)) (λ s c l. λ i. (c i, l i)) starts calls lines in
       subst (λ (l : List (SeatState P)). AllZip (IsTaskEnd next answers begin config events seed turns) l tasks) is
-      (zip_kinds f kind by (λ seat k end. IsTaskLooped next answers begin heard_task config.nodes turns k.0 seat k.1 end) starts tasks both
-      (subst (λ (n : ℕ). AllZip (λ s end. IsTaskLooped next answers begin heard_task n turns (h s) (f s) (g s) end) starts tasks) same zip))
+      (zip_kinds f kind by (λ seat k end. IsTaskLooped next answers begin over ended config.nodes turns k.0 seat k.1 end) starts tasks both
+      (subst (λ (n : ℕ). AllZip (λ s end. IsTaskLooped next answers begin over ended n turns (h s) (f s) (g s) end) starts tasks) same zip))
 
 -- ---- the run
 
@@ -99,13 +99,13 @@ module _ {S P : Type 0} {next : S → Action → S} {answers : S → Action → 
 
   pub nodes_ended : All IsEndOfRun nodes
   nodes_ended = zip_all (λ seat. Runs seat.part) (IsNodeEnd next answers begin config events seed turns) IsEndOfRun
-      (λ seat end run ran. (seat, (run, some_then _ (IsNodeFault seat end.seat) (λ fault until. subst (λ (c : SeatState P). IsNodeFault seat c fault) (sym (ap (λ (e : NodeEnd S Memory P). e.seat) until.is)) until.ended.cause) end.fault ran.fault))) whole.0.noted nodes whole.1 whole.0.node_loops
+      (λ seat end run ran. (seat, (run, some_then _ (IsNodeFault seat end.seat) (λ fault until. subst (λ (c : SeatState P). IsNodeFault seat c fault) (sym (ap (λ (e : NodeEnd S Memory P). e.seat) until.is)) until.until.cause) end.fault ran.fault))) whole.0.noted nodes whole.1 whole.0.node_loops
 
   pub nodes_still : All StillRuns nodes
   nodes_still = zip_all (λ seat. Runs seat.part) (IsNodeEnd next answers begin config events seed turns) StillRuns
       (λ seat end run ran none. let t = ran.whole none in
       subst (λ (c : SeatState P). Runs c.part) (sym (ap (λ (e : NodeEnd S Memory P). e.seat) t.is))
-      ((all_turned next answers begin paced heard config.nodes seat (party_line seed (Node seat.number)) turns t.last t.turned).later.runs run)) whole.0.noted nodes whole.1 whole.0.node_loops
+      ((all_turned next answers begin paced heard over config.nodes seat (party_line seed (Node seat.number)) t.done t.last t.turned).later.runs run)) whole.0.noted nodes whole.1 whole.0.node_loops
 
   -- each task made calls among the events
   abbrev HasCalls : TaskEnd S P → Type 0

@@ -27,7 +27,7 @@ use Rattle.rp_live.specs.Events.{calls_at}
 use Rattle.rp_live.specs.Figures.{figures_of}
 use Rattle.rp_live.specs.Lines.{party_line}
 use Rattle.rp_live.specs.Noted.{AreNoted}
-use Rattle.rp_live.specs.Pace.{paced, heard, heard_task}
+use Rattle.rp_live.specs.Pace.{paced, heard, over, ended}
 use Rattle.rp_live.specs.Seats.{HasAppliedAt, HasReportedSince, IsReadFrom}
 use Rattle.rp_live.specs.declared.run.LiveOutcome.{LiveOutcome}
 
@@ -46,13 +46,13 @@ module _ {S P : Type 0} (next : S → Action → S) (answers : S → Action → 
   -- the loop of the node at this seat, over the link of its party, had this end
   abbrev pub IsNodeEnd : SeatState P → NodeEnd S Memory P → Type 0
   IsNodeEnd seat end =
-      IsLooped next answers begin paced heard config.nodes turns seat
+      IsLooped next answers begin paced heard over ended config.nodes turns seat
       (party_line seed (Node seat.number)) end
 
   -- the loop of the task at this seat, with its calls and over the link of its party, had this end
   abbrev pub IsTaskEnd : SeatState P → TaskEnd S P → Type 0
   IsTaskEnd seat end =
-      IsTaskLooped next answers begin heard_task config.nodes turns (calls_at events seat.number)
+      IsTaskLooped next answers begin over ended config.nodes turns (calls_at events seat.number)
       seat
       (party_line seed (Task seat.number)) end
 

@@ -8,6 +8,6 @@ pub struct LiveOptions {
     pub config: Config,
     /// Determines which packets are lost, duplicated and reordered.
     pub seed: u32,
-    /// How many turns each node and each task makes.
+    /// How many turns each node and each task makes at most.
     pub turns: u64,
 }

@@ -1,6 +1,7 @@
-//! How the threads of a run keep pace.
+//! How the threads of a run keep pace, and when the run is over.
 
-use rp_base::{MOST_NODES, MOST_TASKS, NodeId, TaskId};
+use rp_base::{Fault, MOST_NODES, MOST_TASKS, NodeId};
+use rp_codec::Party;
 use rp_threads::{Gate, is_to_lead};
 use std::alloc::{AllocError, Global};
 use std::sync::atomic::{AtomicU64, Ordering};
@@ -12,8 +13,18 @@ const PERIOD: u64 = 8;
 /// At most how many turns a thread is ahead of the slowest.
 const MOST_AHEAD: u64 = 16;
 
-/// How often a thread that is ahead yields to others before it assumes that one of them has ended.
+/// How often a thread that is ahead yields to others before it assumes that one of them gets no
+/// processor.
 const MOST_WAITS: u64 = 20_000_000;
+
+/// In this many turns one after the other a node looks into each box that it ever empties. With n
+/// nodes a box has its turn every 8 (n + 1) turns, at most 64. Node k skips the turns that are 0
+/// modulo 8 + k: those of a box are all skipped, or no two of them one after the other.
+const CALM_TURNS: u64 = 128;
+
+/// By this many turns after that of the fastest thread each thread has made `CALM_TURNS` turns. The
+/// number of a turn is published up to `PERIOD` turns late, and one turn may have begun before.
+const LOOKS_APART: u64 = CALM_TURNS + PERIOD + 1;
 
 /// At most how many nodes there are.
 const NODES: usize = MOST_NODES as usize;
@@ -21,95 +32,203 @@ const NODES: usize = MOST_NODES as usize;
 /// How many tasks there are.
 const TASKS: usize = MOST_TASKS as usize;
 
+/// What is published of a node or a task.
+#[derive(Drop)]
+struct Actor {
+    /// How many turns it is known to have made: at most `PERIOD` fewer than it made, and
+    /// `u64::MAX` once its loop ended.
+    turns: AtomicU64,
+    /// The turn in which it looks at the others again.
+    looks: AtomicU64,
+    /// The last turn before which it did not rest.
+    stirred: AtomicU64,
+    /// The sum of all `stirred` that it found last,
+    found: AtomicU64,
+    /// and the turn by which all have made `CALM_TURNS` turns since then.
+    calm: AtomicU64,
+}
+
+impl Actor {
+    /// Nothing has happened; an actor that has no thread is as one whose loop ended.
+    fn new(runs: bool) -> Self {
+        Actor {
+            turns: AtomicU64::new(if runs { 0 } else { u64::MAX }),
+            looks: AtomicU64::new(0),
+            stirred: AtomicU64::new(0),
+            found: AtomicU64::new(0),
+            calm: AtomicU64::new(LOOKS_APART),
+        }
+    }
+}
+
 /// The gate of a run. A node leads only by its patience: the turns in which its loop would have it
 /// lead at the least position that is free for it are skipped. The threads of all nodes and tasks
 /// keep pace, so that none has made all its turns while another needs it. Each publishes the number
 /// of its turn in every eighth turn, and one that is more than 16 turns ahead of the slowest yields
 /// to others. The turn of the slowest determines how many turns a thread may make before it looks
-/// again. Once a thread has waited too long, no thread waits any more.
+/// again. Once a thread has waited too long, no thread waits any more. Nobody waits for a thread
+/// that ended.
+///
+/// The run is over once nothing can happen any more (`conclude`), once memory ran out in a thread,
+/// and once a thread could not be started. It stays over.
 #[derive(Drop)]
 pub(crate) struct Pace {
-    /// How many turns the nodes and then the tasks are known to have made.
-    turns: Vec<AtomicU64>,
-    /// The turn in which each of them looks at the others again.
-    looks: Vec<AtomicU64>,
+    /// The nodes and then the tasks.
+    actors: Vec<Actor>,
     /// Not 0 once a thread has waited too long.
     free: AtomicU64,
+    /// Not 0 once the run is over.
+    over: AtomicU64,
+}
+
+/// The place of a node or a task among the actors. The audit has none.
+fn place_of(actor: Party) -> usize {
+    match actor {
+        Party::Node(node) => usize::from(node.get()) - 1,
+        Party::Task(task) => NODES + usize::from(task.get()) - 1,
+        Party::Audit => NODES + TASKS,
+    }
 }
 
 impl Pace {
     /// The gate of a run of n nodes and eight tasks.
     pub(crate) fn new(alloc: Global, nodes: u8) -> Result<Self, AllocError> {
-        let mut turns = Vec::new(alloc);
-        let mut looks = Vec::new(alloc);
+        let mut actors = Vec::new(alloc);
         for place in 0..NODES + TASKS {
-            let runs = place < usize::from(nodes) || place >= NODES;
-            turns.push(AtomicU64::new(if runs { 0 } else { u64::MAX }))?;
-            looks.push(AtomicU64::new(0))?;
+            actors.push(Actor::new(place < usize::from(nodes) || place >= NODES))?;
         }
         Ok(Pace {
-            turns,
-            looks,
+            actors,
             free: AtomicU64::new(0),
+            over: AtomicU64::new(0),
         })
     }
 
-    /// Is called before the thread of this place makes this turn, and waits if the thread is too
-    /// far ahead.
-    fn keep(&self, place: usize, turn: u64) {
-        let (Some(made), Some(looks)) = (self.turns.get(place), self.looks.get(place)) else {
-            return;
-        };
-        if turn % PERIOD == 0 {
-            made.store(turn, Ordering::SeqCst);
+    /// Whether the run is over.
+    fn has_ended(&self) -> bool {
+        self.over.load(Ordering::SeqCst) != 0
+    }
+
+    /// Is called before the actor makes this turn, and waits if it is too far ahead.
+    fn keep(&self, actor: &Actor, turn: u64, rests: bool) {
+        if !rests {
+            actor.stirred.store(turn, Ordering::SeqCst);
         }
-        if turn >= looks.load(Ordering::SeqCst) {
-            made.store(turn, Ordering::SeqCst);
-            looks.store(self.next_look(turn), Ordering::SeqCst);
+        if turn % PERIOD == 0 {
+            actor.turns.store(turn, Ordering::SeqCst);
+        }
+        if turn >= actor.looks.load(Ordering::SeqCst) {
+            actor.turns.store(turn, Ordering::SeqCst);
+            if rests {
+                self.conclude(actor);
+            }
+            actor.looks.store(self.next_look(turn), Ordering::SeqCst);
         }
     }
 
     /// The turn of the slowest thread.
     fn slowest(&self) -> u64 {
-        let turns = self.turns.iter().map(|turns| turns.load(Ordering::SeqCst));
+        let actors = self.actors.iter();
+        let turns = actors.map(|actor| actor.turns.load(Ordering::SeqCst));
         turns.min().unwrap_or(u64::MAX)
     }
 
-    /// Yields to others until the slowest is near enough to this turn. Returns the turn in which
-    /// the thread is to look again.
+    /// The turn of the fastest of the threads that have not ended.
+    fn fastest(&self) -> u64 {
+        self.actors.iter().fold(0, |fastest: u64, actor| {
+            let turns = actor.turns.load(Ordering::SeqCst);
+            if turns == u64::MAX {
+                fastest
+            } else {
+                fastest.max(turns)
+            }
+        })
+    }
+
+    /// The sum of the turns before which the actors last did not rest.
+    fn stirs(&self) -> u64 {
+        self.actors.iter().fold(0, |sum: u64, actor| {
+            sum.wrapping_add(actor.stirred.load(Ordering::SeqCst))
+        })
+    }
+
+    /// Ends the run if nothing can happen any more. This looks twice at the turns before which the
+    /// actors did not rest. None of them ever falls, so if their sum is the same, so is each. Since
+    /// the first look each node then looked into all its boxes, found nothing in them or on its
+    /// link, sent nothing, and has nothing pending; and each task has all its replies and sent
+    /// nothing. So no packet is left that a node would get, and all further turns would be idle:
+    /// the logs are those that the nodes would have after any number of turns. What is read is
+    /// older than the moment of the second look, but whoever did more since then had to get a
+    /// packet that was there before it.
+    fn conclude(&self, actor: &Actor) {
+        let reached = self.slowest();
+        let stirs = self.stirs();
+        if stirs != actor.found.load(Ordering::SeqCst) {
+            actor.found.store(stirs, Ordering::SeqCst);
+            let calm = self.fastest().saturating_add(LOOKS_APART);
+            actor.calm.store(calm, Ordering::SeqCst);
+        } else if reached >= actor.calm.load(Ordering::SeqCst) {
+            self.over.store(1, Ordering::SeqCst);
+        }
+    }
+
+    /// Yields to others until the slowest is near enough to this turn, or the run is over. Returns
+    /// the turn in which the thread is to look again.
     fn next_look(&self, turn: u64) -> u64 {
         for _ in 0..MOST_WAITS {
-            if self.free.load(Ordering::SeqCst) != 0 {
-                return u64::MAX;
-            }
             let farthest = self.slowest().saturating_add(MOST_AHEAD);
             if turn <= farthest {
                 return farthest.saturating_add(1);
             }
+            if self.has_ended() || self.free.load(Ordering::SeqCst) != 0 {
+                return turn.saturating_add(MOST_AHEAD);
+            }
             thread::yield_now();
         }
         self.free.store(1, Ordering::SeqCst);
-        u64::MAX
+        turn.saturating_add(MOST_AHEAD)
     }
 }
 
 impl Gate for Pace {
-    ghost use Rattle.rp_live.specs.Pace.{paced, heard, heard_task};
+    ghost use Rattle.rp_live.specs.Pace.{paced, heard, over, ended, stopped};
 
     ghost lets = { paced };
 
     ghost heard = { heard };
 
-    ghost heard_task = { heard_task };
+    ghost over = { over };
+
+    ghost ended = { ended };
+
+    ghost stopped = { stopped };
+
+    fn is_over(&self, actor: Party, turn: u64, rests: bool) -> bool {
+        if self.has_ended() {
+            return true;
+        }
+        if let Some(actor) = self.actors.get(place_of(actor)) {
+            self.keep(actor, turn, rests);
+        }
+        self.has_ended()
+    }
 
     fn before(&self, node: NodeId, turn: u64) -> bool {
-        self.keep(usize::from(node.get()) - 1, turn);
         !is_to_lead(node, turn)
     }
 
     fn after(&self, _node: NodeId, _turn: u64, _sent: usize) {}
 
-    fn before_task(&self, task: TaskId, turn: u64) {
-        self.keep(NODES + usize::from(task.get()) - 1, turn);
+    fn end(&self, actor: Party, fault: Option<Fault>) {
+        if let Some(actor) = self.actors.get(place_of(actor)) {
+            actor.turns.store(u64::MAX, Ordering::SeqCst);
+        }
+        if matches!(fault, Some(Fault::OutOfMemory)) {
+            self.stop();
+        }
+    }
+
+    fn stop(&self) {
+        self.over.store(1, Ordering::SeqCst);
     }
 }

@@ -72,8 +72,9 @@ fn audited<M: Machine, D: InfallibleDevice>(
 /// threads start, the nodes take the interrupts and the ticks among the events as inputs, in order;
 /// the other events are the calls of the tasks. Afterwards the audit reads the logs of all nodes,
 /// and all seats look at the table together. Which replies arrive, and how much is applied, differs
-/// from run to run. `OutOfMemory` if an allocation failed or a thread could not be started, also
-/// within a thread.
+/// from run to run. The threads end before their last turn once nothing can happen any more.
+/// `OutOfMemory` if an allocation failed, also within a thread, or a thread could not be started:
+/// then all threads end before their next turn.
 pub fn live<R: Threads + Wait, M: Machine + Send>(
     rt: &R,
     alloc: Global,
@@ -88,7 +89,8 @@ where
     // claim (outcome): In a run of a whole program in threads all nodes and tasks have their seats
     //   at one table; the nodes note the interrupts and ticks among the events, in order; each node
     //   and task makes its turns over the link that the seed gives to it, the tasks with the calls
-    //   among the events
+    //   among the events, up to the number of turns asked for or until the gate says that the run
+    //   is over
     // claim (outcome): After the loops each node reports to the audit what it has applied, first
     //   from position 1 and each time after that from the position after those that the audit knows
     //   of it by then, until all is known or a report adds nothing; then all look at the table as
@@ -104,8 +106,8 @@ where
     // claim (outcome): The figures of a run in threads are sums over the ends of the loops: calls
     //   made, replies, packets counted as lost and turns in which nodes led; and the greatest turn
     //   of a last reply
-    // claim (outcome): A run in threads has a result only if each node's loop made all its turns and
-    //   no task's loop ran out of memory
+    // claim (outcome): A run in threads has a result only if each node's loop made all its turns or
+    //   was ended by the gate, and no task's loop ran out of memory
     // claim (only): The only fault that ends a run in threads is `OutOfMemory`
     ensures outcome { IfOk result (IsLiveRun M.next M.answers M.begin
         options.config program.now events.now options.seed options.turns) }

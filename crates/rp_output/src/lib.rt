@@ -21,6 +21,6 @@ pub use fault_message::{FaultMessage, is_refusal, reason_text, tell};
 pub use printed::{
     AgreedLine, DrainLimitLine, NodeLine, NodeState, RefusedLine, ReplyLine, ReplyText,
 };
-pub use stream::{print, report, write_out, write_whole};
+pub use stream::{is_interrupted, print, report, write_out, write_whole};
 pub use trace::{BodyText, PartyText, TraceLine};
 pub use words::{VERSION, given_words, refuse_unread, refuse_words};

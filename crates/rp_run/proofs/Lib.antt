@@ -1,5 +1,6 @@
 mod PrintedNames
 pub mod Among
+pub mod NextNumbers
 mod Tracing
 pub mod Refusing
 pub mod LeastUnsettled

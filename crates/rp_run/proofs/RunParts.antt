@@ -30,7 +30,7 @@ use Rattle.rp_deck.specs.declared.deck.Command.TheVariants.{Show}
 use Rattle.rp_deck.specs.declared.deck.Line.{Line}
 use Rattle.rp_run.specs.declared.settled.Settled.{Settled}
 use Rattle.rp_run.proofs.ItemTexts.{items_text-append, item_text-one, transition_prints, nodes_print}
-use Rattle.rp_output.proofs.Writing.{begins_longer, begins_after}
+use Rattle.rp_output.proofs.Writing.{begins_nothing, begins_longer, begins_after}
 
 -- what is said, by what is written
 pub says_by : (world : World) (settled : Settled) (old new : Option (List ℕ)) (said : Said) (answer : Result Unit Fault)
@@ -212,6 +212,36 @@ module _ (line first last : ℕ) (play : Play) (world : World) (settled : Settle
       let there : Said = record { items = []; play = record { world = play.world; settled = from_to first last ++ play.settled } } in
       subst (λ (x : Said). Says world settled old new x answer) (sym (none_lost (nat_le first (length play.world.sent)) (nat_le last (length play.world.sent)) there refl refl at_play))
       (says_by world settled old new said answer follows (note_written play old new (Refused line NoSuchMessage) answer printed))
+
+  all_lost : (one other : Bool) (there said : Said) → one ≡ true → other ≡ true → cond (one && other) there said ≡ there
+  all_lost true true there said one_is other_is = refl
+  all_lost true false there said one_is other_is = absurd (cc)
+  all_lost false other there said one_is other_is = absurd (cc)
+
+  -- what counts as settled then
+  abbrev there : Said
+  there = record { items = []; play = record { world = play.world; settled = from_to first last ++ play.settled } }
+
+  lost_is : first ≤ length world.sent → last ≤ length world.sent → lost line play first last ≡ there
+  lost_is first_sent last_sent =
+      all_lost (nat_le first (length play.world.sent)) (nat_le last (length play.world.sent)) there (note_said play (Refused line NoSuchMessage))
+      (grind (arith, nat_tests, sent_is, first_sent)) (grind (arith, nat_tests, sent_is, last_sent))
+
+  pub some_lost : (after : Settled) (old : Option (List ℕ)) (answer : Result Unit Fault) → IsErr answer → Says world after old old (lost line play first last) answer
+  some_lost after old answer failed = says_failed world after old old (lost line play first last) answer failed (begins_nothing old (text_of (lost line play first last)))
+
+  pub was_lost : (after : Settled) (old : Option (List ℕ)) → first ≤ length world.sent → last ≤ length world.sent
+      → ((m : ℕ) → is_settled after m ≡ (is_among (from_to first last) m || is_settled settled m))
+      → Follows world after (lost line play first last).play × Appends old old (text_of (lost line play first last))
+  was_lost after old first_sent last_sent settles =
+      subst (λ (x : Said). Follows world after x.play × Appends old old (text_of x)) (sym (lost_is first_sent last_sent)) (
+        record {
+          world_is = follows.world_is;
+          settled_are = λ m. settles m ∙ ap (λ (b : Bool). is_among (from_to first last) m || b) (follows.settled_are m)
+              ∙ sym (list_any-append (nat_eq m) (from_to first last) play.settled);
+        },
+        Appends-nil old,
+      )
 
 -- ---- the definitions, one step on
 

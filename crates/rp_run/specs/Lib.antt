@@ -1,4 +1,5 @@
 pub mod Items
+pub mod NextNumbers
 pub mod Settled
 pub mod Output
 pub mod Runs

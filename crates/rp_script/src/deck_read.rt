@@ -8,6 +8,7 @@ ghost use Rattle.rp_deck.specs.Live.{IsDeckFor};
 
 use rp_base::Fault;
 use rp_deck::{Deck, Mode, read_deck};
+use rp_output::is_interrupted;
 use std::alloc::Global;
 use std::io::Read;
 
@@ -43,8 +44,9 @@ pub fn read_given<R: Read>(
     read_deck(alloc, text, mode)
 }
 
-/// Reads all that the reader gives. `Io` if a read fails, if there are more than 1,048,576 bytes,
-/// or if the end is not reached within 2,097,152 reads.
+/// Reads all that the reader gives; a read that is interrupted is made again. `Io` if a read fails
+/// otherwise, if there are more than 1,048,576 bytes, or if the end is not reached within 2,097,152
+/// reads.
 pub fn read_whole<R: Read>(alloc: Global, reader: &mut R) -> Result<Vec<u8>, Fault>
     ensures whole { IfOk result (λ bytes. IfSome (R.remaining reader.old) (λ all. bytes.items
         ≡ all)) }
@@ -54,8 +56,10 @@ pub fn read_whole<R: Read>(alloc: Global, reader: &mut R) -> Result<Vec<u8>, Fau
     let mut bytes = Vec::new(alloc);
     for _ in 0..MOST_READS {
         let mut chunk = [0; CHUNK];
-        let Ok(count) = reader.read(&mut chunk) else {
-            return Err(Fault::Io);
+        let count = match reader.read(&mut chunk) {
+            Ok(count) => count,
+            Err(error) if is_interrupted(&error) => continue,
+            Err(_) => return Err(Fault::Io),
         };
         if count == 0 {
             return Ok(bytes);

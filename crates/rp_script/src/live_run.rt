@@ -34,12 +34,12 @@ use std::time::{Clock, Instant};
 pub struct LiveRequest {
     /// The seed: it determines which packets are lost, duplicated and reordered.
     pub seed: u32,
-    /// How many turns each node and each task makes.
+    /// How many turns each node and each task makes at most.
     pub turns: u32,
 }
 
-/// Reads a deck, runs its nodes and tasks in threads for the given number of turns, and then prints
-/// the result. It returns how the run went, in figures. The deck is the one that the reader's bytes
+/// Reads a deck, runs its nodes and tasks in threads for at most the given number of turns, and then
+/// prints the result. It returns how the run went, in figures. The deck is the one that the reader's bytes
 /// mean. If they mean none, nothing is printed, and the fault has the first bad line and the first
 /// reason on it. After any other fault, nothing or a prefix of the run's result was printed.
 pub fn run_live<T: Threads + Wait + Clock, R: Read, W: Write>(

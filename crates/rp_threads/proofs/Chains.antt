@@ -1,13 +1,15 @@
 -- The turns of a node's loop, one after the other: what they leave of its seat, and their counts.
-use Rattle.std.proofs.Common.{◌≡◌, ◌≢◌, ℕ, zero, suc, ◌+◌, ◌<◌, ◌≤◌, Bool, true, false, Some, None, List, inl, inr, refl, sym, ap, subst, ◌∙◌, arith}
+use Rattle.std.proofs.Common.{◌≡◌, ◌≢◌, ℕ, zero, suc, ◌+◌, ◌<◌, ◌≤◌, Bool, true, false, Option, Some, None, List, inl, inr, refl, sym, ap, subst, ◌∙◌, arith}
 use Rattle.rp_base.specs.declared.action.Action.{Action}
 use Rattle.rp_base.specs.declared.fault.Fault.{Fault}
 use Rattle.rp_base.specs.declared.fault.Fault.TheVariants.{Device}
 use Rattle.rp_base.specs.declared.reply.Answer.{Answer}
+use Rattle.rp_codec.specs.declared.packet.Party.{Party}
+use Rattle.rp_codec.specs.declared.packet.Party.TheVariants.{Node}
 use Rattle.rp_tasks.specs.Line.{Line}
 use Rattle.rp_boxes.specs.Seats.{SeatState}
 use Rattle.rp_threads.specs.Loops.{events_made, is_refusal, is_to_lead, lead_period, sender_at, total_of, turns_off}
-use Rattle.rp_threads.specs.Rounds.{NodeAt, WorkerAt, AreTurns, IsNextTurn, IsNodeFault, IsTurnUnmade, before_turns}
+use Rattle.rp_threads.specs.Rounds.{NodeAt, WorkerAt, AreTurns, IsAsked, IsLastTurn, IsNextTurn, IsNodeFault, IsTurnUnmade, before_turns}
 use Rattle.rp_threads.specs.Threads.{IsLooped, end_of}
 use Rattle.rp_threads.specs.declared.loops.Counts.{Counts}
 use Rattle.rp_threads.specs.declared.loops.NodeEnd.{NodeEnd}
@@ -36,8 +38,9 @@ module _ {P : Type 0} (first before last : SeatState P) (n : ℕ) (fault : Fault
   kept_failures (inr (inr (inl memory))) other = memory.1 ∙ later.failures
   kept_failures (inr (inr (inr refused))) other = refused.1.failures ∙ later.failures
 
-module _ {S P : Type 0} (next : S → Action → S) (answers : S → Action → List Answer) (begin : P → S) (lets : ℕ → ℕ → Bool) (heard : ℕ → ℕ → ℕ → Type 0) (nodes : ℕ) where
-  one_turned : (first : SeatState P) (before now : NodeAt P) (n : ℕ) → HasMadeTurns first n before → IsNextTurn next answers begin lets heard nodes (suc n) before now → HasMadeTurns first (suc n) now
+module _ {S P : Type 0} (next : S → Action → S) (answers : S → Action → List Answer) (begin : P → S) (lets : ℕ → ℕ → Bool) (heard : ℕ → ℕ → ℕ → Type 0)
+    (over : Party → ℕ → Bool → Bool → Type 0) (nodes : ℕ) where
+  one_turned : (first : SeatState P) (before now : NodeAt P) (n : ℕ) → HasMadeTurns first n before → IsNextTurn next answers begin lets heard over nodes (suc n) before now → HasMadeTurns first (suc n) now
   one_turned first before now n has t =
       let from = sender_at nodes (suc n) in
       let number = before.worker.seat.number in
@@ -58,28 +61,32 @@ module _ {S P : Type 0} (next : S → Action → S) (answers : S → Action → 
             (counted_idle t.made before.counts (lead_period first.number) n off has.idle);
       }
 
-  pub all_turned : (seat : SeatState P) (line : Line) (n : ℕ) (now : NodeAt P) → AreTurns next answers begin lets heard nodes (before_turns seat line) n now → HasMadeTurns seat n now
+  pub all_turned : (seat : SeatState P) (line : Line) (n : ℕ) (now : NodeAt P) → AreTurns next answers begin lets heard over nodes (before_turns seat line) n now → HasMadeTurns seat n now
   all_turned seat line zero now are =
       subst (HasMadeTurns seat 0) (sym are) (record { later = later_same seat seat refl; total = refl; idle = omega arith })
   all_turned seat line (suc n) now are = one_turned seat are.0 now n (all_turned seat line n are.0 are.1) are.2
 
   -- ---- ends of loops
 
-  module _ {M D : Type 0} (turns : ℕ) (seat : SeatState P) (line : Line) where
+  module _ {M D : Type 0} (ended : Party → Option Fault → Type 0) (turns : ℕ) (seat : SeatState P) (line : Line) where
     abbrev IsEnd : NodeEnd M D P → Type 0
-    IsEnd end = IsLooped next answers begin lets heard nodes turns seat line end
+    IsEnd end = IsLooped next answers begin lets heard over ended nodes turns seat line end
 
-    pub looped : (now : NodeAt P) → AreTurns next answers begin lets heard nodes (before_turns seat line) turns now → IsEnd (end_of now None)
-    looped now are =
-        let has = all_turned seat line turns now are in
+    pub looped : (done : ℕ) (now : NodeAt P) → AreTurns next answers begin lets heard over nodes (before_turns seat line) done now → IsLastTurn next answers begin lets heard over nodes turns done now
+        → ended (Node now.worker.seat.number) None → IsEnd (end_of now.worker now.counts None)
+    looped done now are stops notified =
+        let has = all_turned seat line done now are in
         let events = has.later.events in
         record {
           same = has.later.same;
+          notified = subst (λ (n : ℕ). ended (Node n) None) has.later.same.number notified;
           failures = λ other. has.later.failures;
           whole = λ none. record {
+            done = done;
             last = now;
             is = refl;
             turned = are;
+            stops = stops;
             counted = has.total;
             events = omega (arith, events);
             idle = has.idle;
@@ -87,29 +94,32 @@ module _ {S P : Type 0} (next : S → Action → S) (answers : S → Action → 
           fault = tt;
         }
 
-    pub ended : (done : ℕ) (before : NodeAt P) (last : WorkerAt P) (fault : Fault) → AreTurns next answers begin lets heard nodes (before_turns seat line) done before → done < turns
-        → is_refusal fault ≡ false → IsTurnUnmade next answers begin lets heard nodes (suc done) before.worker last fault → IsEnd (end_of (record { worker = last; counts = before.counts }) (Some fault))
-    ended done before last fault are within ends unmade =
+    pub ended_by : (done : ℕ) (before : NodeAt P) (last : WorkerAt P) (fault : Fault) → AreTurns next answers begin lets heard over nodes (before_turns seat line) done before → done < turns
+        → IsAsked next answers begin lets heard over nodes (suc done) before false → is_refusal fault ≡ false → IsTurnUnmade next answers begin lets heard nodes (suc done) before.worker last fault
+        → ended (Node last.seat.number) (Some fault) → IsEnd (end_of last before.counts (Some fault))
+    ended_by done before last fault are within asked ends unmade notified =
         let now = before.worker.seat in
         let later = (all_turned seat line done before are).later in
         let left = unmade_left next answers begin (sender_at nodes (suc done)) (is_to_lead now.number (suc done)) before.worker last fault unmade.1 in
         let count = before.counts.received + before.counts.led in
+        let same = same_on seat now last.seat later.same left.same in
         record {
-          same = same_on seat now last.seat later.same left.same;
+          same = same;
+          notified = subst (λ (n : ℕ). ended (Node n) (Some fault)) same.number notified;
           failures = λ other. kept_failures seat now last.seat count fault later left.cause (λ device. other (ap (λ (f : Fault). Some f) device));
           whole = λ none. absurd (some_fault fault none);
           fault = record {
-            last = record { worker = last; counts = before.counts };
-            is = refl;
-            ended = record {
+            last = last;
+            until = record {
               cause = cause_of seat now last.seat count fault later ends left.cause;
               done = done;
               within = within;
               before = before;
               made = are;
+              asked = asked;
               unmade = unmade;
-              counts = refl;
             };
+            is = refl;
           };
         }
       where

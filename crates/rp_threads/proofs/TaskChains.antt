@@ -1,5 +1,5 @@
 -- The turns of a task's loop, one after the other: what calls they made, and why one is not made.
-use Rattle.std.proofs.Common.{◌≡◌, ℕ, zero, suc, ◌+◌, ◌%◌, ◌/◌, ◌<◌, ◌≤◌, ◌||◌, not, nat_eq, nat_lt, Bool, true, false, Option, Some, None, Ok, Err, List, [], ◌∷◌, length, is_some, slice_get, inl, inr, refl, sym, ap, subst, ◌∙◌, arith, if◌then◌else◌}
+use Rattle.std.proofs.Common.{◌≡◌, ℕ, zero, suc, add-one, ◌+◌, ◌%◌, ◌/◌, ◌<◌, ◌≤◌, ◌||◌, not, nat_eq, nat_lt, Bool, true, false, Option, Some, None, Ok, Err, List, [], ◌∷◌, length, is_some, slice_get, inl, inr, refl, sym, ap, subst, ◌∙◌, arith, if◌then◌else◌}
 use Rattle.std.proofs.lemmas.Grind.{common_steps}
 use Rattle.std.proofs.lemmas.Nat.{mod_below}
 use Rattle.rp_base.specs.Action.{is_right}
@@ -19,7 +19,7 @@ use Rattle.rp_boxes.specs.Seats.{SeatState}
 use Rattle.rp_threads.specs.Lines.{given_on, line_after}
 use Rattle.rp_threads.specs.Loops.{IsSameSeat, node_at}
 use Rattle.rp_threads.specs.Tasks.{HasMade, TaskAt, before_calls, call_after}
-use Rattle.rp_threads.specs.TaskRounds.{AreTaskTurns, Asks, Hears, IsHeard, IsRefused, IsTaskFault, IsTaskTurnOf, IsUnmadeTurn, untaken, unheard, unasked, asked_by, asked_for, asked_in, heard_by, made_by, submitted, with_call, with_lost}
+use Rattle.rp_threads.specs.TaskRounds.{AreTaskTurns, Asks, Hears, IsHeard, IsLastTaskTurn, IsTaskAsked, IsRefused, IsTaskFault, IsTaskTurnOf, IsUnmadeTurn, untaken, unheard, unasked, asked_by, asked_for, asked_in, has_all_replies, heard_by, made_by, submitted, with_call, with_lost}
 use Rattle.rp_threads.specs.Threads.{IsTaskLooped, task_end_of}
 use Rattle.rp_threads.specs.Turns.{IsBrought, IsLost, MayFetch}
 use Rattle.rp_threads.specs.declared.tasks.Calls.{Calls}
@@ -112,10 +112,10 @@ module _ {S P : Type 0} (next : S → Action → S) (answers : S → Action → 
         (made_then old.seat t.heard new.seat old.so_far t.so_far (asked_for calls t.so_far)
         (hears_on turn old t.heard new.line t.so_far t.hears) (asked_on t.so_far.waits turn t.heard new.seat t.so_far t.lost t.asks))
 
-    turns_on : (gate_heard : ℕ → ℕ → Type 0) (first : TaskAt P) (n : ℕ) (now : TaskAt P) → AreTaskTurns next answers begin gate_heard nodes calls first n now → IsMadeOn first.seat now.seat first.so_far now.so_far
-    turns_on gate_heard first zero now are = subst (λ (at : TaskAt P). IsMadeOn first.seat at.seat first.so_far at.so_far) (sym are) (stays_on first.seat first.seat first.so_far refl)
-    turns_on gate_heard first (suc n) now are =
-        made_then first.seat are.0.seat now.seat first.so_far are.0.so_far now.so_far (turns_on gate_heard first n are.0 are.1) (turn_on (suc n) are.0 now are.2)
+    turns_on : (over : Party → ℕ → Bool → Bool → Type 0) (first : TaskAt P) (n : ℕ) (now : TaskAt P) → AreTaskTurns next answers begin over nodes calls first n now → IsMadeOn first.seat now.seat first.so_far now.so_far
+    turns_on over first zero now are = subst (λ (at : TaskAt P). IsMadeOn first.seat at.seat first.so_far at.so_far) (sym are) (stays_on first.seat first.seat first.so_far refl)
+    turns_on over first (suc n) now are =
+        made_then first.seat are.0.seat now.seat first.so_far are.0.so_far now.so_far (turns_on over first n are.0 are.1) (turn_on (suc n) are.0 now are.2)
 
     -- ---- what is refused
 
@@ -231,50 +231,56 @@ module _ {S P : Type 0} (next : S → Action → S) (answers : S → Action → 
     some_made true so_far seat h some = let e = h.waiting.2 in omega (arith, e)
     some_made false so_far seat h some = with_some calls (slice_get calls so_far.made) so_far refl some
 
-    first_made : (gate_heard : ℕ → ℕ → Type 0) (first : TaskAt P) (n : ℕ) (now : TaskAt P) → HasMade calls first.seat first.so_far.made first.so_far.waits
-        → AreTaskTurns next answers begin gate_heard nodes calls first n now
+    first_made : (over : Party → ℕ → Bool → Bool → Type 0) (first : TaskAt P) (n : ℕ) (now : TaskAt P) → HasMade calls first.seat first.so_far.made first.so_far.waits
+        → AreTaskTurns next answers begin over nodes calls first n now
         → 0 < length calls → 0 < n → 0 < now.so_far.made
-    first_made gate_heard first zero now h are some more = absurd (omega (arith, more))
-    first_made gate_heard first (suc n) now h are some more =
+    first_made over first zero now h are some more = absurd (omega (arith, more))
+    first_made over first (suc n) now h are some more =
         let t = are.2 in
-        let made = (hears_on (suc n) are.0 t.heard now.line t.so_far t.hears).1 ((turns_on gate_heard first n are.0 are.1).1 h) in
+        let made = (hears_on (suc n) are.0 t.heard now.line t.so_far t.hears).1 ((turns_on over first n are.0 are.1).1 h) in
         subst (λ (c : Calls). 0 < c.made) (sym t.counts) (some_made t.so_far.waits t.so_far t.heard made some)
 
     -- ---- ends of loops
 
-    module _ {M : Type 0} (gate_heard : ℕ → ℕ → Type 0) (turns : ℕ) (seat : SeatState P) (line : Line) (fresh : seat.part ≡ fresh_part (OfTask fresh_task)) where
+    module _ {M : Type 0} (over : Party → ℕ → Bool → Bool → Type 0) (ended : Party → Option Fault → Type 0) (turns : ℕ) (seat : SeatState P) (line : Line) (fresh : seat.part ≡ fresh_part (OfTask fresh_task)) where
       abbrev IsEnd : TaskEnd M P → Type 0
-      IsEnd end = IsTaskLooped next answers begin gate_heard nodes turns calls seat line end
+      IsEnd end = IsTaskLooped next answers begin over ended nodes turns calls seat line end
 
-      pub task_looped : (now : TaskAt P) → AreTaskTurns next answers begin gate_heard nodes calls (before_calls seat line) turns now → IsEnd (task_end_of now None)
-      task_looped now are =
-          let on = turns_on gate_heard (before_calls seat line) turns now are in
+      pub task_looped : (done : ℕ) (now : TaskAt P) → AreTaskTurns next answers begin over nodes calls (before_calls seat line) done now → IsLastTaskTurn next answers begin over nodes calls turns done now
+          → ended (Task now.seat.number) None → IsEnd (task_end_of now None)
+      task_looped done now are stops notified =
+          let on = turns_on over (before_calls seat line) done now are in
           let none = none_made calls seat fresh in
           record {
             same = on.0;
+            notified = subst (λ (n : ℕ). ended (Task n) None) on.0.number notified;
             made = (now.so_far.waits, on.1 none);
-            whole = λ ended. record {
+            whole = λ faultless. record {
+              done = done;
               last = now;
               is = refl;
               turned = are;
-              first = λ some more. first_made gate_heard (before_calls seat line) turns now none are some more;
+              stops = stops;
+              first = λ some more. first_made over (before_calls seat line) done now none are some more;
             };
             fault = tt;
           }
 
-      pub task_ended : (done : ℕ) (before last : TaskAt P) (fault : Fault) → 1 ≤ nodes → AreTaskTurns next answers begin gate_heard nodes calls (before_calls seat line) done before → done < turns
-          → gate_heard before.seat.number (suc done) → IsUnmadeTurn next answers begin nodes calls (suc done) before last fault → IsEnd (task_end_of last (Some fault))
-      task_ended done before last fault some are within heard unmade =
-          let on = turns_on gate_heard (before_calls seat line) done before are in
+      pub task_ended : (done : ℕ) (before last : TaskAt P) (fault : Fault) → 1 ≤ nodes → AreTaskTurns next answers begin over nodes calls (before_calls seat line) done before → done < turns
+          → IsTaskAsked next answers begin over nodes calls (suc done) before false → IsUnmadeTurn next answers begin nodes calls (suc done) before last fault
+          → ended (Task last.seat.number) (Some fault) → IsEnd (task_end_of last (Some fault))
+      task_ended done before last fault some are within asked unmade notified =
+          let on = turns_on over (before_calls seat line) done before are in
           let left = unmade_on (suc done) seat before last fault on.0 (on.1 (none_made calls seat fresh)) some unmade in
           record {
             same = left.0;
+            notified = subst (λ (n : ℕ). ended (Task n) (Some fault)) left.0.number notified;
             made = (last.so_far.waits, left.1);
             whole = λ none. absurd (some_fault fault none);
             fault = record {
               last = last;
               is = refl;
-              ended = record { cause = left.2; done = done; within = within; before = before; made = are; heard = heard; unmade = unmade };
+              until = record { cause = left.2; done = done; within = within; before = before; made = are; asked = asked; unmade = unmade };
             };
           }
         where
@@ -321,3 +327,13 @@ module _ (nodes : ℕ) (calls : List TaskCall) (turn : ℕ) (so_far : Calls) (ca
 
   pub made_next : asked_for calls so_far ≡ with_call call so_far
   made_next = ap (λ (b : Bool). made_by b calls so_far) off ∙ ap (λ (o : Option TaskCall). with_call o so_far) at
+
+-- ---- what the gate is asked
+
+pub task_asked_at : {P : Type 0} (over : Party → ℕ → Bool → Bool → Type 0) (calls : List TaskCall) (now : TaskAt P) (done number : ℕ) (rests is_over said : Bool) → number ≡ now.seat.number
+    → rests ≡ has_all_replies calls now.so_far → is_over ≡ said → over (Task number) (done + 1) rests is_over → over (Task now.seat.number) (suc done) (has_all_replies calls now.so_far) said
+task_asked_at over calls now done number rests is_over said is has says asked =
+    subst (λ (b : Bool). over (Task now.seat.number) (suc done) (has_all_replies calls now.so_far) b) says
+    (subst (λ (r : Bool). over (Task now.seat.number) (suc done) r is_over) has
+    (subst (λ (n : ℕ). over (Task n) (suc done) rests is_over) is
+    (subst (λ (t : ℕ). over (Task number) t rests is_over) (add-one done) asked)))

@@ -49,6 +49,11 @@ is_idle Idle = true
 is_idle Received = false
 is_idle Led = false
 
+-- nothing happened in the turn: it was idle, or skipped
+abbrev pub is_uneventful : Option TurnResult → Bool
+is_uneventful (Some turned) = is_idle turned.turn
+is_uneventful None = true
+
 -- how many events a turn is
 abbrev pub events_of : Turn → ℕ
 events_of Received = 1

@@ -1,7 +1,7 @@
 -- The turns of a node's loop: each is the turn of its node, and if that is idle the node may lead
 -- with a new ballot.
-use Rattle.std.specs.Prelude.{◌≡◌, ◌≢◌, ◌⊎◌, ℕ, zero, suc, ◌+◌, ◌<◌, ◌≤◌, Bool, true, false}
-use Rattle.std.specs.Prelude.{Option, Some, None, IsSome, List, length}
+use Rattle.std.specs.Prelude.{◌≡◌, ◌≢◌, ◌⊎◌, ℕ, zero, suc, ◌+◌, ◌<◌, ◌≤◌, nat_lt, Bool, true, false}
+use Rattle.std.specs.Prelude.{◌&&◌, not, Option, Some, None, IsSome, List, length}
 use Rattle.rp_base.specs.declared.action.Action.{Action}
 use Rattle.rp_base.specs.declared.fault.Fault.{Fault}
 use Rattle.rp_base.specs.declared.fault.Fault.TheVariants.{OutOfMemory, Device, Failed}
@@ -14,7 +14,7 @@ use Rattle.rp_rules.specs.declared.input.Input.TheVariants.{Lead}
 use Rattle.rp_tasks.specs.Line.{Line}
 use Rattle.rp_boxes.specs.Parts.{Part, OfNode}
 use Rattle.rp_boxes.specs.Seats.{SeatState, HasApplied, IsRunning, IsStopped}
-use Rattle.rp_threads.specs.Loops.{sender_at, is_to_lead, is_refusal, no_turns, counted}
+use Rattle.rp_threads.specs.Loops.{sender_at, is_to_lead, is_refusal, is_uneventful, no_turns, counted}
 use Rattle.rp_threads.specs.Patience.{fresh_wait, waits, is_over, after_quiet}
 use Rattle.rp_threads.specs.Turns.{IsLost, IsEventBy, IsStopBy, IsNodeTurn, IsStoppedTurn}
 use Rattle.rp_threads.specs.declared.loops.Counts.{Counts}
@@ -128,17 +128,27 @@ module _ {S P : Type 0} (next : S → Action → S) (answers : S → Action → 
     IsMadeOrSkipped heard passes None = ((passes ≡ false) × (new ≡ old))
         ⊎ ((passes ≡ true) × (fault : Fault) × (is_refusal fault ≡ true) × IsUnmade fault × heard 0)
 
--- the state of a node's loop: of its worker, how many turns of each kind it made, and how many
--- packets these lost at boxes
+-- Whether a node rests after a turn: nothing happened in it, and nothing is pending at the node.
+pub record RestsAfter (made : Option TurnResult) (part : Part) (rests : Bool) : Type 0 where
+  pub pending : Bool
+  pub runs : (running : Running) → IsRunning part running
+      → pending ≡ nat_lt 0 (length running.pending)
+  pub stopped : IsStopped part → pending ≡ false
+  pub is : rests ≡ (not pending && is_uneventful made)
+
+-- the state of a node's loop: of its worker, how many turns of each kind it made, how many packets
+-- these lost at boxes, and whether the node rests
 pub record NodeAt (P : Type 0) : Type 0 where
   pub worker : WorkerAt P
   pub counts : Counts
+  pub rests : Bool
 
 -- before its first turn
 abbrev pub before_turns : {P : Type 0} → SeatState P → Line → NodeAt P
 before_turns seat line = record {
   worker = record { seat = seat; line = line; patience = fresh_wait 0 };
   counts = no_turns;
+  rests = false;
 }
 
 -- Why a node's loop may end before its last turn: out of memory; its device failed in that turn; or
@@ -150,7 +160,8 @@ IsNodeFault first last Failed = IsStopped first.part
 IsNodeFault first last _ = ⊥
 
 module _ {S P : Type 0} (next : S → Action → S) (answers : S → Action → List Answer)
-    (begin : P → S) (lets : ℕ → ℕ → Bool) (heard : ℕ → ℕ → ℕ → Type 0) (nodes : ℕ) where
+    (begin : P → S) (lets : ℕ → ℕ → Bool) (heard : ℕ → ℕ → ℕ → Type 0)
+    (nodes : ℕ) where
   -- the turn with this number, of a node among n: the gate decides on it and is notified of it, and
   -- the box of its sender is emptied
   abbrev pub IsTurnOf : ℕ → WorkerAt P → WorkerAt P → Option TurnResult → Type 0
@@ -166,11 +177,20 @@ module _ {S P : Type 0} (next : S → Action → S) (answers : S → Action → 
       × IsUnmade next answers begin (sender_at nodes turn)
       (is_to_lead old.seat.number turn) old new fault
 
-  -- One more turn, which is counted.
+module _ {S P : Type 0} (next : S → Action → S) (answers : S → Action → List Answer)
+    (begin : P → S) (lets : ℕ → ℕ → Bool) (heard : ℕ → ℕ → ℕ → Type 0)
+    (over : Party → ℕ → Bool → Bool → Type 0) (nodes : ℕ) where
+  -- the gate, asked before the turn with this number, said whether the run is over
+  abbrev pub IsAsked : ℕ → NodeAt P → Bool → Type 0
+  IsAsked turn now is_over = over (Node now.worker.seat.number) turn now.rests is_over
+
+  -- One more turn, before which the gate said that the run is not over; it is counted.
   pub record IsNextTurn (turn : ℕ) (old new : NodeAt P) : Type 0 where
+    pub asked : IsAsked turn old false
     pub made : Option TurnResult
-    pub turns : IsTurnOf turn old.worker new.worker made
+    pub turns : IsTurnOf next answers begin lets heard nodes turn old.worker new.worker made
     pub counts : new.counts ≡ counted made old.counts
+    pub rests : RestsAfter made new.worker.seat.part new.rests
 
   -- the turns 1 to n, one after the other
   abbrev pub AreTurns : NodeAt P → ℕ → NodeAt P → Type 0
@@ -178,14 +198,20 @@ module _ {S P : Type 0} (next : S → Action → S) (answers : S → Action → 
   AreTurns first (suc n) now =
       (before : NodeAt P) × AreTurns first n before × IsNextTurn (suc n) before now
 
+  -- why no turn follows the first n, in this state: they are all, or the gate said then that the
+  -- run is over
+  abbrev pub IsLastTurn : ℕ → ℕ → NodeAt P → Type 0
+  IsLastTurn turns done now = (done ≡ turns) ⊎ ((done < turns) × IsAsked (suc done) now true)
+
   -- After some turns the next one, of at most n, was not made, because of a fault other than a
-  -- refusal to lead. No packet of it counts as lost at a box.
-  pub record IsEndedBy (first : NodeAt P) (turns : ℕ) (last : NodeAt P) (fault : Fault)
+  -- refusal to lead.
+  pub record IsEndedBy (first : NodeAt P) (turns : ℕ) (last : WorkerAt P) (fault : Fault)
       : Type 0 where
-    pub cause : IsNodeFault first.worker.seat last.worker.seat fault
+    pub cause : IsNodeFault first.worker.seat last.seat fault
     pub done : ℕ
     pub within : done < turns
     pub before : NodeAt P
     pub made : AreTurns first done before
-    pub unmade : IsTurnUnmade (suc done) before.worker last.worker fault
-    pub counts : last.counts ≡ before.counts
+    pub asked : IsAsked (suc done) before false
+    pub unmade : IsTurnUnmade next answers begin lets heard nodes (suc done) before.worker last
+        fault

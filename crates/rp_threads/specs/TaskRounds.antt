@@ -1,7 +1,7 @@
 -- The turns of a task's loop: it fetches from one node, takes what its link passes on, and asks.
 use Rattle.std.specs.Prelude.{◌≡◌, ◌⊎◌, ℕ, zero, suc, ◌+◌, ◌%◌, ◌/◌, ◌<◌, nat_eq, nat_lt}
-use Rattle.std.specs.Prelude.{Bool, true, false, ◌||◌, not, is_some, Option, Some, None, List}
-use Rattle.std.specs.Prelude.{slice_get, if◌then◌else◌}
+use Rattle.std.specs.Prelude.{Bool, true, false, ◌&&◌, ◌||◌, not, is_some, Option, Some, None}
+use Rattle.std.specs.Prelude.{List, length, slice_get, if◌then◌else◌}
 use Rattle.rp_base.specs.Action.{is_right}
 use Rattle.rp_base.specs.declared.action.Action.{Action}
 use Rattle.rp_base.specs.Calls.{are_exhausted}
@@ -9,6 +9,7 @@ use Rattle.rp_base.specs.declared.config.Config.{Config}
 use Rattle.rp_base.specs.declared.fault.Fault.{Fault}
 use Rattle.rp_base.specs.declared.fault.Fault.TheVariants.{OutOfMemory, NumbersSpent, BadConfig}
 use Rattle.rp_base.specs.declared.reply.Answer.{Answer}
+use Rattle.rp_codec.specs.declared.packet.Party.{Party}
 use Rattle.rp_codec.specs.declared.packet.Party.TheVariants.{Node, Task}
 use Rattle.rp_model.specs.Tasks.{TaskInput, Submit, Again}
 use Rattle.rp_replica.specs.declared.sent.Sent.{Sent}
@@ -86,6 +87,10 @@ made_by false calls so_far = with_call (slice_get calls so_far.made) so_far
 abbrev pub asked_for : List TaskCall → Calls → Calls
 asked_for calls so_far = made_by so_far.waits calls so_far
 
+-- the task has the replies to all its calls
+abbrev pub has_all_replies : List TaskCall → Calls → Bool
+has_all_replies calls so_far = not so_far.waits && nat_eq so_far.made (length calls)
+
 -- n more packets are lost at boxes
 abbrev pub with_lost : ℕ → Calls → Calls
 with_lost lost so_far = record so_far { lost = saturating_sum so_far.lost lost }
@@ -154,16 +159,28 @@ module _ {S P : Type 0} (next : S → Action → S) (answers : S → Action → 
     pub counts : new.so_far ≡ with_lost lost (asked_for calls so_far)
 
 module _ {S P : Type 0} (next : S → Action → S) (answers : S → Action → List Answer)
-    (begin : P → S) (gate_heard : ℕ → ℕ → Type 0) (nodes : ℕ) (calls : List TaskCall) where
-  -- the turns 1 to n, one after the other; the gate is notified of each
+    (begin : P → S) (over : Party → ℕ → Bool → Bool → Type 0) (nodes : ℕ)
+    (calls : List TaskCall) where
+  -- the gate, asked before the turn with this number, said whether the run is over
+  abbrev pub IsTaskAsked : ℕ → TaskAt P → Bool → Type 0
+  IsTaskAsked turn now is_over =
+      over (Task now.seat.number) turn (has_all_replies calls now.so_far) is_over
+
+  -- the turns 1 to n, one after the other; before each the gate said that the run is not over
   abbrev pub AreTaskTurns : TaskAt P → ℕ → TaskAt P → Type 0
   AreTaskTurns first zero now = now ≡ first
   AreTaskTurns first (suc n) now =
       (before : TaskAt P) × AreTaskTurns first n before
       × IsTaskTurnOf next answers begin nodes calls (suc n) before now
-      × gate_heard before.seat.number (suc n)
+      × IsTaskAsked (suc n) before false
 
-  -- After some turns the next one, of at most n, was not made. The gate was notified of it too.
+  -- why no turn follows the first n, in this state: they are all, or the gate said then that the
+  -- run is over
+  abbrev pub IsLastTaskTurn : ℕ → ℕ → TaskAt P → Type 0
+  IsLastTaskTurn turns done now =
+      (done ≡ turns) ⊎ ((done < turns) × IsTaskAsked (suc done) now true)
+
+  -- After some turns the next one, of at most n, was not made.
   pub record IsTaskEndedBy (first : TaskAt P) (turns : ℕ) (last : TaskAt P) (fault : Fault)
       : Type 0 where
     pub cause : IsTaskFault nodes calls first.seat last.so_far.made fault
@@ -171,5 +188,5 @@ module _ {S P : Type 0} (next : S → Action → S) (answers : S → Action → 
     pub within : done < turns
     pub before : TaskAt P
     pub made : AreTaskTurns first done before
-    pub heard : gate_heard before.seat.number (suc done)
+    pub asked : IsTaskAsked (suc done) before false
     pub unmade : IsUnmadeTurn next answers begin nodes calls (suc done) before last fault

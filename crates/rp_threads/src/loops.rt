@@ -1,9 +1,10 @@
 //! A node's turns, one after the other.
 
 ghost use Rattle.std.specs.Prelude.{◌≡◌, ◌+◌, ◌^◌, ◌<◌, ◌≤◌, false, true, [], None, IfOk, IfErr, IfSome, IfNone, OnSome};
+ghost use Rattle.rp_codec.specs.declared.packet.Party.TheVariants as parties;
 ghost use Rattle.rp_threads.specs.Lines.{HoldsTextsOf};
-ghost use Rattle.rp_threads.specs.Loops.{is_refusal, is_idle, counted, total_of, with_turn};
-ghost use Rattle.rp_threads.specs.Rounds.{IsToLeadAt, HasWaited, NeedNotLead, CountsQuiet, IsLeadAnew, IsMade, IsUnmade, IsTurnOf, IsTurnUnmade, worker_at};
+ghost use Rattle.rp_threads.specs.Loops.{is_refusal, is_idle, is_uneventful, counted, total_of, with_turn};
+ghost use Rattle.rp_threads.specs.Rounds.{IsToLeadAt, HasWaited, NeedNotLead, CountsQuiet, IsLeadAnew, IsMade, IsUnmade, IsTurnOf, IsTurnUnmade, RestsAfter, worker_at};
 ghost use Rattle.rp_threads.specs.Threads.{IsLooped, end_of};
 ghost use Rattle.rp_threads.specs.Turns.{IsEventBy, IsStopBy};
 
@@ -28,7 +29,7 @@ pub struct NodeEnd<M: Machine, D: Device> {
     /// The number of lost packets in it includes those that were lost on the node's link since the
     /// link was made.
     pub counts: Counts,
-    /// The fault that ended the loop before its last turn, if one did.
+    /// The fault that ended the loop, if one did.
     pub fault: Option<Fault>,
 }
 
@@ -93,6 +94,16 @@ fn is_idle(turn: Turn) -> bool
     ensures { result ≡ is_idle turn }
 {
     matches!(turn, Turn::Idle)
+}
+
+/// Whether nothing happened in a turn: it was idle, or skipped.
+fn is_uneventful(made: Option<TurnResult>) -> bool
+    ensures { result ≡ is_uneventful made }
+{
+    match made {
+        Some(turned) => is_idle(turned.turn),
+        None => true,
+    }
 }
 
 /// The position after n, if there is one.
@@ -169,11 +180,22 @@ impl<M: Machine, D: Device> Worker<M, D> {
         }
     }
 
-    /// The end of a loop with these counts.
-    fn ended(self, counts: Counts, fault: Option<Fault>) -> NodeEnd<M, D>
-        ensures { result
-            ≡ end_of (record { worker = worker_at self; counts = counts }) fault }
+    /// Whether the node rests after a turn: nothing happened in it, and nothing is pending.
+    fn rests(&self, made: Option<TurnResult>) -> bool
+        ensures { RestsAfter made self.now.seat.part result }
     {
+        if self.seat.has_pending() {
+            return false;
+        }
+        is_uneventful(made)
+    }
+
+    /// The end of a loop with these counts, of which the gate is notified.
+    fn ended<G: Gate>(self, gate: &G, counts: Counts, fault: Option<Fault>) -> NodeEnd<M, D>
+        ensures end { result ≡ end_of (worker_at self) counts fault }
+        ensures heard { G.ended (parties.Node self.seat.number) fault }
+    {
+        gate.end(Party::Node(self.seat.number()), fault);
         let lost = counts.lost.saturating_add(self.link.lost());
         NodeEnd {
             seat: self.seat,
@@ -218,8 +240,8 @@ impl<M: Machine, D: Device> Worker<M, D> {
     }
 }
 
-/// Makes the turns of a node, as many as the options say. They empty the boxes of the nodes 1 to
-/// `nodes` and of the tasks, in rotation. Node n is to lead in the turns whose number is divisible
+/// Makes the turns of a node, as many as the options say, or those before the gate says that the
+/// run is over. They empty the boxes of the nodes 1 to `nodes` and of the tasks, in rotation. Node n is to lead in the turns whose number is divisible
 /// by 8 + n. If a turn is idle while something is pending, the node leads with a new ballot at the
 /// first position that it has not applied, once it has waited long enough (`Patience`). A fault
 /// ends the loop, unless it only means that the node cannot lead: `OutOfMemory`, `Device` if its
@@ -242,16 +264,21 @@ pub fn node_loop<M: Machine, D: Device, G: Gate>(
     //   turn is quiet if it is idle and something is pending
     // claim (result): The gate is called after each turn of a node that it lets pass, with that
     //   node, that turn and the number of packets sent in it, 0 if the node was refused to lead
-    // claim (result): Without a fault a node's loop counts all turns, its seat had one event for
-    //   each that was received or led, and only turns in which it was not to lead are idle;
-    //   failures of the device are counted only if it ends by `Device`
+    // claim (result): Before each turn of a node the gate is asked whether the run is over, with
+    //   that turn and whether the node rests: its turn before was uneventful, and nothing is
+    //   pending at it. A turn is made only if the gate says no
+    // claim (result): Without a fault a node's loop makes all its turns, or those before the gate
+    //   says that the run is over. It counts those that it made, its seat had one event for each
+    //   that was received or led, and only turns in which it was not to lead are idle; failures of
+    //   the device are counted only if it ends by `Device`
+    // claim (result): The gate is notified that a node's loop ended, and by which fault
     // claim (result): The packets that a node's loop counts as lost are those of its turns that
     //   found their boxes in use, and the copies that its link lost
     // claim (result): A node's loop ends by the fault of a turn that was not made, after turns that
     //   were: out of memory, `Device` if a call of the device failed, or `Failed` if the node was
     //   stopped from the start
-    ensures { IsLooped M.next M.answers M.begin G.lets G.heard nodes options.entry.turns
-        seat line result }
+    ensures { IsLooped M.next M.answers M.begin G.lets G.heard G.over G.ended nodes
+        options.entry.turns seat line result }
 {
     let mut worker = Worker {
         seat,
@@ -265,11 +292,19 @@ pub fn node_loop<M: Machine, D: Device, G: Gate>(
         skipped: 0,
         lost: 0,
     };
+    let gate = options.gate;
+    let mut rests = false;
     for done in 0..options.turns {
-        match worker.turn(options.alloc, nodes, options.gate, done + 1) {
-            Ok(made) => counts.count(made),
-            Err(fault) => return worker.ended(counts, Some(fault)),
+        if gate.is_over(Party::Node(worker.seat.number()), done + 1, rests) {
+            return worker.ended(gate, counts, None);
+        }
+        match worker.turn(options.alloc, nodes, gate, done + 1) {
+            Ok(made) => {
+                counts.count(made);
+                rests = worker.rests(made);
+            }
+            Err(fault) => return worker.ended(gate, counts, Some(fault)),
         }
     }
-    worker.ended(counts, None)
+    worker.ended(gate, counts, None)
 }

@@ -8,9 +8,9 @@ use std::alloc::{AllocError, Global};
 pub struct LoopOptions<'a, G> {
     /// The allocator that they use.
     pub alloc: Global,
-    /// Decides which turns a node makes.
+    /// Decides which turns a node makes, and when the run is over.
     pub gate: &'a G,
-    /// How many turns each loop makes.
+    /// How many turns each loop makes at most.
     pub turns: u64,
 }
 

@@ -49,7 +49,8 @@ impl<M: Machine, D: Device, G: Gate> Promise<NodeEnd<M, D>> for NodeGuarantee<M,
     ghost use Rattle.rp_threads.specs.Threads.{IsLooped};
 
     ghost kept_by = { λ guarantee end. IsLooped M.next M.answers M.begin G.lets G.heard
-        guarantee.nodes guarantee.turns guarantee.seat.value guarantee.line.value end };
+        G.over G.ended guarantee.nodes guarantee.turns guarantee.seat.value
+        guarantee.line.value end };
 }
 
 /// The thread of a task guarantees what `task_loop` ensures of its seat, calls and link, for this
@@ -67,8 +68,8 @@ pub(crate) struct TaskGuarantee<M: Machine, G: Gate> {
 impl<M: Machine, G: Gate> Promise<TaskEnd<M>> for TaskGuarantee<M, G> {
     ghost use Rattle.rp_threads.specs.Threads.{IsTaskLooped};
 
-    ghost kept_by = { λ guarantee end. IsTaskLooped M.next M.answers M.begin G.heard_task
-        guarantee.nodes guarantee.turns guarantee.calls.value.items guarantee.seat.value
+    ghost kept_by = { λ guarantee end. IsTaskLooped M.next M.answers M.begin G.over
+        G.ended guarantee.nodes guarantee.turns guarantee.calls.value.items guarantee.seat.value
         guarantee.line.value end };
 }
 
@@ -101,8 +102,8 @@ where
         guarantee,
         move || -> NodeEnd<M, D>
             requires { (nodes ≤ 7) × (line.held ≡ []) }
-            ensures { IsLooped M.next M.answers M.begin G.lets G.heard nodes options.entry.turns
-                seat line result }
+            ensures { IsLooped M.next M.answers M.begin G.lets G.heard G.over G.ended nodes
+                options.entry.turns seat line result }
         { node_loop(seat, line, nodes, options) },
     )?;
     Ok(handle)
@@ -142,8 +143,8 @@ where
             requires nodes { (1 ≤ nodes) × (nodes ≤ 7) }
             requires line { line.held ≡ [] }
             requires fresh { seat.part ≡ fresh_part (OfTask fresh_task) }
-            ensures { IsTaskLooped M.next M.answers M.begin G.heard_task nodes options.entry.turns
-                calls.items seat line result }
+            ensures { IsTaskLooped M.next M.answers M.begin G.over G.ended nodes
+                options.entry.turns calls.items seat line result }
         { task_loop(seat, calls.as_slice(), line, nodes, options) },
     )?;
     Ok(handle)

@@ -8,7 +8,7 @@ ghost use Rattle.rp_codec.specs.declared.packet.Party.TheVariants as parties;
 ghost use Rattle.rp_model.specs.Parts.{fresh_task};
 ghost use Rattle.rp_model.specs.Tasks.{Again};
 ghost use Rattle.rp_threads.specs.Lines.{HoldsTextsOf, given_on, line_after};
-ghost use Rattle.rp_threads.specs.TaskRounds.{Hears, Asks, IsRefused, IsTaskTurnOf, IsUnmadeTurn, asked_in, asked_for, heard_by, submitted, with_lost};
+ghost use Rattle.rp_threads.specs.TaskRounds.{Hears, Asks, IsRefused, IsTaskTurnOf, IsUnmadeTurn, asked_in, asked_for, has_all_replies, heard_by, submitted, with_lost};
 ghost use Rattle.rp_threads.specs.Tasks.{caller_at};
 ghost use Rattle.rp_threads.specs.Threads.{IsTaskLooped, task_end_of};
 ghost use Rattle.rp_threads.specs.Turns.{AreSent, IsAllOffered, IsOffered};
@@ -47,7 +47,7 @@ pub struct TaskEnd<M: Machine> {
     /// How many packets were lost: on its link since the link was made, and at boxes that were not
     /// empty, in the turns that were made. The count saturates at `u64::MAX`.
     pub lost: u64,
-    /// The fault that ended the loop before its last turn, if one did.
+    /// The fault that ended the loop, if one did.
     pub fault: Option<Fault>,
 }
 
@@ -71,6 +71,13 @@ impl Calls {
             self.waits = false;
             self.last_reply = turn;
         }
+    }
+
+    /// Whether the task has the replies to all these calls, which are its own.
+    fn has_all_replies(&self, calls: &[TaskCall]) -> bool
+        ensures { result ≡ has_all_replies calls.now self.now }
+    {
+        !self.waits && self.made == calls.len()
     }
 
     /// Counts n more packets as lost at boxes.
@@ -168,10 +175,12 @@ fn ask_again<M: Machine>(
 }
 
 impl<M: Machine> Caller<M> {
-    /// The end of a loop.
-    fn ended(self, fault: Option<Fault>) -> TaskEnd<M>
-        ensures { result ≡ task_end_of (caller_at self) fault }
+    /// The end of a loop, of which the gate is notified.
+    fn ended<G: Gate>(self, gate: &G, fault: Option<Fault>) -> TaskEnd<M>
+        ensures end { result ≡ task_end_of (caller_at self) fault }
+        ensures heard { G.ended (parties.Task self.seat.number) fault }
     {
+        gate.end(Party::Task(self.seat.number()), fault);
         let lost = self.so_far.lost.saturating_add(self.link.lost());
         TaskEnd {
             seat: self.seat,
@@ -242,9 +251,9 @@ impl<M: Machine> Caller<M> {
     }
 }
 
-/// Makes the turns of a task, as many as the options say. In each it fetches from one of the nodes
-/// 1 to `nodes`, in rotation, through its link, and takes the reply that the link may pass on. It
-/// makes its calls in order: the first in the first turn, and each later one once the call before
+/// Makes the turns of a task, as many as the options say, or those before the gate says that the
+/// run is over. In each it fetches from one of the nodes 1 to `nodes`, in rotation, through its
+/// link, and takes the reply that the link may pass on. It makes its calls in order: the first in the first turn, and each later one once the call before
 /// has its reply. While it waits, it asks the next node again in every 16th turn. A fault ends the
 /// loop: `OutOfMemory`, `NumbersSpent` if no number is left for the next call, or `BadConfig` if
 /// that call is not right or asks a node above the last. The loop never blocks, unless the gate
@@ -261,18 +270,22 @@ pub fn task_loop<M: Machine, G: Gate>(
     requires fresh { seat.part ≡ fresh_part (OfTask fresh_task) }
     // claim (result): A task's loop makes its turns from 1 on, one after the other: each empties
     //   the box of one node, all in rotation, takes what its link passes on, and makes the next of
-    //   its calls if none waits, or asks the next node again if one has waited long enough. The
-    //   gate is called for each turn from 1 on, with that task and that turn
+    //   its calls if none waits, or asks the next node again if one has waited long enough
+    // claim (result): Before each turn of a task the gate is asked whether the run is over, with
+    //   that turn and whether the task has the replies to all its calls. A turn is made only if the
+    //   gate says no. Without a fault a task's loop makes all its turns, or those before the gate
+    //   says that the run is over
+    // claim (result): The gate is notified that a task's loop ended, and by which fault
     // claim (result): A task's loop makes a prefix of its calls, each asked of its node, and no
-    //   others; at least one if there is a call and a turn. What it asks went into its box or found
+    //   others; at least one if there is a call and a turn was made. What it asks went into its box or found
     //   it in use. The turn of the last reply is the one in which the last call got its reply, 0 if
     //   none did
     // claim (result): The packets that a task's loop counts as lost are those of its turns that
     //   found their boxes in use, and the copies that its link lost
     // claim (result): A task's loop ends by the fault of a turn that was not made, after turns
     //   that were
-    ensures { IsTaskLooped M.next M.answers M.begin G.heard_task nodes options.entry.turns calls.now
-        seat line result }
+    ensures { IsTaskLooped M.next M.answers M.begin G.over G.ended nodes options.entry.turns
+        calls.now seat line result }
 {
     let mut caller = Caller {
         seat,
@@ -284,11 +297,15 @@ pub fn task_loop<M: Machine, G: Gate>(
             lost: 0,
         },
     };
+    let gate = options.gate;
     for done in 0..options.turns {
-        options.gate.before_task(caller.seat.number(), done + 1);
+        let rests = caller.so_far.has_all_replies(calls);
+        if gate.is_over(Party::Task(caller.seat.number()), done + 1, rests) {
+            return caller.ended(gate, None);
+        }
         if let Err(fault) = caller.turn(options.alloc, nodes, calls, done + 1) {
-            return caller.ended(Some(fault));
+            return caller.ended(gate, Some(fault));
         }
     }
-    caller.ended(None)
+    caller.ended(gate, None)
 }

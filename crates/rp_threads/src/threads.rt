@@ -1,10 +1,10 @@
 //! Runs nodes and tasks in their own threads.
 
-ghost use Rattle.std.specs.Prelude.{◌≡◌, ◌≤◌, [], All, IfOk, length};
+ghost use Rattle.std.specs.Prelude.{◌≡◌, ◌≤◌, [], All, IfOk, OnErr, length, true};
 ghost use Rattle.std.specs.List.{AllZip};
 ghost use Rattle.rp_boxes.specs.Parts.{fresh_part, OfTask};
 ghost use Rattle.rp_model.specs.Parts.{fresh_task};
-ghost use Rattle.rp_threads.specs.Runs.{MayRun, HaveRun, IsNodeEnd, IsTaskEnd};
+ghost use Rattle.rp_threads.specs.Runs.{MayRun, HaveRun, RunsOrStops, IsNodeEnd, IsTaskEnd};
 ghost use Rattle.rp_threads.specs.Threads.{IsLooped, IsTaskLooped};
 
 use crate::gate::Gate;
@@ -72,8 +72,8 @@ fn join_nodes<R: Threads, M: Machine, D: Device, G: Gate>(
     handles: Vec<PromisedHandle<NodeEnd<M, D>, NodeGuarantee<M, D, G>>>,
 ) -> Result<Vec<NodeEnd<M, D>>, AllocError>
     ensures { IfOk result (λ ends. AllZip (λ handle end.
-        IsLooped M.next M.answers M.begin G.lets G.heard handle.promise.nodes handle.promise.turns
-        handle.promise.seat.value handle.promise.line.value end) handles.items ends.items) }
+        IsLooped M.next M.answers M.begin G.lets G.heard G.over G.ended handle.promise.nodes
+        handle.promise.turns handle.promise.seat.value handle.promise.line.value end) handles.items ends.items) }
 {
     let ends = thread::join_promised(rt, handles)?;
     Ok(ends)
@@ -85,7 +85,7 @@ fn join_tasks<R: Threads, M: Machine, G: Gate>(
     handles: Vec<PromisedHandle<TaskEnd<M>, TaskGuarantee<M, G>>>,
 ) -> Result<Vec<TaskEnd<M>>, AllocError>
     ensures { IfOk result (λ ends. AllZip (λ handle end.
-        IsTaskLooped M.next M.answers M.begin G.heard_task handle.promise.nodes
+        IsTaskLooped M.next M.answers M.begin G.over G.ended handle.promise.nodes
         handle.promise.turns handle.promise.calls.value.items handle.promise.seat.value
         handle.promise.line.value end) handles.items ends.items) }
 {
@@ -94,7 +94,7 @@ fn join_tasks<R: Threads, M: Machine, G: Gate>(
 }
 
 /// Starts all threads, and joins them.
-fn run_within<'s, E, R: Threads, M: Machine + Send + 's, D: Device + Send + 's, G: Gate + Sync>(
+fn run_started<'s, E, R: Threads, M: Machine + Send + 's, D: Device + Send + 's, G: Gate + Sync>(
     scope: &Scope<'s, E>,
     rt: &R,
     nodes: Vec<NodeStart<M, D>>,
@@ -104,7 +104,7 @@ fn run_within<'s, E, R: Threads, M: Machine + Send + 's, D: Device + Send + 's, 
 where
     M::Program: Send,
     requires { MayRun nodes.items tasks.items }
-    ensures { IfOk result (λ ends. HaveRun M.next M.answers M.begin G.lets G.heard G.heard_task
+    ensures { IfOk result (λ ends. HaveRun M.next M.answers M.begin G.lets G.heard G.over G.ended
         options.entry.turns nodes.items tasks.items ends.0.items ends.1.items) }
 {
     let count = nodes.len() as u8;
@@ -115,11 +115,37 @@ where
     Ok((nodes, tasks))
 }
 
+/// Starts all threads, and joins them. If that fails, the gate is notified, so that the threads that
+/// were started can end.
+fn run_within<'s, E, R: Threads, M: Machine + Send + 's, D: Device + Send + 's, G: Gate + Sync>(
+    scope: &Scope<'s, E>,
+    rt: &R,
+    nodes: Vec<NodeStart<M, D>>,
+    tasks: Vec<TaskStart<M>>,
+    options: LoopOptions<'s, G>,
+) -> Result<(Vec<NodeEnd<M, D>>, Vec<TaskEnd<M>>), AllocError>
+where
+    M::Program: Send,
+    requires { MayRun nodes.items tasks.items }
+    ensures ok { IfOk result (λ ends. HaveRun M.next M.answers M.begin G.lets G.heard G.over
+        G.ended options.entry.turns nodes.items tasks.items ends.0.items ends.1.items) }
+    ensures stopped { OnErr result (G.stopped true) }
+{
+    match run_started(scope, rt, nodes, tasks, options) {
+        Ok(ends) => Ok(ends),
+        Err(error) => {
+            options.gate.stop();
+            Err(error)
+        }
+    }
+}
+
 /// Runs each node and each task in its own thread. It returns once all of them have ended, with
 /// their ends in the order of the starts. The nodes are assumed to be those of the numbers 1 to n.
 /// A node makes its turns as `node_loop` describes and a task as `task_loop` does, both by the
 /// options. `AllocError` if no thread can be made for one of them, or if memory runs out for the
-/// list of them: the threads that were started still run to their end, and no seat is returned.
+/// list of them: the gate is notified, the threads that were started still run to their end, and no
+/// seat is returned.
 pub fn run_threads<R: Threads + Wait, M: Machine + Send, D: Device + Send, G: Gate + Sync>(
     rt: &R,
     nodes: Vec<NodeStart<M, D>>,
@@ -134,19 +160,21 @@ where
     requires fresh { All (λ start. start.seat.part ≡ fresh_part (OfTask fresh_task)) tasks.items }
     // claim: The results of the nodes and tasks that were to run are, in the order given, each what
     //   its loop ensures
+    // claim (stopped): If a thread could not be started the gate is notified of that
     ensures nodes { IfOk result (λ ends. AllZip (IsNodeEnd M.next M.answers M.begin G.lets G.heard
-        (length nodes.items) options.entry.turns) nodes.items ends.0.items) }
-    ensures tasks { IfOk result (λ ends. AllZip (IsTaskEnd M.next M.answers M.begin G.heard_task
+        G.over G.ended (length nodes.items) options.entry.turns) nodes.items ends.0.items) }
+    ensures tasks { IfOk result (λ ends. AllZip (IsTaskEnd M.next M.answers M.begin G.over G.ended
         (length nodes.items) options.entry.turns) tasks.items ends.1.items) }
+    ensures stopped { OnErr result (G.stopped true) }
 {
     thread::scope(
         thread::scope_env(),
         rt,
         |scope| -> Result<(Vec<NodeEnd<M, D>>, Vec<TaskEnd<M>>), AllocError>
             requires { MayRun nodes.items tasks.items }
-            ensures { IfOk result (λ ends. HaveRun M.next M.answers M.begin G.lets G.heard
-                G.heard_task options.entry.turns nodes.items tasks.items ends.0.items
-                ends.1.items) }
+            ensures { RunsOrStops (λ ends. HaveRun M.next M.answers M.begin G.lets G.heard
+                G.over G.ended options.entry.turns nodes.items tasks.items ends.0.items
+                ends.1.items) (G.stopped true) result }
         { run_within(scope, rt, nodes, tasks, options) },
     )
 }

@@ -5,7 +5,7 @@ ghost use Rattle.rp_boxes.specs.Parts.{fresh_part, OfTask};
 ghost use Rattle.rp_model.specs.Parts.{fresh_task};
 
 use crate::setup::CONFIG;
-use rp_base::{Fault, NodeId, Operation, Position, TaskId};
+use rp_base::{Fault, NodeId, Operation, Position};
 use rp_boxes::{Added, AllSeats, Audit, NodeSeat, TaskSeat, seats};
 use rp_codec::{Body, Party, decode, packet_len};
 use rp_machine::{Machine, Tally, TallyProgram};
@@ -61,13 +61,21 @@ impl InStep {
 }
 
 impl Gate for InStep {
-    ghost use Rattle.std.specs.Prelude.{true};
+    ghost use Rattle.std.specs.Prelude.{◌≡◌, false, true};
 
     ghost lets = { λ node turn. true };
 
     ghost heard = { λ node turn sent. Unit {0} };
 
-    ghost heard_task = { λ task turn. Unit {0} };
+    ghost over = { λ actor turn rests is_over. is_over ≡ false };
+
+    ghost ended = { λ actor fault. Unit {0} };
+
+    ghost stopped = { λ _. Unit {0} };
+
+    fn is_over(&self, _actor: Party, _turn: u64, _rests: bool) -> bool {
+        false
+    }
 
     fn before(&self, node: NodeId, _turn: u64) -> bool {
         if node.get() != 1 {
@@ -89,7 +97,9 @@ impl Gate for InStep {
         }
     }
 
-    fn before_task(&self, _task: TaskId, _turn: u64) {}
+    fn end(&self, _actor: Party, _fault: Option<Fault>) {}
+
+    fn stop(&self) {}
 }
 
 /// A node that is to start, whose link draws its random words from this seed.

@@ -7,9 +7,11 @@ use rp_replica::Input;
 use rp_store::{Device, MemDevice};
 use rp_tasks::FaultLine;
 use rp_threads::{
-    LoopOptions, Open, PacketCounts, TaskCall, Turn, node_step, node_turn, task_loop,
+    Gate, LoopOptions, Open, PacketCounts, TaskCall, Turn, node_loop, node_step, node_turn,
+    task_loop,
 };
 use std::alloc::Global;
+use std::sync::atomic::{AtomicU64, Ordering};
 use std::test::Fail;
 
 /// The result of a turn, and the packet that is then in a box.
@@ -68,6 +70,77 @@ fn calls<M: Machine, D: Device>(
         made: end.made,
         packet: node.fetch(from),
     })
+}
+
+/// Says from its fourth turn on that the run is over, and counts the loops that ended.
+#[derive(Drop)]
+struct ThreeTurns {
+    ended: AtomicU64,
+}
+
+impl Gate for ThreeTurns {
+    ghost use Rattle.std.specs.Prelude.{true};
+
+    ghost lets = { λ node turn. true };
+
+    ghost heard = { λ node turn sent. Unit {0} };
+
+    ghost over = { λ actor turn rests is_over. Unit {0} };
+
+    ghost ended = { λ actor fault. Unit {0} };
+
+    ghost stopped = { λ _. Unit {0} };
+
+    fn is_over(&self, _actor: Party, turn: u64, _rests: bool) -> bool {
+        turn > 3
+    }
+
+    fn before(&self, _node: NodeId, _turn: u64) -> bool {
+        true
+    }
+
+    fn after(&self, _node: NodeId, _turn: u64, _sent: usize) {}
+
+    fn end(&self, _actor: Party, fault: Option<Fault>) {
+        if fault.is_none() {
+            self.ended.fetch_add(1, Ordering::SeqCst);
+        }
+    }
+
+    fn stop(&self) {}
+}
+
+/// The last node makes at most ten turns, with nothing to do: how many were idle.
+fn idles<M: Machine, D: Device>(
+    alloc: Global,
+    program: &M::Program,
+    devices: Vec<D>,
+    gate: &ThreeTurns,
+) -> Result<u64, Fault> {
+    let mut all: AllSeats<M, D> = seats(alloc, CONFIG, program, devices)?;
+    let node = all.nodes.pop().ok_or(Fault::BadConfig)?;
+    let line = FaultLine::new(alloc, [0; 32])?;
+    let options = LoopOptions {
+        alloc,
+        gate,
+        turns: 10,
+    };
+    let end = node_loop(node, line, 3, options);
+    Ok(end.counts.idle)
+}
+
+#[test]
+fn a_loop_ends_when_the_gate_says_that_the_run_is_over(rt: HostRuntime) -> Result<(), Fail> {
+    let alloc = rt.alloc();
+    let program = TallyProgram::new(1).ok_or("one object")?;
+    let devices = MemDevice::several(alloc, CONFIG.nodes)?;
+    let gate = ThreeTurns {
+        ended: AtomicU64::new(0),
+    };
+    let idle = idles::<Tally, MemDevice>(alloc, &program, devices, &gate)?;
+    assert_eq!(rt; idle, 3);
+    assert_eq!(rt; gate.ended.load(Ordering::SeqCst), 1);
+    Ok(())
 }
 
 /// How many packets a node sent in a step, and how many of them are then in boxes.

@@ -1,16 +1,17 @@
 -- One line more, or the end.
-use Rattle.std.proofs.Common.{◌≡◌, ◌∙◌, ◌+◌, None, [], length, drop, string_bytes, arith, refl, sym, ap, subst}
+use Rattle.std.proofs.Common.{◌≡◌, ◌∙◌, ◌+◌, None, [], map, drop, string_bytes, arith, refl, sym, ap, subst}
+use Rattle.std.specs.Prelude.{option_map}
 use Rattle.std.proofs.lemmas.Result.{IfOk-weaker}
 use Rattle.rp_model.specs.Effect.{Setting}
 use Rattle.rp_model.specs.World.{World, opening_world}
 use Rattle.rp_run.specs.Output.{Play, command_said, opening_play, script_said}
 use Rattle.rp_run.specs.Runs.{Follows, opening_setup, run_setting}
-use Rattle.rp_history.specs.Histories.{IsSketchOf, IsDrawingOf}
+use Rattle.rp_history.specs.Histories.{IsSketchOf, IsDrawnIfShort, lane_text}
 use Rattle.rp_history.specs.declared.stage.Stage.{Stage}
 use Rattle.rp_run.proofs.RunParts.{sets_out, ends, no_line, line_goes_on}
 use Rattle.rp_run.proofs.Stepping.{same_setting, same_trans, opening_parts}
 use Rattle.rp_world.specs.Steps.{setting_of}
-use Rattle.rp_chart_run.specs.ScriptHistory.{command_happens, lines_happen, script_happens}
+use Rattle.rp_chart_run.specs.ScriptHistory.{command_happens, drawn_run, lines_happen, script_happens}
 use Rattle.rp_chart_run.proofs.Charting.{one_setting, goes_on as chart_goes_on, ends as chart_ends}
 use Rattle.rp_chart_run.proofs.ScriptHistory.{next_line, no_line as none_left}
 use Rattle.rp_chart_run.proofs.walk.draw_lines.Goals as goal
@@ -43,6 +44,7 @@ loop-line-preserved g c =
     let options = c.args.scene.now.options.now in
     let opening = opening_setup options.config c.args.program in
     let s = run_setting m.next m.answers m.begin m.image opening options in
+    let d = drawn_run m.next m.answers m.begin m.image opening c.args.scene.now in
     let walk = c.loop-line.walk in
     let so_far = c.loop-line.invariant.so_far in
     let same = same_setting m.next m.answers m.begin m.image options opening walk.cluster c.loop-line.invariant.setup in
@@ -58,10 +60,10 @@ loop-line-preserved g c =
       so_far = line_goes_on s options.most options.lines.now c.loop-line.line-index c.line-item.result (omega arith) c.line-item.is so_far (rw same at reached) tt;
       ways = c.in_ok-take.ensures.ways;
       charted = chart_goes_on m.next m.answers m.begin walk.cluster c.take.new.self.cluster walk.settled c.take.new.self.settled walk.chart c.take.new.self.chart
-          (script_happens s options.most options.lines.now) (λ (now : Play). lines_happen s options.most now (drop c.loop-line.line-index options.lines.now))
-          (λ (now : Play). lines_happen s options.most now (drop (c.loop-line.line-index + 1) options.lines.now)) charted
-          (command_happens s options.most line.number charted.play line.command) (command_said s options.most line.number charted.play line.command).play
-          (next_line s options.most charted.play options.lines.now c.loop-line.line-index line (omega arith) c.line-item.is)
+          (script_happens d options.most options.lines.now) (λ (now : Play). lines_happen d options.most now (drop c.loop-line.line-index options.lines.now))
+          (λ (now : Play). lines_happen d options.most now (drop (c.loop-line.line-index + 1) options.lines.now)) charted
+          (command_happens d options.most line.number charted.play line.command) (command_said s options.most line.number charted.play line.command).play
+          (next_line d options.most charted.play options.lines.now c.loop-line.line-index line (omega arith) c.line-item.is)
           (rw same at further) (rw same at drawn);
     }
 
@@ -71,6 +73,7 @@ returns g c =
     let options = c.args.scene.now.options.now in
     let opening = opening_setup options.config c.args.program in
     let s = run_setting m.next m.answers m.begin m.image opening options in
+    let d = drawn_run m.next m.answers m.begin m.image opening c.args.scene.now in
     let most = options.most in
     let lines = options.lines.now in
     let walk = c.loop-line.walk in
@@ -78,14 +81,14 @@ returns g c =
     let done = ends walk.cluster.world walk.settled None None (script_said s most (opening_play s) lines) (λ (p : Play). script_said s most p (drop c.loop-line.line-index lines)) so_far tt
     (no_line s most so_far.said.play lines c.loop-line.line-index (omega arith)) in
     let setting = one_setting m.next m.answers m.begin opening walk.cluster c.loop-line.invariant.setup in
-    let happened = script_happens s most lines in
-    let lanes = length c.args.scene.now.lanes.now in
-    let drawn = chart_ends m.next m.answers m.begin walk.cluster walk.settled walk.chart happened (λ (p : Play). lines_happen s most p (drop c.loop-line.line-index lines)) c.loop-line.invariant.charted
-    (none_left s most c.loop-line.invariant.charted.play lines c.loop-line.line-index (omega arith)) in
+    let happened = script_happens d most lines in
+    let lanes = map lane_text c.args.scene.now.lanes.now in
+    let drawn = chart_ends m.next m.answers m.begin walk.cluster walk.settled walk.chart happened (λ (p : Play). lines_happen d most p (drop c.loop-line.line-index lines)) c.loop-line.invariant.charted
+    (none_left d most c.loop-line.invariant.charted.play lines c.loop-line.line-index (omega arith)) in
     let charted = subst (λ (t : Setting _). IsSketchOf t walk.chart.stage walk.chart.sketch happened walk.cluster.world) setting drawn in
     record {
       drawing = IfOk-weaker c.draw.result _ _
-          (λ text drawn. subst (λ (w : World). IsDrawingOf s.setting c.args.scene.now.stage lanes happened w (string_bytes text)) done.0.world_is
-          (subst (λ (stage : Stage). IsDrawingOf s.setting stage lanes happened walk.cluster.world (string_bytes text)) c.loop-line.invariant.stage drawn))
+          (λ page drawn. subst (λ (w : World). IsDrawnIfShort s.setting c.args.scene.now.stage lanes happened w (option_map string_bytes page)) done.0.world_is
+          (subst (λ (stage : Stage). IsDrawnIfShort s.setting stage lanes happened walk.cluster.world (option_map string_bytes page)) c.loop-line.invariant.stage drawn))
           (c.draw.ensures.drawn s.setting happened walk.cluster.world charted);
     }

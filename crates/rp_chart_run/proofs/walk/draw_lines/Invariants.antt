@@ -4,7 +4,7 @@ use Rattle.rp_run.specs.Runs.{HasParts, opening_setup, run_setting}
 use Rattle.rp_run.proofs.RunParts.{Underway}
 use Rattle.rp_world.specs.Steps.{IsSameSetup}
 use Rattle.rp_chart_run.specs.Charts.{HasWays}
-use Rattle.rp_chart_run.specs.ScriptHistory.{lines_happen, script_happens}
+use Rattle.rp_chart_run.specs.ScriptHistory.{drawn_run, lines_happen, script_happens}
 use Rattle.rp_chart_run.proofs.Charting.{Underway as ChartUnderway}
 use Rattle.rp_chart_run.proofs.walk.draw_lines.Given as goal
 
@@ -15,6 +15,7 @@ invariant-loop-line g l =
     let options = l.scene.options.now in
     let opening = opening_setup options.config l.fn.program in
     let s = run_setting m.next m.answers m.begin m.image opening options in
+    let d = drawn_run m.next m.answers m.begin m.image opening l.scene in
     record {
       parts : HasParts options.config.nodes l.walk.cluster;
       setup : IsSameSetup opening l.walk.cluster;
@@ -22,6 +23,6 @@ invariant-loop-line g l =
       so_far : Underway l.walk.cluster.world l.walk.settled None None (script_said s options.most (opening_play s) options.lines.now)
           (λ now. script_said s options.most now (drop l.line-index options.lines.now));
       ways : HasWays l.walk.cluster l.walk.chart;
-      charted : ChartUnderway m.next m.answers m.begin l.walk.cluster l.walk.settled l.walk.chart (script_happens s options.most options.lines.now)
-          (λ now. lines_happen s options.most now (drop l.line-index options.lines.now));
+      charted : ChartUnderway m.next m.answers m.begin l.walk.cluster l.walk.settled l.walk.chart (script_happens d options.most options.lines.now)
+          (λ now. lines_happen d options.most now (drop l.line-index options.lines.now));
     }

@@ -1,18 +1,18 @@
 use Rattle.std.proofs.Common.{rules}
 use Rattle.rp_output.proofs.StreamLemmas.{appends_next}
-use Rattle.rp_output.proofs.Writing.{begins_taking, begins_failing}
+use Rattle.rp_output.proofs.Writing.{begins_taking, begins_failing, writes_failed}
 use Rattle.rp_output.proofs.stream.write_whole.Goals as goal
 
-pub loop-written-preserved : goal.loop-written-preserved
-loop-written-preserved g c = record {
+pub loop-preserved : goal.loop-preserved
+loop-preserved g c = record {
   within = search rules;
-  sent = appends_next _ _ _ c.args.bytes.now _ _ c.loop-written.invariant.sent c.in-Ok.ensures.bytes;
+  sent = appends_next _ _ _ c.args.bytes.now _ _ c.loop.invariant.sent c.in_ok-written.ensures.bytes;
 }
 
-pub returns-in-Ok-eq0-clause-written : goal.returns-in-Ok-eq0-clause-written
-returns-in-Ok-eq0-clause-written g c =
-    begins_taking _ _ c.args.bytes.now _ (appends_next _ _ _ c.args.bytes.now _ _ c.loop-written.invariant.sent c.in-Ok-eq0.ensures.bytes)
+pub returns-in_err-written-clause-written : goal.returns-in_err-written-clause-written
+returns-in_err-written-clause-written g c =
+    writes_failed _ _ _ c.from_residual.result c.from_residual.ensures.0
+    (begins_failing _ _ _ c.args.bytes.now c.loop.written c.loop.invariant.sent c.in_err-written.ensures.bytes)
 
-pub returns-in-Err-clause-written : goal.returns-in-Err-clause-written
-returns-in-Err-clause-written g c =
-    begins_failing _ _ _ c.args.bytes.now c.loop-written.written c.loop-written.invariant.sent c.in-Err.ensures.bytes
+pub returns-clause-written : goal.returns-clause-written
+returns-clause-written g c = begins_taking _ _ c.args.bytes.now c.loop.written c.loop.invariant.sent

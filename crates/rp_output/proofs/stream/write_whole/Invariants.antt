@@ -1,12 +1,9 @@
-use Rattle.std.proofs.Common.{◌≤◌, ◌-◌, length, take}
+use Rattle.std.proofs.Common.{◌≤◌, length, take}
 use Rattle.std.specs.Io.KnownBytes.{Appends}
 use Rattle.rp_output.proofs.stream.write_whole.Given as goal
 
-abbrev pub invariant-loop-written : goal.invariant-loop-written
-invariant-loop-written g l = record {
+abbrev pub invariant-loop : goal.invariant-loop
+invariant-loop g l = record {
   within : l.written ≤ length l.bytes;
   sent : Appends (g.W.Write.contents l.fn.writer) (g.W.Write.contents l.writer) (take l.written l.bytes);
 }
-
-abbrev pub decreases-loop-written : goal.decreases-loop-written
-decreases-loop-written g l = length l.bytes - l.written

@@ -8,7 +8,7 @@ use Rattle.rp_threads.proofs.loops.node_loop.Given as goal
 abbrev pub invariant-loop-done : goal.invariant-loop-done
 invariant-loop-done g l = record {
   held : HoldsTextsOf l.worker.seat.part.got l.worker.link;
-  turns : AreTurns g.M.Machine.next g.M.Machine.answers g.M.Machine.begin g.G.Gate.lets g.G.Gate.heard l.nodes (before_turns l.fn.seat l.fn.line) l.done
-      (record { worker = worker_at l.worker; counts = l.counts });
+  turns : AreTurns g.M.Machine.next g.M.Machine.answers g.M.Machine.begin g.G.Gate.lets g.G.Gate.heard g.G.Gate.over l.nodes (before_turns l.fn.seat l.fn.line) l.done
+      (record { worker = worker_at l.worker; counts = l.counts; rests = l.rests });
   few : total_of l.counts ≡ l.done;
 }

@@ -7,6 +7,6 @@ use Rattle.rp_threads.proofs.tasks.task_loop.Given as goal
 abbrev pub invariant-loop-done : goal.invariant-loop-done
 invariant-loop-done g l = record {
   held : HoldsTextsOf l.caller.seat.part.got l.caller.link;
-  turns : AreTaskTurns g.M.Machine.next g.M.Machine.answers g.M.Machine.begin g.G.Gate.heard_task l.nodes l.calls (before_calls l.fn.seat l.fn.line) l.done
+  turns : AreTaskTurns g.M.Machine.next g.M.Machine.answers g.M.Machine.begin g.G.Gate.over l.nodes l.calls (before_calls l.fn.seat l.fn.line) l.done
       (caller_at l.caller);
 }

@@ -12,5 +12,5 @@ returns g c =
     let handles = c.args.handles in
     let ends = c.in_ok-ends.ends in
     let long : vec_len handles ≡ length handles.items = handles.ok.0 in
-    zipped (λ handle end. IsLooped m.next m.answers m.begin g.G.Gate.lets g.G.Gate.heard handle.promise.nodes handle.promise.turns handle.promise.seat.value handle.promise.line.value end) handles.items ends.items (sym ends.ok.0 ∙ stated.len ∙ long)
+    zipped (λ handle end. IsLooped m.next m.answers m.begin g.G.Gate.lets g.G.Gate.heard g.G.Gate.over g.G.Gate.ended handle.promise.nodes handle.promise.turns handle.promise.seat.value handle.promise.line.value end) handles.items ends.items (sym ends.ok.0 ∙ stated.len ∙ long)
     (λ i d below. let at = (stated.each i d (omega (arith, long, below))).1 in record { item = at.handle; is = at.handle_is; fits = at.kept })

@@ -1,11 +1,11 @@
 use Rattle.std.proofs.Common.{◌≡◌, ◌-◌, None, List, ◌++◌}
-use Rattle.rp_history.specs.Histories.{HistoryItem}
+use Rattle.rp_history.specs.Histories.{Happening}
 use Rattle.rp_run.specs.Output.{Play, drained}
 use Rattle.rp_run.specs.Runs.{HasParts, Follows, run_setting}
 use Rattle.rp_run.proofs.RunParts.{Underway}
 use Rattle.rp_world.specs.Steps.{IsSameSetup}
 use Rattle.rp_chart_run.specs.Charts.{HasWays, IsCharted}
-use Rattle.rp_chart_run.specs.ScriptHistory.{drain_happens}
+use Rattle.rp_chart_run.specs.ScriptHistory.{drain_happens, drawn_run}
 use Rattle.rp_chart_run.proofs.Charting.{Underway as ChartUnderway}
 use Rattle.rp_chart_run.proofs.walk.Walk.drain.Given as goal
 
@@ -14,6 +14,7 @@ abbrev pub invariant-loop-delivered : goal.invariant-loop-delivered
 invariant-loop-delivered g l =
     let m = g.M.Machine in
     let s = run_setting m.next m.answers m.begin m.image l.fn.self.cluster l.scene.options.now in
+    let d = drawn_run m.next m.answers m.begin m.image l.fn.self.cluster l.scene in
     let most = l.scene.options.now.most in
     record {
       parts : HasParts l.scene.options.now.config.nodes l.self.cluster;
@@ -22,7 +23,7 @@ invariant-loop-delivered g l =
       so_far : (play : Play) → Follows l.fn.self.cluster.world l.fn.self.settled play
           → Underway l.self.cluster.world l.self.settled None None (drained s l.line most play) (λ now. drained s l.line (most - l.delivered) now);
       ways : HasWays l.self.cluster l.self.chart;
-      charted : (play : Play) (happened : List HistoryItem) → Follows l.fn.self.cluster.world l.fn.self.settled play
+      charted : (play : Play) (happened : List Happening) → Follows l.fn.self.cluster.world l.fn.self.settled play
           → IsCharted m.next m.answers m.begin l.fn.self.cluster l.fn.self.chart happened
-          → ChartUnderway m.next m.answers m.begin l.self.cluster l.self.settled l.self.chart (happened ++ drain_happens s l.line most play) (λ now. drain_happens s l.line (most - l.delivered) now);
+          → ChartUnderway m.next m.answers m.begin l.self.cluster l.self.settled l.self.chart (happened ++ drain_happens d l.line most play) (λ now. drain_happens d l.line (most - l.delivered) now);
     }

@@ -1,19 +1,29 @@
 -- By what the step of the cluster was.
-use Rattle.std.proofs.Common.{◌≡◌, ◌∙◌, ◌+◌, ◌-◌, ℕ, ◌≤◌, Option, None, Ok, List, [], ◌∷◌, ◌++◌, length, length-append, drop, arith, sym, ap, subst}
+use Rattle.std.proofs.Common.{◌≡◌, ◌∙◌, ◌+◌, ◌-◌, ◌^◌, min, ℕ, ◌≤◌, Option, None, Ok, [], ◌∷◌, ◌++◌, length, length-append, drop, arith, sym, ap, subst}
 use Rattle.std.proofs.lemmas.List.{length-drop}
 use Rattle.rp_base.specs.Fault.{code_of}
 use Rattle.rp_drawing.specs.Ways.{IsEndingWithin}
 use Rattle.rp_drawing.specs.declared.sketch.Ending.{Ending}
-use Rattle.rp_history.specs.Histories.{HistoryItem, EventHappened, NothingHappened, IsSketchOf}
-use Rattle.rp_history.proofs.HistoryLemmas.{ending_within}
+use Rattle.rp_history.specs.Histories.{Happening, LabelText, EventHappened, IsSketchOf, label_text}
+use Rattle.rp_history.proofs.HistoryLemmas.{ending_was_sent}
 use Rattle.rp_model.specs.Events.{event_of}
-use Rattle.rp_model.specs.World.{World}
+use Rattle.rp_codec.specs.declared.packet.Party.{Party}
+use Rattle.rp_history.specs.declared.happened.Happened.{Happened}
+use Rattle.rp_history.specs.declared.happened.NodeState.{NodeState}
+use Rattle.rp_model.specs.Answers.{Describes}
+use Rattle.rp_model.specs.World.{World, Transition, part_at}
+use Rattle.rp_base.specs.declared.reply.Answer.{Answer}
+use Rattle.rp_model.specs.declared.effect.Dropped.{Dropped}
+use Rattle.rp_model.specs.declared.effect.Effect.{Effect}
+use Rattle.rp_model.specs.declared.event.Event.{Event}
 use Rattle.rp_run.specs.Output.{event_said}
 use Rattle.rp_run.specs.Runs.{run_setting}
 use Rattle.rp_run.proofs.Taken.{settled_alike}
 use Rattle.rp_run.proofs.RunParts.{happened, was_refused}
 use Rattle.rp_run.proofs.Stepping.{always_ok, parts_stay, refused_of}
-use Rattle.rp_chart_run.specs.ScriptHistory.{event_happens}
+use Rattle.rp_chart_run.specs.Causes.{line_text}
+use Rattle.rp_chart_run.specs.Prospects.{actor_at, actor_state, effect_after, happened_in, packet_number}
+use Rattle.rp_chart_run.specs.ScriptHistory.{drawn_run, event_happens, event_label, refused}
 use Rattle.rp_chart_run.proofs.Charting.{charted_as, charted_by, follows_of, has_ways, writes_none}
 use Rattle.rp_chart_run.proofs.ScriptHistory.{event_happened, event_refused}
 use Rattle.rp_chart_run.proofs.walk.Walk.step.Goals as goal
@@ -36,7 +46,7 @@ pub happen-requires-clause-ending : goal.happen-requires-clause-ending
 happen-requires-clause-ending g c =
     let world = c.args.self.now.cluster.world in
     subst (λ (n : ℕ). IsEndingWithin n c.in_ok-prospect.prospect.ending) (sym c.requires.ways.count)
-    (subst (λ (o : Option Ending). IsEndingWithin (length world.sent) o) (sym c.in_ok-prospect.ensures) (ending_within world c.args.event.now))
+    (subst (λ (o : Option Ending). IsEndingWithin (length world.sent) o) (sym c.in_ok-prospect.ensures.ending) (ending_was_sent world c.args.event.now))
 
 pub returns-in_ok-packets-in-Ok-clause-parts : goal.returns-in_ok-packets-in-Ok-clause-parts
 returns-in_ok-packets-in-Ok-clause-parts g c =
@@ -71,22 +81,64 @@ returns-in_ok-packets-in-Ok-clause-ways g c =
     c.happen.ensures.drawable c.happen.ensures.count
     (omega (arith, c.requires.ways.count, packets, done.describes.first, grown, longer))
 
+-- the effect that describes a result
+effect_is : (sent : ℕ) (transition : Transition) (effect : Effect) → Describes sent transition effect → effect ≡ effect_after sent transition
+effect_is sent transition effect describes =
+    ap (λ (x : ℕ). made x effect.sent effect.dropped effect.taken effect.opened) describes.first
+    ∙ ap (λ (x : ℕ). made (sent + 1) x effect.dropped effect.taken effect.opened) describes.count
+    ∙ ap (λ (x : Dropped). made (sent + 1) (min (length transition.sends) (2 ^ 32 - 1)) x effect.taken effect.opened) describes.dropped
+    ∙ ap (λ (x : Option Answer). made (sent + 1) (min (length transition.sends) (2 ^ 32 - 1)) transition.dropped x effect.opened) describes.taken
+    ∙ ap (λ (x : Option (ℕ × ℕ)). made (sent + 1) (min (length transition.sends) (2 ^ 32 - 1)) transition.dropped transition.taken x) describes.opened
+  where
+    made : ℕ → ℕ → Dropped → Option Answer → Option (ℕ × ℕ) → Effect
+    made first count dropped taken opened = record { first = first; sent = count; dropped = dropped; taken = taken; opened = opened }
+
+-- what is known of an event
+abbrev noted : Event → Effect → World → Option Party → NodeState → Happened
+noted event effect after actor before = record {
+  event = event;
+  effect = effect;
+  actor = actor;
+  before = before;
+  after = actor_state after actor;
+  packet = part_at after.sent (packet_number event effect.first);
+}
+
+-- what happened in the event, by its result
+happened_is : (w : World) (event : Event) (after : World) (transition : Transition) (effect : Effect) (actor : Option Party) (before : NodeState)
+    → after ≡ transition.world → Describes (length w.sent) transition effect → actor ≡ actor_at w event → before ≡ actor_state w (actor_at w event)
+    → noted event effect after actor before ≡ happened_in w event transition
+happened_is w event after transition effect actor before to describes acts was =
+    ap (λ (e : Effect). noted event e after actor before) (effect_is (length w.sent) transition effect describes)
+    ∙ ap (λ (x : World). noted event (effect_after (length w.sent) transition) x actor before) to
+    ∙ ap (λ (a : Option Party). noted event (effect_after (length w.sent) transition) transition.world a before) acts
+    ∙ ap (λ (b : NodeState). noted event (effect_after (length w.sent) transition) transition.world (actor_at w event) b) was
+
 pub returns-in_ok-packets-in-Ok-clause-charted : goal.returns-in_ok-packets-in-Ok-clause-charted
 returns-in_ok-packets-in-Ok-clause-charted g c = λ play happened follows charted.
     let m = g.M.Machine in
     let old = c.args.self.now.cluster in
     let new = c.step.new.self in
     let event = c.args.event.now in
-    let s = run_setting m.next m.answers m.begin m.image old c.args.scene.now.options.now in
+    let line = c.args.line in
+    let d = drawn_run m.next m.answers m.begin m.image old c.args.scene.now in
     let done = c.in-Ok.ensures.step.world in
     let place : c.in-Ok.effect.first - 1 ≡ length old.world.sent = omega (arith, done.describes.first) in
-    charted_as m.next m.answers m.begin new c.happen.new.self (happened ++ EventHappened event ∷ []) (happened ++ event_happens s play event ∷ []) c.happen.result
-    (ap (λ (h : HistoryItem). happened ++ h ∷ []) (sym (event_happened s play event old.world c.args.self.now.settled follows done.transition done.resulted)))
-    (charted_by m.next m.answers m.begin old new c.happen.new.self (happened ++ EventHappened event ∷ []) c.happen.result c.in-Ok.ensures.step.setup
-    (c.happen.ensures.happened s.setting happened old.world new.world event charted
+    let prospect = c.in_ok-prospect.prospect in
+    let is = c.in_ok-happened-in-Ok.ensures
+    ∙ happened_is old.world event new.world done.transition c.in-Ok.effect prospect.actor prospect.before done.world done.describes c.in_ok-prospect.ensures.actor c.in_ok-prospect.ensures.before in
+    let label : LabelText = event_label d.run.names (line_text d.deck line) d.stage (happened_in old.world event done.transition) in
+    let labelled : label_text c.in_ok-label-in-Ok.label ≡ label =
+    c.in_ok-label-in-Ok.ensures ∙ ap (λ (h : Happened). event_label d.run.names (line_text d.deck line) d.stage h) is in
+    let here : Happening = record { item = EventHappened event; label = label_text c.in_ok-label-in-Ok.label } in
+    charted_as m.next m.answers m.begin new c.happen.new.self (happened ++ here ∷ []) (happened ++ event_happens d line play event ∷ []) c.happen.result
+    (ap (λ (l : LabelText). happened ++ record { item = EventHappened event; label = l } ∷ []) labelled
+    ∙ ap (λ (h : Happening). happened ++ h ∷ []) (sym (event_happened d line play event old.world c.args.self.now.settled follows done.transition done.resulted)))
+    (charted_by m.next m.answers m.begin old new c.happen.new.self (happened ++ here ∷ []) c.happen.result c.in-Ok.ensures.step.setup
+    (c.happen.ensures.happened d.run.setting happened old.world new.world event charted
     (record { transition = done.transition; effect = done.resulted; world = done.world })
     (c.deref.ensures.value ∙ c.in_ok-packets-in-Ok.ensures ∙ ap (λ (n : ℕ). drop n new.world.sent) place)
-    c.in_ok-prospect.ensures))
+    c.in_ok-prospect.ensures.ending))
 
 pub returns-in-Err-clause-reached : goal.returns-in-Err-clause-reached
 returns-in-Err-clause-reached g c =
@@ -107,13 +159,14 @@ returns-in-Err-clause-charted g c = λ play happened follows charted.
     let left = c.step.new.self in
     let chart = c.args.self.now.chart in
     let event = c.args.event.now in
-    let s = run_setting m.next m.answers m.begin m.image old c.args.scene.now.options.now in
+    let line = c.args.line in
+    let d = drawn_run m.next m.answers m.begin m.image old c.args.scene.now in
     let numbered : 5 ≤ code_of c.in-Err.fault = (c.is_refusal.ensures.0 c.if-is_refusal.true).0 in
-    let refused = refused_of s.setting old.world left.world event c.in-Err.fault c.in-Err.ensures.step.world numbered in
+    let said = refused_of d.run.setting old.world left.world event c.in-Err.fault c.in-Err.ensures.step.world numbered in
     let kept = charted_by m.next m.answers m.begin old left chart happened (Ok tt) c.in-Err.ensures.step.setup
-    (subst (λ (w : World). IsSketchOf s.setting chart.stage chart.sketch happened w) (sym refused.unchanged) charted) in
-    charted_as m.next m.answers m.begin c.refuse.new.self.cluster c.refuse.new.self.chart (happened ++ NothingHappened ∷ []) (happened ++ event_happens s play event ∷ []) c.refuse.result
-    (ap (λ (h : HistoryItem). happened ++ h ∷ []) (sym (event_refused s play event old.world c.args.self.now.settled follows c.in-Err.fault refused.refusal)))
+    (subst (λ (w : World). IsSketchOf d.run.setting chart.stage chart.sketch happened w) (sym said.unchanged) charted) in
+    charted_as m.next m.answers m.begin c.refuse.new.self.cluster c.refuse.new.self.chart (happened ++ refused d line c.in-Err.fault ∷ []) (happened ++ event_happens d line play event ∷ []) c.refuse.result
+    (ap (λ (h : Happening). happened ++ h ∷ []) (sym (event_refused d line play event old.world c.args.self.now.settled follows c.in-Err.fault said.refusal)))
     (c.refuse.ensures.charted happened kept)
 
 pub refuse-requires : goal.refuse-requires

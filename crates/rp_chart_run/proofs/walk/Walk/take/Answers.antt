@@ -1,6 +1,7 @@
 -- The command is the one that was matched.
-use Rattle.std.proofs.Common.{ℕ, List, ◌++◌, replicate, sym, ap}
-use Rattle.rp_history.specs.Histories.{NothingHappened}
+use Rattle.std.proofs.Common.{◌∙◌, ℕ, ◌++◌, sym, ap}
+use Rattle.rp_model.specs.World.{World}
+use Rattle.rp_chart_run.specs.ScriptHistory.{drawn_run, nodes_shown}
 use Rattle.rp_chart_run.proofs.Charting.{charted_as}
 use Rattle.rp_chart_run.proofs.walk.Walk.take.Goals as goal
 
@@ -25,7 +26,10 @@ returns-in-Drain-clause-charted g c = rw c.in-Drain.is c.drain.ensures.charted
 pub returns-in-Show-clause-charted : goal.returns-in-Show-clause-charted
 returns-in-Show-clause-charted g c =
     let m = g.M.Machine in
+    let d = drawn_run m.next m.answers m.begin m.image c.args.self.now.cluster c.args.scene.now in
     rw c.in-Show.is
     (λ play happened follows charted.
     charted_as m.next m.answers m.begin c.show.new.self.cluster c.show.new.self.chart _ _ c.show.result
-    (ap (λ (n : ℕ). happened ++ replicate n NothingHappened) (sym c.requires.parts.config)) (c.show.ensures.charted happened charted))
+    (ap (λ (n : ℕ). happened ++ nodes_shown d c.args.self.now.cluster.world n) (sym c.requires.parts.config)
+    ∙ ap (λ (w : World). happened ++ nodes_shown d w c.args.self.now.cluster.config.nodes) follows.world_is)
+    (c.show.ensures.charted happened charted))

@@ -1,4 +1,4 @@
-use Rattle.std.proofs.Common.{◌≡◌, ◌∙◌, ◌++◌, [], ◌∷◌, ◌+◌, ℕ, true, List, length, ap, sym, subst, arith, rules}
+use Rattle.std.proofs.Common.{◌≡◌, ◌∙◌, ◌++◌, [], ◌∷◌, ◌+◌, ◌<◌, ℕ, true, List, length, ap, sym, subst, arith, rules}
 use Rattle.std.specs.List.{list_any}
 use Rattle.rp_drawing.specs.Ways.{is_end_drawn, AreWays, AreDown, IsEndingWithin}
 use Rattle.rp_drawing.specs.declared.sketch.Row.{Row}
@@ -34,9 +34,9 @@ returns-clause-down c =
     let line = c.args.self.now.lines in
     let sends = c.args.moment.sends.items in
     let after = c.lines_after-self.ensures in
-    let ends_next : is_end_drawn ways c.args.moment.ending ≡ true → c.lines_after-self.result ≡ line + 1 =
+    let ends_next : is_end_drawn ways c.args.moment.ending ≡ true → line < c.lines_after-self.result =
     λ drawn. after.drawn (c.is_one-is_drawn.ensures ∙ second_of _ _ _ (c.end-ended.ensures.drawn ∙ drawn)) in
-    let sends_next : list_any (λ s. s.is_drawn) sends ≡ true → c.lines_after-self.result ≡ line + 1 =
+    let sends_next : list_any (λ s. s.is_drawn) sends ≡ true → line < c.lines_after-self.result =
     λ drawn. after.drawn (c.is_one-is_drawn.ensures ∙ third_of _ _ _
     (c.in_ok-sent.ensures.drawn ∙ ap (λ (l : List Sending). list_any (λ s. s.is_drawn) l) c.deref.ensures.value ∙ drawn)) in
     subst (λ (w : List Way). AreDown c.lines_after-self.result w) (sym ways_are)

@@ -6,9 +6,9 @@ use Rattle.std.proofs.lemmas.List.{take_all}
 use Rattle.rp_drawing.specs.Words.{dots, fitted_text, plain}
 use Rattle.rp_drawing.proofs.words.Words.fitted.Goals as goal
 
-fitted_all : (bytes : List ℕ) (count i : ℕ) → count ≡ min (length bytes) 36 → length (take count bytes) ≤ i
-    → map plain (take i (take count bytes)) ++ dots (nat_lt count (length bytes)) ≡ fitted_text bytes
-fitted_all bytes count i is past = ap (λ (l : List ℕ). map plain l ++ dots (nat_lt count (length bytes))) (take_all i (take count bytes) past) ∙ at (nat_le 36 (length bytes)) refl
+fitted_all : (bytes : List ℕ) (count : ℕ) → count ≡ min (length bytes) 36
+    → map plain (take count bytes) ++ dots (nat_lt count (length bytes)) ≡ fitted_text bytes
+fitted_all bytes count is = at (nat_le 36 (length bytes)) refl
   where
     at : (b : Bool) → nat_le 36 (length bytes) ≡ b → map plain (take count bytes) ++ dots (nat_lt count (length bytes)) ≡ fitted_text bytes
     at true long =
@@ -26,7 +26,6 @@ pub returns : goal.returns
 returns c =
     let bytes = c.args.bytes.now in
     let count = c.min-count.result in
-    let past : length (take count bytes) ≤ c.loop-byte.byte-index = omega (arith, c.loop-byte-test.false) in
     c.in_ok-add_dots.ensures.added
-    ∙ ap (λ (l : List ℕ). l ++ dots (nat_lt count (length bytes))) c.loop-byte.invariant.letters
-    ∙ fitted_all bytes count c.loop-byte.byte-index c.min-count.ensures past
+    ∙ ap (λ (l : List ℕ). l ++ dots (nat_lt count (length bytes))) c.in_ok-text.ensures.letters
+    ∙ fitted_all bytes count c.min-count.ensures

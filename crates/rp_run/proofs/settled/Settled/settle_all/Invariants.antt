@@ -1,5 +1,5 @@
-use Rattle.std.proofs.Common.{◌≡◌, ℕ, ◌&&◌, ◌||◌, ◌≤◌, ◌+◌}
-use Rattle.std.specs.Prelude.{nat_le, nat_lt, max}
+use Rattle.std.proofs.Common.{◌+◌, ◌-◌, ◌≡◌, ℕ, ◌&&◌, ◌||◌, ◌≤◌, false}
+use Rattle.std.specs.Prelude.{nat_le, nat_lt, min}
 use Rattle.rp_run.specs.Settled.{is_settled}
 use Rattle.rp_run.proofs.settled.Settled.settle_all.Given as goal
 
@@ -7,6 +7,9 @@ use Rattle.rp_run.proofs.settled.Settled.settle_all.Given as goal
 abbrev pub invariant-loop-message : goal.invariant-loop-message
 invariant-loop-message l = record {
   above : l.first ≤ l.message;
-  within : l.message ≤ max l.first (l.last + 1);
-  settled : (m : ℕ) → is_settled l.self m ≡ ((nat_le l.first m && nat_lt m l.message) || is_settled l.fn.self m);
+  unsettled : is_settled l.self l.message ≡ false;
+  settled : (m : ℕ) → is_settled l.self m ≡ ((nat_le l.first m && nat_lt m (min l.message (l.last + 1))) || is_settled l.fn.self m);
 }
+
+abbrev pub decreases-loop-message : goal.decreases-loop-message
+decreases-loop-message l = l.last + 1 - l.message

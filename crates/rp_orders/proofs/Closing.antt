@@ -1,0 +1,375 @@
+-- Orders that are closed under what may happen lead to every state.
+use Rattle.std.proofs.Common.{◌≡◌, ◌≢◌, ℕ, max, Bool, true, false, not, IsTrue, ◌&&◌, ◌||◌, nat_eq, nat_lt, ◌⊎◌, Some, None, List, [], ◌∷◌, ◌++◌, map, filter_map, if◌then◌else◌, refl, sym, ap, subst, ◌∙◌, inl, inr, arith, append_assoc, append-nil, eq-eqb, eqb-true}
+use Rattle.std.specs.List.{list_any, list_all, cons_option}
+use Rattle.std.specs.Cmp.Lexicographic.{pointwise}
+use Rattle.std.proofs.lemmas.List.Elements.{filter_map-append}
+use Rattle.rp_base.specs.Number.{greatest, IsTask}
+use Rattle.rp_base.specs.Sets.{Has}
+use Rattle.rp_base.specs.Action.{IsRight}
+use Rattle.rp_base.specs.declared.action.Action.{Action}
+use Rattle.rp_base.specs.declared.action.Action.TheVariants.{Noop, Call, Interrupt, Tick}
+use Rattle.rp_base.specs.declared.reply.Answer.{Answer}
+use Rattle.rp_machine.specs.Calls.{CallName, calls_made, call_of, MayApply, AccountsFor}
+use Rattle.rp_machine.specs.Replay.{number_for, numbers_of, occurrence_for, occurrences_of, one_to, is_for, is_answered, all_answered, is_next_number, counts, Replayed, unmoved, replay_step, replay_from, replay_of}
+use Rattle.rp_machine.proofs.Calling.{has_left, has_right, has_either, all_true, answered, made_number}
+use Rattle.rp_machine.proofs.Numbering.{IsCounted, counted}
+use Rattle.rp_machine.proofs.Replaying.{replay_from-append, goes_on_from}
+use Rattle.rp_machine.proofs.Asking.{interrupt_counts}
+use Rattle.rp_machine.proofs.Applying.{IsAccounted, accounted}
+use Rattle.rp_orders.specs.Orders.{AreAmong, AreRight, AreAlike, IsReached, IsGiven, IsStuck, AreClosed, IsOrderOf, CanBeGiven}
+
+-- ---- tests
+
+-- each of some numbers passes a test
+all_of : (test : ℕ → Bool) (xs : List ℕ) → ((x : ℕ) → Has x xs → test x ≡ true) → list_all test xs ≡ true
+all_of test [] each = refl
+all_of test (x ∷ xs) each = ap (λ (b : Bool). b && list_all test xs) (each x (inl refl)) ∙ all_of test xs (λ y h. each y (inr h))
+
+or_false : (a b : Bool) → (a || b) ≡ false → (a ≡ false) × (b ≡ false)
+or_false true b e = absurd (cc)
+or_false false b e = (refl, e)
+
+-- two tests that are true together are one
+same_truth : (a b : Bool) → (a ≡ true → b ≡ true) → (b ≡ true → a ≡ true) → a ≡ b
+same_truth true b f g = sym (f refl)
+same_truth false true f g = g refl
+same_truth false false f g = refl
+
+-- ---- calls that were made, and those that wait
+
+-- a number of a task's calls is that of a call that was made
+number_made : (task number : ℕ) (xs : List Action) → Has number (numbers_of task xs) → Has (record { task = task; number = number }) (calls_made xs)
+number_made task number [] h = absurd h
+number_made task number (Noop ∷ xs) h = number_made task number xs h
+number_made task number (Call caller own object operation arg ∷ xs) h = by (nat_eq caller task) refl (number_made task number xs) h
+  where
+    by : (b : Bool) → nat_eq caller task ≡ b → (Has number (numbers_of task xs) → Has (record { task = task; number = number }) (calls_made xs)) → Has number (cons_option (if b then Some own else None) (numbers_of task xs)) → Has (record { task = task; number = number }) (calls_made (Call caller own object operation arg ∷ xs))
+    by true e later g =
+        let tasks : task ≡ caller = sym (eqb-true caller task e) in
+        elim g [ inl same ↦ inl (λ i. record { task = tasks i; number = same i }) | inr rest ↦ inr (later rest) ]
+    by false e later g = inr (later g)
+number_made task number (Interrupt source occurrence ∷ xs) h = number_made task number xs h
+number_made task number (Tick now ∷ xs) h = number_made task number xs h
+
+-- where the test finds no answer for a call, it has none
+no_answer : (task number : ℕ) (given : List Answer) → list_any (is_for task number) given ≡ false → ¬ Has (record { task = task; number = number }) (map call_of given)
+no_answer task number [] e h = absurd h
+no_answer task number (x ∷ xs) e h =
+    let parts = or_false (is_for task number x) (list_any (is_for task number) xs) e in
+    elim h [
+      | inl same ↦
+          let tasks : x.task ≡ task = λ i. (sym same i).task in
+          let numbers : x.number ≡ number = λ i. (sym same i).number in
+          let yes : is_for task number x ≡ true = ap (λ (b : Bool). b && nat_eq x.number number) (eq-eqb x.task task tasks) ∙ eq-eqb x.number number numbers in
+          let met : true ≡ false = sym yes ∙ parts.0 in
+          absurd (cc)
+      | inr rest ↦ no_answer task number xs parts.1 rest
+    ]
+
+-- the greatest of two lists in a row
+greatest_append : (xs ys : List ℕ) → greatest (xs ++ ys) ≡ max (greatest xs) (greatest ys)
+greatest_append [] ys = omega arith
+greatest_append (x ∷ xs) ys = let e = greatest_append xs ys in let both : greatest (x ∷ xs ++ ys) ≡ max x (max (greatest xs) (greatest ys)) = ap (max x) e in both ∙ omega arith
+
+module _ {S P : Type 0} (next : S → Action → S) (answers : S → Action → List Answer) (waiting : S → List CallName) (begin : P → S) (runs : P → S → Type 0)
+    (none_waits : (program : P) → waiting (begin program) ≡ [])
+    (starts : (program : P) → runs program (begin program))
+    (keeps : (program : P) (s : S) (action : Action) → runs program s → IsRight action → MayApply (waiting s) action → runs program (next s action))
+    (accounts : (program : P) (s : S) (action : Action) → runs program s → IsRight action → MayApply (waiting s) action → AccountsFor (waiting s) action (answers s action) (waiting (next s action)))
+    (program : P)
+  where
+    -- what holds of the replay of right actions
+    record IsFine (r : Replayed S) : Type 0 where
+      accounted_for : IsAccounted next answers waiting begin runs none_waits starts keeps accounts program r
+      counted_so : IsCounted r.kept r.given
+
+    fine : (order : List Action) → AreRight order → IsFine (replay_of next answers (begin program) order)
+    fine order right = record {
+      accounted_for = accounted next answers waiting begin runs none_waits starts keeps accounts program order right;
+      counted_so = counted next answers (begin program) order;
+    }
+
+    -- a task of which no call waits has all its answers
+    all_are_answered : (r : Replayed S) (task : ℕ) → IsFine r → ((call : CallName) → Has call (waiting r.state) → call.task ≢ task) → all_answered r.kept r.given task ≡ true
+    all_are_answered r task ok none = all_of (is_answered r.given task) (numbers_of task r.kept) (λ number h. each number h (is_answered r.given task number) refl)
+      where
+        each : (number : ℕ) → Has number (numbers_of task r.kept) → (b : Bool) → is_answered r.given task number ≡ b → is_answered r.given task number ≡ true
+        each number h true e = e
+        each number h false e =
+            let call : CallName = record { task = task; number = number } in
+            absurd (none call ((ok.accounted_for.waits call).1 (number_made task number r.kept h, no_answer task number r.given e)) refl)
+
+    -- and the other way round
+    none_waits_there : (r : Replayed S) (task : ℕ) → IsFine r → all_answered r.kept r.given task ≡ true → (call : CallName) → Has call (waiting r.state) → call.task ≢ task
+    none_waits_there r task ok e call w same =
+        let old = (ok.accounted_for.waits call).0 w in
+        let numbered = subst (λ (t : ℕ). Has call.number (numbers_of t r.kept)) same (made_number call r.kept old.0) in
+        let reply = answered task call.number r.given (all_true (is_answered r.given task) (numbers_of task r.kept) call.number e numbered) in
+        old.1 (subst (λ (t : ℕ). Has (record { task = t; number = call.number }) (map call_of r.given)) (sym same) reply)
+
+    -- so in one state the same tasks wait
+    same_waits : (r s : Replayed S) (task : ℕ) → IsFine r → IsFine s → r.state ≡ s.state → all_answered r.kept r.given task ≡ all_answered s.kept s.given task
+    same_waits r s task one other state =
+        same_truth (all_answered r.kept r.given task) (all_answered s.kept s.given task)
+        (λ e. all_are_answered s task other (λ call w. none_waits_there r task one e call (subst (λ (st : S). Has call (waiting st)) (sym state) w)))
+        (λ e. all_are_answered r task one (λ call w. none_waits_there s task other e call (subst (λ (st : S). Has call (waiting st)) state w)))
+
+    same_numbers : (r s : Replayed S) (task : ℕ) → IsTask task → IsFine r → IsFine s → AreAlike r s → numbers_of task r.kept ≡ numbers_of task s.kept
+    same_numbers r s task is one other alike = one.counted_so.numbered task ∙ ap one_to (alike.calls task is) ∙ sym (other.counted_so.numbered task)
+
+    -- and the same actions count
+    same_counts : (r s : Replayed S) (action : Action) → IsFine r → IsFine s → AreAlike r s → IsRight action → counts r.kept r.given action ≡ counts s.kept s.given action
+    same_counts r s Noop one other alike right = refl
+    same_counts r s (Call task number object operation arg) one other alike right =
+        ap (λ (xs : List ℕ). pointwise nat_eq (one_to number) (xs ++ number ∷ []) && all_answered r.kept r.given task) (same_numbers r s task right.0 one other alike)
+        ∙ ap (λ (b : Bool). is_next_number s.kept task number && b) (same_waits r s task one other alike.state)
+    same_counts r s (Interrupt source occurrence) one other alike right =
+        sym (interrupt_counts r.kept r.given source occurrence right.1.0)
+        ∙ ap (λ (n : ℕ). nat_lt n occurrence) (alike.occurrences source right.0)
+        ∙ interrupt_counts s.kept s.given source occurrence right.1.0
+    same_counts r s (Tick now) one other alike right = refl
+
+    -- one action more that counts, after both
+    abbrev after : Replayed S → Action → Replayed S
+    after r action = record { state = next r.state action; kept = r.kept ++ action ∷ []; given = r.given ++ answers r.state action }
+
+    alike_after : (r s : Replayed S) (action : Action) → IsFine r → IsFine s → AreAlike r s → AreAlike (after r action) (after s action)
+    alike_after r s action one other alike = record {
+      state = ap (λ (st : S). next st action) alike.state;
+      calls = λ task is.
+          let more = filter_map (number_for task) (action ∷ []) in
+          ap greatest (filter_map-append (number_for task) r.kept (action ∷ []))
+          ∙ ap (λ (xs : List ℕ). greatest (xs ++ more)) (same_numbers r s task is one other alike)
+          ∙ sym (ap greatest (filter_map-append (number_for task) s.kept (action ∷ [])));
+      occurrences = λ source is.
+          let more = filter_map (occurrence_for source) (action ∷ []) in
+          ap greatest (filter_map-append (occurrence_for source) r.kept (action ∷ []))
+          ∙ greatest_append (occurrences_of source r.kept) more
+          ∙ ap (λ (n : ℕ). max n (greatest more)) (alike.occurrences source is)
+          ∙ sym (greatest_append (occurrences_of source s.kept) more)
+          ∙ sym (ap greatest (filter_map-append (occurrence_for source) s.kept (action ∷ [])));
+    }
+
+    trans : (r s t : Replayed S) → AreAlike r s → AreAlike s t → AreAlike r t
+    trans r s t one other = record {
+      state = one.state ∙ other.state;
+      calls = λ task is. one.calls task is ∙ other.calls task is;
+      occurrences = λ source is. one.occurrences source is ∙ other.occurrences source is;
+    }
+
+    alike_start : (r : Replayed S) → AreAlike r r
+    alike_start r = record { state = refl; calls = λ task is. refl; occurrences = λ source is. refl }
+
+    abbrev whole : List Action → Replayed S
+    whole order = replay_of next answers (begin program) order
+
+    -- where an action counts, one step more is that
+    step_counts : (r : Replayed S) (action : Action) → counts r.kept r.given action ≡ true → replay_step next answers r action ≡ after r action
+    step_counts r action e = ap (λ (b : Bool). if b then after r action else r) e
+
+    step_not : (r : Replayed S) (action : Action) → counts r.kept r.given action ≡ false → replay_step next answers r action ≡ r
+    step_not r action e = ap (λ (b : Bool). if b then after r action else r) e
+
+    symm : (r s : Replayed S) → AreAlike r s → AreAlike s r
+    symm r s one = record {
+      state = sym one.state;
+      calls = λ task is. sym (one.calls task is);
+      occurrences = λ source is. sym (one.occurrences source is);
+    }
+
+    -- whatever is decided next, both go on alike
+    alike_step : (r s : Replayed S) (action : Action) → IsFine r → IsFine s → AreAlike r s → IsRight action → AreAlike (replay_step next answers r action) (replay_step next answers s action)
+    alike_step r s action one other alike right = by (counts r.kept r.given action) refl
+      where
+        by : (b : Bool) → counts r.kept r.given action ≡ b → AreAlike (replay_step next answers r action) (replay_step next answers s action)
+        by true e =
+            subst (λ (t : Replayed S). AreAlike t (replay_step next answers s action)) (sym (step_counts r action e))
+            (subst (λ (t : Replayed S). AreAlike (after r action) t) (sym (step_counts s action (sym (same_counts r s action one other alike right) ∙ e))) (alike_after r s action one other alike))
+        by false e =
+            subst (λ (t : Replayed S). AreAlike t (replay_step next answers s action)) (sym (step_not r action e))
+            (subst (λ (t : Replayed S). AreAlike r t) (sym (step_not s action (sym (same_counts r s action one other alike right) ∙ e))) alike)
+
+    pushed : (order : List Action) (action : Action) → whole (order ++ action ∷ []) ≡ replay_step next answers (whole order) action
+    pushed order action = replay_from-append next answers (unmoved (begin program)) order (action ∷ [])
+
+    right_push : (order : List Action) (action : Action) → AreRight order → IsRight action → AreRight (order ++ action ∷ [])
+    right_push order action right own other h = elim (has_either other order (action ∷ []) h) [
+      | inl before ↦ right other before
+      | inr last ↦ elim last [ inl same ↦ subst (λ (a : Action). IsRight a) (sym same) own | inr none ↦ absurd none ]
+    ]
+
+    module _ (may : List Action) (found : List (List Action)) (all_right : AreRight may) (closed : AreClosed next answers (begin program) may found) where
+      found_right : (order : List Action) → Has order found → AreRight order
+      found_right order h action a = all_right action (closed.among order h action a)
+
+      -- an order that was done, and the found one that leads to the same state
+      abbrev Reached : List Action → Type 0
+      Reached order = IsReached next answers (begin program) found order
+
+      -- one action more, which counts and may happen
+      one_more : (done : List Action) (action : Action) → AreRight done → Reached done → Has action may → counts (whole done).kept (whole done).given action ≡ true → Reached (done ++ action ∷ [])
+      one_more done action right reached h e =
+          let other = reached.0 in
+          let alike = reached.2 in
+          let one = fine done right in
+          let two = fine other (found_right other reached.1) in
+          let there : counts (whole other).kept (whole other).given action ≡ true = sym (same_counts (whole done) (whole other) action one two alike (all_right action h)) ∙ e in
+          let here : AreAlike (whole (done ++ action ∷ [])) (after (whole done) action) =
+          subst (λ (r : Replayed S). AreAlike r (after (whole done) action)) (sym (pushed done action ∙ step_counts (whole done) action e)) (alike_start (after (whole done) action)) in
+          let across = alike_after (whole done) (whole other) action one two alike in
+          let back : AreAlike (after (whole other) action) (whole (other ++ action ∷ [])) =
+          subst (λ (r : Replayed S). AreAlike (after (whole other) action) r) (sym (pushed other action ∙ step_counts (whole other) action there)) (alike_start (after (whole other) action)) in
+          let further = closed.goes_on other action reached.1 h in
+          let joined = trans (whole (done ++ action ∷ [])) (after (whole done) action) (whole (other ++ action ∷ [])) here
+          (trans (after (whole done) action) (after (whole other) action) (whole (other ++ action ∷ [])) across back) in
+          (further.0, further.1, trans (whole (done ++ action ∷ [])) (whole (other ++ action ∷ [])) (whole further.0) joined further.2)
+
+      -- one that does not count changes nothing
+      no_more : (done : List Action) (action : Action) → Reached done → counts (whole done).kept (whole done).given action ≡ false → Reached (done ++ action ∷ [])
+      no_more done action reached e =
+          (reached.0, reached.1, subst (λ (r : Replayed S). AreAlike r (whole reached.0)) (sym (pushed done action ∙ step_not (whole done) action e)) reached.2)
+
+      -- what counts of the whole is there after more
+      kept_stays : (done rest : List Action) (action : Action) → Has action (whole done).kept → Has action (whole (done ++ rest)).kept
+      kept_stays done rest action h =
+          let on = goes_on_from next answers (whole done) rest in
+          let joined = replay_from-append next answers (unmoved (begin program)) done rest in
+          subst (λ (r : Replayed S). Has action r.kept) (sym joined) (subst (λ (xs : List Action). Has action xs) (sym on.kept) (has_left action (whole done).kept on.further h))
+
+      -- an action that counts next may happen, since it is kept
+      counts_may : (done : List Action) (action : Action) (rest : List Action) → AreAmong may (whole ((done ++ action ∷ []) ++ rest)).kept → counts (whole done).kept (whole done).given action ≡ true → Has action may
+      counts_may done action rest among e =
+          let now : Has action (whole (done ++ action ∷ [])).kept =
+          subst (λ (r : Replayed S). Has action r.kept) (sym (pushed done action ∙ step_counts (whole done) action e)) (has_right action (whole done).kept (action ∷ []) (inl refl)) in
+          among action (kept_stays (done ++ action ∷ []) rest action now)
+
+      go : (done rest : List Action) → AreRight (done ++ rest) → AreAmong may (whole (done ++ rest)).kept → Reached done → Reached (done ++ rest)
+      go done [] right among reached = subst (λ (xs : List Action). Reached xs) (sym (append-nil done)) reached
+      go done (action ∷ rest) right among reached =
+          let shift : (done ++ action ∷ []) ++ rest ≡ done ++ action ∷ rest = append_assoc done (action ∷ []) rest in
+          let right_now : AreRight ((done ++ action ∷ []) ++ rest) = subst (λ (xs : List Action). AreRight xs) (sym shift) right in
+          let among_now : AreAmong may (whole ((done ++ action ∷ []) ++ rest)).kept = subst (λ (xs : List Action). AreAmong may (whole xs).kept) (sym shift) among in
+          subst (λ (xs : List Action). Reached xs) shift (go (done ++ action ∷ []) rest right_now among_now (by right_now among_now (counts (whole done).kept (whole done).given action) refl))
+        where
+          by : AreRight ((done ++ action ∷ []) ++ rest) → AreAmong may (whole ((done ++ action ∷ []) ++ rest)).kept → (b : Bool) → counts (whole done).kept (whole done).given action ≡ b → Reached (done ++ action ∷ [])
+          by right_now among_now true e = one_more done action (λ a h. right a (has_left a done (action ∷ rest) h)) reached (counts_may done action rest among_now e) e
+          by right_now among_now false e = no_more done action reached e
+
+      -- every order of what may happen leads to a state to which a found one leads
+      pub all_reached : (order : List Action) → IsOrderOf next answers (begin program) may order → Reached order
+      all_reached order is = go [] order is.right is.among ([], closed.starts, alike_start (whole []))
+
+      abbrev Given : Answer → Type 0
+      Given answer = IsGiven next answers (begin program) may found answer
+
+      -- what one more action gives is given after the found one too
+      given_now : (done : List Action) (action : Action) (answer : Answer) → AreRight done → Reached done → Has action may → counts (whole done).kept (whole done).given action ≡ true
+          → Has answer (answers (whole done).state action) → Given answer
+      given_now done action answer right reached h e has =
+          let other = reached.0 in
+          let alike = reached.2 in
+          let one = fine done right in
+          let two = fine other (found_right other reached.1) in
+          let there : counts (whole other).kept (whole other).given action ≡ true = sym (same_counts (whole done) (whole other) action one two alike (all_right action h)) ∙ e in
+          let moved : Has answer (answers (whole other).state action) = subst (λ (st : S). Has answer (answers st action)) alike.state has in
+          record {
+            before = other;
+            action = action;
+            found_before = reached.1;
+            may_happen = h;
+            gives = subst (λ (b : Bool). Has answer (if b then answers (whole other).state action else [])) (sym there) moved;
+          }
+
+      -- each answer of one action more was given before, or is now
+      given_step : (done : List Action) (action : Action) (answer : Answer) (b : Bool) → counts (whole done).kept (whole done).given action ≡ b
+          → Has answer (if b then after (whole done) action else whole done).given
+          → Has answer (whole done).given ⊎ ((b ≡ true) × Has answer (answers (whole done).state action))
+      given_step done action answer true e h = elim (has_either answer (whole done).given (answers (whole done).state action) h) [ inl before ↦ inl before | inr now ↦ inr (refl, now) ]
+      given_step done action answer false e h = inl h
+
+      go_given : (done rest : List Action) (answer : Answer) → AreRight (done ++ rest) → AreAmong may (whole (done ++ rest)).kept → Reached done
+          → (Has answer (whole done).given → Given answer) → Has answer (whole (done ++ rest)).given → Given answer
+      go_given done [] answer right among reached old h = old (subst (λ (xs : List Action). Has answer (whole xs).given) (append-nil done) h)
+      go_given done (action ∷ rest) answer right among reached old h =
+          let shift : (done ++ action ∷ []) ++ rest ≡ done ++ action ∷ rest = append_assoc done (action ∷ []) rest in
+          let right_now : AreRight ((done ++ action ∷ []) ++ rest) = subst (λ (xs : List Action). AreRight xs) (sym shift) right in
+          let among_now : AreAmong may (whole ((done ++ action ∷ []) ++ rest)).kept = subst (λ (xs : List Action). AreAmong may (whole xs).kept) (sym shift) among in
+          let before : AreRight done = λ a g. right a (has_left a done (action ∷ rest) g) in
+          let h_now : Has answer (whole ((done ++ action ∷ []) ++ rest)).given = subst (λ (xs : List Action). Has answer (whole xs).given) (sym shift) h in
+          go_given (done ++ action ∷ []) rest answer right_now among_now
+          (go done (action ∷ []) (λ a g. right_now a (has_left a (done ++ action ∷ []) rest g)) (λ a g. among_now a (kept_stays (done ++ action ∷ []) rest a g)) reached)
+          (λ g. elim (given_step done action answer (counts (whole done).kept (whole done).given action) refl (subst (λ (r : Replayed S). Has answer r.given) (pushed done action) g)) [
+            | inl earlier ↦ old earlier
+            | inr now ↦ given_now done action answer before reached (counts_may done action rest among_now now.0) now.0 now.1
+          ])
+          h_now
+
+      -- and each of its answers is given by a found one and one action more
+      pub all_given : (order : List Action) (answer : Answer) → IsOrderOf next answers (begin program) may order → Has answer (whole order).given → Given answer
+      all_given order answer is h = go_given [] order answer is.right is.among ([], closed.starts, alike_start (whole [])) (λ none. absurd none) h
+
+      -- where a task waits for ever, it does so after the found one too
+      pub all_stuck : (task : ℕ) (order : List Action) → IsOrderOf next answers (begin program) may order → IsStuck next answers (begin program) may task order
+          → (other : List Action) × Has other found × IsStuck next answers (begin program) may task other
+      all_stuck task order is stuck =
+          let reached = all_reached order is in
+          let other = reached.0 in
+          let alike = reached.2 in
+          let one = fine order is.right in
+          let two = fine other (found_right other reached.1) in (
+            other,
+            reached.1,
+            record {
+              waits = subst (λ (b : Bool). IsTrue (not b)) (same_waits (whole order) (whole other) task one two alike.state) stuck.waits;
+              quiet = λ action h.
+                  let steps = alike_step (whole other) (whole order) action two one (symm (whole order) (whole other) alike) (all_right action h) in
+                  let there = subst (λ (r : Replayed S). AreAlike r (replay_step next answers (whole order) action)) (sym (pushed other action)) steps in
+                  let here = subst (λ (r : Replayed S). AreAlike r (whole order)) (pushed order action) (stuck.quiet action h) in
+                  trans (whole (other ++ action ∷ [])) (replay_step next answers (whole order) action) (whole other) there
+                  (trans (replay_step next answers (whole order) action) (whole order) (whole other) here alike);
+            },
+          )
+
+    -- what counts is among the actions
+    kept_if : (r : Replayed S) (action other : Action) (b : Bool) → Has other (if b then after r action else r).kept → Has other r.kept ⊎ (other ≡ action)
+    kept_if r action other true h = elim (has_either other r.kept (action ∷ []) h) [
+      | inl before ↦ inl before
+      | inr last ↦ elim last [ inl same ↦ inr same | inr none ↦ absurd none ]
+    ]
+    kept_if r action other false h = inl h
+
+    kept_from : (r : Replayed S) (rest : List Action) (other : Action) → Has other (replay_from next answers r rest).kept → Has other r.kept ⊎ Has other rest
+    kept_from r [] other h = inl h
+    kept_from r (action ∷ rest) other h = elim (kept_from (replay_step next answers r action) rest other h) [
+      | inl before ↦ elim (kept_if r action other (counts r.kept r.given action) before) [ inl earlier ↦ inl earlier | inr now ↦ inr (inl now) ]
+      | inr later ↦ inr (inr later)
+    ]
+
+    -- actions that may happen are an order of them
+    pub is_order : (may order : List Action) → AreRight may → AreAmong may order → IsOrderOf next answers (begin program) may order
+    is_order may order all_right among = record {
+      right = λ action h. all_right action (among action h);
+      among = λ action h. elim (kept_from (unmoved (begin program)) order action h) [ inl none ↦ absurd none | inr is ↦ among action is ];
+    }
+
+    among_push : (may order : List Action) (action : Action) → AreAmong may order → Has action may → AreAmong may (order ++ action ∷ [])
+    among_push may order action among own other h = elim (has_either other order (action ∷ []) h) [
+      | inl before ↦ among other before
+      | inr last ↦ elim last [ inl same ↦ subst (λ (a : Action). Has a may) (sym same) own | inr none ↦ absurd none ]
+    ]
+
+    -- what an action gives is among the answers after it
+    step_gives : (r : Replayed S) (action : Action) (answer : Answer) (b : Bool) → Has answer (if b then answers r.state action else []) → Has answer (if b then after r action else r).given
+    step_gives r action answer true h = has_right answer r.given (answers r.state action) h
+    step_gives r action answer false h = absurd h
+
+    -- an answer that a found order and one action more give, an order gives
+    pub given_is : (may : List Action) (found : List (List Action)) (answer : Answer) → AreRight may → AreClosed next answers (begin program) may found
+        → IsGiven next answers (begin program) may found answer → CanBeGiven next answers (begin program) may answer
+    given_is may found answer all_right closed g =
+        let order = g.before ++ g.action ∷ [] in (
+          order,
+          is_order may order all_right (among_push may g.before g.action (closed.among g.before g.found_before) g.may_happen),
+          subst (λ (r : Replayed S). Has answer r.given) (sym (pushed g.before g.action))
+              (step_gives (whole g.before) g.action answer (counts (whole g.before).kept (whole g.before).given g.action) g.gives),
+        )

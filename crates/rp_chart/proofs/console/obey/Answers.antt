@@ -8,23 +8,27 @@ returns-in-Ok g c =
     let made = c.draw_script-drawn.ensures in
     let ended = c.end.ensures in
     record {
-      obeyed = inl (c.in-Ok.view, record {
-        right = asked.refused;
-        hides = asked.hides;
-        shows = asked.shows;
-        whole = asked.whole;
-        position = asked.position;
-        from_start = asked.from_start;
-        from = asked.from;
-        to_end = asked.to_end;
-        to = asked.to;
-      }, record {
-        drawn = c.draw_script-drawn.result;
-        drawing = made.drawing;
-        begun = made.begun;
-        fault = made.fault;
-        status = ended.status;
-        reported = ended.reported;
-        silent = ended.silent;
-      });
+      obeyed = inl (
+        c.in-Ok.view,
+        record {
+          right = asked.refused;
+          hides = asked.hides;
+          shows = asked.shows;
+          whole = asked.whole;
+          position = asked.position;
+          from_start = asked.from_start;
+          from = asked.from;
+          to_end = asked.to_end;
+          to = asked.to;
+        },
+        record {
+          drawn = c.draw_script-drawn.result;
+          drawing = made.drawing;
+          begun = made.begun;
+          fault = made.fault;
+          status = ended.status;
+          reported = ended.reported;
+          silent = ended.silent;
+        },
+      );
     }

@@ -69,7 +69,8 @@ package RP is
       Count  : Interfaces.C.size_t;
       Reason : in out Packet_Reason) return Status;
    --  Whether all of the bytes are one packet. Bad_Packet: they are not, and Reason says why.
-   --  Out_Of_Memory only for a report to an audit. Otherwise Reason is as it was.
+   --  Out_Of_Memory only for a report to an audit or a promise for a range. Otherwise Reason is as it
+   --  was.
 
    function Run_Deck
      (Deck   : System.Address;

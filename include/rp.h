@@ -62,7 +62,8 @@ enum rp_packet_reason {
 uint8_t rp_packet_length(const uint8_t *bytes, size_t count, size_t *length);
 
 /* Whether all of the `count` bytes are one packet. RP_BAD_PACKET: they are not, and *reason is one of
- * rp_packet_reason. RP_OUT_OF_MEMORY only for a report to an audit. Otherwise *reason is as it was. */
+ * rp_packet_reason. RP_OUT_OF_MEMORY only for a report to an audit or a promise for a range. Otherwise
+ * *reason is as it was. */
 uint8_t rp_packet_check(const uint8_t *bytes, size_t count, uint8_t *reason);
 
 /* Runs the script of a deck, as `rp_console script` does, and with `traced` as `script --trace`.

@@ -1,7 +1,7 @@
 #compdef rp_console
 # Made by tools/words. Copy it to a folder of $fpath as _rp_console.
 _rp_console() {
-    local -a commands=('script:Reads a deck from standard input and runs its script' 'live:Reads a deck from standard input and runs its nodes and tasks as threads')
+    local -a commands=('script:Reads a deck from standard input and runs its script' 'live:Reads a deck from standard input and runs its nodes and tasks as threads' 'chart:Reads a deck from standard input, runs its script and prints a drawing of what happens')
     local state line
     _arguments -C '-h[Print help]' \
                 '--help[Print help]' \
@@ -16,6 +16,12 @@ _rp_console() {
                 '--help[Print help]' ;;
             live) _arguments '--seed[Seed that determines which packets are lost, duplicated and reordered, 0 to 4294967295 (default: 0)]:S:' \
                 '--turns[At most how many turns each node and each task makes, 1 to 1000000 (default: 10000)]:T:' \
+                '-h[Print help]' \
+                '--help[Print help]' ;;
+            chart) _arguments '--position[Draws only what names this position, 1 to 65535]:P:' \
+                '--hide-self[Draws no arrow from a node to itself]' \
+                '--from[Draws only the moments from number N on, 1 to 4294967295]:N:' \
+                '--to[Draws only the moments up to number N, 1 to 4294967295]:N:' \
                 '-h[Print help]' \
                 '--help[Print help]' ;;
         esac ;;

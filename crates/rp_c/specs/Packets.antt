@@ -20,7 +20,7 @@ PutsLength bytes old new BadPacket = (¬ BeginsWithPacket bytes) × (new ≡ old
 PutsLength bytes old new _ = ⊥
 
 -- The bytes are the text of one packet; or they are none, for this reason; or memory ran out while
--- a report was read.
+-- a report or a promise for a range was read.
 abbrev pub ChecksPacket : List ℕ → ℕ → ℕ → Status → Type 0
 ChecksPacket bytes old new Done = (p : Message) × IsPacket p × IsTextOf p bytes × (new ≡ old)
 ChecksPacket bytes old new BadPacket =

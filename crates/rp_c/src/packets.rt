@@ -34,8 +34,8 @@ fn put_length(bytes: &[u8], count: &mut usize) -> Status
 }
 
 /// Whether the bytes are exactly one packet. `BadPacket` if they are not: then the number of the
-/// reason is written (`reason_number`). `OutOfMemory` only for a report. Otherwise nothing is
-/// written.
+/// reason is written (`reason_number`). `OutOfMemory` only for a report or a promise for a range,
+/// whose lists take memory. Otherwise nothing is written.
 #[unsafe(no_mangle)]
 pub extern "C" fn rp_packet_check(alloc: Global, bytes: &[u8], reason: &mut u8) -> u8
     // claim: A C caller learns whether its bytes are one packet, and else the one reason

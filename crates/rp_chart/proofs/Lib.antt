@@ -1,3 +1,2 @@
-pub mod CommandLineLemmas
 pub mod TaskNames
 pub mod Lanes

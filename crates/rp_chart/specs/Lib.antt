@@ -1,3 +1,1 @@
 pub mod Charts
-pub mod CommandLine
-pub mod Console

@@ -1,6 +1,6 @@
 -- The command line.
-use Rattle.std.specs.Prelude.{◌≡◌, ℕ, ◌^◌, ◌<◌, true, Option, Some, None, List, [], ◌∷◌, pos, codes}
-use Rattle.std.specs.Prelude.{option_and_then, if◌then◌else◌}
+use Rattle.std.specs.Prelude.{◌≡◌, ℕ, ◌^◌, ◌<◌, true, false, Option, Some, None, List, [], ◌∷◌, pos}
+use Rattle.std.specs.Prelude.{codes, option_and_then, if◌then◌else◌}
 use Rattle.std.specs.Str.{bytes_eq}
 use Rattle.std.specs.Str.Parse.{IsNumeral, digits_value, without_leading_plus}
 use Rattle.clap.specs.Words.{App, Rule, Shape, Text, new_app, new_rule, one_of, subcommand_of}
@@ -8,8 +8,9 @@ use Rattle.clap.specs.Words.{with_rule, with_subcommand}
 use Rattle.clap.specs.Simple.{on_top}
 use Rattle.clap.specs.declared.builder.action.ArgAction.TheVariants.{SetTrue}
 use Rattle.clap.specs.declared.builder.value_parser.ValueParser.TheVariants.{Signed}
+use Rattle.rp_history.specs.declared.view.View.{View}
 use Rattle.rp_console.specs.declared.args.Args.{Args}
-use Rattle.rp_console.specs.declared.args.Args.TheVariants.{Script, Live}
+use Rattle.rp_console.specs.declared.args.Args.TheVariants.{Script, Live, Chart}
 
 -- a command that has a version and requires one of its subcommands, not counting `help`
 abbrev pub with_choice : Shape → Shape
@@ -45,16 +46,53 @@ turns = number_option (codes "turns") 1 1000000 (codes "10000")
 abbrev pub live : App
 live = with_rule (with_rule (new_app (codes "live")) seed) turns
 
--- the program's command line: the subcommands `script` and `live`
-abbrev pub console : App
-console =
+-- the option `--position`, which takes one number
+abbrev pub position_option : Rule
+position_option = record (new_rule (codes "position")) {
+  long = Some (codes "position");
+  value_names = 1;
+  parser = Some (Signed (pos 1) (pos 65535));
+}
+
+-- the option `--hide-self`
+abbrev pub hide_self_option : Rule
+hide_self_option = record (new_rule (codes "hide-self")) {
+  long = Some (codes "hide-self");
+  action = Some SetTrue;
+}
+
+-- an option of this name, which takes the number of a moment
+abbrev pub moment_option : Text → Rule
+moment_option name = record (new_rule name) {
+  long = Some name;
+  value_names = 1;
+  parser = Some (Signed (pos 1) (pos 4294967295));
+}
+
+-- the subcommand `chart`, with its first two options
+abbrev pub chart_of_whole : App
+chart_of_whole = with_rule (with_rule (new_app (codes "chart")) position_option) hide_self_option
+
+-- the subcommand `chart`, with its four options
+abbrev pub chart : App
+chart =
+    with_rule (with_rule chart_of_whole (moment_option (codes "from"))) (moment_option (codes "to"))
+
+-- the program's command line, with its first two subcommands
+abbrev pub console_of_runs : App
+console_of_runs =
     with_subcommand (with_subcommand (on_top with_choice (new_app (codes "rp_console"))) script.top)
     live.top
+
+-- the program's command line: the subcommands `script`, `live` and `chart`
+abbrev pub console : App
+console = with_subcommand console_of_runs chart.top
 
 -- the subcommand that asks for this
 abbrev pub name_of : Args → Text
 name_of (Script traced) = codes "script"
 name_of (Live request) = codes "live"
+name_of (Chart view) = codes "chart"
 
 -- `live` with this seed and this many turns
 abbrev pub live_args : ℕ → ℕ → Args
@@ -78,13 +116,30 @@ seed_of words = option_of (codes "live") (codes "seed") words
 abbrev pub turns_of : List Text → Option Text
 turns_of words = option_of (codes "live") (codes "turns") words
 
--- the text is decimal digits, after at most one plus, for this number of 32 bits
-pub record IsNumberText (text : Text) (number : ℕ) : Type 0 where
+-- the value that the words give to an option of `chart`
+abbrev pub chart_option : List Text → Text → Option Text
+chart_option words option = option_of (codes "chart") option words
+
+-- the text is an optional `+` and the digits of this number of this many bits
+pub record IsNumberText (bits : ℕ) (text : Text) (number : ℕ) : Type 0 where
   pub digits : IsNumeral 10 (without_leading_plus text)
   pub value : number ≡ digits_value 10 (without_leading_plus text)
-  pub fits : number < 2 ^ 32
+  pub fits : number < 2 ^ bits
 
 -- there is such a text
-abbrev pub ReadsAs : Option Text → ℕ → Type 0
-ReadsAs None number = ⊥
-ReadsAs (Some text) number = IsNumberText text number
+abbrev pub ReadsAs : ℕ → Option Text → ℕ → Type 0
+ReadsAs bits None number = ⊥
+ReadsAs bits (Some text) number = IsNumberText bits text number
+
+-- The part of a run that the values of these options choose: what names a position, whether packets
+-- from a node to itself are hidden, and the first and the last moment.
+pub record IsView (value : Text → Option Text) (view : View) : Type 0 where
+  pub hides : value (codes "hide-self") ≡ Some (codes "true") → view.hides_self ≡ true
+  pub shows : value (codes "hide-self") ≡ Some (codes "false") → view.hides_self ≡ false
+  pub whole : value (codes "position") ≡ None → view.position ≡ None
+  pub position : (number : ℕ) → 0 < number → ReadsAs 16 (value (codes "position")) number
+      → view.position ≡ Some number
+  pub from_start : value (codes "from") ≡ None → view.from ≡ None
+  pub from : (number : ℕ) → ReadsAs 32 (value (codes "from")) number → view.from ≡ Some number
+  pub to_end : value (codes "to") ≡ None → view.to ≡ None
+  pub to : (number : ℕ) → ReadsAs 32 (value (codes "to")) number → view.to ≡ Some number

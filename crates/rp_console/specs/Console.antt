@@ -8,19 +8,24 @@ use Rattle.clap.specs.declared.error.kind.ErrorKind.TheVariants.{OutOfMemory}
 use Rattle.rp_base.specs.declared.fault.Fault.{Fault}
 use Rattle.rp_deck.specs.declared.deck.Mode.{Mode}
 use Rattle.rp_deck.specs.declared.deck.Mode.TheVariants as modes
+use Rattle.rp_chart.specs.Charts.{DrawingBegins, Draws}
+use Rattle.rp_chart.specs.declared.chart.Outcome.TheVariants.{Drawn}
+use Rattle.rp_chart.specs.declared.chart.Outcome.TheVariants as outcomes
+use Rattle.rp_history.specs.declared.view.View.{View}
 use Rattle.rp_script.specs.Agreeing.{ScriptBegins, ScriptPrints}
-use Rattle.rp_console.specs.CommandLine.{console, live_args, name_of, seed_of, trace_of, turns_of}
-use Rattle.rp_console.specs.CommandLine.{ReadsAs}
+use Rattle.rp_console.specs.CommandLine.{chart_option, console, live_args, name_of, seed_of}
+use Rattle.rp_console.specs.CommandLine.{trace_of, turns_of, IsView, ReadsAs}
 use Rattle.rp_script.specs.Figures.{figures_line_of}
 use Rattle.rp_script.specs.Given.{FailsRun}
 use Rattle.rp_script.specs.LiveRun.{LiveBegins, LivePrints}
-use Rattle.rp_output.specs.Endings.{RefusesAs, status_after}
+use Rattle.rp_output.specs.Endings.{RefusesAs, status_of}
 use Rattle.rp_output.specs.FaultMessage.{fault_message_of, with_line_feed}
 use Rattle.rp_output.specs.Stream.{Writes}
 use Rattle.rp_console.specs.declared.args.Args.{Args}
-use Rattle.rp_console.specs.declared.args.Args.TheVariants.{Script, Live}
+use Rattle.rp_console.specs.declared.args.Args.TheVariants.{Script, Live, Chart}
+use Rattle.rp_console.specs.declared.console.Report.{Report}
+use Rattle.rp_console.specs.declared.console.Report.TheVariants.{Nothing, Figures, TooLong}
 use Rattle.rp_output.specs.declared.ending.Ending.{Ending}
-use Rattle.rp_script.specs.declared.figures.FiguresLine.{FiguresLine}
 
 -- the bytes that a stream has, if the contract of its type says which they are
 abbrev pub Content : Type 0
@@ -32,47 +37,68 @@ pub record AsksFor (words : List Text) (args : Args) : Type 0 where
   pub named : option_map (λ found. found.0) (subcommand_of console words) ≡ Some (name_of args)
   pub traced : trace_of words ≡ Some (codes "true") → args ≡ Script true
   pub quiet : trace_of words ≡ Some (codes "false") → args ≡ Script false
-  pub live : (seed turns : ℕ) → ReadsAs (seed_of words) seed → ReadsAs (turns_of words) turns
-      → args ≡ live_args seed turns
+  pub live : (seed turns : ℕ) → ReadsAs 32 (seed_of words) seed
+      → ReadsAs 32 (turns_of words) turns → args ≡ live_args seed turns
+  pub chart : (view : View) → args ≡ Chart view → IsView (chart_option words) view
 
--- What a run without a fault prints, of the deck that the bytes given to it mean. A script reports
--- no figures, and a run in threads reports those of the run that it prints.
-abbrev pub Prints : Args → Content → Content → Content → Option FiguresLine → Type 0
-Prints (Script traced) given old new figures = ScriptPrints traced given old new × (figures ≡ None)
-Prints (Live request) given old new None = ⊥
-Prints (Live request) given old new (Some line) =
+-- What a run without a fault prints, of the deck that the bytes given to it mean. A script has
+-- nothing to report, a run in threads the figures of the run that it prints, and a drawing that it
+-- is too long, if it is: then nothing is printed.
+abbrev pub Prints : Args → Content → Content → Content → Report → Type 0
+Prints (Script traced) given old new Nothing = ScriptPrints traced given old new
+Prints (Live request) given old new (Figures line) =
     LivePrints request.seed request.turns given old new line.figures
+Prints (Chart view) given old new Nothing = Draws Drawn view given old new
+Prints (Chart view) given old new TooLong = Draws outcomes.TooLong view given old new
+Prints args given old new report = ⊥
 
 -- what a run that a fault ends has printed: nothing, or a prefix of that
 abbrev pub HasBegun : Args → Content → Content → Content → Type 0
 HasBegun (Script traced) given old new = ScriptBegins traced given old new
 HasBegun (Live request) given old new = LiveBegins request.seed request.turns given old new
+HasBegun (Chart view) given old new = DrawingBegins view given old new
 
 -- the mode in which a deck is read
 abbrev pub mode_of : Args → Mode
 mode_of (Script traced) = modes.Script
 mode_of (Live request) = modes.Live
+mode_of (Chart view) = modes.Script
 
--- what is reported of a run: the line of its figures or of its fault, if it has any
-abbrev pub report_of : Result (Option FiguresLine) Fault → List ℕ
-report_of (Ok None) = []
-report_of (Ok (Some figures)) = with_line_feed (figures_line_of figures)
+-- why there is no drawing of a whole run that is too long
+abbrev pub too_long_line : List ℕ
+too_long_line =
+    codes "error: the drawing has more than 2000 lines: choose a part of it by --from N or --to N"
+
+-- what is reported of a run: the line of its figures, that its drawing is too long, or the line of
+-- its fault, if it has any
+abbrev pub report_of : Result Report Fault → List ℕ
+report_of (Ok Nothing) = []
+report_of (Ok (Figures figures)) = with_line_feed (figures_line_of figures)
+report_of (Ok TooLong) = with_line_feed too_long_line
 report_of (Err fault) = with_line_feed (fault_message_of fault)
+
+-- the status after a run: 0 if it had no fault, 2 if its drawing is too long, and otherwise that of
+-- the fault
+abbrev pub status_of_run : Result Report Fault → ℕ
+status_of_run (Ok Nothing) = 0
+status_of_run (Ok (Figures figures)) = 0
+status_of_run (Ok TooLong) = 2
+status_of_run (Err fault) = status_of fault
 
 -- What the words ask for was run, with the deck that the bytes given to it mean. It printed the
 -- output of such a run, or a fault ended it after a prefix of that. If the bytes mean no deck,
 -- nothing is printed, and the fault has the first bad line and the first reason on it. The status
--- is 0 without a fault, and otherwise that of the fault, which is reported. The figures of a live
--- run are reported as well, and are those of the run that it printed. A report that could not be
--- written whole is a prefix of its line; with nothing to report, nothing is written on standard
--- error.
+-- is 0 without a fault, 2 if a drawing is too long, and otherwise that of the fault; the latter two
+-- are reported. The figures of a live run are reported as well, and are those of the run that it
+-- printed. A report that could not be written whole is a prefix of its line; with nothing to report,
+-- nothing is written on standard error.
 pub record RunsAs (args : Args) (given output output_after errors errors_after : Content)
     (ending : Ending) : Type 0 where
-  pub ran : Result (Option FiguresLine) Fault
+  pub ran : Result Report Fault
   pub printed : IfOk ran (Prints args given output output_after)
   pub begun : OnErr ran (HasBegun args given output output_after)
   pub fault : IfErr ran (FailsRun (mode_of args) given output output_after)
-  pub status : ending.status ≡ status_after ran
+  pub status : ending.status ≡ status_of_run ran
   pub reported : Writes errors errors_after (report_of ran) ending.reported
   pub silent : report_of ran ≡ [] → errors_after ≡ errors
 

@@ -1,18 +1,20 @@
 //! What the words of the command line ask for.
 
-ghost use Rattle.std.specs.Prelude.{◌≡◌, ℕ, Some, true, false, codes, IfOk, map, option_map};
-ghost use Rattle.clap.specs.Words.{app_of, subcommand_of, fault_of, found_of, one_text, FailsBy};
+ghost use Rattle.std.specs.Prelude.{◌≡◌, ℕ, None, Some, true, false, codes, IfOk, map, option_map};
+ghost use Rattle.clap.specs.Words.{app_of, rule_of, subcommand_of, fault_of, found_of, one_text, FailsBy};
 ghost use Rattle.clap.specs.declared.builder.command.Command.TheViews.{out-Command};
-ghost use Rattle.rp_console.specs.CommandLine.{console, script, live, live_args, name_of, trace_of, seed_of, turns_of, ReadsAs};
+ghost use Rattle.rp_console.specs.CommandLine.{chart, chart_option, console, hide_self_option, live, live_args, moment_option, name_of, position_option, script, seed_of, trace_of, turns_of, IsView, ReadsAs};
 
 use clap::{Arg, ArgAction, ArgMatches, Command, Error, value_parser};
+use rp_base::Position;
+use rp_history::View;
 use rp_output::VERSION;
 use rp_script::LiveRequest;
 use std::alloc::{AllocError, Global};
 use std::convert::AsStr;
 
 /// What the program is asked to do.
-#[derive(Clone, Copy, Debug, PartialEq, Eq)]
+#[derive(Clone, Copy)]
 pub enum Args {
     /// Runs the script of the deck on standard input.
     Script {
@@ -21,6 +23,8 @@ pub enum Args {
     },
     /// Runs the deck on standard input in threads.
     Live(LiveRequest),
+    /// Draws this part of the run of the script of the deck on standard input.
+    Chart(View),
 }
 
 /// The program's command line.
@@ -29,6 +33,7 @@ pub fn command<'a>(alloc: Global) -> Result<Command<'a>, AllocError>
 {
     let script = script_command(alloc)?;
     let live = live_command(alloc)?;
+    let chart = chart_command(alloc)?;
     Command::new(alloc, "rp_console")
         .about("Runs a program of tasks and objects on a cluster of nodes in memory")
         .after_help("Example: rp_console script < DECK; decks are described in docs/DECK.md")
@@ -36,7 +41,8 @@ pub fn command<'a>(alloc: Global) -> Result<Command<'a>, AllocError>
         .subcommand_required(true)
         .disable_help_subcommand(true)
         .subcommand(script)?
-        .subcommand(live)
+        .subcommand(live)?
+        .subcommand(chart)
 }
 
 /// The subcommand `script`.
@@ -78,11 +84,70 @@ fn live_command<'a>(alloc: Global) -> Result<Command<'a>, AllocError>
         .arg(turns)
 }
 
+/// The subcommand `chart`.
+fn chart_command<'a>(alloc: Global) -> Result<Command<'a>, AllocError>
+    ensures app { IfOk result (λ command. app_of command ≡ chart) }
+    ensures local { IfOk result (λ command. (out-Command command).has_globals ≡ false) }
+{
+    Command::new(alloc, "chart")
+        .about(
+            "Reads a deck from standard input, runs its script and prints a drawing of what happens",
+        )
+        .arg(position_option(alloc))?
+        .arg(hide_self_option(alloc))?
+        .arg(moment_option(
+            alloc,
+            "from",
+            "Draws only the moments from number N on, 1 to 4294967295",
+        ))?
+        .arg(moment_option(
+            alloc,
+            "to",
+            "Draws only the moments up to number N, 1 to 4294967295",
+        ))
+}
+
+/// The option `--position`.
+fn position_option<'a>(alloc: Global) -> Arg<'a>
+    ensures rule { rule_of result ≡ position_option }
+    ensures local { result.global ≡ false }
+{
+    Arg::new(alloc, "position")
+        .long("position")
+        .value_name("P")
+        .help("Draws only what names this position, 1 to 65535")
+        .value_parser(value_parser!(u16).range(1..))
+}
+
+/// The option `--hide-self`.
+fn hide_self_option<'a>(alloc: Global) -> Arg<'a>
+    ensures rule { rule_of result ≡ hide_self_option }
+    ensures local { result.global ≡ false }
+{
+    Arg::new(alloc, "hide-self")
+        .long("hide-self")
+        .help("Draws no arrow from a node to itself")
+        .action(ArgAction::SetTrue)
+}
+
+/// An option that takes the number of a moment.
+fn moment_option<'a>(alloc: Global, name: &'a str, help: &'a str) -> Arg<'a>
+    ensures rule { rule_of result ≡ moment_option name.now }
+    ensures local { result.global ≡ false }
+{
+    Arg::new(alloc, name)
+        .long(name)
+        .value_name("N")
+        .help(help)
+        .value_parser(value_parser!(u32).range(1..))
+}
+
 /// Reads the words, of which the first is the program's name. An error carries the text for the
 /// user.
 pub fn read_args<S: AsStr>(alloc: Global, words: &[S]) -> Result<Args, Error>
     // claim: The words of the command line name a subcommand and its options, or are refused as
-    //   clap's rules say
+    //   clap's rules say. For a drawing they choose a position, whether packets from a node to
+    //   itself are drawn, and the first and the last moment that is drawn
     ensures named { IfOk result (λ args. option_map (λ found. found.0)
         (subcommand_of console (map S.text words.now)) ≡ Some (name_of args)) }
     ensures traced { IfOk result (λ args. trace_of (map S.text words.now) ≡ Some (codes "true")
@@ -90,9 +155,11 @@ pub fn read_args<S: AsStr>(alloc: Global, words: &[S]) -> Result<Args, Error>
     ensures quiet { IfOk result (λ args. trace_of (map S.text words.now) ≡ Some (codes "false")
         → args ≡ Args.Script false) }
     ensures live { IfOk result (λ args. (seed turns : ℕ)
-        → ReadsAs (seed_of (map S.text words.now)) seed
-        → ReadsAs (turns_of (map S.text words.now)) turns
+        → ReadsAs 32 (seed_of (map S.text words.now)) seed
+        → ReadsAs 32 (turns_of (map S.text words.now)) turns
         → args ≡ live_args seed turns) }
+    ensures chart { IfOk result (λ args. (view : View) → args ≡ Args.Chart view
+        → IsView (chart_option (map S.text words.now)) view) }
     ensures refused { FailsBy (fault_of console (map S.text words.now)) result }
 {
     let matches = command(alloc)?.try_get_matches_from(words)?;
@@ -100,19 +167,52 @@ pub fn read_args<S: AsStr>(alloc: Global, words: &[S]) -> Result<Args, Error>
         let traced = found.get_flag("trace");
         return Ok(Args::Script { traced });
     }
-    match matches.subcommand_matches("live") {
-        Some(found) => Ok(Args::Live(LiveRequest {
+    if let Some(found) = matches.subcommand_matches("live") {
+        return Ok(Args::Live(LiveRequest {
             seed: number_of(found, "seed"),
             turns: number_of(found, "turns"),
-        })),
+        }));
+    }
+    match matches.subcommand_matches("chart") {
+        Some(found) => Ok(Args::Chart(view_of(found))),
         None => unreachable!(),
+    }
+}
+
+/// The part of a run that the options of `chart` choose.
+fn view_of(found: &ArgMatches<'_>) -> View
+    ensures { IsView (one_text (found_of found.now)) result }
+{
+    View {
+        position: Position::new(position_of(found, "position")),
+        hides_self: found.get_flag("hide-self"),
+        from: moment_of(found, "from"),
+        to: moment_of(found, "to"),
     }
 }
 
 /// The value of an option that takes a number, 0 if it has none.
 fn number_of(found: &ArgMatches<'_>, id: &str) -> u32
-    ensures { (number : ℕ) → ReadsAs (one_text (found_of found.now) id.now) number
+    ensures { (number : ℕ) → ReadsAs 32 (one_text (found_of found.now) id.now) number
         → result ≡ number }
 {
     found.get_one::<u32>(id).unwrap_or(0)
+}
+
+/// The value of an option that takes the number of a moment, if it has one.
+fn moment_of(found: &ArgMatches<'_>, id: &str) -> Option<u32>
+    ensures none { one_text (found_of found.now) id.now ≡ None → result ≡ None }
+    ensures number { (number : ℕ) → ReadsAs 32 (one_text (found_of found.now) id.now) number
+        → result ≡ Some number }
+{
+    found.get_one::<u32>(id)
+}
+
+/// The value of an option that takes a position, 0 if it has none.
+fn position_of(found: &ArgMatches<'_>, id: &str) -> u16
+    ensures none { one_text (found_of found.now) id.now ≡ None → result ≡ 0 }
+    ensures number { (number : ℕ) → ReadsAs 16 (one_text (found_of found.now) id.now) number
+        → result ≡ number }
+{
+    found.get_one::<u16>(id).unwrap_or(0)
 }

@@ -1,13 +1,13 @@
 //! Does what the words of the command line ask for, and reports its faults.
 
 ghost use Rattle.std.specs.Prelude.{◌≡◌, [], IfErr, IfOk, OnErr, map};
-ghost use Rattle.rp_console.specs.Console.{FollowsWords, HasBegun, Prints, mode_of, report_of};
-ghost use Rattle.rp_output.specs.Endings.{status_after};
+ghost use Rattle.rp_console.specs.Console.{FollowsWords, HasBegun, Prints, mode_of, report_of, status_of_run};
 ghost use Rattle.rp_output.specs.Stream.{Writes};
 ghost use Rattle.rp_script.specs.Given.{FailsRun};
 
 use crate::args::{Args, read_args};
 use rp_base::Fault;
+use rp_chart::{Outcome, draw_script};
 use rp_output::{Ending, Streams, fail, refuse_words, report};
 use rp_script::{FiguresLine, run_live, run_script};
 use std::alloc::Global;
@@ -17,6 +17,21 @@ use std::sync::Wait;
 use std::thread::Threads;
 use std::time::Clock;
 
+/// What a run without a fault leaves to be reported.
+#[derive(Drop)]
+pub enum Report {
+    /// Nothing.
+    Nothing,
+    /// The line of the figures of a live run.
+    Figures(FiguresLine),
+    /// That the drawing is too long, so that there is none.
+    TooLong,
+}
+
+/// Why there is no drawing.
+const TOO_LONG: &str =
+    "error: the drawing has more than 2000 lines: choose a part of it by --from N or --to N";
+
 /// Runs what the words ask for and reports its fault, or reports why the words are wrong.
 pub fn obey<T: Threads + Wait + Clock, S: AsStr, R: Read + Drop, W: Write + Drop, E: Write + Drop>(
     rt: &T,
@@ -24,15 +39,16 @@ pub fn obey<T: Threads + Wait + Clock, S: AsStr, R: Read + Drop, W: Write + Drop
     words: &[S],
     streams: &mut Streams<R, W, E>,
 ) -> Ending
-    // claim: The program runs what its words ask for (a script, traced or not, or a live run), and
-    //   nothing if they are wrong. The status is 0 exactly if the run ended without a fault or the
-    //   words ask for help or the version, 3 at a bad deck, 2 at wrong words, and 4 at every other
-    //   fault. A fault is reported on standard error by its line, that of a bad deck with the first
-    //   bad line that the deck's bytes mean and the first reason on it. A live run without a fault
-    //   leaves there the line of the figures of the run that it printed, with a time or without
-    //   one. A line that could not be written whole is left there as a prefix of it. A script
-    //   without a fault leaves standard error as it was; wrong words print nothing, and help
-    //   reports nothing; if help cannot be printed the fault is `Io`
+    // claim: The program runs what its words ask for (a script, traced or not, a live run, or a
+    //   drawing of a script's run), and nothing if they are wrong. The status is 0 exactly if the run
+    //   ended without a fault and no drawing was too long, or the words ask for help or the version; 3
+    //   at a bad deck; 2 at wrong words, or if the drawing is too long, which one line reports; and 4
+    //   at every other fault. A fault is reported on standard error by its line, that of a bad deck
+    //   with the first bad line that the deck's bytes mean and the first reason on it. A live run
+    //   without a fault leaves there the line of the figures of the run that it printed, with a time
+    //   or without one. A line that could not be written whole is left there as a prefix of it. A
+    //   script or a drawing without a fault leaves standard error as it was; wrong words print
+    //   nothing, and help reports nothing; if help cannot be printed the fault is `Io`
     ensures obeyed { FollowsWords (map S.text words.now) (R.remaining streams.old.reader)
         (W.contents streams.old.writer) (W.contents streams.new.writer)
         (E.contents streams.old.errors) (E.contents streams.new.errors) result }
@@ -46,15 +62,15 @@ pub fn obey<T: Threads + Wait + Clock, S: AsStr, R: Read + Drop, W: Write + Drop
     }
 }
 
-/// Runs the deck that the reader holds, in its script's order or in threads. A run in threads
-/// returns its figures for the report.
+/// Runs the deck that the reader holds, in its script's order or in threads, or draws its script's
+/// run. Returns what is to be reported of it.
 fn run_as<T: Threads + Wait + Clock, R: Read, W: Write>(
     rt: &T,
     alloc: Global,
     args: Args,
     reader: &mut R,
     writer: &mut W,
-) -> Result<Option<FiguresLine>, Fault>
+) -> Result<Report, Fault>
     ensures output { IfOk result (Prints args (R.remaining reader.old)
         (W.contents writer.old) (W.contents writer.new)) }
     ensures begun { OnErr result (HasBegun args (R.remaining reader.old)
@@ -64,31 +80,40 @@ fn run_as<T: Threads + Wait + Clock, R: Read, W: Write>(
 {
     match args {
         Args::Script { traced } => match run_script(alloc, reader, traced, writer) {
-            Ok(()) => Ok(None),
+            Ok(()) => Ok(Report::Nothing),
             Err(fault) => Err(fault),
         },
         Args::Live(request) => match run_live(rt, alloc, reader, request, writer) {
-            Ok(figures) => Ok(Some(figures)),
+            Ok(figures) => Ok(Report::Figures(figures)),
+            Err(fault) => Err(fault),
+        },
+        Args::Chart(view) => match draw_script(alloc, reader, view, writer) {
+            Ok(Outcome::Drawn) => Ok(Report::Nothing),
+            Ok(Outcome::TooLong) => Ok(Report::TooLong),
             Err(fault) => Err(fault),
         },
     }
 }
 
-/// Reports a run's figures or its fault, if it has any.
-fn end<E: Write>(errors: &mut E, ran: Result<Option<FiguresLine>, Fault>) -> Ending
-    ensures status { result.status ≡ status_after ran }
+/// Reports a run's figures, that its drawing is too long, or its fault, if it has any.
+fn end<E: Write>(errors: &mut E, ran: Result<Report, Fault>) -> Ending
+    ensures status { result.status ≡ status_of_run ran }
     ensures reported { Writes (E.contents errors.old) (E.contents errors.new) (report_of ran)
         result.reported }
     ensures silent { report_of ran ≡ [] → E.contents errors.new ≡ E.contents errors.old }
 {
     match ran {
-        Ok(None) => Ending {
+        Ok(Report::Nothing) => Ending {
             status: 0,
             reported: Ok(()),
         },
-        Ok(Some(figures)) => Ending {
+        Ok(Report::Figures(figures)) => Ending {
             status: 0,
             reported: report(errors, figures),
+        },
+        Ok(Report::TooLong) => Ending {
+            status: 2,
+            reported: report(errors, TOO_LONG),
         },
         Err(fault) => fail(errors, fault),
     }

@@ -10,4 +10,5 @@ returns c =
     let top : app_of c.disable_help_subcommand.result ≡ on_top with_choice (new_app (codes "rp_console")) =
     rw (ap app_of_fields c.disable_help_subcommand.ensures, c.subcommand_required.ensures, c.version.ensures, c.after_help.ensures, c.about.ensures) (ap (on_top with_choice) c.new.ensures.app) in
     let first = c.in_ok-subcommand.ensures.shape (search rules) ∙ ap₂ with_subcommand top (ap (λ (a : App). a.top) c.in_ok-script.ensures.app) in
-    IfOk-weaker c.subcommand-2.result _ _ (λ r added. added.shape (search rules) ∙ ap₂ with_subcommand first (ap (λ (a : App). a.top) c.in_ok-live.ensures.app)) c.subcommand-2.ensures
+    let second = c.in_ok-subcommand-2.ensures.shape (search rules) ∙ ap₂ with_subcommand first (ap (λ (a : App). a.top) c.in_ok-live.ensures.app) in
+    IfOk-weaker c.subcommand-3.result _ _ (λ r added. added.shape (search rules) ∙ ap₂ with_subcommand second (ap (λ (a : App). a.top) c.in_ok-chart.ensures.app)) c.subcommand-3.ensures

@@ -1,7 +1,8 @@
 use Rattle.std.proofs.Common.{◌≡◌, ◌∙◌, [], map, inl, inr, rules, true, false, codes, ap, ap₂, sym, subst, refl, Option, Some}
 use Rattle.clap.specs.Words.{Text, fault_of, found_of, one_text, subcommand_name_of}
-use Rattle.rp_console.specs.CommandLine.{console, live_args, option_of, trace_of, ReadsAs}
-use Rattle.rp_console.proofs.CommandLineLemmas.{no_fault, has_fault, met_one, option_read}
+use Rattle.rp_history.specs.declared.view.View.{View}
+use Rattle.rp_console.specs.CommandLine.{chart_option, console, live_args, option_of, trace_of, IsView, ReadsAs}
+use Rattle.rp_console.proofs.CommandLineLemmas.{no_fault, has_fault, is_view_by, met_one, option_read}
 use Rattle.rp_console.specs.declared.args.Args.TheVariants.{Script}
 use Rattle.rp_console.proofs.args.read_args.Given as given
 use Rattle.rp_console.proofs.args.read_args.Goals as goal
@@ -37,15 +38,33 @@ unreachable-requires g c =
     let met = met_one _ (map g.S.AsStr.text c.args.words.now) c.in_ok-matches.matches _ c.in_ok-command.ensures c.in_ok-matches.ensures.matches (taken g (goal.at.unreachable-requires g c).In_ok-matches) in
     elim met [
       | inl script ↦ (let is : false ≡ true = c.in_default.ensures.found.1 script in cc)
-      | inr live ↦ (let is : false ≡ true = c.in-None.ensures.found.1 live in cc)
+      | inr other ↦ elim other [
+        | inl live ↦ (let is : false ≡ true = c.in_default-subcommand_matches.ensures.found.1 live in cc)
+        | inr chart ↦ (let is : false ≡ true = c.in-None.ensures.found.1 chart in cc)
+      ]
     ]
 
-pub returns-clause-live : goal.returns-clause-live
-returns-clause-live g c seed turns of_seed of_turns =
+pub returns-in-Some-subcommand_matches-clause-live : goal.returns-in-Some-subcommand_matches-clause-live
+returns-in-Some-subcommand_matches-clause-live g c seed turns of_seed of_turns =
     let found = c.in-Some-subcommand_matches.found.now in
     let named : subcommand_name_of c.in_ok-matches.matches ≡ Some (codes "live") = c.in-Some-subcommand_matches.ensures.found.0 refl in
     let text : (option : Text) → one_text (found_of found) option ≡ option_of (codes "live") option (map g.S.AsStr.text c.args.words.now) = λ option.
     option_read _ _ c.in_ok-matches.matches _ c.in_ok-command.ensures c.in_ok-matches.ensures.matches (codes "live") option found named refl c.in-Some-subcommand_matches.ensures.rows in
     ap₂ live_args
-    (c.number_of.ensures seed (subst (λ (t : Option Text). ReadsAs t seed) (sym (text (codes "seed"))) of_seed))
-    (c.number_of-in-Some-subcommand_matches.ensures turns (subst (λ (t : Option Text). ReadsAs t turns) (sym (text (codes "turns"))) of_turns))
+    (c.number_of.ensures seed (subst (λ (t : Option Text). ReadsAs 32 t seed) (sym (text (codes "seed"))) of_seed))
+    (c.number_of-in-Some-subcommand_matches.ensures turns (subst (λ (t : Option Text). ReadsAs 32 t turns) (sym (text (codes "turns"))) of_turns))
+
+pub returns-in-Some-subcommand_matches-clause-refused : goal.returns-in-Some-subcommand_matches-clause-refused
+returns-in-Some-subcommand_matches-clause-refused g c = taken g (goal.at.returns-in-Some-subcommand_matches-clause-refused g c).In_ok-matches
+
+pub returns-clause-refused : goal.returns-clause-refused
+returns-clause-refused g c = taken g (goal.at.returns-clause-refused g c).In_ok-matches
+
+pub returns-clause-chart : goal.returns-clause-chart
+returns-clause-chart g c view is =
+    let found = c.in-Some-subcommand_matches-2.found.now in
+    let named : subcommand_name_of c.in_ok-matches.matches ≡ Some (codes "chart") = c.in-Some-subcommand_matches-2.ensures.found.0 refl in
+    let text : (option : Text) → one_text (found_of found) option ≡ chart_option (map g.S.AsStr.text c.args.words.now) option = λ option.
+    option_read _ _ c.in_ok-matches.matches _ c.in_ok-command.ensures c.in_ok-matches.ensures.matches (codes "chart") option found named refl c.in-Some-subcommand_matches-2.ensures.rows in
+    let same : view ≡ c.view_of.result = cc in
+    subst (λ (v : View). IsView (chart_option (map g.S.AsStr.text c.args.words.now)) v) (sym same) (is_view_by _ _ c.view_of.result text c.view_of.ensures)

@@ -1,0 +1,9 @@
+//! A drawing of the run of a deck's script.
+//!
+//! In reading order:
+//! - `chart`: draws the run of a deck
+#![tactic(auto)]
+
+mod chart;
+
+pub use chart::{Outcome, draw_script};

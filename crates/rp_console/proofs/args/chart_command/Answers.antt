@@ -1,0 +1,23 @@
+use Rattle.std.proofs.Common.{◌≡◌, ◌∙◌, ◌||◌, Bool, false, ap, ap₂, codes, rules}
+use Rattle.std.proofs.lemmas.Result.{IfOk-weaker}
+use Rattle.clap.specs.Words.{app_of, new_app, with_rule}
+use Rattle.clap.specs.Simple.{app_of_fields}
+use Rattle.clap.specs.declared.builder.command.Command.TheViews.{out-Command}
+use Rattle.rp_console.proofs.args.chart_command.Goals as goal
+
+pub returns-clause-app : goal.returns-clause-app
+returns-clause-app c =
+    let above : app_of c.about.result ≡ new_app (codes "chart") = ap app_of_fields c.about.ensures ∙ c.new.ensures.app in
+    let first = c.in_ok-arg.ensures.shape c.position_option.ensures.local ∙ ap₂ with_rule above c.position_option.ensures.rule in
+    let second = c.in_ok-arg-2.ensures.shape c.hide_self_option.ensures.local ∙ ap₂ with_rule first c.hide_self_option.ensures.rule in
+    let third = c.in_ok-arg-3.ensures.shape c.moment_option.ensures.local ∙ ap₂ with_rule second c.moment_option.ensures.rule in
+    IfOk-weaker c.arg-4.result _ _ (λ r added. added.shape c.moment_option-2.ensures.local ∙ ap₂ with_rule third c.moment_option-2.ensures.rule) c.arg-4.ensures
+
+pub returns-clause-local : goal.returns-clause-local
+returns-clause-local c =
+    let either : Bool → Bool → Bool = λ x y. x || y in
+    let none : (out-Command c.about.result).has_globals ≡ false = search rules in
+    let first = c.in_ok-arg.ensures.globals ∙ ap₂ either none c.position_option.ensures.local in
+    let second = c.in_ok-arg-2.ensures.globals ∙ ap₂ either first c.hide_self_option.ensures.local in
+    let third = c.in_ok-arg-3.ensures.globals ∙ ap₂ either second c.moment_option.ensures.local in
+    IfOk-weaker c.arg-4.result _ _ (λ r added. added.globals ∙ ap₂ either third c.moment_option-2.ensures.local) c.arg-4.ensures

@@ -1,0 +1,10 @@
+pub mod Lists
+pub mod TreeLemmas
+pub mod KeyLemmas
+pub mod TableLemmas
+pub mod SearchLemmas
+pub mod AnswerLemmas
+pub mod WaitLemmas
+pub mod VisitLemmas
+pub mod FindingsLemmas
+pub mod ExploredLemmas

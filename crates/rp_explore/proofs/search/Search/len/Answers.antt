@@ -1,0 +1,13 @@
+-- Equal states would have equal keys.
+use Rattle.std.proofs.Common.{subst}
+use Rattle.rp_explore.specs.Listed.{AreDistinct}
+use Rattle.rp_explore.specs.Searched.{Searched}
+use Rattle.rp_explore.proofs.TableLemmas.{distinct_orders}
+use Rattle.rp_explore.proofs.search.Search.len.Goals as goal
+
+pub returns-clause-distinct : goal.returns-clause-distinct
+returns-clause-distinct g c =
+    let m = g.M.Machine in
+    let inside = c.self.inside in
+    subst (λ (v : Searched _). AreDistinct m.next m.answers v.begin v.listed.orders) c.self.view_is
+    (distinct_orders m.next m.answers (m.begin inside.program.now) m.image inside.keys.keys inside.tree.orders c.self.invariant c.len-count.ensures.unique)

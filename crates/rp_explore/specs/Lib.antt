@@ -1,0 +1,4 @@
+pub mod Keys
+pub mod Listed
+pub mod Searched
+pub mod Explored

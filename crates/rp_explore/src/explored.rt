@@ -1,0 +1,124 @@
+//! The search over every order, and what it found.
+
+ghost use Rattle.std.specs.Prelude.{◌≡◌, ◌-◌, ◌<◌, ◌≤◌, ◌↔◌, ℕ, false, [], length, None, slice_index_or, IsTrue, IfOk, MatchOption};
+ghost use Rattle.rp_base.specs.Number.{IsTask};
+ghost use Rattle.rp_base.specs.Sets.{Has, IsSet};
+ghost use Rattle.rp_base.specs.declared.reply.Answer.{Answer};
+ghost use Rattle.rp_orders.specs.Orders.{AreRight, AreClosed, IsGiven};
+ghost use Rattle.rp_explore.specs.Listed.{order_at, AreOrdersOf, AreDistinct};
+ghost use Rattle.rp_explore.specs.Explored.{IsFirstStuck, IsNeverStuck};
+
+use crate::findings::Findings;
+use crate::search::Search;
+use crate::tree::OrderTree;
+use rp_base::{Action, Answer, TaskId};
+use rp_machine::Machine;
+use std::alloc::{AllocError, Global};
+use std::marker::Model;
+
+/// The orders that were found, each to a state of its own, the shortest first, and what they give.
+#[derive(Drop)]
+pub struct Explored {
+    tree: OrderTree,
+    findings: Findings,
+}
+
+impl Model for Explored {
+    ghost use Rattle.rp_explore.specs.Explored.{Exploration};
+
+    ghost Value = { Exploration };
+
+    ghost view = { λ e. record {
+      may = e.tree.may;
+      orders = e.tree.orders;
+      is_whole = e.findings.is_whole;
+      replies = e.findings.replies.keys;
+      stuck = e.findings.stuck;
+    } };
+}
+
+/// Finds an order to each state to which an order of what may happen leads, breadth first, at most
+/// `most` of them, with the replies that are given and the tasks that wait for ever.
+pub fn explore<M: Machine>(
+    alloc: Global,
+    program: &M::Program,
+    may: &[Action],
+    most: usize,
+) -> Result<Explored, AllocError>
+    requires right { AreRight may.now }
+    requires room { 0 < most }
+    // claim: The orders that a search lists are of actions that may happen, the empty one is there,
+    //   no two lead to the same state, and they are no more than was asked
+    ensures may { IfOk result (λ e. e.may ≡ may.now) }
+    ensures starts { IfOk result (λ e. Has [] e.orders) }
+    ensures among { IfOk result (λ e. AreOrdersOf (record { may = may.now; orders = e.orders })) }
+    ensures distinct { IfOk result (λ e.
+        AreDistinct M.next M.answers (M.begin program.now) e.orders) }
+    ensures most { IfOk result (λ e. length e.orders ≤ most) }
+    // claim: A search is whole exactly if the orders that it lists lead to every state that their
+    //   actions lead to, and where it is not, it lists as many as was asked
+    ensures whole { IfOk result (λ e. IsTrue e.is_whole
+        ↔ AreClosed M.next M.answers (M.begin program.now) may.now e.orders) }
+    ensures full { IfOk result (λ e. e.is_whole ≡ false → length e.orders ≡ most) }
+    // claim: The replies of a search are exactly those that its orders and one action more give
+    ensures replies { IfOk result (λ e. (answer : Answer) → Has answer e.replies
+        ↔ IsGiven M.next M.answers (M.begin program.now) may.now e.orders answer) }
+    ensures once { IfOk result (λ e. IsSet e.replies) }
+    // claim: A search reports for each task the first of its orders after which the task waits for
+    //   ever, if there is one
+    ensures waits { IfOk result (λ e. (task : ℕ) → IsTask task
+        → MatchOption (slice_index_or e.stuck (task - 1) None)
+        (IsNeverStuck M.next M.answers (M.begin program.now) may.now e.orders task)
+        (IsFirstStuck M.next M.answers (M.begin program.now) may.now e.orders task)) }
+{
+    let mut search = Search::<M>::new(alloc, program, may, most)?;
+    let mut findings = Findings::new(alloc);
+    let mut place = 0;
+    while place < search.len() {
+        search.visit(place, &mut findings)?;
+        place += 1;
+    }
+    let _count = findings.replies.len();
+    Ok(Explored {
+        tree: search.into_tree(),
+        findings,
+    })
+}
+
+impl Explored {
+    /// How many orders there are, each to a state of its own.
+    pub fn len(&self) -> usize
+        ensures { result ≡ length self.now.orders }
+    {
+        self.tree.len()
+    }
+
+    /// Whether the orders lead to every state that what may happen leads to.
+    pub fn is_whole(&self) -> bool
+        ensures { result ≡ self.now.is_whole }
+    {
+        self.findings.is_whole
+    }
+
+    /// The order at a place, from 0.
+    pub fn order(&self, alloc: Global, place: usize) -> Result<Vec<Action>, AllocError>
+        requires { place < length self.now.orders }
+        ensures { IfOk result (λ order. order.items ≡ order_at self.now.orders place) }
+    {
+        self.tree.order(alloc, place)
+    }
+
+    /// The replies that are given, each once, in the order in which they were found.
+    pub fn replies(&self) -> &[Answer]
+        ensures { result.now ≡ self.now.replies }
+    {
+        self.findings.replies.as_slice()
+    }
+
+    /// The place of the first order after which the task waits for ever.
+    pub fn waits(&self, task: TaskId) -> Option<usize>
+        ensures { result ≡ slice_index_or self.now.stuck (task - 1) None }
+    {
+        self.findings.stuck[usize::from(task.get()) - 1]
+    }
+}

@@ -1,0 +1,20 @@
+//! A search over the orders in which the actions of a program may be decided.
+//!
+//! In reading order:
+//! - `explored`: the search over every order, and what it found
+//! - `search`: the orders that were found, and whether one more of them leads to a new state
+//! - `findings`: what the orders that were found give
+//! - `key`: what tells the states of a program apart
+//! - `replays`: the machine after an order, and whether one action more counts
+//! - `branch`, `tree`: the orders that were found, as memory holds them
+#![tactic(auto)]
+
+mod branch;
+mod explored;
+mod findings;
+mod key;
+mod replays;
+mod search;
+mod tree;
+
+pub use explored::{Explored, explore};

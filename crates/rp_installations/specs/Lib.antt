@@ -1,0 +1,4 @@
+pub mod Sites
+pub mod Moves
+pub mod Behind
+pub mod Outcomes

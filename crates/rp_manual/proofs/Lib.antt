@@ -1,0 +1,5 @@
+pub mod Values
+pub mod Assigning
+pub mod Acting
+pub mod Serving
+pub mod Calling

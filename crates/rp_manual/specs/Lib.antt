@@ -1,0 +1,4 @@
+pub mod Expressions
+pub mod Statements
+pub mod ObjectRules
+pub mod ProgramRules

@@ -1,0 +1,247 @@
+-- Pending steps stay steps whatever others send, and the first ones become events.
+use Rattle.std.proofs.Common.{◌≡◌, ◌≢◌, ℕ, zero, suc, ◌+◌, ◌<◌, ◌≤◌, Bool, true, false, cond, Option, Some, None, Result, Ok, Err, List, [], ◌∷◌, ◌++◌, length, inl, inr, refl, sym, ap, subst, ◌∙◌, append_assoc, arith}
+use Rattle.std.specs.Prelude.{nat_eq, slice_get, slice_set, unwrap_or, IfSome}
+use Rattle.std.proofs.lemmas.Bool.{cases_Bool, eqb-true}
+use Rattle.std.proofs.lemmas.List.{append-nil}
+use Rattle.rp_base.specs.Number.{IsNode}
+use Rattle.rp_base.specs.Config.{IsRightConfig}
+use Rattle.rp_base.specs.Sets.{Has}
+use Rattle.rp_base.proofs.Members.{has_split, has_left, has_right}
+use Rattle.rp_base.specs.declared.fault.Fault.{Fault}
+use Rattle.rp_base.specs.declared.record.Rec.{Rec}
+use Rattle.rp_codec.specs.Message.{Message}
+use Rattle.rp_codec.specs.declared.packet.Party.{Party}
+use Rattle.rp_codec.specs.declared.packet.Party.TheVariants as parties
+use Rattle.rp_model.specs.Answers.{Happen}
+use Rattle.rp_model.specs.Effect as nodes
+use Rattle.rp_model.specs.Effect.{Setting, Done, NodeInput, node_effect, effect_while, running_effect, turn_done, turn_done_if}
+use Rattle.rp_model.specs.Events.{Event, Step, Deliver, Lead, LeadRange, Interrupt, Tick, Report, Makes, IsRightEvent, IsRightStep}
+use Rattle.rp_model.specs.Parts.{NodePart, Running, Turn}
+use Rattle.rp_model.specs.Receiving.{is_node, is_for_node, receives}
+use Rattle.rp_model.specs.Says.{drops_foreign}
+use Rattle.rp_model.specs.World.{World, Transition, part_at, with_part, opening_world, event_effect, node_done, node_done_if, node_takes, node_hears, node_receives, arrives, delivers}
+use Rattle.rp_agreement.specs.History.{IsHistory}
+use Rattle.rp_agreement.specs.Order.{AllSent}
+use Rattle.rp_agreement.proofs.Lists.{has_get}
+use Rattle.rp_agreement.proofs.PartPlaces.{part_below, put_there, put_beside, put_length}
+use Rattle.rp_agreement.proofs.Playing.{happen_on}
+use Rattle.rp_agreement.specs.Ranges.{IsRangedWorld}
+use Rattle.rp_pending.specs.Pending.{PendingStep, MayCome, AreSteps, after_steps}
+use Rattle.rp_pending.specs.Making.{GoesOnTo, AreAllSent, Made}
+
+-- ---- what others send
+
+comes_later : (sent later : List Message) (input : NodeInput) → AllSent sent later → MayCome sent input → MayCome later input
+comes_later sent later (nodes.Receive message) all may = all message may
+comes_later sent later (nodes.Lead choice) all may = may
+comes_later sent later (nodes.LeadRange first count) all may = may
+comes_later sent later (nodes.Interrupt source occurrence) all may = may
+comes_later sent later (nodes.Tick now) all may = may
+comes_later sent later (nodes.Report first) all may = may
+
+pub steps_stay : {S : Type 0} (s : Setting S) (sent later : List Message) (me : ℕ) (part : NodePart) (steps : List PendingStep) → AllSent sent later → AreSteps s sent me part steps → AreSteps s later me part steps
+steps_stay s sent later me part [] all are = tt
+steps_stay s sent later me part (step ∷ rest) all are =
+    (comes_later sent later step.input all are.0, are.1, steps_stay s sent later me (turn_done part step.turn).part rest all are.2)
+
+-- ---- a part that is put where it was
+
+set_same : {A : Type 0} (xs : List A) (i : ℕ) (a : A) → slice_get xs i ≡ Some a → slice_set xs i a ≡ xs
+set_same [] i a e = refl
+set_same {A} (x ∷ xs) zero a e =
+    let same : x ≡ a = ap (λ (o : Option A). unwrap_or o x) e in
+    ap (λ (y : A). y ∷ xs) (sym same)
+set_same {A} (x ∷ xs) (suc i) a e = ap (λ (ys : List A). x ∷ ys) (set_same xs i a e)
+
+-- ---- events after a history
+
+module _ {S : Type 0} (s : Setting S) (events : List Event) (w : World) (history : IsHistory s events w) where
+  pub goes_on : (event : Event) (transition : Transition) → IsRightEvent event → event_effect s w event ≡ Ok transition → IsHistory s (events ++ event ∷ []) transition.world
+  goes_on event transition right effect = record {
+    config = history.config;
+    right = λ other has. elim (has_split other events (event ∷ []) has) [
+      | inl before ↦ history.right other before
+      | inr now ↦ elim now [ inl same ↦ subst IsRightEvent (sym same) right | inr none ↦ absurd none ]
+    ];
+    happened = happen_on s events (event ∷ []) (opening_world s.config.nodes) w transition.world history.happened (transition, effect, refl);
+  }
+
+-- nothing more happens
+abbrev pub stands_still : {S : Type 0} (s : Setting S) (events : List Event) (w : World) (me : ℕ) (part reached : NodePart) → IsHistory s events w → part_at w.nodes me ≡ Some part → reached ≡ part → GoesOnTo s events w me reached
+stands_still s events w me part reached history here same = record {
+  more = [];
+  world = w;
+  history = subst (λ (es : List Event). IsHistory s es w) (sym (append-nil events)) history;
+  here = here ∙ ap (λ (p : NodePart). Some p) (sym same);
+  others = λ k other. refl;
+  tasks = refl;
+  sent = λ m has. has;
+}
+
+-- one event of the node more
+abbrev pub one_more : {S : Type 0} (s : Setting S) (events : List Event) (w : World) (me : ℕ) (part : NodePart) (done : Done NodePart) (event : Event) → IsHistory s events w → part_at w.nodes me ≡ Some part
+    → IsRightEvent event → event_effect s w event ≡ Ok (node_done w me done) → GoesOnTo s events w me done.part
+one_more s events w me part done event history here right effect = record {
+  more = event ∷ [];
+  world = (node_done w me done).world;
+  history = goes_on s events w history event (node_done w me done) right effect;
+  here = put_there w.nodes me part done.part here;
+  others = λ k other. put_beside w.nodes me k done.part other;
+  tasks = refl;
+  sent = λ m has. has_left m w.sent done.sends has;
+}
+
+-- and then others
+abbrev pub leads_on : {S : Type 0} (s : Setting S) (events : List Event) (w : World) (me : ℕ) (middle reached : NodePart) (first : GoesOnTo s events w me middle) → GoesOnTo s (events ++ first.more) first.world me reached → GoesOnTo s events w me reached
+leads_on s events w me middle reached first second = record {
+  more = first.more ++ second.more;
+  world = second.world;
+  history = subst (λ (es : List Event). IsHistory s es second.world) (append_assoc events first.more second.more) second.history;
+  here = second.here;
+  others = λ k other. second.others k other ∙ first.others k other;
+  tasks = second.tasks ∙ first.tasks;
+  sent = λ m has. second.sent m (first.sent m has);
+}
+
+-- ---- the event of a step
+
+-- its step, where the packet has this number
+abbrev pub step_for : ℕ → ℕ → NodeInput → Step
+step_for me number (nodes.Receive message) = Deliver number
+step_for me number (nodes.Lead choice) = Lead me choice
+step_for me number (nodes.LeadRange first count) = LeadRange me first count
+step_for me number (nodes.Interrupt source occurrence) = Interrupt me source occurrence
+step_for me number (nodes.Tick now) = Tick me now
+step_for me number (nodes.Report first) = Report me first
+
+-- a node that has an effect runs
+runs_if : {S : Type 0} (s : Setting S) (me : ℕ) (part : NodePart) (input : NodeInput) (done : Done NodePart) (running : Option Running) → part.running ≡ running → effect_while s me part input running ≡ Ok done → (known : Running) × (part.running ≡ Some known)
+runs_if s me part input done None is effect = absurd (cc)
+runs_if s me part input done (Some known) is effect = (known, is)
+
+-- whether the packet is for this node
+abbrev pub IsFor : ℕ → NodeInput → Bool → Type 0
+IsFor me (nodes.Receive message) b = is_node me message.to ≡ b
+IsFor me (nodes.Lead choice) b = Unit {0}
+IsFor me (nodes.LeadRange first count) b = Unit {0}
+IsFor me (nodes.Interrupt source occurrence) b = Unit {0}
+IsFor me (nodes.Tick now) b = Unit {0}
+IsFor me (nodes.Report first) b = Unit {0}
+
+pub party_is : (me : ℕ) (party : Party) → is_node me party ≡ true → party ≡ parties.Node me
+party_is me (parties.Node k) e = ap (λ (n : ℕ). parties.Node n) (eqb-true k me e)
+party_is me (parties.Task t) e = absurd (cc)
+party_is me parties.Audit e = absurd (cc)
+
+module _ {S : Type 0} (s : Setting S) (w : World) (me : ℕ) (part : NodePart) (here : part_at w.nodes me ≡ Some part) where
+  -- the event of a step that is for the node
+  event_is : (input : NodeInput) (done : Done NodePart) → MayCome w.sent input → IsFor me input true → node_effect s me part input ≡ Ok done
+      → (number : ℕ) × (event_effect s w (Makes (step_for me number input)) ≡ Ok (node_done w me done))
+  event_is (nodes.Receive message) done may is effect =
+      let found = has_get w.sent message may in
+      let runs = runs_if s me part (nodes.Receive message) done part.running refl effect in (
+        suc found.0,
+        ap (delivers s w) found.1
+            ∙ ap (arrives s w message) (party_is me message.to is)
+            ∙ ap (node_receives s w me message) here
+            ∙ ap (node_hears s w me message part) runs.1
+            ∙ ap (node_done_if w me) effect,
+      )
+  event_is (nodes.Lead choice) done may is effect = (0, ap (node_takes s w me (nodes.Lead choice)) here ∙ ap (node_done_if w me) effect)
+  event_is (nodes.LeadRange first count) done may is effect = (0, ap (node_takes s w me (nodes.LeadRange first count)) here ∙ ap (node_done_if w me) effect)
+  event_is (nodes.Interrupt source occurrence) done may is effect = (0, ap (node_takes s w me (nodes.Interrupt source occurrence)) here ∙ ap (node_done_if w me) effect)
+  event_is (nodes.Tick now) done may is effect = (0, ap (node_takes s w me (nodes.Tick now)) here ∙ ap (node_done_if w me) effect)
+  event_is (nodes.Report first) done may is effect = (0, ap (node_takes s w me (nodes.Report first)) here ∙ ap (node_done_if w me) effect)
+
+pub right_step : (sent : List Message) (me number : ℕ) (input : NodeInput) → IsNode me → MayCome sent input → IsRightStep (step_for me number input)
+right_step sent me number (nodes.Receive message) node may = tt
+right_step sent me number (nodes.Lead choice) node may = (node, may)
+right_step sent me number (nodes.LeadRange first count) node may = (node, may.0, may.1)
+right_step sent me number (nodes.Interrupt source occurrence) node may = (node, may.0, may.1)
+right_step sent me number (nodes.Tick now) node may = (node, may)
+right_step sent me number (nodes.Report first) node may = (node, may)
+
+-- ---- a packet that is for another
+
+-- an input that is not for the node changes nothing
+pub record IsLost (part : NodePart) (turn : Turn) : Type 0 where
+  pub part_is : (turn_done part turn).part ≡ part
+  pub written : turn.written ≡ None
+  pub sent : turn.sent ≡ []
+
+not_for : {S : Type 0} (s : Setting S) (me : ℕ) (part : NodePart) (known : Running) (message : Message) → is_node me message.to ≡ false
+    → receives s.next s.answers s.begin s.config me part.records known message ≡ drops_foreign known
+not_for s me part known message e = let h : is_for_node s.config me message ≡ false = rw e in rw h
+
+pub lost : {S : Type 0} (s : Setting S) (me : ℕ) (part : NodePart) (turn : Turn) (message : Message) → is_node me message.to ≡ false → node_effect s me part (nodes.Receive message) ≡ Ok (turn_done part turn) → IsLost part turn
+lost s me part turn message e effect =
+    let runs = runs_if s me part (nodes.Receive message) (turn_done part turn) part.running refl effect in
+    let known = runs.0 in
+    let done : effect_while s me part (nodes.Receive message) (Some known) ≡ Ok (turn_done part turn) = sym (ap (effect_while s me part (nodes.Receive message)) runs.1) ∙ effect in
+    let dropped : turn_done_if part (Ok (drops_foreign known)) ≡ Ok (turn_done part turn) = sym (ap (λ (t : Turn). turn_done_if part (Ok t)) (not_for s me part known message e)) ∙ done in
+    let same : turn_done part (drops_foreign known) ≡ turn_done part turn = cc in
+    record {
+      part_is = sym (ap (λ (d : Done NodePart). d.part) same) ∙ ap (λ (o : Option Running). let p : NodePart = record { records = part.records; torn = part.torn; running = o } in p) (sym runs.1);
+      written = sym (ap (λ (d : Done NodePart). d.written) same);
+      sent = sym (ap (λ (d : Done NodePart). d.sends) same);
+    }
+
+-- ---- one step, and the first of several
+
+module _ {S : Type 0} (s : Setting S) (ranged : (events : List Event) (w : World) → IsHistory s events w → IsRangedWorld s.config.nodes w) where
+  pub node_here : (events : List Event) (w : World) (me : ℕ) (part : NodePart) → IsHistory s events w → part_at w.nodes me ≡ Some part → IsNode me
+  node_here events w me part history here =
+      let place = part_below w.nodes me part here in
+      let size : length w.nodes ≡ s.config.nodes = (ranged events w history).size in
+      (place.0, omega (arith, place.1, size, history.config.nodes.1))
+
+  -- a step is an event, or is lost
+  pub record OneMade (events : List Event) (w : World) (me : ℕ) (part : NodePart) (turn : Turn) : Type 0 where
+    pub leads : GoesOnTo s events w me (turn_done part turn).part
+    pub sends : (m : Message) → Has m turn.sent → Has m leads.world.sent
+
+  module _ (events : List Event) (w : World) (me : ℕ) (part : NodePart) (history : IsHistory s events w) (here : part_at w.nodes me ≡ Some part) where
+    happens : (input : NodeInput) (turn : Turn) → MayCome w.sent input → IsFor me input true → node_effect s me part input ≡ Ok (turn_done part turn) → OneMade events w me part turn
+    happens input turn may is effect =
+        let event = event_is s w me part here input (turn_done part turn) may is effect in
+        record {
+          leads = one_more s events w me part (turn_done part turn) (Makes (step_for me event.0 input)) history here (right_step w.sent me event.0 input (node_here events w me part history here) may) event.1;
+          sends = λ m has. has_right m w.sent turn.sent has;
+        }
+
+    loses : (turn : Turn) → IsLost part turn → OneMade events w me part turn
+    loses turn is = record {
+      leads = stands_still s events w me part (turn_done part turn).part history here is.part_is;
+      sends = λ m has. absurd (subst (λ (ms : List Message). Has m ms) is.sent has);
+    }
+
+    pub one_made : (input : NodeInput) (turn : Turn) → MayCome w.sent input → node_effect s me part input ≡ Ok (turn_done part turn) → OneMade events w me part turn
+    one_made (nodes.Receive message) turn may effect =
+        elim (cases_Bool (is_node me message.to)) [
+          | inl own ↦ happens (nodes.Receive message) turn may own effect
+          | inr foreign ↦ loses turn (lost s me part turn message foreign effect)
+        ]
+    one_made (nodes.Lead choice) turn may effect = happens (nodes.Lead choice) turn may tt effect
+    one_made (nodes.LeadRange first count) turn may effect = happens (nodes.LeadRange first count) turn may tt effect
+    one_made (nodes.Interrupt source occurrence) turn may effect = happens (nodes.Interrupt source occurrence) turn may tt effect
+    one_made (nodes.Tick now) turn may effect = happens (nodes.Tick now) turn may tt effect
+    one_made (nodes.Report first) turn may effect = happens (nodes.Report first) turn may tt effect
+
+  pub made : (front back : List PendingStep) (events : List Event) (w : World) (me : ℕ) (part : NodePart) → IsHistory s events w → part_at w.nodes me ≡ Some part → AreSteps s w.sent me part (front ++ back) → Made s events w me part front back
+  made [] back events w me part history here are = record {
+    leads = stands_still s events w me part part history here refl;
+    pending = are;
+    packets = λ step none. absurd none;
+  }
+  made (step ∷ front) back events w me part history here are =
+      let one = one_made events w me part history here step.input step.turn are.0 are.1 in
+      let later = steps_stay s w.sent one.leads.world.sent me (turn_done part step.turn).part (front ++ back) one.leads.sent are.2 in
+      let rest = made front back (events ++ one.leads.more) one.leads.world me (turn_done part step.turn).part one.leads.history one.leads.here later in
+      record {
+        leads = leads_on s events w me (turn_done part step.turn).part (after_steps (turn_done part step.turn).part front) one.leads rest.leads;
+        pending = rest.pending;
+        packets = λ other has. elim has [
+          | inl same ↦ λ m there. rest.leads.sent m (one.sends m (subst (λ (st : PendingStep). Has m st.turn.sent) same there))
+          | inr later_one ↦ rest.packets other later_one
+        ];
+      }

@@ -1,0 +1,3 @@
+pub mod WordsRead
+pub mod LinesRead
+pub mod PacketsRead

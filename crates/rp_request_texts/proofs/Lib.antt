@@ -1,0 +1,2 @@
+pub mod NodeTexts
+pub mod TaskTexts

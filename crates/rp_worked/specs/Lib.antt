@@ -1,0 +1,6 @@
+pub mod Memory
+pub mod Outcomes
+pub mod Gate
+pub mod Gates
+pub mod Box
+pub mod Sums

@@ -1,0 +1,23 @@
+//! Worked examples of the rules of protected objects: explicit programs, what their calls are
+//! answered, and the states that follow. No code that runs.
+//!
+//! In reading order:
+//! - `gate`: an entry that waits for its barrier
+//! - `gates`: two entries, and queues of several calls
+//! - `handlers`: timing events and interrupts
+//! - `numbers`: values beyond 64 signed bits
+#![tactic(auto)]
+
+mod gate;
+mod gates;
+mod handlers;
+mod numbers;
+
+pub use gate::{
+    a_barrier_left_true_by_an_exception_lets_the_caller_pass,
+    a_caller_above_the_ceiling_is_refused, a_full_queue_refuses_a_further_call,
+    a_served_caller_gets_its_own_exception, the_gate_opens_for_the_waiting_caller,
+};
+pub use gates::{a_queue_of_two_refuses_a_third, barriers_are_evaluated_again_for_each_caller};
+pub use handlers::{events_fire_once_in_order, interrupts_count_upwards};
+pub use numbers::values_are_exact_until_they_are_returned;

@@ -1,16 +1,15 @@
 -- The line of a packet is read back.
-use Rattle.std.proofs.Common.{◌≡◌, ◌≢◌, ◌<◌, ◌^◌, ℕ, ◌==◌, Bool, true, false, cond, List, [], ◌∷◌, ◌++◌, map, Option, Some, refl, sym, ◌∙◌, ap, ap₂, arith}
+use Rattle.std.proofs.Common.{◌≡◌, ◌<◌, ◌^◌, ℕ, cond, List, [], ◌∷◌, ◌++◌, map, Option, Some, refl, ◌∙◌, ap, ap₂, arith}
 use Rattle.std.specs.Prelude.{codes}
 use Rattle.std.specs.Fmt.{decimal}
 use Rattle.std.specs.Str.Parse.{digits_value}
-use Rattle.std.proofs.lemmas.Bool.Decides.{nat_tests}
 use Rattle.rp_base.specs.declared.action.Action.{Action}
 use Rattle.rp_base.specs.declared.action.Action.TheVariants as actions
 use Rattle.rp_codec.specs.declared.packet.Body.{Body}
 use Rattle.rp_codec.specs.declared.packet.Body.TheVariants.{Call, Prepare, Promise, Accept, Accepted, Decided, Ask, Nack, Reply, Report, PrepareRange, PromiseRange}
 use Rattle.rp_output.specs.Trace.{call_number, body_text_of, trace_line_of}
 use Rattle.rp_printed_texts.specs.Reading.{words_in, HasNoSpace}
-use Rattle.rp_printed_texts.specs.Packets.{PacketRead, before_mark, after_mark, without_first, packet_in, read_packet, call_stated, stated_of, AreNumbers, IsPartyName}
+use Rattle.rp_printed_texts.specs.Packets.{PacketRead, before_mark, after_mark, packet_in, read_packet, call_stated, stated_of, AreNumbers, IsPartyName}
 use Rattle.rp_printed_texts.proofs.WordsRead.{other, word_first, word_last, number_solid, value_back}
 
 -- ---- parties

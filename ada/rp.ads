@@ -88,6 +88,15 @@ package RP is
 
    --  Nodes and tasks by handle
    --
+   --  Nodes agree, and replies are those of one order, if their callers keep three rules (docs/C.md, proved):
+   --  1. A device is given what steps give for it, in order, and a packet of a step is handed on only after
+   --     all that the node's steps gave up to that step is synced: else a node that stops forgets what it
+   --     said, and two actions may be decided at one position. Several steps may share one sync.
+   --  2. A node or a task receives packets that nodes and tasks of the same deck handed on, byte for byte,
+   --     early, late, again or never: a packet that nobody sent may tell of a vote that nobody cast.
+   --  3. A node has one open handle at a time, opened over its own device, and a task is opened once: two
+   --     handles of one node vote twice, and a task that counts from 1 again gets the first old reply.
+   --
    --  The caller keeps the handle. The node or the task that it keeps is the library's, from Open until
    --  the handle is closed or opened again. A handle that is never closed leaks it.
 
@@ -153,7 +162,7 @@ package RP is
    --  Opens this node of the deck over the Held bytes of its device, which are copied; the deck's script
    --  is not run.
    --  Done: the handle keeps the node, and what it kept before is closed; What says what the device
-   --  holds. The caller truncates its device to What.Kept bytes before the node's first step.
+   --  holds. The caller truncates its device to What.Kept bytes, and syncs it, before the first step.
    --  Bad_Deck, No_Objects, Bad_Config, Io, Out_Of_Memory: nothing has changed.
 
    function Node_Call

@@ -78,6 +78,15 @@ uint8_t rp_run_deck(const uint8_t *deck, size_t count, bool traced, uint8_t *ans
 
 /* ---- Nodes and tasks by handle
  *
+ * Nodes agree, and replies are those of one order, if their callers keep three rules (docs/C.md, proved):
+ * 1. A device is given what steps give for it, in order, and a packet of a step is handed on only after all
+ *    that the node's steps gave up to that step is synced: else a node that stops forgets what it said, and
+ *    two actions may be decided at one position. Several steps may share one sync.
+ * 2. A node or a task receives packets that nodes and tasks of the same deck handed on, byte for byte, early,
+ *    late, again or never: a packet that nobody sent may tell of a vote that nobody cast.
+ * 3. A node has one open handle at a time, opened over its own device, and a task is opened once: two handles
+ *    of one node vote twice, and a task that counts from 1 again gets the first old reply.
+ *
  * The caller keeps the handle. The node or the task that it keeps is the library's, from rp_node_open or
  * rp_task_open until the handle is closed or opened again. A handle that is never closed leaks it. */
 
@@ -176,7 +185,7 @@ enum rp_node_request {
  * script is not run.
  *
  * RP_DONE: *node keeps the node, and what it kept before is closed; *found says what the device holds.
- *   The caller truncates its device to found->kept bytes before the node's first step.
+ *   The caller truncates its device to found->kept bytes, and syncs it, before the node's first step.
  * RP_BAD_DECK, RP_NO_OBJECTS, RP_BAD_CONFIG, RP_IO, RP_OUT_OF_MEMORY: nothing has changed. */
 uint8_t rp_node_open(const uint8_t *deck, size_t count, uint8_t number, const uint8_t *device, size_t held,
                      rp_node *node, rp_found *found);

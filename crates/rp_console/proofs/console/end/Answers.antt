@@ -22,4 +22,4 @@ returns-in-Ok-Figures-clause-reported g c =
 pub returns-in-Ok-TooLong-clause-reported : goal.returns-in-Ok-TooLong-clause-reported
 returns-in-Ok-TooLong-clause-reported g c =
     let found_is = rw c.in-Ok-TooLong.is at c.in-Ok-TooLong.field-0-is in
-    is_reported _ _ c.args.ran c.in-Ok-TooLong.field-0 TooLong c.report.result c.in-Ok-TooLong.is found_is c.report.ensures.printed
+    is_reported _ _ c.args.ran c.in-Ok-TooLong.field-0 TooLong c.report-in-Ok-TooLong.result c.in-Ok-TooLong.is found_is c.report-in-Ok-TooLong.ensures.printed

@@ -19,7 +19,6 @@ use Rattle.rp_agreement.specs.Justified.{Reports}
 use Rattle.rp_base.specs.Action.{same_action}
 use Rattle.rp_base.specs.Sets.{Has}
 use Rattle.rp_base.specs.Records.{bound_at, last_vote_at}
-use Rattle.rp_base.specs.Voting.{prepare_answer, is_above_bounds, refusing_position, range_refusal, range_answer, vote_answer, accept_answer}
 use Rattle.rp_base.proofs.Sameness.{action_decides}
 use Rattle.rp_base.proofs.Members.{has_right}
 use Rattle.rp_base.proofs.ReportedVotes.{covered_votes}
@@ -27,61 +26,39 @@ use Rattle.std.specs.List.{list_all, range_with_len}
 use Rattle.rp_codec.specs.Message.{Message}
 use Rattle.rp_codec.specs.declared.packet.Body.{Body}
 use Rattle.rp_codec.specs.declared.packet.Body.TheVariants as bodies
-use Rattle.rp_model.specs.Parts.{Running}
-use Rattle.rp_model.specs.Says.{says, writes}
-use Rattle.rp_model.specs.Acceptor.{answers_prepare, on_prepare, answers_prepare_range, on_prepare_range, answers_accept, on_accept}
-use Rattle.rp_model.specs.Facts.{IsOffered}
 use Rattle.rp_agreement.specs.Sound.{IsSo, IsRunning}
 use Rattle.rp_agreement.proofs.RecordGrowth.{reports, range_reports, last_cast}
 use Rattle.rp_agreement.proofs.Turns.{IsSoundTurn, IsOffer, IsPlain, one_plain, plain, quiet, sending, runs_written}
+use Rattle.rp_model.specs.Effect.{Setting, NodeInput, Receive, Lead, LeadRange, Interrupt, Tick, Report, plan_of, turn_if, running_effect}
+use Rattle.rp_model.specs.Leader.{is_out_of_reach, is_beyond, unlearned_in, refused_running}
+use Rattle.rp_model.specs.Learner.{missing_position, asks_for, learns}
+use Rattle.rp_model.specs.Node.{RunningNode, running_node, nodes_of, kept_by, given_by, own_for}
+use Rattle.rp_model.specs.Parts.{Running, Turn, with_record}
+use Rattle.rp_model.specs.Pending.{most_pending, is_same_call, is_answered_by, replies_to, own_action, stays}
+use Rattle.rp_model.specs.Plans.{started_running, heard_running, offered_running, promised_running, once_counted, once_learned, report_of, turn_of}
+use Rattle.rp_model.specs.Receiving.{party_number}
+use Rattle.rp_model.specs.Says.{says, says_to_all, says_to_others, says_to_task, sends, notes, writes}
+use Rattle.rp_model.specs.declared.plan.CountedPromise.{CountedPromise}
+use Rattle.rp_model.specs.declared.plan.Plan.{Plan}
+use Rattle.rp_model.specs.declared.plan.Plan.TheVariants as plans
+use Rattle.rp_model.proofs.EveryPlan.{Came, Brings, ByCall, ByInterrupt, ByTick, Saw, SawPromise, SawPrepared, SawPlace, came_allowed, promised_is, offered_is, by_plan}
+use Rattle.rp_base.specs.Voting.{is_above_bounds, accept_answer, vote_answer}
+use Rattle.rp_base.specs.Action.{same_action}
 
 -- one packet to one node
-one_said : (nodes x : ℕ) (sent : List Message) (records : List Rec) (body : Body) (to : ℕ) → IsSo nodes sent records body → (¬ IsOffer body)
+pub one_said : (nodes x : ℕ) (sent : List Message) (records : List Rec) (body : Body) (to : ℕ) → IsSo nodes sent records body → (¬ IsOffer body)
     → (m : Message) → Has m (says x body to ∷ []) → IsPlain nodes x sent records m
 one_said nodes x sent records body to so none =
     one_plain nodes x sent records (says x body to) (record { from = refl; so = so; no_offer = none })
 
--- ---- Prepare
+-- ---- promises
 
--- the answer is one that the records allow
-abbrev AllowsPromise : List Rec → ℕ → ℕ → PrepareAnswer → Type 0
-AllowsPromise records i b (prepares.Promise last rec) = (last ≡ last_vote_at records i) × (rec ≡ Promised i b) × (bound_at records i < b)
-AllowsPromise records i b (prepares.Nack bound) = Unit {0}
-AllowsPromise records i b prepares.Silent = Unit {0}
-
-promise_allowed : (records : List Rec) (i b : ℕ) → AllowsPromise records i b (prepare_answer records i b)
-promise_allowed records i b =
-    let one = prepares.Promise (last_vote_at records i) (Promised i b) in
-    let low = prepares.Nack (bound_at records i) in
-    let rest = cond (nat_lt b (bound_at records i)) low prepares.Silent in
-    elim (cases_Bool (nat_lt (bound_at records i) b)) [
-      | inl above ↦ subst (AllowsPromise records i b) (sym (cond-true (nat_lt (bound_at records i) b) one rest above)) (refl, refl, ltb-true (bound_at records i) b above)
-      | inr other ↦ subst (AllowsPromise records i b) (sym (cond-false (nat_lt (bound_at records i) b) one rest other))
-          (elim (cases_Bool (nat_lt b (bound_at records i))) [
-            | inl below ↦ subst (AllowsPromise records i b) (sym (cond-true (nat_lt b (bound_at records i)) low prepares.Silent below)) tt
-            | inr at ↦ subst (AllowsPromise records i b) (sym (cond-false (nat_lt b (bound_at records i)) low prepares.Silent at)) tt
-          ])
-    ]
-
-prepare_answered : (nodes x : ℕ) (records : List Rec) (sent : List Message) (running : Running) (from i b : ℕ) (answer : PrepareAnswer)
-    → IsRunning sent records running → AllowsPromise records i b answer → IsSoundTurn nodes x records sent (answers_prepare x running from i b answer)
-prepare_answered nodes x records sent running from i b (prepares.Promise last rec) runs allows =
-    let stated = subst (λ (o : Option Vote). IsSo nodes sent (records ++ Promised i b ∷ []) (bodies.Promise i b o)) (sym allows.0)
-    (has_right (Promised i b) records (Promised i b ∷ []) (inl refl), reports records i b allows.2) in
-    subst (λ (r : Rec). IsSoundTurn nodes x records sent (writes r running (says x (bodies.Promise i b last) from ∷ []))) (sym allows.1)
-    (plain nodes x records sent (writes (Promised i b) running (says x (bodies.Promise i b last) from ∷ [])) tt
-    (one_said nodes x sent (records ++ Promised i b ∷ []) (bodies.Promise i b last) from stated (λ h. h))
-    (runs_written sent records (Some (Promised i b)) running runs))
-prepare_answered nodes x records sent running from i b (prepares.Nack bound) runs allows =
-    sending nodes x records sent running (says x (bodies.Nack i b bound) from ∷ []) (one_said nodes x sent records (bodies.Nack i b bound) from tt (λ h. h)) runs
-prepare_answered nodes x records sent running from i b prepares.Silent runs allows = quiet nodes x records sent running runs
-
-pub prepare_sound : (nodes x : ℕ) (records : List Rec) (sent : List Message) (running : Running) (from i b : ℕ)
-    → IsRunning sent records running → IsSoundTurn nodes x records sent (on_prepare x records running from i b)
-prepare_sound nodes x records sent running from i b runs =
-    prepare_answered nodes x records sent running from i b (prepare_answer records i b) runs (promise_allowed records i b)
-
--- ---- PrepareRange
+-- a promise is so
+pub promise_is_so : (nodes : ℕ) (sent : List Message) (records : List Rec) (i b : ℕ) (last : Option Vote) → last_vote_at records i ≡ last → bound_at records i < b
+    → IsSo nodes sent (records ++ Promised i b ∷ []) (bodies.Promise i b last)
+promise_is_so nodes sent records i b last is above =
+    subst (λ (o : Option Vote). IsSo nodes sent (records ++ Promised i b ∷ []) (bodies.Promise i b o)) is
+    (has_right (Promised i b) records (Promised i b ∷ []) (inl refl), reports records i b above)
 
 all_within : (test : ℕ → Bool) (first n i : ℕ) → list_all test (range_with_len first n) ≡ true → first ≤ i → i < first + n → test i ≡ true
 all_within test first zero i all from below = absurd (omega (arith, from, below))
@@ -99,28 +76,8 @@ above_each records range b i all covered =
     ltb-true (bound_at records i) b
     (all_within (λ k. nat_lt (bound_at records k) b) range.first range.count i all (leb-true range.first i within.0) (ltb-true i (end_of range) within.1))
 
--- the answer is one that the records allow
-abbrev AllowsRange : List Rec → Range → ℕ → RangeAnswer → Type 0
-AllowsRange records range b (range_prepares.Promise votes rec) =
-    (votes ≡ last_votes records range) × (rec ≡ PromisedRange range b) × (is_above_bounds records range b ≡ true)
-AllowsRange records range b (range_prepares.Nack i bound) = Unit {0}
-AllowsRange records range b range_prepares.Silent = Unit {0}
-
-refusal_allowed : (records : List Rec) (range : Range) (b : ℕ) (at : Option ℕ) → AllowsRange records range b (range_refusal records at)
-refusal_allowed records range b None = tt
-refusal_allowed records range b (Some i) = tt
-
-range_allowed : (records : List Rec) (range : Range) (b : ℕ) → AllowsRange records range b (range_answer records range b)
-range_allowed records range b =
-    let one = range_prepares.Promise (last_votes records range) (PromisedRange range b) in
-    let rest = range_refusal records (refusing_position records range b) in
-    elim (cases_Bool (is_above_bounds records range b)) [
-      | inl above ↦ subst (AllowsRange records range b) (sym (cond-true (is_above_bounds records range b) one rest above)) (refl, refl, above)
-      | inr other ↦ subst (AllowsRange records range b) (sym (cond-false (is_above_bounds records range b) one rest other)) (refusal_allowed records range b (refusing_position records range b))
-    ]
-
 -- a promise for a range is so
-range_is_so : (nodes : ℕ) (sent : List Message) (records : List Rec) (range : Range) (b : ℕ) → is_above_bounds records range b ≡ true
+pub range_is_so : (nodes : ℕ) (sent : List Message) (records : List Rec) (range : Range) (b : ℕ) → is_above_bounds records range b ≡ true
     → IsSo nodes sent (records ++ PromisedRange range b ∷ []) (bodies.PromiseRange range b (last_votes records range))
 range_is_so nodes sent records range b above = (
   has_right (PromisedRange range b) records (PromisedRange range b ∷ []) (inl refl),
@@ -128,27 +85,9 @@ range_is_so nodes sent records range b above = (
       (range_reports records range i b covered (above_each records range b i above covered)),
 )
 
-range_answered : (nodes x : ℕ) (records : List Rec) (sent : List Message) (running : Running) (from : ℕ) (range : Range) (b : ℕ) (answer : RangeAnswer)
-    → IsRunning sent records running → AllowsRange records range b answer → IsSoundTurn nodes x records sent (answers_prepare_range x running from range b answer)
-range_answered nodes x records sent running from range b (range_prepares.Promise votes rec) runs allows =
-    let stated = subst (λ (l : List PlacedVote). IsSo nodes sent (records ++ PromisedRange range b ∷ []) (bodies.PromiseRange range b l)) (sym allows.0)
-    (range_is_so nodes sent records range b allows.2) in
-    subst (λ (r : Rec). IsSoundTurn nodes x records sent (writes r running (says x (bodies.PromiseRange range b votes) from ∷ []))) (sym allows.1)
-    (plain nodes x records sent (writes (PromisedRange range b) running (says x (bodies.PromiseRange range b votes) from ∷ [])) tt
-    (one_said nodes x sent (records ++ PromisedRange range b ∷ []) (bodies.PromiseRange range b votes) from stated (λ h. h))
-    (runs_written sent records (Some (PromisedRange range b)) running runs))
-range_answered nodes x records sent running from range b (range_prepares.Nack i bound) runs allows =
-    sending nodes x records sent running (says x (bodies.Nack i b bound) from ∷ []) (one_said nodes x sent records (bodies.Nack i b bound) from tt (λ h. h)) runs
-range_answered nodes x records sent running from range b range_prepares.Silent runs allows = quiet nodes x records sent running runs
+-- ---- votes
 
-pub prepare_range_sound : (nodes x : ℕ) (records : List Rec) (sent : List Message) (running : Running) (from : ℕ) (range : Range) (b : ℕ)
-    → IsRunning sent records running → IsSoundTurn nodes x records sent (on_prepare_range x records running from range b)
-prepare_range_sound nodes x records sent running from range b runs =
-    range_answered nodes x records sent running from range b (range_answer records range b) runs (range_allowed records range b)
-
--- ---- Accept
-
-abbrev AllowsVote : List Rec → ℕ → ℕ → Action → AcceptAnswer → Type 0
+abbrev pub AllowsVote : List Rec → ℕ → ℕ → Action → AcceptAnswer → Type 0
 AllowsVote records i b v (accepts.Vote rec) = (rec ≡ Voted i b v) × (bound_at records i ≤ b)
 AllowsVote records i b v accepts.Again = Has (Voted i b v) records
 AllowsVote records i b v (accepts.Nack bound) = Unit {0}
@@ -171,7 +110,7 @@ last_allowed records i b v (Some last) is above =
       | inr other ↦ subst (AllowsVote records i b v) (sym (cond-false (nat_eq last.ballot b) inner vote other)) (refl, above)
     ]
 
-vote_allowed : (records : List Rec) (i b : ℕ) (v : Action) → AllowsVote records i b v (accept_answer records i b v)
+pub vote_allowed : (records : List Rec) (i b : ℕ) (v : Action) → AllowsVote records i b v (accept_answer records i b v)
 vote_allowed records i b v =
     let low = accepts.Nack (bound_at records i) in
     let rest = vote_answer i b v (last_vote_at records i) in
@@ -181,20 +120,3 @@ vote_allowed records i b v =
           (last_allowed records i b v (last_vote_at records i) refl (ltb-false b (bound_at records i) above))
     ]
 
-accept_answered : (nodes x : ℕ) (records : List Rec) (sent : List Message) (running : Running) (from i b : ℕ) (v : Action) (answer : AcceptAnswer)
-    → IsOffered sent i b v → IsRunning sent records running → AllowsVote records i b v answer → IsSoundTurn nodes x records sent (answers_accept x running from i b v answer)
-accept_answered nodes x records sent running from i b v (accepts.Vote rec) offered runs allows =
-    subst (λ (r : Rec). IsSoundTurn nodes x records sent (writes r running (says x (bodies.Accepted i b v) from ∷ []))) (sym allows.0)
-    (plain nodes x records sent (writes (Voted i b v) running (says x (bodies.Accepted i b v) from ∷ [])) (offered, allows.1)
-    (one_said nodes x sent (records ++ Voted i b v ∷ []) (bodies.Accepted i b v) from (has_right (Voted i b v) records (Voted i b v ∷ []) (inl refl)) (λ h. h))
-    (runs_written sent records (Some (Voted i b v)) running runs))
-accept_answered nodes x records sent running from i b v accepts.Again offered runs allows =
-    sending nodes x records sent running (says x (bodies.Accepted i b v) from ∷ []) (one_said nodes x sent records (bodies.Accepted i b v) from allows (λ h. h)) runs
-accept_answered nodes x records sent running from i b v (accepts.Nack bound) offered runs allows =
-    sending nodes x records sent running (says x (bodies.Nack i b bound) from ∷ []) (one_said nodes x sent records (bodies.Nack i b bound) from tt (λ h. h)) runs
-accept_answered nodes x records sent running from i b v accepts.Silent offered runs allows = quiet nodes x records sent running runs
-
-pub accept_sound : (nodes x : ℕ) (records : List Rec) (sent : List Message) (running : Running) (from i b : ℕ) (v : Action)
-    → IsOffered sent i b v → IsRunning sent records running → IsSoundTurn nodes x records sent (on_accept x records running from i b v)
-accept_sound nodes x records sent running from i b v offered runs =
-    accept_answered nodes x records sent running from i b v (accept_answer records i b v) offered runs (vote_allowed records i b v)

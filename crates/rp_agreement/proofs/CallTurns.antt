@@ -16,15 +16,28 @@ use Rattle.rp_base.proofs.Members.{has_right}
 use Rattle.rp_machine.specs.Asked.{last_number, answer_to, kept_reply}
 use Rattle.rp_machine.specs.Calls.{calls_of}
 use Rattle.rp_machine.specs.Replay.{is_for}
-use Rattle.rp_model.specs.Parts.{Running, Turn}
-use Rattle.rp_model.specs.Pending.{most_pending, is_same_call, adds_pending, on_numbered, on_call}
-use Rattle.rp_model.specs.Receiving.{is_for_node}
-use Rattle.rp_model.specs.Says.{notes, drops_full, drops_foreign}
-use Rattle.rp_model.specs.Tasks.{asks}
 use Rattle.rp_agreement.specs.Answered.{named}
 use Rattle.rp_agreement.specs.Over.{IsOver, IsCallTaken}
 use Rattle.rp_agreement.proofs.AnswerAgain.{call_is}
 use Rattle.rp_agreement.proofs.Lists.{found_has}
+use Rattle.rp_model.specs.Effect.{Setting, NodeInput, Receive, Lead, LeadRange, Interrupt, Tick, Report, plan_of, turn_if, running_effect}
+use Rattle.rp_model.specs.Leader.{is_out_of_reach, is_beyond, unlearned_in, refused_running}
+use Rattle.rp_model.specs.Learner.{missing_position, asks_for, learns}
+use Rattle.rp_model.specs.Node.{RunningNode, running_node, nodes_of, kept_by, given_by, own_for}
+use Rattle.rp_model.specs.Parts.{Running, Turn, with_record}
+use Rattle.rp_model.specs.Pending.{most_pending, is_same_call, is_answered_by, replies_to, own_action, stays}
+use Rattle.rp_model.specs.Plans.{started_running, heard_running, offered_running, promised_running, once_counted, once_learned, report_of, turn_of}
+use Rattle.rp_model.specs.Receiving.{party_number}
+use Rattle.rp_model.specs.Says.{says, says_to_all, says_to_others, says_to_task, sends, notes, writes}
+use Rattle.rp_model.specs.declared.plan.CountedPromise.{CountedPromise}
+use Rattle.rp_model.specs.declared.plan.Plan.{Plan}
+use Rattle.rp_model.specs.declared.plan.Plan.TheVariants as plans
+use Rattle.rp_model.proofs.EveryPlan.{Came, Brings, ByCall, ByInterrupt, ByTick, Saw, SawPromise, SawPrepared, SawPlace, came_allowed, promised_is, offered_is, by_plan}
+use Rattle.rp_base.specs.declared.record.Rec.{Rec}
+use Rattle.rp_model.specs.Arrivals.{adds_pending, on_numbered, on_call}
+use Rattle.rp_model.specs.Receiving.{is_for_node}
+use Rattle.rp_model.specs.Tasks.{asks}
+use Rattle.rp_model.specs.declared.effect.Dropped.TheVariants.{No, Full, Foreign}
 
 -- some item passes the test
 some_passes : (test : Action → Bool) (items : List Action) → list_any test items ≡ true → (item : Action) × Has item items × (test item ≡ true)
@@ -55,55 +68,60 @@ reply_given task number kept given reply e = by (nat_lt 0 number && nat_eq numbe
     by true None found e = absurd (cc)
     by false o found e = absurd (cc)
 
-module _ (task number object : ℕ) (operation : Operation) (arg : ℤ) (running : Running) where
+module _ (task number object : ℕ) (operation : Operation) (arg : ℤ) where
   abbrev call : Action
   call = Call task number object operation arg
 
-  abbrev Taken : Turn → Type 0
-  Taken turn = IsCallTaken running turn (named task number)
+  module _ {S : Type 0} (s : Setting S) (me : ℕ) (records : List Rec) (running : Running) where
+    abbrev here : RunningNode S
+    here = running_node s me records running
 
-  added : Taken (adds_pending running call)
-  added =
-      let more = record running { pending = running.pending ++ call ∷ [] } in
-      let there = list_any (is_same_call call) running.pending in
-      let room = nat_lt (length running.pending) most_pending in
-      let last : Turn = if room then notes more else drops_full running in
-      elim (cases_Bool there) [
-        | inl same ↦
-            let hit = some_passes (is_same_call call) running.pending same in
-            subst Taken (sym (cond-true there (notes running) last same)) (inl (hit.0, hit.1, same_name task number object operation arg hit.0 hit.2))
-        | inr new ↦
-            subst Taken (sym (cond-false there (notes running) last new))
-            (elim (cases_lt (length running.pending) 32) [
-              | inl below ↦ subst Taken (sym (cond-true room (notes more) (drops_full running) (lt-ltb (length running.pending) 32 below))) (inl (call, has_right call running.pending (call ∷ []) (inl refl), refl))
-              | inr past ↦ subst Taken (sym (cond-false room (notes more) (drops_full running) (not_below (length running.pending) 32 past))) (inr (refl, past))
-            ])
-      ]
-    where
-      not_below : (a n : ℕ) → n ≤ a → nat_lt a n ≡ false
-      not_below a n past = lt-leb (suc a) n (omega (arith, past))
+    abbrev Taken : Turn → Type 0
+    Taken turn = IsCallTaken running turn (named task number)
 
-  numbered : (me : ℕ) (kept : List Action) (given : List Answer) (reply : Option Reply) → kept_reply task number kept given ≡ reply → IsOver kept given [] call ⊎ Taken (on_numbered me kept running task number call reply)
-  numbered me kept given (Some reply) is =
-      let found = reply_given task number kept given reply is in
-      let here = found_has (is_for task number) found.0 given found.1 in
-      inl (inl (found.0, here.0, call_is task number found.0 here.1))
-  numbered me kept given None is =
-      elim (cases_Bool (nat_lt number (last_number task kept))) [
-        | inl below ↦ inl (inr (ltb-true number (last_number task kept) below))
-        | inr above ↦ inr (subst Taken (sym (cond-false (nat_lt number (last_number task kept)) (notes running) (adds_pending running call) above)) added)
-      ]
+    abbrev TakenBy : Plan → Type 0
+    TakenBy plan = Taken (turn_of here plan)
 
-  ok_same : (a b : Turn) → (let one : Result Turn Fault = Ok a in one) ≡ Ok b → a ≡ b
-  ok_same a b e = cc
+    added : TakenBy (adds_pending running.pending call)
+    added =
+        let there = list_any (is_same_call call) running.pending in
+        let room = nat_lt (length running.pending) most_pending in
+        let last : Plan = if room then plans.Await call else plans.Pass Full in
+        elim (cases_Bool there) [
+          | inl same ↦
+              let hit = some_passes (is_same_call call) running.pending same in
+              subst TakenBy (sym (cond-true there (plans.Pass No) last same)) (inl (hit.0, hit.1, same_name task number object operation arg hit.0 hit.2))
+          | inr new ↦
+              subst TakenBy (sym (cond-false there (plans.Pass No) last new))
+              (elim (cases_lt (length running.pending) 32) [
+                | inl below ↦ subst TakenBy (sym (cond-true room (plans.Await call) (plans.Pass Full) (lt-ltb (length running.pending) 32 below))) (inl (call, has_right call running.pending (call ∷ []) (inl refl), refl))
+                | inr past ↦ subst TakenBy (sym (cond-false room (plans.Await call) (plans.Pass Full) (not_below (length running.pending) 32 past))) (inr (refl, past))
+              ])
+        ]
+      where
+        not_below : (a n : ℕ) → n ≤ a → nat_lt a n ≡ false
+        not_below a n past = lt-leb (suc a) n (omega (arith, past))
 
-  pub call_taken : (config : Config) (me : ℕ) (kept : List Action) (given : List Answer) (turn : Turn)
-      → (let one : Result Turn Fault = Ok (if is_for_node config me (asks task me call) then on_call me kept given running call else drops_foreign running) in one) ≡ Ok turn → IsOver kept given [] call ⊎ Taken turn
-  call_taken config me kept given turn result =
-      let mine : is_for_node config me (asks task me call) ≡ true = and_from _ _ (and_from _ _ (eq-eqb me me refl) refl) refl in
-      let is : on_call me kept given running call ≡ turn =
-      sym (cond-true (is_for_node config me (asks task me call)) (on_call me kept given running call) (drops_foreign running) mine) ∙ ok_same _ turn result in
-      elim (numbered me kept given (kept_reply task number kept given) refl) [
-        | inl over ↦ inl over
-        | inr taken ↦ inr (subst Taken is taken)
-      ]
+    numbered : (reply : Option Reply) → kept_reply task number (kept_by here) (given_by here) ≡ reply → IsOver (kept_by here) (given_by here) [] call ⊎ TakenBy (on_numbered here task number call reply)
+    numbered (Some reply) is =
+        let found = reply_given task number (kept_by here) (given_by here) reply is in
+        let first = found_has (is_for task number) found.0 (given_by here) found.1 in
+        inl (inl (found.0, first.0, call_is task number found.0 first.1))
+    numbered None is =
+        elim (cases_Bool (nat_lt number (last_number task (kept_by here)))) [
+          | inl below ↦ inl (inr (ltb-true number (last_number task (kept_by here)) below))
+          | inr above ↦ inr (subst TakenBy (sym (cond-false (nat_lt number (last_number task (kept_by here))) (plans.Pass No) (adds_pending running.pending call) above)) added)
+        ]
+
+    ok_same : (a b : Turn) → (let one : Result Turn Fault = Ok a in one) ≡ Ok b → a ≡ b
+    ok_same a b e = cc
+
+    pub call_taken : (turn : Turn) → running_effect s me records running (Receive (asks task me call)) ≡ Ok turn → IsOver (kept_by here) (given_by here) [] call ⊎ Taken turn
+    call_taken turn result =
+        let mine : is_for_node s.config me (asks task me call) ≡ true = and_from _ _ (and_from _ _ (eq-eqb me me refl) refl) refl in
+        let is : turn_of here (on_call here call) ≡ turn =
+        ap (turn_of here) (sym (cond-true (is_for_node s.config me (asks task me call)) (on_call here call) (plans.Pass Foreign) mine)) ∙ ok_same _ turn result in
+        elim (numbered (kept_reply task number (kept_by here) (given_by here)) refl) [
+          | inl over ↦ inl over
+          | inr taken ↦ inr (subst Taken is taken)
+        ]

@@ -26,24 +26,34 @@ use Rattle.rp_base.proofs.Members.{has_right, has_passing, mapped_has}
 use Rattle.rp_codec.specs.Message.{Message}
 use Rattle.rp_codec.specs.declared.packet.Body.TheVariants as bodies
 use Rattle.rp_machine.specs.Replay.{kept_of, one_to}
-use Rattle.rp_model.specs.Parts.{Running}
-use Rattle.rp_model.specs.Parts.{NodePart}
-use Rattle.rp_model.specs.Parts.{Turn}
-use Rattle.rp_model.specs.Says.{says, says_to_all, sends, notes}
-use Rattle.rp_model.specs.Pending.{is_free_item, own_action}
-use Rattle.rp_model.specs.Leader.{chosen_position, is_out_of_reach, starts_above, begins, begins_if, offers, leads_at, on_lead, unlearned_in, begins_range, leads_range, on_lead_range, on_promise_range, counts_promise, on_promise_to, on_promise, on_nack}
-use Rattle.rp_model.specs.Facts.{HasPromised, IsOffered}
 use Rattle.rp_agreement.specs.Asked.{IsAsked}
 use Rattle.rp_agreement.specs.Sound.{IsSo, IsProposal, IsRunning, IsSound}
+use Rattle.rp_base.specs.Proposals.{after_promise}
+use Rattle.rp_base.specs.Promises.{action_or}
+use Rattle.std.specs.Prelude.{unwrap_or}
 use Rattle.rp_agreement.proofs.Lists.{some_same, found_has}
 use Rattle.rp_agreement.proofs.RecordGrowth.{started_below}
 use Rattle.rp_agreement.proofs.Turns.{IsSoundTurn, said_plain, plain, quiet, either, runs_written}
 use Rattle.rp_agreement.proofs.Proposing.{member_or_new, proposal_or_new}
 use Rattle.rp_base.proofs.Apart.{with_apart, passing_apart, positions_stay, promised_there}
 use Rattle.rp_agreement.proofs.Offering.{noop_asked, own_or_noop, offer_is_asked, founds}
+use Rattle.rp_model.specs.Effect.{Setting, NodeInput, Receive, Lead, LeadRange, Interrupt, Tick, Report, plan_of, turn_if, running_effect}
+use Rattle.rp_model.specs.Leader.{is_out_of_reach, is_beyond, unlearned_in, refused_running}
+use Rattle.rp_model.specs.Learner.{missing_position, asks_for, learns}
+use Rattle.rp_model.specs.Node.{RunningNode, running_node, nodes_of, kept_by, given_by, own_for}
+use Rattle.rp_model.specs.Facts.{HasPromised, HasVoted, IsOffered, IsDecided}
+use Rattle.rp_model.specs.Parts.{NodePart, Running, Turn, with_record}
+use Rattle.rp_model.specs.Pending.{most_pending, is_same_call, is_answered_by, replies_to, is_free_item, own_action, stays}
+use Rattle.rp_model.specs.Plans.{started_running, heard_running, offered_running, promised_running, once_counted, once_learned, report_of, turn_of}
+use Rattle.rp_model.specs.Receiving.{party_number}
+use Rattle.rp_model.specs.Says.{says, says_to_all, says_to_others, says_to_task, sends, notes, writes}
+use Rattle.rp_model.specs.declared.plan.CountedPromise.{CountedPromise}
+use Rattle.rp_model.specs.declared.plan.Plan.{Plan}
+use Rattle.rp_model.specs.declared.plan.Plan.TheVariants as plans
+use Rattle.rp_model.proofs.EveryPlan.{Came, Brings, ByCall, ByInterrupt, ByTick, Saw, SawPromise, SawPrepared, SawPlace, came_allowed, promised_is, offered_is, by_plan}
 
 -- a node that puts a proposal in its place knows what it knew
-runs_with : (sent : List Message) (records : List Rec) (running : Running) (q : Proposal) → IsRunning sent records running → IsProposal sent records q
+pub runs_with : (sent : List Message) (records : List Rec) (running : Running) (q : Proposal) → IsRunning sent records running → IsProposal sent records q
     → IsRunning sent records (record running { proposals = with_proposal running.proposals q })
 runs_with sent records running q runs new = record {
   proposals = λ p h. elim (proposal_or_new p q running.proposals runs.apart h) [
@@ -82,13 +92,13 @@ more_promised sent records p from last is stated = record {
 }
 
 -- the second phase
-abbrev offering : Proposal → Proposal
+abbrev pub offering : Proposal → Proposal
 offering p = record p { phase = Offering }
 
 never_waits : {A : Type 0} → Offering ≡ Preparing → A
 never_waits e = absurd (cc)
 
-now_offers : (sent : List Message) (records : List Rec) (p : Proposal) → IsProposal sent records p → IsProposal sent records (offering p)
+pub now_offers : (sent : List Message) (records : List Rec) (p : Proposal) → IsProposal sent records p → IsProposal sent records (offering p)
 now_offers sent records p is = record {
   started = is.started;
   promised = is.promised;
@@ -103,7 +113,7 @@ offer_is x i b u to j c v offer =
     let same : bodies.Accept j c v ≡ bodies.Accept i b u = ap (λ (m : Message). m.body) hit.2 in
     (cc, cc, cc)
 
-offers_sound : (nodes x : ℕ) (node : ℕ → NodePart) (sent : List Message) (running : Running) (p : Proposal)
+pub offers_sound : (nodes x : ℕ) (node : ℕ → NodePart) (sent : List Message) (running : Running) (p : Proposal)
     → IsSound nodes node sent → IsRunning sent (node x).records running → IsProposal sent (node x).records p → p.phase ≡ Preparing
     → is_promised nodes p ≡ true
     → IsSoundTurn nodes x (node x).records sent
@@ -134,50 +144,16 @@ offers_sound nodes x node sent running p sound runs is waits most =
           ];
     }
 
-counts_sound : (nodes x : ℕ) (node : ℕ → NodePart) (sent : List Message) (running : Running) (p : Proposal) (from : ℕ) (last : Option Vote)
-    → IsSound nodes node sent → IsRunning sent (node x).records running → IsProposal sent (node x).records p → p.phase ≡ Preparing
-    → HasPromised sent from p.position p.ballot last
-    → IsSoundTurn nodes x (node x).records sent (counts_promise nodes x running p (from, last))
-counts_sound nodes x node sent running p from last sound runs is waits stated =
-    let one : Promise = (from, last) in
-    let after = with_promise p one in
-    let records = (node x).records in
-    let known : Proposal → Running = λ q. record running { proposals = with_proposal running.proposals q } in
-    let packets = says_to_all nodes x (bodies.Accept p.position p.ballot (offer_of p.own after.promises)) in
-    let turn : Proposal → Turn = λ q. if is_promised nodes after then sends (known q) packets else notes (known q) in
-    let stays = more_promised sent records p from last is stated in
-    elim (cases_Bool (is_promised nodes after)) [
-      | inl most ↦ subst (λ (q : Proposal). IsSoundTurn nodes x records sent (turn q)) (sym (cond-true (is_promised nodes after) (offering after) after most))
-          (subst (IsSoundTurn nodes x records sent) (sym (cond-true (is_promised nodes after) (sends (known (offering after)) packets) (notes (known (offering after))) most))
-          (offers_sound nodes x node sent running after sound runs stays waits most))
-      | inr few ↦ subst (λ (q : Proposal). IsSoundTurn nodes x records sent (turn q)) (sym (cond-false (is_promised nodes after) (offering after) after few))
-          (subst (IsSoundTurn nodes x records sent) (sym (cond-false (is_promised nodes after) (sends (known after) packets) (notes (known after)) few))
-          (quiet nodes x records sent (known after) (runs_with sent records running after runs stays)))
-    ]
+-- with a majority the proposal that takes a promise offers
+pub after_majority : (nodes : ℕ) (p : Proposal) (one : Promise) → is_promised nodes (with_promise p one) ≡ true → after_promise nodes p one ≡ offering (with_promise p one)
+after_majority nodes p one most = cond-true (is_promised nodes (with_promise p one)) (offering (with_promise p one)) (with_promise p one) most
 
-waits_by : (phase : Phase) → is_preparing phase ≡ true → phase ≡ Preparing
+pub after_few : (nodes : ℕ) (p : Proposal) (one : Promise) → is_promised nodes (with_promise p one) ≡ false → after_promise nodes p one ≡ with_promise p one
+after_few nodes p one few = cond-false (is_promised nodes (with_promise p one)) (offering (with_promise p one)) (with_promise p one) few
+
+pub waits_by : (phase : Phase) → is_preparing phase ≡ true → phase ≡ Preparing
 waits_by Preparing e = refl
 waits_by Offering e = absurd (false≢true e)
-
-promise_to : (nodes x : ℕ) (node : ℕ → NodePart) (sent : List Message) (running : Running) (from i b : ℕ) (last : Option Vote) (at : Option Proposal)
-    → IsSound nodes node sent → IsRunning sent (node x).records running → HasPromised sent from i b last → proposal_at running.proposals i ≡ at
-    → IsSoundTurn nodes x (node x).records sent (on_promise_to nodes x running b (from, last) at)
-promise_to nodes x node sent running from i b last None sound runs stated is = quiet nodes x (node x).records sent running runs
-promise_to nodes x node sent running from i b last (Some p) sound runs stated is =
-    let found = found_has (λ (q : Proposal). nat_eq q.position i) p running.proposals is in
-    let place : p.position ≡ i = eqb-true p.position i found.1 in
-    either nodes x (node x).records sent (takes_promise b p) (counts_promise nodes x running p (from, last)) (notes running) (λ takes.
-    let both = and_parts _ _ takes in
-    let ballot : p.ballot ≡ b = eqb-true p.ballot b both.0 in
-    let here = subst (λ (c : ℕ). HasPromised sent from p.position c last) (sym ballot) (subst (λ (j : ℕ). HasPromised sent from j b last) (sym place) stated) in
-    counts_sound nodes x node sent running p from last sound runs (runs.proposals p found.0) (waits_by p.phase (and_parts _ _ both.1).0) here)
-    (λ _. quiet nodes x (node x).records sent running runs)
-
-pub promise_sound : (nodes x : ℕ) (node : ℕ → NodePart) (sent : List Message) (running : Running) (from i b : ℕ) (last : Option Vote)
-    → IsSound nodes node sent → IsRunning sent (node x).records running → HasPromised sent from i b last
-    → IsSoundTurn nodes x (node x).records sent (on_promise nodes x running from i b last)
-promise_sound nodes x node sent running from i b last sound runs stated =
-    promise_to nodes x node sent running from i b last (proposal_at running.proposals i) sound runs stated refl
 
 -- ---- Nack
 
@@ -191,13 +167,14 @@ runs_passing sent records running test refused runs = record {
   heard = runs.heard;
 }
 
-pub nack_sound : (nodes x : ℕ) (records : List Rec) (sent : List Message) (running : Running) (i b bound : ℕ) → IsRunning sent records running
-    → IsSoundTurn nodes x records sent (on_nack nodes running i b bound)
-nack_sound nodes x records sent running i b bound runs =
-    either nodes x records sent (is_in b (proposal_at running.proposals i))
-    (notes (record running { proposals = filter (λ p. not (is_given_up nodes i b p)) running.proposals; refused = greatest_with running.refused bound })) (notes running)
-    (λ _. quiet nodes x records sent _ (runs_passing sent records running (λ p. not (is_given_up nodes i b p)) (greatest_with running.refused bound) runs))
-    (λ _. quiet nodes x records sent running runs)
+pub refused_sound : (nodes x : ℕ) (records : List Rec) (sent : List Message) (running : Running) (i b bound : ℕ) → IsRunning sent records running
+    → IsRunning sent records (refused_running nodes running i b bound)
+refused_sound nodes x records sent running i b bound runs =
+    let known = record running { proposals = filter (λ p. not (is_given_up nodes i b p)) running.proposals; refused = greatest_with running.refused bound } in
+    elim (is_in b (proposal_at running.proposals i)) as (λ t. IsRunning sent records (if t then known else running)) [
+      | true ↦ runs_passing sent records running (λ p. not (is_given_up nodes i b p)) (greatest_with running.refused bound) runs
+      | false ↦ runs
+    ]
 
 -- ---- PromiseRange
 
@@ -216,19 +193,19 @@ once_noted_is nodes sent records from range b votes p stated is =
       | inr passes ↦ subst (IsProposal sent records) (sym (cond-false (is_covered range p.position && takes_range_promise nodes b p) after p passes)) is
     ]
 
-pub promise_range_sound : (nodes x : ℕ) (node : ℕ → NodePart) (sent : List Message) (running : Running) (from : ℕ) (range : Range) (b : ℕ) (votes : List PlacedVote)
-    → IsRunning sent (node x).records running → ((i : ℕ) → is_covered range i ≡ true → HasPromised sent from i b (placed_at votes i))
-    → IsSoundTurn nodes x (node x).records sent (on_promise_range nodes running from range b votes)
-promise_range_sound nodes x node sent running from range b votes runs stated =
+pub range_noted : (nodes : ℕ) (records : List Rec) (sent : List Message) (running : Running) (from : ℕ) (range : Range) (b : ℕ) (votes : List PlacedVote)
+    → IsRunning sent records running → ((i : ℕ) → is_covered range i ≡ true → HasPromised sent from i b (placed_at votes i))
+    → IsRunning sent records (record running { proposals = map (once_promised nodes from range b votes) running.proposals })
+range_noted nodes records sent running from range b votes runs stated =
     let f = once_promised nodes from range b votes in
-    quiet nodes x (node x).records sent (record running { proposals = map f running.proposals }) (record {
+    record {
       proposals = λ q h.
           let hit = mapped_has f q running.proposals h in
-          subst (IsProposal sent (node x).records) (sym hit.2) (once_noted_is nodes sent (node x).records from range b votes hit.0 stated (runs.proposals hit.0 hit.1));
+          subst (IsProposal sent records) (sym hit.2) (once_noted_is nodes sent records from range b votes hit.0 stated (runs.proposals hit.0 hit.1));
       apart = subst (λ (l : List ℕ). IsSet l) (sym (positions_stay f (promised_there nodes from range b votes) running.proposals)) runs.apart;
       pending = runs.pending;
       heard = runs.heard;
-    })
+    }
 
 -- ---- Lead
 
@@ -238,11 +215,11 @@ next_owned x floor small =
     let round = max 1 ((floor + 8 - x) / 8) in
     mul-add-mod_self_left 8 round x ∙ mod-eq_of_lt small
 
-next_above : (x floor : ℕ) → x < 8 → floor < next_ballot x floor
+pub next_above : (x floor : ℕ) → x < 8 → floor < next_ballot x floor
 next_above x floor small = omega (arith, small)
 
 -- nothing is offered in a ballot of the node's own that it did not start
-new_unoffered : (nodes x : ℕ) (node : ℕ → NodePart) (sent : List Message) (i b : ℕ) (v : Action) → IsSound nodes node sent → owner_of b ≡ x → started_of (node x).records < b
+pub new_unoffered : (nodes x : ℕ) (node : ℕ → NodePart) (sent : List Message) (i b : ℕ) (v : Action) → IsSound nodes node sent → owner_of b ≡ x → started_of (node x).records < b
     → ¬ IsOffered sent i b v
 new_unoffered nodes x node sent i b v sound own above offer =
     let started = (sound.says _ offer.2).1.0 in
@@ -261,21 +238,11 @@ pub own_is_so : (P : Action → Type 0) (kept : List Action) (others : List Prop
 own_is_so P kept others pending noop each =
     own_or_noop P (find (is_free_item kept others) pending) noop (item_is_so P kept others pending (find (is_free_item kept others) pending) each refl)
 
-own_is_asked : (sent : List Message) (kept : List Action) (others : List Proposal) (pending : List Action) → ((c : Action) → Has c pending → IsAsked sent c)
+pub own_is_asked : (sent : List Message) (kept : List Action) (others : List Proposal) (pending : List Action) → ((c : Action) → Has c pending → IsAsked sent c)
     → IsAsked sent (own_action kept others pending)
 own_is_asked sent kept others pending asked = own_is_so (IsAsked sent) kept others pending (noop_asked sent) asked
 
--- the result of a turn, if it is not refused, is a sound step
-abbrev pub IsSoundIf : ℕ → ℕ → List Rec → List Message → Result Turn Fault → Type 0
-IsSoundIf nodes x records sent (Ok turn) = IsSoundTurn nodes x records sent turn
-IsSoundIf nodes x records sent (Err fault) = Unit {0}
-
-either_if : (nodes x : ℕ) (records : List Rec) (sent : List Message) (b : Bool) (one other : Result Turn Fault)
-    → IsSoundIf nodes x records sent one → IsSoundIf nodes x records sent other → IsSoundIf nodes x records sent (if b then one else other)
-either_if nodes x records sent true one other holds fails = holds
-either_if nodes x records sent false one other holds fails = fails
-
-started_new : (sent : List Message) (records : List Rec) (i b : ℕ) (own : Action) → ((v : Action) → ¬ IsOffered sent i b v) → IsAsked sent own
+pub started_new : (sent : List Message) (records : List Rec) (i b : ℕ) (own : Action) → ((v : Action) → ¬ IsOffered sent i b v) → IsAsked sent own
     → IsProposal sent (records ++ Started b ∷ []) (new_proposal i b (Some own))
 started_new sent records i b own unoffered asked = record {
   started = has_right (Started b) records (Started b ∷ []) (inl refl);
@@ -288,73 +255,6 @@ pub unless_is_so : (P : Action → Type 0) (own : Action) (vote : Option Vote) �
 unless_is_so P own None is = is
 unless_is_so P own (Some vote) is = tt
 
-module _ {S : Type 0} (next : S → Action → S) (answers : S → Action → List Answer) (begin : S) where
-  begins_sound : (nodes x : ℕ) (node : ℕ → NodePart) (sent : List Message) (running : Running) (i b : ℕ)
-      → IsSound nodes node sent → IsRunning sent (node x).records running → owner_of b ≡ x → started_of (node x).records < b
-      → IsSoundTurn nodes x (node x).records sent (begins next answers begin nodes x (node x).records running i b)
-  begins_sound nodes x node sent running i b sound runs own above =
-      let records = (node x).records in
-      let kept = kept_of next answers begin (applied_of records) in
-      let action = own_action kept (without_proposal running.proposals i) running.pending in
-      let unoffered = λ (v : Action). new_unoffered nodes x node sent i b v sound own above in
-      plain nodes x records sent (begins next answers begin nodes x records running i b) (own, above)
-      (said_plain nodes x sent (records ++ Started b ∷ []) (bodies.Prepare i b) (has_right (Started b) records (Started b ∷ []) (inl refl)) (λ h. h) (one_to nodes))
-      (runs_with sent (records ++ Started b ∷ []) running (new_proposal i b (Some action)) (runs_written sent records (Some (Started b)) running runs)
-      (started_new sent records i b action unoffered (own_is_asked sent kept (without_proposal running.proposals i) running.pending runs.pending)))
-
-  begin_sound : (nodes x : ℕ) (node : ℕ → NodePart) (sent : List Message) (running : Running) (i : ℕ)
-      → IsSound nodes node sent → IsRunning sent (node x).records running → x < 8
-      → IsSoundIf nodes x (node x).records sent (begins_if next answers begin nodes x (node x).records running i)
-  begin_sound nodes x node sent running i sound runs small =
-      let records = (node x).records in
-      let floor = starts_above records running in
-      let b = next_ballot x floor in
-      let more : floor < b = next_above x floor small in
-      let above : started_of records < b = omega (arith, more) in
-      either_if nodes x records sent (nat_le (2 ^ 32) (round_of b)) _ _ tt (begins_sound nodes x node sent running i b sound runs (next_owned x floor small) above)
-
-  -- an offer at a prepared position: the offer of a proposal that has this own action
-  prepared_sound : (nodes x : ℕ) (node : ℕ → NodePart) (sent : List Message) (running : Running) (p : Proposal)
-      → IsSound nodes node sent → IsRunning sent (node x).records running → IsProposal sent (node x).records p → is_prepared nodes p ≡ true
-      → IsSoundTurn nodes x (node x).records sent (offers next answers begin nodes x (node x).records running p)
-  prepared_sound nodes x node sent running p sound runs is prepared =
-      let others = without_proposal running.proposals p.position in
-      let own = own_action (kept_of next answers begin (applied_of (node x).records)) others running.pending in
-      let both = and_parts (is_preparing p.phase) (is_promised nodes p) prepared in
-      let asked = own_is_asked sent (kept_of next answers begin (applied_of (node x).records)) others running.pending runs.pending in
-      offers_sound nodes x node sent running (record p { own = own_unless own (highest_vote p.promises) }) sound runs
-      (record {
-        started = is.started;
-        promised = is.promised;
-        asked = unless_is_so (IsAsked sent) own (highest_vote p.promises) asked;
-        unoffered = is.unoffered;
-      }) (waits_by p.phase both.0) both.1
-
-  leads_sound : (nodes x : ℕ) (node : ℕ → NodePart) (sent : List Message) (running : Running) (i : ℕ) (at : Option Proposal)
-      → IsSound nodes node sent → IsRunning sent (node x).records running → x < 8 → proposal_at running.proposals i ≡ at
-      → IsSoundIf nodes x (node x).records sent (leads_at next answers begin nodes x (node x).records running i at)
-  leads_sound nodes x node sent running i None sound runs small is = begin_sound nodes x node sent running i sound runs small
-  leads_sound nodes x node sent running i (Some p) sound runs small is =
-      let found = found_has (λ (q : Proposal). nat_eq q.position i) p running.proposals is in
-      let turn = offers next answers begin nodes x (node x).records running p in
-      let rest = begins_if next answers begin nodes x (node x).records running i in
-      elim (cases_Bool (is_prepared nodes p)) [
-        | inl prepared ↦ subst (IsSoundIf nodes x (node x).records sent) (sym (cond-true (is_prepared nodes p) (Ok turn) rest prepared))
-            (prepared_sound nodes x node sent running p sound runs (runs.proposals p found.0) prepared)
-        | inr other ↦ subst (IsSoundIf nodes x (node x).records sent) (sym (cond-false (is_prepared nodes p) (Ok turn) rest other))
-            (begin_sound nodes x node sent running i sound runs small)
-      ]
-
-  pub lead_sound : (config : Config) (x : ℕ) (node : ℕ → NodePart) (sent : List Message) (running : Running) (choice : Option ℕ)
-      → IsSound config.nodes node sent → IsRunning sent (node x).records running → x < 8
-      → IsSoundIf config.nodes x (node x).records sent (on_lead next answers begin config x (node x).records running choice)
-  lead_sound config x node sent running choice sound runs small =
-      let records = (node x).records in
-      let i = chosen_position config.nodes records running choice in
-      either_if config.nodes x records sent (is_some (learned_at records i)) _ _ (quiet config.nodes x records sent running runs)
-      (either_if config.nodes x records sent (is_out_of_reach config.max_positions records i) _ _ tt
-      (leads_sound config.nodes x node sent running i (proposal_at running.proposals i) sound runs small refl))
-
 -- ---- LeadRange
 
 started_range : (sent : List Message) (records : List Rec) (i b : ℕ) → Has (Started b) records → ((v : Action) → ¬ IsOffered sent i b v) → IsProposal sent records (range_proposal b i)
@@ -365,34 +265,14 @@ started_range sent records i b started unoffered = record {
   unoffered = λ _. unoffered;
 }
 
-runs_ranged : (sent : List Message) (records : List Rec) (b : ℕ) → Has (Started b) records → ((i : ℕ) (v : Action) → ¬ IsOffered sent i b v) → (positions : List ℕ) (running : Running)
+pub runs_ranged : (sent : List Message) (records : List Rec) (b : ℕ) → Has (Started b) records → ((i : ℕ) (v : Action) → ¬ IsOffered sent i b v) → (positions : List ℕ) (running : Running)
     → IsRunning sent records running → IsRunning sent records (record running { proposals = with_range running.proposals b positions })
 runs_ranged sent records b started unoffered [] running runs = runs
 runs_ranged sent records b started unoffered (i ∷ rest) running runs =
     runs_ranged sent records b started unoffered rest (record running { proposals = with_proposal running.proposals (range_proposal b i) })
     (runs_with sent records running (range_proposal b i) runs (started_range sent records i b started (unoffered i)))
 
-leads_range_sound : (config : Config) (x : ℕ) (node : ℕ → NodePart) (sent : List Message) (running : Running) (range : Range)
-    → IsSound config.nodes node sent → IsRunning sent (node x).records running → x < 8
-    → IsSoundIf config.nodes x (node x).records sent (leads_range config x (node x).records running range)
-leads_range_sound config x node sent running range sound runs small =
-    let records = (node x).records in
-    let floor = starts_above records running in
-    let b = next_ballot x floor in
-    let more : floor < b = next_above x floor small in
-    let above : started_of records < b = omega (arith, more) in
-    let own = next_owned x floor small in
-    let started : Has (Started b) (records ++ Started b ∷ []) = has_right (Started b) records (Started b ∷ []) (inl refl) in
-    either_if config.nodes x records sent (list_any (is_out_of_reach config.max_positions records) (positions_in range)) _ _ tt
-    (either_if config.nodes x records sent (nat_eq (length (unlearned_in records range)) 0) _ _ (quiet config.nodes x records sent running runs)
-    (either_if config.nodes x records sent (nat_le (2 ^ 32) (round_of b)) _ _ tt
-    (plain config.nodes x records sent (begins_range config.nodes x records running range b) (own, above)
-    (said_plain config.nodes x sent (records ++ Started b ∷ []) (bodies.PrepareRange range b) started (λ h. h) (one_to config.nodes))
-    (runs_ranged sent (records ++ Started b ∷ []) b started (λ i v. new_unoffered config.nodes x node sent i b v sound own above) (unlearned_in records range) running
-    (runs_written sent records (Some (Started b)) running runs)))))
-
-pub lead_range_sound : (config : Config) (x : ℕ) (node : ℕ → NodePart) (sent : List Message) (running : Running) (range : Result Range Fault)
-    → IsSound config.nodes node sent → IsRunning sent (node x).records running → x < 8
-    → IsSoundIf config.nodes x (node x).records sent (on_lead_range config x (node x).records running range)
-lead_range_sound config x node sent running (Err fault) sound runs small = tt
-lead_range_sound config x node sent running (Ok range) sound runs small = leads_range_sound config x node sent running range sound runs small
+-- what is offered, where the own action counts only if no promise reports a vote
+pub own_offer : (own : Action) (o : Option Vote) → action_or (unwrap_or (own_unless own o) Noop) o ≡ action_or own o
+own_offer own None = refl
+own_offer own (Some vote) = refl

@@ -9,7 +9,8 @@ pub mod Offering
 pub mod Leaders
 pub mod Learners
 pub mod Pendings
-pub mod Receives
+pub mod Arriving
+pub mod SoundPlans
 pub mod Highest
 pub mod Following
 pub mod Ordering

@@ -17,16 +17,14 @@ use Rattle.rp_model.specs.Parts.{Turn}
 use Rattle.rp_model.specs.Parts.{fresh_running, with_record}
 use Rattle.rp_model.specs.Says.{sends}
 use Rattle.rp_model.specs.Texts.{written_for}
-use Rattle.rp_model.specs.Effect.{Setting, Done, goes_on_as, NodeInput, Receive, Lead, LeadRange, Interrupt, Tick, Report, report_of, running_effect, turn_done_if, effect_while, node_effect, stop_part, cut_part, untorn_part, stops_while, stop_effect, cut_if, cut_effect, restart_while, restart_part}
+use Rattle.rp_model.specs.Effect.{Setting, Done, goes_on_as, NodeInput, Receive, Lead, LeadRange, Interrupt, Tick, Report, running_effect, turn_done_if, effect_while, node_effect, stop_part, cut_part, untorn_part, stops_while, stop_effect, cut_if, cut_effect, restart_while, restart_part}
 use Rattle.rp_agreement.specs.Sound.{IsMember, IsReported, IsRunning, IsSound}
 use Rattle.rp_agreement.specs.Steps.{MayWrite, IsSoundStep}
 use Rattle.rp_agreement.specs.Inputs.{IsInput, NodeMoves}
 use Rattle.rp_agreement.proofs.Lists.{some_same}
 use Rattle.rp_agreement.proofs.Keeps.{keeps}
 use Rattle.rp_agreement.proofs.Turns.{IsSoundTurn, one_plain, sending}
-use Rattle.rp_agreement.proofs.Leaders.{IsSoundIf, lead_sound, lead_range_sound}
-use Rattle.rp_agreement.proofs.Pendings.{interrupt_sound, tick_sound}
-use Rattle.rp_agreement.proofs.Receives.{receive_sound}
+use Rattle.rp_agreement.proofs.SoundPlans.{IsSoundIf, running_sound}
 
 -- ---- a part after a sound step
 
@@ -67,26 +65,6 @@ silent_step nodes x records sent written running may runs = record {
 }
 
 -- ---- an input
-
-reported_now : (all : List Action) (first : ℕ) → IsReported all first (length all) (take (report_len first (length all)) (drop (first - 1) all))
-reported_now all first = (omega arith, ap (λ (list : List Action). take (report_len first (length all)) (drop (first - 1) list)) (sym (take_all (length all) all (omega arith))))
-
-report_sound : (nodes x : ℕ) (records : List Rec) (sent : List Message) (running : Running) (first : ℕ) → IsRunning sent records running
-    → IsSoundTurn nodes x records sent (sends running (report_of x first (applied_of records) ∷ []))
-report_sound nodes x records sent running first runs =
-    sending nodes x records sent running (report_of x first (applied_of records) ∷ [])
-    (one_plain nodes x sent records (report_of x first (applied_of records)) (record { from = refl; so = reported_now (applied_of records) first; no_offer = λ h. h })) runs
-
-running_sound : {S : Type 0} (s : Setting S) (x : ℕ) (node : ℕ → NodePart) (sent : List Message) (running : Running) (input : NodeInput)
-    → x < 8 → IsSound s.config.nodes node sent → IsRunning sent (node x).records running → IsInput sent input
-    → IsSoundIf s.config.nodes x (node x).records sent (running_effect s x (node x).records running input)
-running_sound s x node sent running (Receive message) small sound runs right = receive_sound s.next s.answers s.begin s.config x node sent running message sound runs right
-running_sound s x node sent running (Lead choice) small sound runs right = lead_sound s.next s.answers s.begin s.config x node sent running choice sound runs small
-running_sound s x node sent running (LeadRange first count) small sound runs right = lead_range_sound s.config x node sent running (range_of first count) sound runs small
-running_sound s x node sent running (Interrupt source occurrence) small sound runs right =
-    interrupt_sound s.config.nodes x (node x).records sent running (kept_of s.next s.answers s.begin (applied_of (node x).records)) source occurrence runs right.0 right.1
-running_sound s x node sent running (Tick now) small sound runs right = tick_sound s.config.nodes x (node x).records sent running now runs right
-running_sound s x node sent running (Report first) small sound runs right = report_sound s.config.nodes x (node x).records sent running first runs
 
 turn_done : (nodes x : ℕ) (part : NodePart) (sent : List Message) (turn : Result Turn Fault) → IsSoundIf nodes x part.records sent turn
     → IsSoundDoneIf nodes x part sent (turn_done_if part turn)

@@ -24,7 +24,6 @@ use Rattle.rp_base.specs.Ranges.{Range, positions_of, range_of}
 use Rattle.rp_base.specs.PlacedVotes.{last_votes}
 use Rattle.rp_base.specs.Records.{applied_of, learned_at, bound_at, last_vote_at}
 use Rattle.rp_base.specs.Sets.{Has, with_member}
-use Rattle.rp_base.specs.Voting.{prepare_answer, is_above_bounds, refusing_position, range_refusal, range_answer, vote_answer, accept_answer}
 use Rattle.rp_base.specs.Action.{same_action}
 use Rattle.rp_base.proofs.Members.{has_right, has_passing, passes}
 use Rattle.rp_codec.specs.Message.{Message}
@@ -32,64 +31,27 @@ use Rattle.rp_codec.specs.declared.packet.Body.{Body}
 use Rattle.rp_codec.specs.declared.packet.Body.TheVariants as bodies
 use Rattle.rp_machine.specs.Asked.{last_number, last_occurrence, kept_reply}
 use Rattle.rp_machine.specs.Replay.{kept_of, replay_answers}
-use Rattle.rp_model.specs.Parts.{Running, Turn}
-use Rattle.rp_model.specs.Says.{says, says_to_others, says_to_task, sends, notes, writes, drops_foreign, drops_full}
-use Rattle.rp_model.specs.Acceptor.{answers_prepare, answers_prepare_range, answers_accept}
-use Rattle.rp_model.specs.Pending.{most_pending, adds_pending, on_numbered, on_call, on_interrupt, is_same_call, stays}
-use Rattle.rp_model.specs.Leader.{chosen_position, is_beyond, is_out_of_reach, starts_above, begins_if, leads_at, on_lead, unlearned_in, on_lead_range, counts_promise, on_promise_to}
-use Rattle.rp_model.specs.Learner.{missing_position, asks_for, answers_ask, learns, on_vote, on_decision}
-use Rattle.rp_model.specs.Receiving.{is_for_node, party_number, on_body}
-use Rattle.rp_model.specs.Effect.{Setting, NodeInput, Receive, Lead, LeadRange, Interrupt, Tick, Report, report_of, running_effect}
 use Rattle.rp_agreement.specs.Over.{asked_in, brought_by, AreKept, IsTaken, IsOverOnce}
 use Rattle.rp_agreement.proofs.Lists.{some_same}
 use Rattle.rp_agreement.proofs.PendingOver.{not_over, so_stays}
-
--- ---- records by which nothing is learned
-
-abbrev IsPlain : Rec → Type 0
-IsPlain rec = (i : ℕ) (v : Action) → ¬ (rec ≡ Learned i v)
-
-abbrev PlainPrepare : PrepareAnswer → Type 0
-PlainPrepare (prepares.Promise last rec) = IsPlain rec
-PlainPrepare (prepares.Nack bound) = Unit {0}
-PlainPrepare prepares.Silent = Unit {0}
-
-abbrev PlainRange : RangeAnswer → Type 0
-PlainRange (range_prepares.Promise votes rec) = IsPlain rec
-PlainRange (range_prepares.Nack i bound) = Unit {0}
-PlainRange range_prepares.Silent = Unit {0}
-
-abbrev PlainAccept : AcceptAnswer → Type 0
-PlainAccept (accepts.Vote rec) = IsPlain rec
-PlainAccept accepts.Again = Unit {0}
-PlainAccept (accepts.Nack bound) = Unit {0}
-PlainAccept accepts.Silent = Unit {0}
-
-choose : {A : Type 0} (P : A → Type 0) (b : Bool) (x y : A) → P x → P y → P (if b then x else y)
-choose P true x y left right = left
-choose P false x y left right = right
-
-plain_prepare : (records : List Rec) (i b : ℕ) → PlainPrepare (prepare_answer records i b)
-plain_prepare records i b =
-    choose PlainPrepare (nat_lt (bound_at records i) b) (prepares.Promise (last_vote_at records i) (Promised i b)) _ (λ j v e. absurd (cc))
-    (choose PlainPrepare (nat_lt b (bound_at records i)) (prepares.Nack (bound_at records i)) prepares.Silent tt tt)
-
-plain_refusal : (records : List Rec) (at : Option ℕ) → PlainRange (range_refusal records at)
-plain_refusal records None = tt
-plain_refusal records (Some i) = tt
-
-plain_range : (records : List Rec) (range : Range) (b : ℕ) → PlainRange (range_answer records range b)
-plain_range records range b =
-    choose PlainRange (is_above_bounds records range b) (range_prepares.Promise (last_votes records range) (PromisedRange range b)) _ (λ j v e. absurd (cc))
-    (plain_refusal records (refusing_position records range b))
-
-plain_vote : (i b : ℕ) (v : Action) (last : Option Vote) → PlainAccept (vote_answer i b v last)
-plain_vote i b v None = λ j w e. absurd (cc)
-plain_vote i b v (Some last) =
-    choose PlainAccept (nat_eq last.ballot b) _ (accepts.Vote (Voted i b v)) (choose PlainAccept (same_action last.action v) accepts.Again accepts.Silent tt tt) (λ j w e. absurd (cc))
-
-plain_accept : (records : List Rec) (i b : ℕ) (v : Action) → PlainAccept (accept_answer records i b v)
-plain_accept records i b v = choose PlainAccept (nat_lt b (bound_at records i)) (accepts.Nack (bound_at records i)) _ tt (plain_vote i b v (last_vote_at records i))
+use Rattle.rp_model.specs.Effect.{Setting, NodeInput, Receive, Lead, LeadRange, Interrupt, Tick, Report, plan_of, turn_if, running_effect}
+use Rattle.rp_model.specs.Leader.{is_out_of_reach, is_beyond, unlearned_in, refused_running}
+use Rattle.rp_model.specs.Learner.{missing_position, asks_for, learns}
+use Rattle.rp_model.specs.Node.{RunningNode, running_node, nodes_of, kept_by, given_by, own_for}
+use Rattle.rp_model.specs.Parts.{Running, Turn, with_record}
+use Rattle.rp_model.specs.Pending.{most_pending, is_same_call, is_answered_by, replies_to, own_action, stays}
+use Rattle.rp_model.specs.Plans.{started_running, heard_running, offered_running, promised_running, once_counted, once_learned, report_of, turn_of}
+use Rattle.rp_model.specs.Receiving.{party_number}
+use Rattle.rp_model.specs.Says.{says, says_to_all, says_to_others, says_to_task, sends, notes, writes}
+use Rattle.rp_model.specs.declared.plan.CountedPromise.{CountedPromise}
+use Rattle.rp_model.specs.declared.plan.Plan.{Plan}
+use Rattle.rp_model.specs.declared.plan.Plan.TheVariants as plans
+use Rattle.rp_model.proofs.EveryPlan.{Came, Brings, ByCall, ByInterrupt, ByTick, Saw, SawPromise, SawPrepared, SawPlace, came_allowed, promised_is, offered_is, by_plan}
+use Rattle.rp_model.specs.Arrivals.{adds_pending}
+use Rattle.rp_model.specs.declared.effect.Dropped.TheVariants.{No, Full}
+use Rattle.rp_base.specs.Ballot.{greatest_with}
+use Rattle.std.specs.Prelude.{not}
+use Rattle.rp_base.specs.Proposals.{is_given_up}
 
 module _ {S : Type 0} (s : Setting S) (records : List Rec) (running : Running) (brought : List Action) where
   -- the items that stay once an action is learned
@@ -112,143 +74,60 @@ module _ {S : Type 0} (s : Setting S) (records : List Rec) (running : Running) (
   FateIf (Ok turn) = Fate turn
   FateIf (Err fault) = Unit {0}
 
-  sent : (after : Running) (packets : List Message) → after.pending ≡ running.pending → Fate (sends after packets)
-  sent after packets same = inr (λ i v e. absurd (cc), inl same)
+-- an item that an input brings
+brought_item : {S : Type 0} (node : RunningNode S) (input : NodeInput) (item : Action) → Brings node input item → Has item (brought_by input)
+brought_item node input item (ByCall from task number object operation arg came is) =
+    subst (λ (given : NodeInput). Has item (brought_by given)) (sym came.input_is)
+    (subst (λ (body : Body). Has item (asked_in body)) (sym came.says) (inl refl))
+brought_item node input item (ByInterrupt source occurrence given is) = subst (λ (input : NodeInput). Has item (brought_by input)) (sym given) (inl is)
+brought_item node input item (ByTick now given is) = subst (λ (input : NodeInput). Has item (brought_by input)) (sym given) (inl is)
 
-  quiet : Fate (notes running)
-  quiet = sent running [] refl
+module _ {S : Type 0} (s : Setting S) (me : ℕ) (records : List Rec) (running : Running) (input : NodeInput) where
+  abbrev here : RunningNode S
+  here = running_node s me records running
 
-  written : (rec : Rec) (after : Running) (packets : List Message) → IsPlain rec → after.pending ≡ running.pending → Fate (writes rec after packets)
-  written rec after packets plain same = inr (λ i v e. plain i v (some_same e), inl same)
+  abbrev FateOf : Turn → Type 0
+  FateOf turn = Fate s records running (brought_by input) turn
 
-  foreign : Fate (drops_foreign running)
-  foreign = inr (λ i v e. absurd (cc), inl refl)
+  promised_pending : (nodes b : ℕ) (promise : Promise) (found : Option Proposal) → (promised_running nodes running b promise found).pending ≡ running.pending
+  promised_pending nodes b promise None = refl
+  promised_pending nodes b promise (Some p) = refl
 
-  full : Fate (drops_full running)
-  full = inr (λ i v e. absurd (cc), inl refl)
+  offered_pending : (nodes : ℕ) (v : Action) (found : Option Proposal) → (offered_running nodes running v found).pending ≡ running.pending
+  offered_pending nodes v None = refl
+  offered_pending nodes v (Some p) = refl
 
-  either : (b : Bool) (one other : Turn) → Fate one → Fate other → Fate (if b then one else other)
-  either true one other left right = left
-  either false one other left right = right
+  refused_pending : (nodes i b bound : ℕ) → (refused_running nodes running i b bound).pending ≡ running.pending
+  refused_pending nodes i b bound =
+      let known : Running = record running { proposals = filter (λ p. not (is_given_up nodes i b p)) running.proposals; refused = greatest_with running.refused bound } in
+      elim (is_in b (proposal_at running.proposals i)) as (λ t. (let left : Running = if t then known else running in left.pending) ≡ running.pending) [ true ↦ refl | false ↦ refl ]
 
-  either_if : (b : Bool) (one other : Result Turn Fault) → FateIf one → FateIf other → FateIf (if b then one else other)
-  either_if true one other left right = left
-  either_if false one other left right = right
-
-  -- ---- an acceptor's answers
-
-  prepared : (me from i b : ℕ) (answer : PrepareAnswer) → PlainPrepare answer → Fate (answers_prepare me running from i b answer)
-  prepared me from i b (prepares.Promise last rec) plain = written rec running (says me (bodies.Promise i b last) from ∷ []) plain refl
-  prepared me from i b (prepares.Nack bound) plain = sent running (says me (bodies.Nack i b bound) from ∷ []) refl
-  prepared me from i b prepares.Silent plain = quiet
-
-  ranged : (me from : ℕ) (range : Range) (b : ℕ) (answer : RangeAnswer) → PlainRange answer → Fate (answers_prepare_range me running from range b answer)
-  ranged me from range b (range_prepares.Promise votes rec) plain = written rec running (says me (bodies.PromiseRange range b votes) from ∷ []) plain refl
-  ranged me from range b (range_prepares.Nack i bound) plain = sent running (says me (bodies.Nack i b bound) from ∷ []) refl
-  ranged me from range b range_prepares.Silent plain = quiet
-
-  accepted : (me from i b : ℕ) (v : Action) (answer : AcceptAnswer) → PlainAccept answer → Fate (answers_accept me running from i b v answer)
-  accepted me from i b v (accepts.Vote rec) plain = written rec running (says me (bodies.Accepted i b v) from ∷ []) plain refl
-  accepted me from i b v accepts.Again plain = sent running (says me (bodies.Accepted i b v) from ∷ []) refl
-  accepted me from i b v (accepts.Nack bound) plain = sent running (says me (bodies.Nack i b bound) from ∷ []) refl
-  accepted me from i b v accepts.Silent plain = quiet
-
-  -- ---- what comes to wait
-
-  adds : (item : Action) → Has item brought → Fate (adds_pending running item)
-  adds item there =
-      let more = record running { pending = running.pending ++ item ∷ [] } in
-      either (list_any (is_same_call item) running.pending) (notes running) _ quiet
-      (either (nat_lt (length running.pending) most_pending) (notes more) (drops_full running) (inr (λ i v e. absurd (cc), inr (item, there, refl))) full)
-
-  numbered : (me task number : ℕ) (kept : List Action) (call : Action) (reply : Option Reply) → Has call brought → Fate (on_numbered me kept running task number call reply)
-  numbered me task number kept call None there = either (nat_lt number (last_number task kept)) (notes running) _ quiet (adds call there)
-  numbered me task number kept call (Some reply) there = sent running (says_to_task me (bodies.Reply number reply) task ∷ []) refl
-
-  call_comes : (me : ℕ) (kept : List Action) (given : List Answer) (action : Action) → Has action brought → Fate (on_call me kept given running action)
-  call_comes me kept given actions.Noop there = quiet
-  call_comes me kept given (actions.Call task number object operation arg) there =
-      numbered me task number kept (actions.Call task number object operation arg) (kept_reply task number kept given) there
-  call_comes me kept given (actions.Interrupt source occurrence) there = quiet
-  call_comes me kept given (actions.Tick now) there = quiet
-
-  -- ---- what is learned
-
-  learned_turn : (me i : ℕ) (v : Action) (packets following : List Message) → Fate (learns s.next s.answers s.begin me records running i v packets following)
-  learned_turn me i v packets following = inl (i, v, refl, refl)
-
-  vote_comes : (me from i : ℕ) (vote : Vote) (at : Option Action) → Fate (on_vote s.next s.answers s.begin s.config.nodes me records running from i vote at)
-  vote_comes me from i vote (Some action) = quiet
-  vote_comes me from i vote None =
-      let heard = with_member same_heard running.heard (from, i, vote) in
-      either (makes_majority s.config.nodes i vote heard) _ _ (learned_turn me i vote.action (says_to_others s.config.nodes me (bodies.Decided i vote.action)) []) (sent (record running { heard = heard }) [] refl)
-
-  decision_comes : (me from i : ℕ) (v : Action) (at : Option Action) → Fate (on_decision s.next s.answers s.begin me records running from i v at)
-  decision_comes me from i v (Some action) = quiet
-  decision_comes me from i v None = learned_turn me i v [] (asks_for me from (missing_position (records ++ Learned i v ∷ [])))
-
-  ask_comes : (me from i : ℕ) (at : Option Action) → Fate (answers_ask me running from i at)
-  ask_comes me from i None = quiet
-  ask_comes me from i (Some v) = sent running (says me (bodies.Decided i v) from ∷ []) refl
-
-  -- ---- who leads
-
-  begun_if : (me i : ℕ) → FateIf (begins_if s.next s.answers s.begin s.config.nodes me records running i)
-  begun_if me i =
-      let b = next_ballot me (starts_above records running) in
-      either_if (nat_le (2 ^ 32) (round_of b)) _ _ tt (inr (λ j v e. absurd (cc), inl refl))
-
-  led_at : (me i : ℕ) (at : Option Proposal) → FateIf (leads_at s.next s.answers s.begin s.config.nodes me records running i at)
-  led_at me i None = begun_if me i
-  led_at me i (Some p) = either_if (is_prepared s.config.nodes p) _ _ (inr (λ j v e. absurd (cc), inl refl)) (begun_if me i)
-
-  led : (me : ℕ) (choice : Option ℕ) → FateIf (on_lead s.next s.answers s.begin s.config me records running choice)
-  led me choice =
-      let i = chosen_position s.config.nodes records running choice in
-      either_if (is_some (learned_at records i)) _ _ quiet (either_if (is_out_of_reach s.config.max_positions records i) _ _ tt (led_at me i (proposal_at running.proposals i)))
-
-  range_led : (me : ℕ) (range : Result Range Fault) → FateIf (on_lead_range s.config me records running range)
-  range_led me (Err fault) = tt
-  range_led me (Ok range) =
-      let b = next_ballot me (starts_above records running) in
-      either_if (list_any (is_out_of_reach s.config.max_positions records) (positions_of range)) _ _ tt
-      (either_if (nat_eq (length (unlearned_in records range)) 0) _ _ quiet
-      (either_if (nat_le (2 ^ 32) (round_of b)) _ _ tt (inr (λ j v e. absurd (cc), inl refl))))
-
-  promise_to : (me b : ℕ) (promise : Promise) (at : Option Proposal) → Fate (on_promise_to s.config.nodes me running b promise at)
-  promise_to me b promise None = quiet
-  promise_to me b promise (Some p) =
-      either (takes_promise b p) (counts_promise s.config.nodes me running p promise) (notes running)
-      (either (is_promised s.config.nodes (with_promise p promise)) _ _ (inr (λ j v e. absurd (cc), inl refl)) (inr (λ j v e. absurd (cc), inl refl))) quiet
-
-  body_comes : (me from : ℕ) (body : Body) → ((item : Action) → Has item (asked_in body) → Has item brought) → Fate (on_body s.next s.answers s.begin s.config.nodes me records running from body)
-  body_comes me from (bodies.Call action) there =
-      call_comes me (kept_of s.next s.answers s.begin (applied_of records)) (replay_answers s.next s.answers s.begin (applied_of records)) action (there action (inl refl))
-  body_comes me from (bodies.Prepare i b) there = prepared me from i b (prepare_answer records i b) (plain_prepare records i b)
-  body_comes me from (bodies.Promise i b last) there = promise_to me b (from, last) (proposal_at running.proposals i)
-  body_comes me from (bodies.Accept i b v) there = accepted me from i b v (accept_answer records i b v) (plain_accept records i b v)
-  body_comes me from (bodies.Accepted i b v) there = either (is_beyond records i) _ _ quiet (vote_comes me from i (record { ballot = b; action = v }) (learned_at records i))
-  body_comes me from (bodies.Decided i v) there = decision_comes me from i v (learned_at records i)
-  body_comes me from (bodies.Ask i) there = ask_comes me from i (learned_at records i)
-  body_comes me from (bodies.Nack i b bound) there = either (is_in b (proposal_at running.proposals i)) _ (notes running) (inr (λ j v e. absurd (cc), inl refl)) quiet
-  body_comes me from (bodies.Reply number reply) there = quiet
-  body_comes me from (bodies.Report first applied stated) there = quiet
-  body_comes me from (bodies.PrepareRange range b) there = ranged me from range b (range_answer records range b) (plain_range records range b)
-  body_comes me from (bodies.PromiseRange range b votes) there = inr (λ j v e. absurd (cc), inl refl)
+  plan_fate : (plan : Plan) → Saw here input plan → FateOf (turn_of here plan)
+  plan_fate (plans.Pass dropped) saw = inr (λ i v e. absurd cc, inl refl)
+  plan_fate (plans.Promise header last) saw = inr (λ i v e. absurd cc, inl refl)
+  plan_fate (plans.PromiseRange p) saw = inr (λ i v e. absurd cc, inl refl)
+  plan_fate (plans.Vote header v) saw = inr (λ i v e. absurd cc, inl refl)
+  plan_fate (plans.Repeat to i b v) saw = inr (λ i v e. absurd cc, inl refl)
+  plan_fate (plans.Refuse to i b bound) saw = inr (λ i v e. absurd cc, inl refl)
+  plan_fate (plans.Inform to i v) saw = inr (λ i v e. absurd cc, inl refl)
+  plan_fate (plans.Answer task number reply) saw = inr (λ i v e. absurd cc, inl refl)
+  plan_fate (plans.Await item) saw = inr (λ i v e. absurd cc, inr (item, brought_item here input item saw.brought, refl))
+  plan_fate (plans.Lead i b own) saw = inr (λ i v e. absurd cc, inl refl)
+  plan_fate (plans.LeadRange range b) saw = inr (λ i v e. absurd cc, inl refl)
+  plan_fate (plans.OfferPrepared i b v) saw = inr (λ i v e. absurd cc, inl (offered_pending s.config.nodes v (proposal_at running.proposals i)))
+  plan_fate (plans.CountPromise p) saw = inr (λ i v e. absurd cc, inl (promised_pending s.config.nodes p.ballot (p.from, p.last) (proposal_at running.proposals p.position)))
+  plan_fate (plans.CountRangePromise p) saw = inr (λ i v e. absurd cc, inl refl)
+  plan_fate (plans.Offer p v) saw = inr (λ i v e. absurd cc, inl (promised_pending s.config.nodes p.ballot (p.from, p.last) (proposal_at running.proposals p.position)))
+  plan_fate (plans.Yield i b bound) saw = inr (λ i v e. absurd cc, inl (refused_pending s.config.nodes i b bound))
+  plan_fate (plans.CountVote from i vote) saw = inr (λ i v e. absurd cc, inl refl)
+  plan_fate (plans.Learn i v) saw = inl (i, v, refl, refl)
+  plan_fate (plans.Follow from i v) saw = inl (i, v, refl, refl)
+  plan_fate (plans.Report first) saw = inr (λ i v e. absurd cc, inl refl)
 
 -- any input
 pub fate_of : {S : Type 0} (s : Setting S) (me : ℕ) (records : List Rec) (running : Running) (input : NodeInput) → FateIf s records running (brought_by input) (running_effect s me records running input)
-fate_of s me records running (Receive message) =
-    either s records running (asked_in message.body) (is_for_node s.config me message) _ (drops_foreign running)
-    (body_comes s records running (asked_in message.body) me (party_number message.from) message.body (λ item h. h)) (foreign s records running (asked_in message.body))
-fate_of s me records running (Lead choice) = led s records running [] me choice
-fate_of s me records running (LeadRange first count) = range_led s records running [] me (range_of first count)
-fate_of s me records running (Interrupt source occurrence) =
-    let brought = actions.Interrupt source occurrence ∷ [] in
-    either s records running brought (nat_lt (last_occurrence source (kept_of s.next s.answers s.begin (applied_of records))) occurrence) _ (notes running)
-    (adds s records running brought (actions.Interrupt source occurrence) (inl refl)) (quiet s records running brought)
-fate_of s me records running (Tick now) = adds s records running (actions.Tick now ∷ []) (actions.Tick now) (inl refl)
-fate_of s me records running (Report first) = sent s records running [] running (report_of me first (applied_of records) ∷ []) refl
+fate_of s me records running input =
+    by_plan (running_node s me records running) input (FateIf s records running (brought_by input)) (λ fault. tt) (plan_fate s me records running input)
 
 -- ---- what that says of a turn
 
@@ -291,18 +170,19 @@ none_same : (test : Action → Bool) (items : List Action) → ((item : Action) 
 none_same test [] none = refl
 none_same test (item ∷ items) none = ap (λ (b : Bool). b || list_any test items) (none item) ∙ none_same test items none
 
-adds_taken : (running : Running) (item : Action) → ((other : Action) → is_same_call item other ≡ false) → IsTaken running (adds_pending running item) item
-adds_taken running item new =
-    let more = record running { pending = running.pending ++ item ∷ [] } in
-    let room = nat_lt (length running.pending) most_pending in
-    let is : adds_pending running item ≡ (if room then notes more else drops_full running) = cond-false (list_any (is_same_call item) running.pending) (notes running) _ (none_same (is_same_call item) running.pending new) in
-    elim (cases_lt (length running.pending) 32) [
+adds_taken : {S : Type 0} (node : RunningNode S) (item : Action) → ((other : Action) → is_same_call item other ≡ false) → IsTaken node.running (turn_of node (adds_pending node.running.pending item)) item
+adds_taken node item new =
+    let pending = node.running.pending in
+    let room = nat_lt (length pending) most_pending in
+    let is : adds_pending pending item ≡ (if room then plans.Await item else plans.Pass Full) =
+    cond-false (list_any (is_same_call item) pending) (plans.Pass No) _ (none_same (is_same_call item) pending new) in
+    elim (cases_lt (length pending) 32) [
       | inl below ↦
-          let turn : adds_pending running item ≡ notes more = is ∙ cond-true room (notes more) (drops_full running) (lt-ltb (length running.pending) 32 below) in
-          subst (λ (t : Turn). IsTaken running t item) (sym turn) (inl (has_right item running.pending (item ∷ []) (inl refl)))
+          let plan : adds_pending pending item ≡ plans.Await item = is ∙ cond-true room (plans.Await item) (plans.Pass Full) (lt-ltb (length pending) 32 below) in
+          subst (λ (p : Plan). IsTaken node.running (turn_of node p) item) (sym plan) (inl (has_right item pending (item ∷ []) (inl refl)))
       | inr past ↦
-          let turn : adds_pending running item ≡ drops_full running = is ∙ cond-false room (notes more) (drops_full running) (not_below (length running.pending) 32 past) in
-          subst (λ (t : Turn). IsTaken running t item) (sym turn) (inr (refl, past))
+          let plan : adds_pending pending item ≡ plans.Pass Full = is ∙ cond-false room (plans.Await item) (plans.Pass Full) (not_below (length pending) 32 past) in
+          subst (λ (p : Plan). IsTaken node.running (turn_of node p) item) (sym plan) (inr (refl, past))
     ]
   where
     not_below : (a n : ℕ) → n ≤ a → nat_lt a n ≡ false
@@ -311,16 +191,22 @@ adds_taken running item new =
 ok_same : (a b : Turn) → (let one : Result Turn Fault = Ok a in one) ≡ Ok b → a ≡ b
 ok_same a b e = cc
 
-pub tick_taken : (running : Running) (now : ℕ) (turn : Turn) → (let one : Result Turn Fault = Ok (adds_pending running (actions.Tick now)) in one) ≡ Ok turn → IsTaken running turn (actions.Tick now)
-tick_taken running now turn result = subst (λ (t : Turn). IsTaken running t (actions.Tick now)) (ok_same _ turn result) (adds_taken running (actions.Tick now) (λ other. refl))
+module _ {S : Type 0} (s : Setting S) (me : ℕ) (records : List Rec) (running : Running) (turn : Turn) where
+  pub tick_taken : (now : ℕ) → running_effect s me records running (Tick now) ≡ Ok turn → IsTaken running turn (actions.Tick now)
+  tick_taken now result =
+      let node = running_node s me records running in
+      subst (λ (t : Turn). IsTaken running t (actions.Tick now)) (ok_same _ turn result) (adds_taken node (actions.Tick now) (λ other. refl))
 
-pub interrupt_taken : (kept : List Action) (running : Running) (source occurrence : ℕ) (turn : Turn) → (let one : Result Turn Fault = Ok (on_interrupt kept running source occurrence) in one) ≡ Ok turn
-    → (occurrence ≤ last_occurrence source kept) ⊎ IsTaken running turn (actions.Interrupt source occurrence)
-interrupt_taken kept running source occurrence turn result =
-    let item = actions.Interrupt source occurrence in
-    elim (cases_lt (last_occurrence source kept) occurrence) [
-      | inl above ↦
-          let is : adds_pending running item ≡ turn = sym (cond-true (nat_lt (last_occurrence source kept) occurrence) (adds_pending running item) (notes running) (lt-ltb _ _ above)) ∙ ok_same _ turn result in
-          inr (subst (λ (t : Turn). IsTaken running t item) is (adds_taken running item (λ other. refl)))
-      | inr past ↦ inl past
-    ]
+  pub interrupt_taken : (source occurrence : ℕ) → running_effect s me records running (Interrupt source occurrence) ≡ Ok turn
+      → (occurrence ≤ last_occurrence source (kept_of s.next s.answers s.begin (applied_of records))) ⊎ IsTaken running turn (actions.Interrupt source occurrence)
+  interrupt_taken source occurrence result =
+      let node = running_node s me records running in
+      let item = actions.Interrupt source occurrence in
+      let kept = kept_by node in
+      elim (cases_lt (last_occurrence source kept) occurrence) [
+        | inl above ↦
+            let is : turn_of node (adds_pending running.pending item) ≡ turn =
+            ap (turn_of node) (sym (cond-true (nat_lt (last_occurrence source kept) occurrence) (adds_pending running.pending item) (plans.Pass No) (lt-ltb _ _ above))) ∙ ok_same _ turn result in
+            inr (subst (λ (t : Turn). IsTaken running t item) is (adds_taken node item (λ other. refl)))
+        | inr past ↦ inl past
+      ]

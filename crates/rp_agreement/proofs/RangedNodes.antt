@@ -33,15 +33,6 @@ use Rattle.rp_codec.specs.declared.packet.Body.{Body}
 use Rattle.rp_codec.specs.declared.packet.Body.TheVariants as bodies
 use Rattle.rp_machine.specs.Asked.{last_occurrence}
 use Rattle.rp_machine.specs.Replay.{kept_of, replay_answers}
-use Rattle.rp_model.specs.Parts.{Running}
-use Rattle.rp_model.specs.Parts.{Turn}
-use Rattle.rp_model.specs.Parts.{is_in_log}
-use Rattle.rp_model.specs.Says.{says_to_all, says_to_others, notes, drops_foreign}
-use Rattle.rp_model.specs.Pending.{own_action}
-use Rattle.rp_model.specs.Leader.{is_free_position, free_from, chosen_position, is_beyond, is_out_of_reach, starts_above, begins, on_lead, begins_if, offers, leads_at, unlearned_in, on_lead_range}
-use Rattle.rp_model.specs.Learner.{learns_above, missing_position, asks_for, learns, on_vote, on_decision}
-use Rattle.rp_model.specs.Receiving.{is_for_node, party_number, on_body, receives}
-use Rattle.rp_model.specs.Effect.{Setting, NodeInput, Receive, Lead, LeadRange, Interrupt, Tick, Report, report_of, running_effect}
 use Rattle.rp_agreement.specs.Answered.{answers_of}
 use Rattle.rp_agreement.specs.Inputs.{IsInput}
 use Rattle.rp_agreement.specs.Ranges.{IsRangedProposal, IsRangedRunning}
@@ -51,7 +42,36 @@ use Rattle.rp_agreement.proofs.Leaders.{next_owned, own_is_so, unless_is_so}
 use Rattle.rp_agreement.proofs.LogKeeping.{applied_in_log}
 use Rattle.rp_agreement.proofs.TaskEffects.{leb_not}
 use Rattle.rp_agreement.proofs.RangedParts.{AreRecords, learned_ranged, with_ranged, without_ranged, written_ranged, AreProposals, offer_ranged}
-use Rattle.rp_agreement.proofs.RangedTurns.{ArePackets, AreReplies, IsRangedTurn, no_packets, one_packet, both_packets, noted, sending, writing, foreign, choice, said, said_to_all, said_to_others, prepare_ranged, accept_ranged, promise_counted, nack_ranged, adds_ranged, call_ranged, replies_ranged, ask_ranged, range_position, prepare_range_ranged, promise_range_counted}
+use Rattle.rp_agreement.proofs.RangedTurns.{ArePackets, AreReplies, IsRangedTurn, no_packets, one_packet, both_packets, noted, sending, writing, said, said_to_all, said_to_others, replies_ranged, range_position}
+use Rattle.rp_model.specs.Effect.{Setting, NodeInput, Receive, Lead, LeadRange, Interrupt, Tick, Report, plan_of, turn_if, running_effect}
+use Rattle.rp_model.specs.Leader.{is_out_of_reach, is_beyond, unlearned_in, refused_running}
+use Rattle.rp_model.specs.Learner.{missing_position, asks_for, learns}
+use Rattle.rp_model.specs.Node.{RunningNode, running_node, nodes_of, kept_by, given_by, own_for}
+use Rattle.rp_model.specs.Parts.{Running, Turn, with_record}
+use Rattle.rp_model.specs.Pending.{most_pending, is_same_call, is_answered_by, replies_to, own_action, stays}
+use Rattle.rp_model.specs.Plans.{started_running, heard_running, offered_running, promised_running, once_counted, once_learned, report_of, turn_of}
+use Rattle.rp_model.specs.Receiving.{party_number}
+use Rattle.rp_model.specs.Says.{says, says_to_all, says_to_others, says_to_task, sends, notes, writes}
+use Rattle.rp_model.specs.declared.plan.CountedPromise.{CountedPromise}
+use Rattle.rp_model.specs.declared.plan.Plan.{Plan}
+use Rattle.rp_model.specs.declared.plan.Plan.TheVariants as plans
+use Rattle.rp_model.proofs.EveryPlan.{Came, Brings, ByCall, ByInterrupt, ByTick, Saw, SawPromise, SawPrepared, SawPlace, came_allowed, promised_is, offered_is, by_plan}
+use Rattle.rp_model.specs.Leader.{chosen_position, free_from, is_free_position, starts_above, ballot_of, is_exhausted}
+use Rattle.rp_model.specs.Learner.{learns_above}
+use Rattle.rp_model.specs.Parts.{is_in_log}
+use Rattle.rp_base.specs.PlacedVotes.{last_votes}
+use Rattle.rp_base.specs.Proposals.{with_promise, after_promise}
+use Rattle.std.proofs.Common.{◌∙◌}
+use Rattle.rp_base.proofs.Members.{has_split}
+use Rattle.rp_agreement.proofs.AnswerTurns.{kept_is_given, has_dropped}
+use Rattle.rp_base.specs.Promises.{Promise}
+use Rattle.rp_agreement.proofs.RangedParts.{bound_ballot, promise_ranged, after_ranged}
+use Rattle.rp_base.proofs.ReportedVotes.{votes_are_reported}
+use Rattle.rp_base.specs.Records.{bound_at}
+use Rattle.rp_model.proofs.EveryPlan.{Asks, ForPromise, ForRange, ForVote}
+use Rattle.rp_agreement.proofs.Leaders.{own_offer}
+use Rattle.rp_agreement.proofs.RangedTurns.{replied_task, range_promised, refused_ranged, knows_with, last_reported, last_vote_ranges, placed_ballots, each_right_record, IsPlacedBallot}
+use Rattle.std.proofs.lemmas.Bool.{ltb-true}
 
 -- ---- what is applied
 
@@ -153,65 +173,6 @@ within_reach most records i e = ltb-false most i (no_first (nat_lt most i) _ e)
 own_right : (kept : List Action) (others : List Proposal) (pending : List Action) → AllRight pending → IsRight (own_action kept others pending)
 own_right kept others pending all = own_is_so IsRight kept others pending tt all
 
--- the result of a turn, if it is not refused
-abbrev pub IsRangedIf : Result Turn Fault → Type 0
-IsRangedIf (Ok turn) = IsRangedTurn turn
-IsRangedIf (Err fault) = Unit {0}
-
-either_if : (test : Bool) (one other : Result Turn Fault) → (test ≡ true → IsRangedIf one) → (test ≡ false → IsRangedIf other) → IsRangedIf (if test then one else other)
-either_if true one other left right = left refl
-either_if false one other left right = right refl
-
-module _ {S : Type 0} (next : S → Action → S) (answers : S → Action → List Answer) (begin : S) where
-  begins_ranged : (nodes me : ℕ) (records : List Rec) (running : Running) (i b : ℕ) → nodes ≤ 7 → IsNode me → IsPosition i → IsBallot b → IsRangedRunning running
-      → IsRangedTurn (begins next answers begin nodes me records running i b)
-  begins_ranged nodes me records running i b few mine place ballot runs =
-      let own = own_action (kept_of next answers begin (applied_of records)) (without_proposal running.proposals i) running.pending in
-      let right : IsRight own = own_right (kept_of next answers begin (applied_of records)) (without_proposal running.proposals i) running.pending runs.pending in
-      let new : IsRangedProposal (new_proposal i b (Some own)) = record { position = place; ballot = ballot; own = right; reported = λ a vote h. absurd h } in
-      writing (Started b) _ (says_to_all nodes me (bodies.Prepare i b)) (record { ranges = ballot; right = tt })
-      (record { proposals = with_ranged running.proposals (new_proposal i b (Some own)) runs.proposals new; pending = runs.pending })
-      (said_to_all nodes me (bodies.Prepare i b) few mine (place, ballot) (λ k. (tt, tt)))
-
-  begin_ranged : (nodes me : ℕ) (records : List Rec) (running : Running) (i : ℕ) → nodes ≤ 7 → IsNode me → IsPosition i → IsRangedRunning running
-      → IsRangedIf (begins_if next answers begin nodes me records running i)
-  begin_ranged nodes me records running i few mine place runs =
-      let b = next_ballot me (starts_above records running) in
-      either_if (nat_le (2 ^ 32) (round_of b)) _ _ (λ _. tt) (λ left.
-      begins_ranged nodes me records running i b few mine place (next_ranged me (starts_above records running) mine (leb_not (2 ^ 32) (round_of b) left)) runs)
-
-  offers_ranged : (nodes me : ℕ) (records : List Rec) (running : Running) (p : Proposal) → nodes ≤ 7 → IsNode me → IsRangedProposal p → IsRangedRunning running
-      → IsRangedTurn (offers next answers begin nodes me records running p)
-  offers_ranged nodes me records running p few mine is runs =
-      let others = without_proposal running.proposals p.position in
-      let own = own_action (kept_of next answers begin (applied_of records)) others running.pending in
-      let right : IsRight own = own_right (kept_of next answers begin (applied_of records)) others running.pending runs.pending in
-      let after = as_offered own p in
-      let new : IsRangedProposal after = record { position = is.position; ballot = is.ballot; own = unless_is_so IsRight own (highest_vote p.promises) right; reported = is.reported } in
-      let accept = bodies.Accept p.position p.ballot (offer_of after.own p.promises) in
-      sending (record running { proposals = with_proposal running.proposals after }) (says_to_all nodes me accept)
-      (record { proposals = with_ranged running.proposals after runs.proposals new; pending = runs.pending })
-      (said_to_all nodes me accept few mine (is.position, is.ballot) (λ k. ((tt, tt), offer_ranged after new)))
-
-  leads_ranged : (nodes me : ℕ) (records : List Rec) (running : Running) (i : ℕ) (at : Option Proposal) → nodes ≤ 7 → IsNode me → IsPosition i → IsRangedRunning running
-      → proposal_at running.proposals i ≡ at → IsRangedIf (leads_at next answers begin nodes me records running i at)
-  leads_ranged nodes me records running i None few mine place runs is = begin_ranged nodes me records running i few mine place runs
-  leads_ranged nodes me records running i (Some p) few mine place runs is =
-      either_if (is_prepared nodes p) _ _
-      (λ _. offers_ranged nodes me records running p few mine (runs.proposals p (found_has (λ (q : Proposal). nat_eq q.position i) p running.proposals is).0) runs)
-      (λ _. begin_ranged nodes me records running i few mine place runs)
-
-  pub lead_ranged : (config : Config) (me : ℕ) (records : List Rec) (running : Running) (choice : Option ℕ) → IsRightConfig config → IsNode me → IfSome choice IsPosition → IsRangedRunning running
-      → IsRangedIf (on_lead next answers begin config me records running choice)
-  lead_ranged config me records running choice right mine is runs =
-      let i = chosen_position config.nodes records running choice in
-      let low : 1 ≤ i = chosen_low config.nodes records running choice is in
-      let most : config.max_positions < 2 ^ 16 = right.positions.1 in
-      either_if (is_some (learned_at records i)) _ _ (λ _. noted running runs) (λ _.
-      either_if (is_out_of_reach config.max_positions records i) _ _ (λ _. tt) (λ near.
-      let within : i ≤ config.max_positions = within_reach config.max_positions records i near in
-      leads_ranged config.nodes me records running i (proposal_at running.proposals i) right.nodes.1 mine (low, omega (arith, within, most)) runs refl))
-
 -- ---- a range to lead in
 
 -- a first position and a count that make a range make one within the log's numbers
@@ -238,23 +199,6 @@ begun_ranged b [] proposals ballot places all = all
 begun_ranged b (i ∷ rest) proposals ballot places all =
     let new : IsRangedProposal (range_proposal b i) = record { position = places i (inl refl); ballot = ballot; own = tt; reported = λ a vote h. absurd h } in
     begun_ranged b rest (with_proposal proposals (range_proposal b i)) ballot (λ j h. places j (inr h)) (with_ranged proposals (range_proposal b i) all new)
-
-lead_range_ranged : (config : Config) (me : ℕ) (records : List Rec) (running : Running) (first count : ℕ) (range : Result Range Fault) → range_of first count ≡ range → IsRightConfig config → IsNode me
-    → IsPosition first → IsRangedRunning running → IsRangedIf (on_lead_range config me records running range)
-lead_range_ranged config me records running first count (Err fault) is right mine place runs = tt
-lead_range_ranged config me records running first count (Ok range) is right mine place runs =
-    let b = next_ballot me (starts_above records running) in
-    let ranges : IsRange range = range_is first count range place is in
-    either_if (list_any (is_out_of_reach config.max_positions records) (positions_of range)) _ _ (λ _. tt) (λ _.
-    either_if (nat_eq (length (unlearned_in records range)) 0) _ _ (λ _. noted running runs) (λ _.
-    either_if (nat_le (2 ^ 32) (round_of b)) _ _ (λ _. tt) (λ left.
-    let ballot = next_ranged me (starts_above records running) mine (leb_not (2 ^ 32) (round_of b) left) in
-    writing (Started b) _ (says_to_all config.nodes me (bodies.PrepareRange range b)) (record { ranges = ballot; right = tt })
-    (record {
-      proposals = begun_ranged b (unlearned_in records range) running.proposals ballot (λ i h. range_position range i ranges (has_passing _ i (positions_of range) h).0) runs.proposals;
-      pending = runs.pending;
-    })
-    (said_to_all config.nodes me (bodies.PrepareRange range b) right.nodes.1 mine (ranges, ballot) (λ k. (tt, tt))))))
 
 -- ---- what is missing below a learned position
 
@@ -286,116 +230,233 @@ asked_ranged : (me from : ℕ) (missing : Option ℕ) → IsNode me → IsNode f
 asked_ranged me from None mine theirs is = no_packets
 asked_ranged me from (Some i) mine theirs is = one_packet _ (said me from (bodies.Ask i) mine theirs is (tt, tt))
 
-module _ {S : Type 0} (s : Setting S) (fits : (actions : List Action) → AllRight actions → AreReplies (answers_of s actions)) where
-  learns_ranged : (me i : ℕ) (v : Action) (records : List Rec) (running : Running) (packets following : List Message) → IsNode me → IsPosition i → IsRight v → AreRecords records
-      → IsRangedRunning running → ArePackets packets → ArePackets following → IsRangedTurn (learns s.next s.answers s.begin me records running i v packets following)
-  learns_ranged me i v records running packets following mine place right all runs before after =
-      let one : IsRecord (Learned i v) = record { ranges = place; right = right } in
-      let given = replay_answers s.next s.answers s.begin (applied_of (records ++ Learned i v ∷ [])) in
-      let fit : AreReplies given = fits (applied_of (records ++ Learned i v ∷ [])) (applied_right (records ++ Learned i v ∷ []) (written_ranged records (Some (Learned i v)) all one)) in
-      let new = drop (length (replay_answers s.next s.answers s.begin (applied_of records))) given in
+-- ---- what came
+
+audit_says : (to : Party) (body : Body) → ¬ MaySay Audit to body
+audit_says to (bodies.Call action) may = may.0
+audit_says to (bodies.Prepare i b) may = may.0
+audit_says to (bodies.Promise i b last) may = may.0.0
+audit_says to (bodies.Accept i b v) may = may.0.0
+audit_says to (bodies.Accepted i b v) may = may.0.0
+audit_says to (bodies.Decided i v) may = may.0.0
+audit_says to (bodies.Ask i) may = may.0
+audit_says to (bodies.Nack i b bound) may = may.0.0
+audit_says to (bodies.Reply number reply) may = may.0
+audit_says to (bodies.Report first applied actions) may = may.0
+audit_says to (bodies.PrepareRange range b) may = may.0
+audit_says to (bodies.PromiseRange range b votes) may = may.0.0
+
+-- what came from a node is in range
+record FromNode (from : ℕ) (body : Body) : Type 0 where
+  node : IsNode from
+  ranges : IsBody body
+  to : Party
+  may : MaySay (Node from) to body
+
+party_says : (p to : Party) (from : ℕ) (body : Body) → IsPacket (record { from = p; to = to; body = body }) → party_number p ≡ from → ((t : ℕ) → ¬ MaySay (Task t) to body) → FromNode from body
+party_says (Node a) to from body is number none = subst (λ (k : ℕ). FromNode k body) number (record { node = is.ranges.from; ranges = is.ranges.body; to = to; may = is.rules })
+party_says (Task t) to from body is number none = absurd (none t is.rules)
+party_says Audit to from body is number none = absurd (audit_says to body is.rules)
+
+call_right : (p to : Party) (call : Action) → IsPacket (record { from = p; to = to; body = bodies.Call call }) → IsRight call
+call_right (Node a) to call is = absurd is.rules.0
+call_right (Task t) to call is = is.rules.3
+call_right Audit to call is = absurd (audit_says to (bodies.Call call) is.rules)
+
+vote_right : (b : ℕ) (last : Option Vote) → IfSome last (λ vote. IsVoteBelow b vote) → IfSome last IsRightVote
+vote_right b None is = tt
+vote_right b (Some vote) is = is.1
+
+-- the result of a turn, if it is not refused
+abbrev pub IsRangedIf : Result Turn Fault → Type 0
+IsRangedIf (Ok turn) = IsRangedTurn turn
+IsRangedIf (Err fault) = Unit {0}
+
+-- ---- each plan
+
+module _ {S : Type 0} (s : Setting S) (fits : (actions : List Action) → AllRight actions → AreReplies (answers_of s actions))
+    (me : ℕ) (records : List Rec) (running : Running) (sent : List Message) (input : NodeInput)
+    (right : IsRightConfig s.config) (mine : IsNode me) (all : AreRecords records) (runs : IsRangedRunning running) (packets : ArePackets sent) (given : IsInput sent input) where
+  abbrev here : RunningNode S
+  here = running_node s me records running
+
+  abbrev few : s.config.nodes ≤ 7
+  few = right.nodes.1
+
+  came_packet : (from : ℕ) (body : Body) (came : Came here input from body) → IsPacket (record { from = came.message.from; to = came.message.to; body = body })
+  came_packet from body came =
+      let m = came.message in
+      subst (λ (said : Body). IsPacket (record { from = m.from; to = m.to; body = said })) came.says
+      (packets m (subst (λ (i : NodeInput). IsInput sent i) came.input_is given))
+
+  said_by : (from : ℕ) (body : Body) → (came : Came here input from body) → ((t : ℕ) → ¬ MaySay (Task t) came.message.to body) → FromNode from body
+  said_by from body came none = party_says came.message.from came.message.to from body (came_packet from body came) came.sender none
+
+  item_right : (item : Action) → Brings here input item → IsRight item
+  item_right item (ByCall from task number object operation arg came is) = call_right came.message.from came.message.to item (came_packet from (bodies.Call item) came)
+  item_right item (ByInterrupt source occurrence brought is) = subst IsRight (sym is) (subst (λ (i : NodeInput). IsInput sent i) brought given)
+  item_right item (ByTick now brought is) = subst IsRight (sym is) (subst (λ (i : NodeInput). IsInput sent i) brought given)
+
+  place_ranged : (i : ℕ) → SawPlace here input i → IsPosition i
+  place_ranged i saw =
+      let choice = subst (λ (j : NodeInput). IsInput sent j) saw.input_is given in
+      let low : 1 ≤ i = subst (λ (j : ℕ). 1 ≤ j) saw.chosen (chosen_low s.config.nodes records running saw.choice choice) in
+      let within : i ≤ s.config.max_positions = within_reach s.config.max_positions records i saw.within in
+      let most : s.config.max_positions < 2 ^ 16 = right.positions.1 in
+      (low, omega (arith, within, most))
+
+  ballot_ranged : (b : ℕ) → ballot_of here ≡ b → is_exhausted here ≡ false → IsBallot b
+  ballot_ranged b is left = subst IsBallot is (next_ranged me (starts_above records running) mine (leb_not (2 ^ 32) (round_of (ballot_of here)) left))
+
+  own_ranged : (i : ℕ) → IsRight (own_for here i)
+  own_ranged i = own_right (kept_by here) (without_proposal running.proposals i) running.pending runs.pending
+
+  proposal_ranged : (i : ℕ) (p : Proposal) → proposal_at running.proposals i ≡ Some p → IsRangedProposal p
+  proposal_ranged i p is = runs.proposals p (found_has (λ (q : Proposal). nat_eq q.position i) p running.proposals is).0
+
+  says_one : (body : Body) (to : ℕ) → IsNode to → IsBody body → MaySay (Node me) (Node to) body → IsRangedTurn (sends running (says me body to ∷ []))
+  says_one body to theirs ranges may = sending running (says me body to ∷ []) runs (one_packet _ (said me to body mine theirs ranges may))
+
+  writes_one : (rec : Rec) (body : Body) (to : ℕ) → IsRecord rec → IsNode to → IsBody body → MaySay (Node me) (Node to) body → IsRangedTurn (writes rec running (says me body to ∷ []))
+  writes_one rec body to one theirs ranges may = writing rec running (says me body to ∷ []) one runs (one_packet _ (said me to body mine theirs ranges may))
+
+  learns_ranged : (i : ℕ) (v : Action) (before following : List Message) → IsPosition i → IsRight v → ArePackets before → ArePackets following → IsRangedTurn (once_learned here i v before following)
+  learns_ranged i v before following place may first last =
+      let one : IsRecord (Learned i v) = record { ranges = place; right = may } in
+      let answered = replay_answers s.next s.answers s.begin (applied_of (records ++ Learned i v ∷ [])) in
+      let fit : AreReplies answered = fits (applied_of (records ++ Learned i v ∷ [])) (applied_right (records ++ Learned i v ∷ []) (written_ranged records (Some (Learned i v)) all one)) in
+      let new = drop (length (replay_answers s.next s.answers s.begin (applied_of records))) answered in
       writing (Learned i v) _ _ one
       (record { proposals = without_ranged running.proposals i runs.proposals; pending = λ item h. runs.pending item (has_passing _ item running.pending h).0 })
-      (both_packets _ following (both_packets packets _ before
-      (replies_ranged me running.pending new mine runs.pending (λ answer h. fit answer (has_dropped (length (replay_answers s.next s.answers s.begin (applied_of records))) answer given h))))
-      after)
+      (both_packets _ following (both_packets before _ first
+      (replies_ranged me running.pending new mine runs.pending (λ answer h. fit answer (has_dropped (length (replay_answers s.next s.answers s.begin (applied_of records))) answer answered h))))
+      last)
 
-  vote_ranged : (nodes me from i : ℕ) (vote : Vote) (records : List Rec) (running : Running) (learned : Option Action) → nodes ≤ 7 → IsNode me → IsPosition i → IsRight vote.action
-      → AreRecords records → IsRangedRunning running → IsRangedTurn (on_vote s.next s.answers s.begin nodes me records running from i vote learned)
-  vote_ranged nodes me from i vote records running (Some learned) few mine place right all runs = noted running runs
-  vote_ranged nodes me from i vote records running None few mine place right all runs =
-      let heard = with_member same_heard running.heard (from, i, vote) in
-      let stated = bodies.Decided i vote.action in
-      choice (makes_majority nodes i vote heard) _ _
-      (learns_ranged me i vote.action records running (says_to_others nodes me stated) [] mine place right all runs (said_to_others nodes me stated few mine place (λ k. ((tt, tt), right))) no_packets)
-      (noted _ (record { proposals = runs.proposals; pending = runs.pending }))
+  -- the position and the ballot that are refused
+  asks_ranged : (to i b : ℕ) → Asks here input to i b → IsNode to × IsPosition i × IsBallot b
+  asks_ranged to i b (ForPromise came) = let is = said_by to (bodies.Prepare i b) came (λ t may. absurd may.0) in (is.node, is.ranges.0, is.ranges.1)
+  asks_ranged to i b (ForRange range came at) =
+      let is = said_by to (bodies.PrepareRange range b) came (λ t may. absurd may.0) in
+      let found = found_has (λ (k : ℕ). nat_lt b (bound_at records k)) i (positions_of range) at in
+      (is.node, range_position range i is.ranges.0 found.0, is.ranges.1)
+  asks_ranged to i b (ForVote v came) = let is = said_by to (bodies.Accept i b v) came (λ t may. absurd may.0.0) in (is.node, is.ranges.0, is.ranges.1)
 
-  decision_ranged : (me from i : ℕ) (v : Action) (records : List Rec) (running : Running) (learned : Option Action) → IsNode me → IsNode from → IsPosition i → IsRight v
-      → AreRecords records → IsRangedRunning running → IsRangedTurn (on_decision s.next s.answers s.begin me records running from i v learned)
-  decision_ranged me from i v records running (Some learned) mine theirs place right all runs = noted running runs
-  decision_ranged me from i v records running None mine theirs place right all runs =
-      let after = records ++ Learned i v ∷ [] in
-      let one : IsRecord (Learned i v) = record { ranges = place; right = right } in
-      learns_ranged me i v records running [] (asks_for me from (missing_position after)) mine place right all runs no_packets
-      (asked_ranged me from (missing_position after) mine theirs (missing_ranged after (written_ranged records (Some (Learned i v)) all one)))
+  -- what is known once a promise counts, and what it counts for
+  counted : (promise : CountedPromise) (majority : Bool) (saw : SawPromise here input promise majority)
+      → IsRangedRunning (once_counted here promise) × IsRangedProposal (with_promise saw.proposal (promise.from, promise.last)) × IsPosition promise.position × IsBallot promise.ballot
+  counted promise majority saw =
+      let body = bodies.Promise promise.position promise.ballot promise.last in
+      let is = said_by promise.from body saw.came (λ t may. absurd may.0.0) in
+      let p = saw.proposal in
+      let one : Promise = (promise.from, promise.last) in
+      let taken = promise_ranged p promise.from promise.last (proposal_ranged promise.position p saw.found) (vote_right promise.ballot promise.last is.may.1) in
+      (
+        subst IsRangedRunning (sym (promised_is here input promise majority saw)) (knows_with running (after_promise s.config.nodes p one) runs (after_ranged s.config.nodes p one taken)),
+        taken,
+        is.ranges.0,
+        is.ranges.1,
+      )
 
-  -- ---- a packet
+  offers_prepared : (i b : ℕ) (v : Action) → SawPrepared here input i b v → IsRangedTurn (turn_of here (plans.OfferPrepared i b v))
+  offers_prepared i b v saw =
+      let p = saw.proposal in
+      let is = proposal_ranged i p saw.found in
+      let own = own_for here i in
+      let after = as_offered own p in
+      let new : IsRangedProposal after = record { position = is.position; ballot = is.ballot; own = unless_is_so IsRight own (highest_vote p.promises) (own_ranged i); reported = is.reported } in
+      let may = subst IsRight (own_offer own (highest_vote p.promises) ∙ saw.action_is) (offer_ranged after new) in
+      let accept = bodies.Accept i b v in
+      sending (offered_running s.config.nodes running v (proposal_at running.proposals i)) (says_to_all s.config.nodes me accept)
+      (subst IsRangedRunning (sym (offered_is here input i b v saw)) (record { proposals = with_ranged running.proposals after runs.proposals new; pending = runs.pending }))
+      (said_to_all s.config.nodes me accept few mine (place_ranged i saw.place, subst IsBallot saw.ballot is.ballot) (λ k. ((tt, tt), may)))
 
-  node_body : (me a : ℕ) (to : Party) (body : Body) (records : List Rec) (running : Running) → IsRightConfig s.config → IsNode me → IsNode a → IsBody body → MaySay (Node a) to body
-      → AreRecords records → IsRangedRunning running → IsRangedTurn (on_body s.next s.answers s.begin s.config.nodes me records running a body)
-  node_body me a to (bodies.Call action) records running right mine theirs ranges may all runs = absurd may.0
-  node_body me a to (bodies.Prepare i b) records running right mine theirs ranges may all runs = prepare_ranged me a i b records running mine theirs ranges.0 ranges.1 all runs
-  node_body me a to (bodies.Promise i b last) records running right mine theirs ranges may all runs =
-      promise_counted s.config.nodes me a i b last running right.nodes.1 mine (vote_right b last may.1) runs
-    where
-      vote_right : (b : ℕ) (last : Option Vote) → IfSome last (λ vote. IsVoteBelow b vote) → IfSome last IsRightVote
-      vote_right b None is = tt
-      vote_right b (Some vote) is = is.1
-  node_body me a to (bodies.Accept i b v) records running right mine theirs ranges may all runs = accept_ranged me a i b v records running mine theirs ranges.0 ranges.1 may.1 all runs
-  node_body me a to (bodies.Accepted i b v) records running right mine theirs ranges may all runs =
-      choice (is_beyond records i) _ _ (noted running runs)
-      (vote_ranged s.config.nodes me a i (record { ballot = b; action = v }) records running (learned_at records i) right.nodes.1 mine ranges.0 may.1 all runs)
-  node_body me a to (bodies.Decided i v) records running right mine theirs ranges may all runs = decision_ranged me a i v records running (learned_at records i) mine theirs ranges may.1 all runs
-  node_body me a to (bodies.Ask i) records running right mine theirs ranges may all runs =
-      ask_ranged me a i running (learned_at records i) mine theirs ranges (learned_right records i (learned_at records i) all refl) runs
-  node_body me a to (bodies.Nack i b bound) records running right mine theirs ranges may all runs = nack_ranged s.config.nodes running i b bound runs
-  node_body me a to (bodies.Reply number reply) records running right mine theirs ranges may all runs = noted running runs
-  node_body me a to (bodies.Report first applied actions) records running right mine theirs ranges may all runs = noted running runs
-  node_body me a to (bodies.PrepareRange range b) records running right mine theirs ranges may all runs = prepare_range_ranged me a range b records running mine theirs ranges.0 ranges.1 all runs
-  node_body me a to (bodies.PromiseRange range b votes) records running right mine theirs ranges may all runs = promise_range_counted s.config.nodes a range b votes running may.1 runs
-
-  task_body : (me t : ℕ) (to : Party) (body : Body) (records : List Rec) (running : Running) → IsNode me → MaySay (Task t) to body
-      → AreRecords records → IsRangedRunning running → IsRangedTurn (on_body s.next s.answers s.begin s.config.nodes me records running t body)
-  task_body me t to (bodies.Call action) records running mine may all runs =
-      call_ranged me (kept_of s.next s.answers s.begin (applied_of records)) (replay_answers s.next s.answers s.begin (applied_of records)) running action mine may.3
-      (fits (applied_of records) (applied_right records all)) runs
-  task_body me t to (bodies.Prepare i b) records running mine may all runs = absurd may.0
-  task_body me t to (bodies.Promise i b last) records running mine may all runs = absurd may.0.0
-  task_body me t to (bodies.Accept i b v) records running mine may all runs = absurd may.0.0
-  task_body me t to (bodies.Accepted i b v) records running mine may all runs = absurd may.0.0
-  task_body me t to (bodies.Decided i v) records running mine may all runs = absurd may.0.0
-  task_body me t to (bodies.Ask i) records running mine may all runs = absurd may.0
-  task_body me t to (bodies.Nack i b bound) records running mine may all runs = absurd may.0.0
-  task_body me t to (bodies.Reply number reply) records running mine may all runs = absurd may.0
-  task_body me t to (bodies.Report first applied actions) records running mine may all runs = absurd may.0
-  task_body me t to (bodies.PrepareRange range b) records running mine may all runs = absurd may.0
-  task_body me t to (bodies.PromiseRange range b votes) records running mine may all runs = absurd may.0.0
-
-  audit_says : (to : Party) (body : Body) → ¬ MaySay Audit to body
-  audit_says to (bodies.Call action) may = may.0
-  audit_says to (bodies.Prepare i b) may = may.0
-  audit_says to (bodies.Promise i b last) may = may.0.0
-  audit_says to (bodies.Accept i b v) may = may.0.0
-  audit_says to (bodies.Accepted i b v) may = may.0.0
-  audit_says to (bodies.Decided i v) may = may.0.0
-  audit_says to (bodies.Ask i) may = may.0
-  audit_says to (bodies.Nack i b bound) may = may.0.0
-  audit_says to (bodies.Reply number reply) may = may.0
-  audit_says to (bodies.Report first applied actions) may = may.0
-  audit_says to (bodies.PrepareRange range b) may = may.0
-  audit_says to (bodies.PromiseRange range b votes) may = may.0.0
-
-  party_body : (me : ℕ) (from to : Party) (body : Body) (records : List Rec) (running : Running) → IsRightConfig s.config → IsNode me → IsPacket (record { from = from; to = to; body = body })
-      → AreRecords records → IsRangedRunning running → IsRangedTurn (on_body s.next s.answers s.begin s.config.nodes me records running (party_number from) body)
-  party_body me (Node a) to body records running right mine is all runs = node_body me a to body records running right mine is.ranges.from is.ranges.body is.rules all runs
-  party_body me (Task t) to body records running right mine is all runs = task_body me t to body records running mine is.rules all runs
-  party_body me Audit to body records running right mine is all runs = absurd (audit_says to body is.rules)
-
-  receive_ranged : (me : ℕ) (message : Message) (records : List Rec) (running : Running) → IsRightConfig s.config → IsNode me → IsPacket message → AreRecords records → IsRangedRunning running
-      → IsRangedTurn (receives s.next s.answers s.begin s.config me records running message)
-  receive_ranged me message records running right mine is all runs =
-      choice (is_for_node s.config me message) _ (drops_foreign running) (party_body me message.from message.to message.body records running right mine is all runs) (foreign running runs)
+  plan_ranged : (plan : Plan) → Saw here input plan → IsRangedTurn (turn_of here plan)
+  plan_ranged (plans.Pass dropped) saw = record { written = tt; running = runs; sent = no_packets }
+  plan_ranged (plans.Promise header last) saw =
+      let is = said_by header.to (bodies.Prepare header.position header.ballot) saw.came (λ t may. absurd may.0) in
+      let votes = last_vote_ranges header.ballot last (last_reported records header.position header.ballot last saw.last_is all saw.above) in
+      writes_one (Promised header.position header.ballot) (bodies.Promise header.position header.ballot last) header.to (record { ranges = (is.ranges.0, is.ranges.1); right = tt }) is.node
+      (is.ranges.0, is.ranges.1, votes.0) ((tt, tt), votes.1)
+  plan_ranged (plans.PromiseRange p) saw =
+      let is = said_by p.to (bodies.PrepareRange p.range p.ballot) saw.came (λ t may. absurd may.0) in
+      let votes = last_votes records p.range in
+      writes_one (PromisedRange p.range p.ballot) (bodies.PromiseRange p.range p.ballot votes) p.to (record { ranges = (is.ranges.0, is.ranges.1); right = tt }) is.node
+      (is.ranges.0, is.ranges.1, All-from_recursion IsPlacedBallot votes (placed_ballots records (positions_of p.range) all))
+      ((tt, tt), votes_are_reported records p.range p.ballot (each_right_record records all) saw.above)
+  plan_ranged (plans.Vote header v) saw =
+      let is = said_by header.to (bodies.Accept header.position header.ballot v) saw.came (λ t may. absurd may.0.0) in
+      writes_one (Voted header.position header.ballot v) (bodies.Accepted header.position header.ballot v) header.to (record { ranges = (is.ranges.0, is.ranges.1); right = is.may.1 }) is.node
+      (is.ranges.0, is.ranges.1) ((tt, tt), is.may.1)
+  plan_ranged (plans.Repeat to i b v) saw =
+      let is = said_by to (bodies.Accept i b v) saw.came (λ t may. absurd may.0.0) in
+      says_one (bodies.Accepted i b v) to is.node (is.ranges.0, is.ranges.1) ((tt, tt), is.may.1)
+  plan_ranged (plans.Refuse to i b bound) saw =
+      let is = asks_ranged to i b saw.asks in
+      let over : b < bound_at records i = ltb-true b (bound_at records i) saw.below in
+      says_one (bodies.Nack i b bound) to is.0 (is.1, is.2, subst IsBallot saw.bound_is (bound_ballot records i b all over)) ((tt, tt), subst (λ (c : ℕ). b < c) saw.bound_is over)
+  plan_ranged (plans.Inform to i v) saw =
+      let is = said_by to (bodies.Ask i) saw.came (λ t may. absurd may.0) in
+      says_one (bodies.Decided i v) to is.node is.ranges ((tt, tt), learned_right records i (Some v) all saw.learned)
+  plan_ranged (plans.Answer task number reply) saw =
+      let call = actions.Call task number saw.object saw.operation saw.arg in
+      let names = call_right saw.came.message.from saw.came.message.to call (came_packet saw.from (bodies.Call call) saw.came) in
+      let fit = fits (applied_of records) (applied_right records all) in
+      sending running (says_to_task me (bodies.Reply number reply) task ∷ []) runs
+      (one_packet _ (replied_task me task number reply mine names.0 names.1 (fit _ (kept_is_given task number (kept_by here) (given_by here) reply saw.kept))))
+  plan_ranged (plans.Await item) saw = noted _ (record {
+    proposals = runs.proposals;
+    pending = λ c h. elim (has_split c running.pending (item ∷ []) h) [
+      | inl old ↦ runs.pending c old
+      | inr new ↦ elim new [ inl same ↦ subst IsRight (sym same) (item_right item saw.brought) | inr none ↦ absurd none ]
+    ];
+  })
+  plan_ranged (plans.Lead i b own) saw =
+      let place = place_ranged i saw.place in
+      let ballot = ballot_ranged b saw.ballot saw.left in
+      let new : IsRangedProposal (new_proposal i b (Some own)) = record { position = place; ballot = ballot; own = subst IsRight saw.own_is (own_ranged i); reported = λ a vote h. absurd h } in
+      writing (Started b) _ (says_to_all s.config.nodes me (bodies.Prepare i b)) (record { ranges = ballot; right = tt }) (knows_with running (new_proposal i b (Some own)) runs new)
+      (said_to_all s.config.nodes me (bodies.Prepare i b) few mine (place, ballot) (λ k. (tt, tt)))
+  plan_ranged (plans.LeadRange range b) saw =
+      let ranges : IsRange range = range_is saw.first saw.count range (subst (λ (i : NodeInput). IsInput sent i) saw.input_is given) saw.range_is in
+      let ballot = ballot_ranged b saw.ballot saw.left in
+      writing (Started b) _ (says_to_all s.config.nodes me (bodies.PrepareRange range b)) (record { ranges = ballot; right = tt })
+      (record {
+        proposals = begun_ranged b (unlearned_in records range) running.proposals ballot (λ i h. range_position range i ranges (has_passing _ i (positions_of range) h).0) runs.proposals;
+        pending = runs.pending;
+      })
+      (said_to_all s.config.nodes me (bodies.PrepareRange range b) few mine (ranges, ballot) (λ k. (tt, tt)))
+  plan_ranged (plans.OfferPrepared i b v) saw = offers_prepared i b v saw
+  plan_ranged (plans.CountPromise promise) saw = noted _ (counted promise false saw).0
+  plan_ranged (plans.CountRangePromise p) saw =
+      let is = said_by p.from (bodies.PromiseRange p.range p.ballot p.votes) saw (λ t may. absurd may.0.0) in
+      noted _ (range_promised s.config.nodes p.from p.range p.ballot p.votes running is.may.1 runs)
+  plan_ranged (plans.Offer promise v) saw =
+      let is = counted promise true saw.promised in
+      let after = with_promise saw.promised.proposal (promise.from, promise.last) in
+      let may = subst IsRight saw.action_is (offer_ranged after is.1) in
+      let accept = bodies.Accept promise.position promise.ballot v in
+      sending _ (says_to_all s.config.nodes me accept) is.0 (said_to_all s.config.nodes me accept few mine (is.2, is.3) (λ k. ((tt, tt), may)))
+  plan_ranged (plans.Yield i b bound) saw = noted _ (refused_ranged s.config.nodes running i b bound runs)
+  plan_ranged (plans.CountVote from i vote) saw = noted _ (record { proposals = runs.proposals; pending = runs.pending })
+  plan_ranged (plans.Learn i v) saw =
+      let is = said_by saw.from (bodies.Accepted i saw.ballot v) saw.vote.came (λ t may. absurd may.0.0) in
+      let decided = bodies.Decided i v in
+      learns_ranged i v (says_to_others s.config.nodes me decided) [] is.ranges.0 is.may.1 (said_to_others s.config.nodes me decided few mine is.ranges.0 (λ k. ((tt, tt), is.may.1))) no_packets
+  plan_ranged (plans.Follow from i v) saw =
+      let is = said_by from (bodies.Decided i v) saw.came (λ t may. absurd may.0.0) in
+      let more = records ++ Learned i v ∷ [] in
+      let one : IsRecord (Learned i v) = record { ranges = is.ranges; right = is.may.1 } in
+      learns_ranged i v [] (asks_for me from (missing_position more)) is.ranges is.may.1 no_packets
+      (asked_ranged me from (missing_position more) mine is.node (missing_ranged more (written_ranged records (Some (Learned i v)) all one)))
+  plan_ranged (plans.Report first) saw =
+      sending running (report_of me first (applied_of records) ∷ []) runs
+      (one_packet _ (report_packet me first records mine (subst (λ (i : NodeInput). IsInput sent i) saw given) all))
 
   -- ---- any input
 
-  pub turn_ranged : (me : ℕ) (records : List Rec) (running : Running) (sent : List Message) (input : NodeInput) → IsRightConfig s.config → IsNode me → AreRecords records → IsRangedRunning running
-      → ArePackets sent → IsInput sent input → IsRangedIf (running_effect s me records running input)
-  turn_ranged me records running sent (Receive message) right mine all runs packets is = receive_ranged me message records running right mine (packets message is) all runs
-  turn_ranged me records running sent (Lead choice) right mine all runs packets is = lead_ranged s.next s.answers s.begin s.config me records running choice right mine is runs
-  turn_ranged me records running sent (LeadRange first count) right mine all runs packets is = lead_range_ranged s.config me records running first count (range_of first count) refl right mine is runs
-  turn_ranged me records running sent (Interrupt source occurrence) right mine all runs packets is =
-      choice (nat_lt (last_occurrence source (kept_of s.next s.answers s.begin (applied_of records))) occurrence) _ (notes running)
-      (adds_ranged running (actions.Interrupt source occurrence) runs is) (noted running runs)
-  turn_ranged me records running sent (Tick now) right mine all runs packets is = adds_ranged running (actions.Tick now) runs is
-  turn_ranged me records running sent (Report first) right mine all runs packets is =
-      sending running (report_of me first (applied_of records) ∷ []) runs (one_packet _ (report_packet me first records mine is all))
+  turn_in_range : IsRangedIf (running_effect s me records running input)
+  turn_in_range = by_plan here input IsRangedIf (λ fault. tt) plan_ranged
+
+pub turn_ranged : {S : Type 0} (s : Setting S) (fits : (actions : List Action) → AllRight actions → AreReplies (answers_of s actions)) (me : ℕ) (records : List Rec) (running : Running) (sent : List Message) (input : NodeInput)
+    → IsRightConfig s.config → IsNode me → AreRecords records → IsRangedRunning running → ArePackets sent → IsInput sent input → IsRangedIf (running_effect s me records running input)
+turn_ranged s fits me records running sent input right mine all runs packets given = turn_in_range s fits me records running sent input right mine all runs packets given

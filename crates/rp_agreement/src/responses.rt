@@ -1,7 +1,7 @@
 //! What a node does with an input.
 
 ghost use Rattle.std.specs.Prelude.{◌≡◌, ◌≢◌, ◌↔◌, ◌⊎◌, ◌≤◌, ℕ, ℤ, Bool, true, false, Ok};
-ghost use Rattle.std.specs.Prelude.{Option, Some, None, List, [], ◌∷◌, filter};
+ghost use Rattle.std.specs.Prelude.{Some, None, List, [], ◌∷◌, filter};
 ghost use Rattle.rp_base.specs.Action.{IsRight};
 ghost use Rattle.rp_base.specs.Proposals.{Proposal, proposal_at, takes_promise, with_promise};
 ghost use Rattle.rp_base.specs.Proposals.{is_promised, is_prepared};
@@ -13,7 +13,6 @@ ghost use Rattle.rp_base.specs.declared.action.Operation.{Operation};
 ghost use Rattle.rp_base.specs.declared.config.Config.{Config};
 ghost use Rattle.rp_base.specs.declared.record.Rec.{Rec};
 ghost use Rattle.rp_base.specs.declared.record.Rec.TheVariants.{Learned};
-ghost use Rattle.rp_base.specs.declared.record.Vote.{Vote};
 ghost use Rattle.rp_base.specs.declared.reply.Answer.{Answer};
 ghost use Rattle.rp_codec.specs.declared.packet.Body.TheVariants.{Accept, Reply};
 ghost use Rattle.rp_machine.specs.Asked.{last_number, last_occurrence};
@@ -22,7 +21,10 @@ ghost use Rattle.rp_machine.specs.Replay.{kept_of, replay_answers};
 ghost use Rattle.rp_model.specs.Effect as inputs;
 ghost use Rattle.rp_model.specs.Effect.{Setting, NodeInput, Receive, Lead, running_effect};
 ghost use Rattle.rp_model.specs.Leader.{on_promise, is_out_of_reach};
+ghost use Rattle.rp_model.specs.Node.{RunningNode};
 ghost use Rattle.rp_model.specs.Parts.{Running, Turn};
+ghost use Rattle.rp_model.specs.Plans.{turn_of};
+ghost use Rattle.rp_model.specs.declared.plan.CountedPromise.{CountedPromise};
 ghost use Rattle.rp_model.specs.Says.{sends, says_to_all, says_to_task};
 ghost use Rattle.rp_model.specs.Tasks.{asks};
 ghost use Rattle.rp_agreement.specs.Answered.{named, setting_for};
@@ -58,13 +60,13 @@ pub fn an_answered_call_is_answered_again<M: Machine>()
 pub fn a_majority_is_offered<M: Machine>()
     // claim: Once a majority promised, a node offers some action to all nodes, whatever votes the
     //   promises report
-    ensures promised { (nodes me : ℕ) (running : Running) (from i b : ℕ) (last : Option Vote)
-        (p : Proposal)
-        → proposal_at running.proposals i ≡ Some p → takes_promise b p ≡ true
-        → is_promised nodes (with_promise p (from, last)) ≡ true
-        → (v : Action)
-        × ((on_promise nodes me running from i b last).sent
-        ≡ says_to_all nodes me (Accept i b v)) }
+    ensures promised { (node : RunningNode M) (promise : CountedPromise) (p : Proposal)
+        → let nodes = node.setting.config.nodes in
+        proposal_at node.running.proposals promise.position ≡ Some p
+        → takes_promise promise.ballot p ≡ true
+        → is_promised nodes (with_promise p (promise.from, promise.last)) ≡ true
+        → (v : Action) × ((turn_of node (on_promise node promise)).sent
+        ≡ says_to_all nodes node.me (Accept promise.position promise.ballot v)) }
     ensures prepared { (setting : Setting M) (me i : ℕ) (records : List Rec) (running : Running)
         (p : Proposal)
         → let nodes = setting.config.nodes in

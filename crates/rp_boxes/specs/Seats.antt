@@ -15,7 +15,8 @@ use Rattle.rp_base.specs.declared.reply.Answer.{Answer}
 use Rattle.rp_codec.specs.Message.{Message, IsPacket}
 use Rattle.rp_codec.specs.Text.{text_of}
 use Rattle.rp_codec.specs.declared.packet.Party.{Party}
-use Rattle.rp_model.specs.Effect.{Setting, Done, NodeInput, node_effect, report_of}
+use Rattle.rp_model.specs.Effect.{Setting, Done, NodeInput, node_effect}
+use Rattle.rp_model.specs.Plans.{report_of}
 use Rattle.rp_model.specs.declared.effect.Dropped.TheVariants.{No}
 use Rattle.rp_machine.specs.declared.machine.Machine.{Ghosts}
 use Rattle.rp_model.specs.Parts.{NodePart, Running}

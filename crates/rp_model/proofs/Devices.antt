@@ -1,9 +1,8 @@
 -- No effect is a fault of a device.
 use Rattle.std.proofs.Common.{ℕ, Bool, true, false, if◌then◌else◌, Option, Some, None, Result, Ok, Err, List}
-use Rattle.std.specs.Prelude.{◌^◌, ◌+◌, is_some, nat_eq, nat_le, nat_lt, not, ◌||◌, length}
+use Rattle.std.specs.Prelude.{◌^◌, ◌+◌, IfErr, is_some, nat_eq, nat_le, nat_lt, not, ◌||◌, length}
 use Rattle.std.specs.List.{list_any}
 use Rattle.rp_base.specs.Action.{is_right}
-use Rattle.rp_base.specs.Ballot.{round_of, next_ballot}
 use Rattle.rp_base.specs.Calls.{are_exhausted}
 use Rattle.rp_base.specs.Records.{learned_at}
 use Rattle.rp_base.specs.declared.action.Action.{Action}
@@ -15,13 +14,14 @@ use Rattle.rp_codec.specs.Message.{Message}
 use Rattle.rp_codec.specs.declared.packet.Party.{Party}
 use Rattle.rp_codec.specs.declared.packet.Party.TheVariants.{Node, Task, Audit}
 use Rattle.rp_model.specs.Effect as nodes
-use Rattle.rp_model.specs.Effect.{Setting, Done, NodeInput, running_effect, turn_done_if, effect_while, node_effect, stops_while, cut_if}
+use Rattle.rp_model.specs.Effect.{Setting, Done, NodeInput, plan_of, turn_if, running_effect, turn_done_if, effect_while, node_effect, stops_while, cut_if}
 use Rattle.rp_model.specs.Events.{Step, Deliver, Lead, LeadRange, Interrupt, Tick, Report, Event, Submit, Again, Makes, Cut, Stop, Restart}
-use Rattle.rp_model.specs.Leader.{chosen_position, is_out_of_reach, starts_above, begins, begins_if, offers, leads_at, unlearned_in, begins_range, on_lead_range}
+use Rattle.rp_model.specs.Node.{RunningNode, running_node}
+use Rattle.rp_model.proofs.EveryPlan.{plan_refused}
+use Rattle.rp_model.specs.declared.plan.Plan.{Plan}
 use Rattle.rp_base.specs.Number.{in_range}
 use Rattle.rp_base.specs.Proposals.{Proposal, proposal_at, is_prepared}
 use Rattle.rp_base.specs.Ranges.{Range, positions_of, range_of}
-use Rattle.rp_model.specs.Says.{notes}
 use Rattle.rp_model.specs.Parts.{NodePart, TaskPart, Running, Turn}
 use Rattle.rp_model.specs.Tasks as tasks
 use Rattle.rp_model.specs.Tasks.{TaskInput, may_call, calls_if, task_effect}
@@ -84,70 +84,28 @@ task_received : (config : Config) (w : World) (t : ℕ) (message : Message) (o :
 task_received config w t message None = tt
 task_received config w t message (Some part) = task_so w t (task_effect config t part (tasks.Take message)) tt
 
-begins_so : (exhausted : Bool) (turn : Turn) → NoDevice (let r : Result Turn Fault = if exhausted then Err BallotsSpent else Ok turn in r)
-begins_so true turn = tt
-begins_so false turn = tt
+range_so : (first count : ℕ) → NoDevice (range_of first count)
+range_so first count =
+    let whole : Result Range Fault = Ok (record { first = first; count = count }) in
+    one_of (not (in_range 1 64 count)) (Err BadConfig) _ tt (one_of (nat_lt (2 ^ 16) (first + count)) (Err LogFull) whole tt tt)
 
-prepared_so : (prepared : Bool) (turn : Turn) (r : Result Turn Fault) → NoDevice r → NoDevice (let s : Result Turn Fault = if prepared then Ok turn else r in s)
-prepared_so true turn r so = tt
-prepared_so false turn r so = so
+-- the turn of a plan, or its refusal
+turn_so : {S : Type 0} (node : RunningNode S) (r : Result Plan Fault) → IfErr r (λ fault. let none : Result Plan Fault = Err fault in NoDevice none) → NoDevice (turn_if node r)
+turn_so node (Ok plan) is = tt
+turn_so node (Err Device) is = is
+turn_so node (Err _) is = is
 
-lead_so : (learned far : Bool) (turn : Turn) (r : Result Turn Fault) → NoDevice r
-    → NoDevice (let s : Result Turn Fault = if learned then Ok turn else if far then Err LogFull else r in s)
-lead_so true far turn r so = tt
-lead_so false true turn r so = tt
-lead_so false false turn r so = so
-
-range_so : (far learned exhausted : Bool) (one other : Turn)
-    → NoDevice (let r : Result Turn Fault = if far then Err LogFull else if learned then Ok one else if exhausted then Err BallotsSpent else Ok other in r)
-range_so true learned exhausted one other = tt
-range_so false true exhausted one other = tt
-range_so false false true one other = tt
-range_so false false false one other = tt
-
-sized_so : (full : Bool) (range : Range) → NoDevice (let r : Result Range Fault = if full then Err LogFull else Ok range in r)
-sized_so true range = tt
-sized_so false range = tt
-
-counted_so : (wrong : Bool) (r : Result Range Fault) → NoDevice r → NoDevice (let s : Result Range Fault = if wrong then Err BadConfig else r in s)
-counted_so true r so = tt
-counted_so false r so = so
+range_none : (found : Result Range Fault) → NoDevice found → IfErr found (λ fault. let none : Result Plan Fault = Err fault in NoDevice none)
+range_none (Ok range) is = tt
+range_none (Err Device) is = is
+range_none (Err _) is = is
 
 module _ {S : Type 0} (s : Setting S) where
-  begin_is : (me : ℕ) (records : List Rec) (running : Running) (i : ℕ) → NoDevice (begins_if s.next s.answers s.begin s.config.nodes me records running i)
-  begin_is me records running i =
-      let b = next_ballot me (starts_above records running) in
-      begins_so (nat_le (2 ^ 32) (round_of b)) (begins s.next s.answers s.begin s.config.nodes me records running i b)
-
-  leads_is : (me : ℕ) (records : List Rec) (running : Running) (i : ℕ) (o : Option Proposal) → NoDevice (leads_at s.next s.answers s.begin s.config.nodes me records running i o)
-  leads_is me records running i None = begin_is me records running i
-  leads_is me records running i (Some p) =
-      prepared_so (is_prepared s.config.nodes p) (offers s.next s.answers s.begin s.config.nodes me records running p)
-      (begins_if s.next s.answers s.begin s.config.nodes me records running i) (begin_is me records running i)
-
-  leads_range_is : (me : ℕ) (records : List Rec) (running : Running) (r : Result Range Fault) → NoDevice r → NoDevice (on_lead_range s.config me records running r)
-  leads_range_is me records running (Err Device) so = so
-  leads_range_is me records running (Err _) so = so
-  leads_range_is me records running (Ok range) so =
-      let b = next_ballot me (starts_above records running) in
-      range_so (list_any (is_out_of_reach s.config.max_positions records) (positions_of range)) (nat_eq (length (unlearned_in records range)) 0) (nat_le (2 ^ 32) (round_of b))
-      (notes running) (begins_range s.config.nodes me records running range b)
-
   -- the turn of a node that runs
   pub turn_is : (me : ℕ) (records : List Rec) (running : Running) (input : NodeInput) → NoDevice (running_effect s me records running input)
-  turn_is me records running (nodes.Receive message) = tt
-  turn_is me records running (nodes.Lead choice) =
-      let i = chosen_position s.config.nodes records running choice in
-      lead_so (is_some (learned_at records i)) (is_out_of_reach s.config.max_positions records i) (notes running)
-      (leads_at s.next s.answers s.begin s.config.nodes me records running i (proposal_at running.proposals i))
-      (leads_is me records running i (proposal_at running.proposals i))
-  turn_is me records running (nodes.LeadRange first count) =
-      leads_range_is me records running (range_of first count)
-      (counted_so (not (in_range 1 64 count)) (if nat_lt (2 ^ 16) (first + count) then Err LogFull else Ok (record { first = first; count = count }))
-      (sized_so (nat_lt (2 ^ 16) (first + count)) (record { first = first; count = count })))
-  turn_is me records running (nodes.Interrupt source occurrence) = tt
-  turn_is me records running (nodes.Tick now) = tt
-  turn_is me records running (nodes.Report first) = tt
+  turn_is me records running input =
+      let node = running_node s me records running in
+      turn_so node (plan_of node input) (plan_refused node input (λ fault. let none : Result Plan Fault = Err fault in NoDevice none) tt tt (λ first count is. range_none (range_of first count) (range_so first count)))
 
   while_is : (me : ℕ) (part : NodePart) (input : NodeInput) (o : Option Running) → NoDevice (effect_while s me part input o)
   while_is me part input None = tt

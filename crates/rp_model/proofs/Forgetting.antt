@@ -1,51 +1,38 @@
 -- Votes heard at learned positions change no turn.
-use Rattle.std.proofs.Common.{◌≡◌, ℕ, Bool, true, false, not, ◌&&◌, ◌||◌, nat_eq, nat_lt, nat_le, Option, Some, None, Result, Ok, Err, List, [], ◌∷◌, ◌++◌, length, map, filter, if◌then◌else◌, refl, sym, ap, subst, ◌∙◌, ◌^◌, eqb-true, eq-eqb}
-use Rattle.std.specs.Prelude.{is_none, is_some}
+use Rattle.std.proofs.Common.{◌≡◌, ℕ, Bool, true, false, not, ◌&&◌, ◌||◌, nat_eq, Option, Some, None, Result, Ok, Err, List, [], ◌∷◌, ◌++◌, map, filter, if◌then◌else◌, refl, sym, ap, subst, ◌∙◌, eqb-true, eq-eqb}
+use Rattle.std.specs.Prelude.{is_none}
 use Rattle.std.specs.List.{list_any}
 use Rattle.std.proofs.lemmas.List.Elements.{filter-append}
 use Rattle.rp_base.specs.declared.action.Action.{Action}
-use Rattle.rp_base.specs.declared.action.Action.TheVariants as actions
-use Rattle.rp_base.specs.declared.config.Config.{Config}
 use Rattle.rp_base.specs.declared.fault.Fault.{Fault}
 use Rattle.rp_base.specs.declared.record.Rec.{Rec}
+use Rattle.rp_base.specs.declared.record.Rec.TheVariants.{Started, Learned}
 use Rattle.rp_base.specs.declared.record.Vote.{Vote}
-use Rattle.rp_base.specs.declared.reply.Answer.{Answer}
-use Rattle.rp_base.specs.declared.reply.Reply.{Reply}
-use Rattle.rp_base.specs.declared.voting.PrepareAnswer.{PrepareAnswer}
-use Rattle.rp_base.specs.declared.voting.PrepareAnswer.TheVariants as prepares
-use Rattle.rp_base.specs.declared.voting.AcceptAnswer.{AcceptAnswer}
-use Rattle.rp_base.specs.declared.voting.AcceptAnswer.TheVariants as accepts
-use Rattle.rp_base.specs.declared.voting.RangeAnswer.{RangeAnswer}
-use Rattle.rp_base.specs.declared.voting.RangeAnswer.TheVariants as range_prepares
-use Rattle.rp_base.specs.Ranges.{Range, positions_of, range_of}
+use Rattle.rp_base.specs.Ballot.{greatest_with}
 use Rattle.rp_base.specs.Majority.{is_majority}
-use Rattle.rp_base.specs.Promises.{Promise, HeardVote, offer_of, same_vote, same_heard, makes_majority}
+use Rattle.rp_base.specs.Promises.{HeardVote, same_vote, same_heard, makes_majority}
+use Rattle.rp_base.specs.Proposals.{Proposal, proposal_at, with_proposal, is_in, takes_promise, after_promise, is_prepared, as_offered, once_promised, is_given_up, with_range}
 use Rattle.rp_base.specs.Records.{or_else, learned_in, learned_at, applied_of}
 use Rattle.rp_base.specs.Sets.{with_member, with_members}
 use Rattle.rp_codec.specs.Message.{Message}
-use Rattle.rp_model.specs.Parts.{Running}
-use Rattle.rp_model.specs.Parts.{Turn}
-use Rattle.rp_model.specs.declared.effect.Dropped.{Dropped}
-use Rattle.rp_model.specs.declared.effect.Dropped.TheVariants.{No, Full, Foreign}
-use Rattle.rp_model.specs.Parts.{with_record}
-use Rattle.rp_base.specs.Ballot.{greatest_with, next_ballot, round_of}
-use Rattle.rp_base.specs.Proposals.{Proposal, proposal_at, with_proposal, is_in, takes_promise, with_promise, is_promised, after_promise, is_prepared, once_promised, is_given_up}
-use Rattle.rp_base.specs.Voting.{prepare_answer, range_answer, accept_answer}
-use Rattle.rp_base.specs.declared.fault.Fault.TheVariants.{BallotsSpent, LogFull}
-use Rattle.rp_base.specs.declared.record.Rec.TheVariants.{Started, Learned}
 use Rattle.rp_codec.specs.declared.packet.Body.{Body}
 use Rattle.rp_codec.specs.declared.packet.Body.TheVariants as bodies
-use Rattle.rp_machine.specs.Asked.{last_number, last_occurrence, kept_reply}
-use Rattle.rp_machine.specs.Replay.{kept_of, replay_answers}
-use Rattle.rp_model.specs.Says.{says, says_to_all, says_to_others, says_to_task, sends, notes, drops_foreign, drops_full}
-use Rattle.rp_model.specs.Acceptor.{answers_prepare, answers_prepare_range, answers_accept}
-use Rattle.rp_model.specs.Pending.{most_pending, is_same_call, adds_pending, on_numbered, on_call, on_interrupt}
-use Rattle.rp_model.specs.Leader.{chosen_position, is_beyond, is_out_of_reach, starts_above, begins, begins_if, offers, leads_at, on_lead, unlearned_in, begins_range, on_lead_range, counts_promise, on_promise_to, on_nack}
-use Rattle.rp_model.specs.Learner.{missing_position, asks_for, answers_ask, learns, on_vote, on_accepted, on_decision}
-use Rattle.rp_model.specs.Receiving.{is_for_node, party_number, on_body, receives}
+use Rattle.rp_model.specs.Parts.{Running, Turn, with_record}
+use Rattle.rp_model.specs.declared.effect.Dropped.{Dropped}
+use Rattle.rp_model.specs.declared.effect.Dropped.TheVariants.{No, Foreign}
+use Rattle.rp_model.specs.declared.plan.CountedPromise.{CountedPromise}
+use Rattle.rp_model.specs.declared.plan.Plan.{Plan}
+use Rattle.rp_model.specs.declared.plan.Plan.TheVariants as plans
+use Rattle.rp_model.specs.Says.{says_to_all, says_to_others, sends, notes}
+use Rattle.rp_model.specs.Leader.{is_beyond, unlearned_in}
+use Rattle.rp_model.specs.Learner.{missing_position, asks_for, on_vote}
+use Rattle.rp_model.specs.Node.{RunningNode, running_node}
+use Rattle.rp_model.specs.Plans.{written_by, promised_running, offered_running, started_running, report_of, once_learned, turn_of}
+use Rattle.rp_model.specs.Receiving.{is_for_node, party_number, on_body}
 use Rattle.rp_model.specs.Effect as inputs
-use Rattle.rp_model.specs.Effect.{Setting, NodeInput, report_of, running_effect}
+use Rattle.rp_model.specs.Effect.{Setting, NodeInput, plan_of, turn_if, running_effect}
 use Rattle.rp_model.specs.Forgetting.{is_open, KnowsAlike, AreAlikeTurns, AreAlikeAnswers}
+use Rattle.rp_model.proofs.EveryPlan.{Saw, SawIf, every_plan}
 
 -- ---- lists of which some items are left out
 
@@ -161,99 +148,19 @@ module _ (grown : (records : List Rec) (rec : Rec) (i : ℕ) → learned_at (rec
     nothing : AreAlikeTurns records (notes one) (notes other)
     nothing = quiet None [] No one refl
 
-    prepares_alike : (me from i b : ℕ) (answer : PrepareAnswer) → AreAlikeTurns records (answers_prepare me one from i b answer) (answers_prepare me other from i b answer)
-    prepares_alike me from i b (prepares.Promise last rec) = quiet (Some rec) (says me (bodies.Promise i b last) from ∷ []) No one refl
-    prepares_alike me from i b (prepares.Nack bound) = quiet None (says me (bodies.Nack i b bound) from ∷ []) No one refl
-    prepares_alike me from i b prepares.Silent = nothing
+    -- what a plan does, where it leaves the votes alone
+    module _ {S : Type 0} (s : Setting S) (me : ℕ) where
+      abbrev here : RunningNode S
+      here = running_node s me records one
 
-    ranges_alike : (me from : ℕ) (range : Range) (b : ℕ) (answer : RangeAnswer) → AreAlikeTurns records (answers_prepare_range me one from range b answer) (answers_prepare_range me other from range b answer)
-    ranges_alike me from range b (range_prepares.Promise votes rec) = quiet (Some rec) (says me (bodies.PromiseRange range b votes) from ∷ []) No one refl
-    ranges_alike me from range b (range_prepares.Nack i bound) = quiet None (says me (bodies.Nack i b bound) from ∷ []) No one refl
-    ranges_alike me from range b range_prepares.Silent = nothing
+      abbrev there : RunningNode S
+      there = running_node s me records other
 
-    votes_alike : (me from i b : ℕ) (v : Action) (answer : AcceptAnswer) → AreAlikeTurns records (answers_accept me one from i b v answer) (answers_accept me other from i b v answer)
-    votes_alike me from i b v (accepts.Vote rec) = quiet (Some rec) (says me (bodies.Accepted i b v) from ∷ []) No one refl
-    votes_alike me from i b v accepts.Again = quiet None (says me (bodies.Accepted i b v) from ∷ []) No one refl
-    votes_alike me from i b v (accepts.Nack bound) = quiet None (says me (bodies.Nack i b bound) from ∷ []) No one refl
-    votes_alike me from i b v accepts.Silent = nothing
-
-    counts_alike : (nodes me : ℕ) (p : Proposal) (promise : Promise) → AreAlikeTurns records (counts_promise nodes me one p promise) (counts_promise nodes me other p promise)
-    counts_alike nodes me p promise =
-        let after = with_promise p promise in
-        let known : Running = record one { proposals = with_proposal one.proposals (after_promise nodes p promise) } in
-        let packets = says_to_all nodes me (bodies.Accept p.position p.ballot (offer_of p.own after.promises)) in
-        elim (is_promised nodes after)
-        as (λ b. AreAlikeTurns records (if b then sends known packets else notes known) (if b then sends (record known { heard = heard }) packets else notes (record known { heard = heard }))) [
-          | true ↦ quiet None packets No known refl
-          | false ↦ quiet None [] No known refl
-        ]
-
-    promise_alike : (nodes me b : ℕ) (promise : Promise) (found : Option Proposal) → AreAlikeTurns records (on_promise_to nodes me one b promise found) (on_promise_to nodes me other b promise found)
-    promise_alike nodes me b promise None = nothing
-    promise_alike nodes me b promise (Some p) =
-        elim (takes_promise b p)
-        as (λ t. AreAlikeTurns records (if t then counts_promise nodes me one p promise else notes one) (if t then counts_promise nodes me other p promise else notes other)) [
-          | true ↦ counts_alike nodes me p promise
-          | false ↦ nothing
-        ]
-
-    nack_alike : (nodes i b bound : ℕ) → AreAlikeTurns records (on_nack nodes one i b bound) (on_nack nodes other i b bound)
-    nack_alike nodes i b bound =
-        let known : Running = record one { proposals = filter (λ p. not (is_given_up nodes i b p)) one.proposals; refused = greatest_with one.refused bound } in
-        elim (is_in b (proposal_at one.proposals i)) as (λ t. AreAlikeTurns records (if t then notes known else notes one) (if t then notes (record known { heard = heard }) else notes other)) [
-          | true ↦ quiet None [] No known refl
-          | false ↦ nothing
-        ]
-
-    adds_alike : (item : Action) → AreAlikeTurns records (adds_pending one item) (adds_pending other item)
-    adds_alike item =
-        let known : Running = record one { pending = one.pending ++ item ∷ [] } in
-        elim (list_any (is_same_call item) one.pending)
-        as (λ t. AreAlikeTurns records (if t then notes one else if nat_lt (length one.pending) most_pending then notes known else drops_full one)
-        (if t then notes other else if nat_lt (length one.pending) most_pending then notes (record known { heard = heard }) else drops_full other)) [
-          | true ↦ nothing
-          | false ↦ elim (nat_lt (length one.pending) most_pending)
-              as (λ t. AreAlikeTurns records (if t then notes known else drops_full one) (if t then notes (record known { heard = heard }) else drops_full other)) [
-                | true ↦ quiet None [] No known refl
-                | false ↦ quiet None [] Full one refl
-              ]
-        ]
-
-    numbered_alike : (me task number : ℕ) (kept : List Action) (call : Action) (reply : Option Reply)
-        → AreAlikeTurns records (on_numbered me kept one task number call reply) (on_numbered me kept other task number call reply)
-    numbered_alike me task number kept call (Some reply) = quiet None (says_to_task me (bodies.Reply number reply) task ∷ []) No one refl
-    numbered_alike me task number kept call None =
-        elim (nat_lt number (last_number task kept)) as (λ t. AreAlikeTurns records (if t then notes one else adds_pending one call) (if t then notes other else adds_pending other call)) [
-          | true ↦ nothing
-          | false ↦ adds_alike call
-        ]
-
-    call_alike : (me : ℕ) (kept : List Action) (given : List Answer) (action : Action) → AreAlikeTurns records (on_call me kept given one action) (on_call me kept given other action)
-    call_alike me kept given actions.Noop = nothing
-    call_alike me kept given (actions.Call task number object operation arg) =
-        numbered_alike me task number kept (actions.Call task number object operation arg) (kept_reply task number kept given)
-    call_alike me kept given (actions.Interrupt source occurrence) = nothing
-    call_alike me kept given (actions.Tick now) = nothing
-
-    interrupt_alike : (kept : List Action) (source occurrence : ℕ) → AreAlikeTurns records (on_interrupt kept one source occurrence) (on_interrupt kept other source occurrence)
-    interrupt_alike kept source occurrence =
-        elim (nat_lt (last_occurrence source kept) occurrence)
-        as (λ t. AreAlikeTurns records (if t then adds_pending one (actions.Interrupt source occurrence) else notes one) (if t then adds_pending other (actions.Interrupt source occurrence) else notes other)) [
-          | true ↦ adds_alike (actions.Interrupt source occurrence)
-          | false ↦ nothing
-        ]
-
-    ask_alike : (me from i : ℕ) (learned : Option Action) → AreAlikeTurns records (answers_ask me one from i learned) (answers_ask me other from i learned)
-    ask_alike me from i None = nothing
-    ask_alike me from i (Some v) = quiet None (says me (bodies.Decided i v) from ∷ []) No one refl
-
-    module _ {S : Type 0} (next : S → Action → S) (answers : S → Action → List Answer) (begin : S) where
       -- an action is learned: the votes heard there are let go
-      learns_alike : (me i : ℕ) (v : Action) (packets following : List Message)
-          → AreAlikeTurns records (learns next answers begin me records one i v packets following) (learns next answers begin me records other i v packets following)
-      learns_alike me i v packets following =
+      learns_alike : (i : ℕ) (v : Action) (packets following : List Message) → AreAlikeTurns records (once_learned here i v packets following) (once_learned there i v packets following)
+      learns_alike i v packets following =
           let wide = is_open (records ++ Learned i v ∷ []) in
-          let there : HeardVote → Bool = λ h. not (nat_eq h.1 i) in
+          let elsewhere : HeardVote → Bool = λ h. not (nat_eq h.1 i) in
           let later = alike_later (Some (Learned i v)) heard one.heard same in
           record {
             written = refl;
@@ -261,14 +168,14 @@ module _ (grown : (records : List Rec) (rec : Rec) (i : ℕ) → learned_at (rec
             dropped = refl;
             running = record {
               proposals = refl;
-              heard = swapped wide there heard ∙ ap (filter there) later ∙ sym (swapped wide there one.heard);
+              heard = swapped wide elsewhere heard ∙ ap (filter elsewhere) later ∙ sym (swapped wide elsewhere one.heard);
               pending = refl;
               refused = refl;
             };
           }
 
       -- a vote at an unlearned position
-      module _ (nodes me from i : ℕ) (vote : Vote) (unlearned : is_open records (let h : HeardVote = (from, i, vote) in h) ≡ true) where
+      module _ (from i : ℕ) (vote : Vote) (unlearned : is_open records (let h : HeardVote = (from, i, vote) in h) ≡ true) where
         abbrev this : HeardVote
         this = (from, i, vote)
 
@@ -283,143 +190,96 @@ module _ (grown : (records : List Rec) (rec : Rec) (i : ℕ) → learned_at (rec
             ∙ ap (λ (list : List HeardVote). with_member same_heard list this) same
             ∙ sym (added (is_open records) same_heard this unlearned passes one.heard)
 
-        majority_alike : makes_majority nodes i vote (with_member same_heard heard this) ≡ makes_majority nodes i vote (with_member same_heard one.heard this)
+        majority_alike : makes_majority s.config.nodes i vote (with_member same_heard heard this) ≡ makes_majority s.config.nodes i vote (with_member same_heard one.heard this)
         majority_alike =
             let cast : HeardVote → Bool = λ h. nat_eq h.1 i && same_vote h.2 vote in
-            ap (λ (list : List HeardVote). is_majority nodes (with_members nat_eq [] (map (λ h. h.0) list)))
+            ap (λ (list : List HeardVote). is_majority s.config.nodes (with_members nat_eq [] (map (λ h. h.0) list)))
             (alike_narrower (is_open records) cast (λ h e. at_place h (both_true (nat_eq h.1 i) (same_vote h.2 vote) e).0) (with_member same_heard heard this) (with_member same_heard one.heard this) noted_alike)
 
-        vote_counted : AreAlikeTurns records (on_vote next answers begin nodes me records one from i vote None) (on_vote next answers begin nodes me records other from i vote None)
-        vote_counted =
-            let stated = says_to_others nodes me (bodies.Decided i vote.action) in
-            let learned : Running → Turn = λ running. learns next answers begin me records running i vote.action stated [] in
-            let noted : Running = record one { heard = with_member same_heard one.heard this } in
-            let noted_other : Running = record one { heard = with_member same_heard heard this } in
-            let by : (b : Bool) → AreAlikeTurns records (if b then learned one else notes noted) (if b then learned other else notes noted_other) = λ b.
-            elim b as (λ b. AreAlikeTurns records (if b then learned one else notes noted) (if b then learned other else notes noted_other)) [
-              | true ↦ learns_alike me i vote.action stated []
-              | false ↦ record { written = refl; sent = refl; dropped = refl; running = record { proposals = refl; heard = noted_alike; pending = refl; refused = refl } }
-            ] in
-            subst (λ (b : Bool). AreAlikeTurns records (if makes_majority nodes i vote (with_member same_heard one.heard this) then learned one else notes noted) (if b then learned other else notes noted_other))
-            (sym majority_alike) (by (makes_majority nodes i vote (with_member same_heard one.heard this)))
+      -- ---- both decide the same
 
-      vote_alike : (nodes me from i : ℕ) (vote : Vote) (learned : Option Action) → learned_at records i ≡ learned
-          → AreAlikeTurns records (on_vote next answers begin nodes me records one from i vote learned) (on_vote next answers begin nodes me records other from i vote learned)
-      vote_alike nodes me from i vote (Some v) is = nothing
-      vote_alike nodes me from i vote None is = vote_counted nodes me from i vote (ap is_none is)
+      vote_decided : (from i : ℕ) (vote : Vote) (learned : Option Action) → learned_at records i ≡ learned → on_vote there from i vote learned ≡ on_vote here from i vote learned
+      vote_decided from i vote (Some v) is = refl
+      vote_decided from i vote None is =
+          ap (λ (t : Bool). if t then plans.Learn i vote.action else plans.CountVote from i vote) (majority_alike from i vote (ap is_none is))
 
-      decision_alike : (me from i : ℕ) (v : Action) (learned : Option Action)
-          → AreAlikeTurns records (on_decision next answers begin me records one from i v learned) (on_decision next answers begin me records other from i v learned)
-      decision_alike me from i v (Some w) = nothing
-      decision_alike me from i v None = learns_alike me i v [] (asks_for me from (missing_position (records ++ Learned i v ∷ [])))
+      body_decided : (from : ℕ) (body : Body) → on_body there from body ≡ on_body here from body
+      body_decided from (bodies.Accepted i b v) =
+          ap (λ (plan : Plan). if is_beyond records i then plans.Pass No else plan) (vote_decided from i (record { ballot = b; action = v }) (learned_at records i) refl)
+      body_decided from (bodies.Call action) = refl
+      body_decided from (bodies.Prepare i b) = refl
+      body_decided from (bodies.Promise i b last) = refl
+      body_decided from (bodies.Accept i b v) = refl
+      body_decided from (bodies.Decided i v) = refl
+      body_decided from (bodies.Ask i) = refl
+      body_decided from (bodies.Nack i b bound) = refl
+      body_decided from (bodies.Reply number reply) = refl
+      body_decided from (bodies.Report first applied actions) = refl
+      body_decided from (bodies.PrepareRange range b) = refl
+      body_decided from (bodies.PromiseRange range b votes) = refl
 
-      accepted_alike : (nodes me from i : ℕ) (vote : Vote)
-          → AreAlikeTurns records (on_accepted next answers begin nodes me records one from i vote) (on_accepted next answers begin nodes me records other from i vote)
-      accepted_alike nodes me from i vote =
-          let learned = learned_at records i in
-          elim (is_beyond records i)
-          as (λ far. AreAlikeTurns records (if far then notes one else on_vote next answers begin nodes me records one from i vote learned) (if far then notes other else on_vote next answers begin nodes me records other from i vote learned)) [
-            | true ↦ nothing
-            | false ↦ vote_alike nodes me from i vote learned refl
+      plan_decided : (input : NodeInput) → plan_of there input ≡ plan_of here input
+      plan_decided (inputs.Receive message) =
+          ap (λ (plan : Plan). let r : Result Plan Fault = Ok (if is_for_node s.config me message then plan else plans.Pass Foreign) in r)
+          (body_decided (party_number message.from) message.body)
+      plan_decided (inputs.Lead choice) = refl
+      plan_decided (inputs.LeadRange first count) = refl
+      plan_decided (inputs.Interrupt source occurrence) = refl
+      plan_decided (inputs.Tick now) = refl
+      plan_decided (inputs.Report first) = refl
+
+      -- ---- and a plan does the same
+
+      promise_alike : (promise : CountedPromise) (packets : List Message) (found : Option Proposal)
+          → (let known : Running → Running = λ running. promised_running s.config.nodes running promise.ballot (promise.from, promise.last) found in AreAlikeTurns records (sends (known one) packets) (sends (known other) packets))
+      promise_alike promise packets None = quiet None packets No one refl
+      promise_alike promise packets (Some p) =
+          quiet None packets No (record one { proposals = with_proposal one.proposals (if takes_promise promise.ballot p then after_promise s.config.nodes p (promise.from, promise.last) else p) }) refl
+
+      plan_alike : (input : NodeInput) (plan : Plan) → Saw here input plan → AreAlikeTurns records (turn_of here plan) (turn_of there plan)
+      plan_alike input (plans.Pass dropped) saw = quiet None [] dropped one refl
+      plan_alike input (plans.Promise header last) saw = quiet (written_by (plans.Promise header last)) _ No one refl
+      plan_alike input (plans.PromiseRange p) saw = quiet (written_by (plans.PromiseRange p)) _ No one refl
+      plan_alike input (plans.Vote header v) saw = quiet (written_by (plans.Vote header v)) _ No one refl
+      plan_alike input (plans.Repeat to i b v) saw = quiet None _ No one refl
+      plan_alike input (plans.Refuse to i b bound) saw = quiet None _ No one refl
+      plan_alike input (plans.Inform to i v) saw = quiet None _ No one refl
+      plan_alike input (plans.Answer task number reply) saw = quiet None _ No one refl
+      plan_alike input (plans.Await item) saw = quiet None _ No (record one { pending = one.pending ++ item ∷ [] }) refl
+      plan_alike input (plans.Lead i b own) saw = quiet (Some (Started b)) _ No (started_running one i b own) refl
+      plan_alike input (plans.LeadRange range b) saw = quiet (Some (Started b)) _ No (record one { proposals = with_range one.proposals b (unlearned_in records range) }) refl
+      plan_alike input (plans.OfferPrepared i b v) saw = offer_alike (proposal_at one.proposals i)
+        where
+          offer_alike : (found : Option Proposal)
+              → (let packets = says_to_all s.config.nodes me (bodies.Accept i b v) in AreAlikeTurns records (sends (offered_running s.config.nodes one v found) packets) (sends (offered_running s.config.nodes other v found) packets))
+          offer_alike None = quiet None (says_to_all s.config.nodes me (bodies.Accept i b v)) No one refl
+          offer_alike (Some p) =
+              quiet None (says_to_all s.config.nodes me (bodies.Accept i b v)) No
+              (record one { proposals = with_proposal one.proposals (if is_prepared s.config.nodes p then as_offered v p else p) }) refl
+      plan_alike input (plans.CountPromise promise) saw = promise_alike promise [] (proposal_at one.proposals promise.position)
+      plan_alike input (plans.CountRangePromise p) saw = quiet None [] No (record one { proposals = map (once_promised s.config.nodes p.from p.range p.ballot p.votes) one.proposals }) refl
+      plan_alike input (plans.Offer promise v) saw =
+          promise_alike promise (says_to_all s.config.nodes me (bodies.Accept promise.position promise.ballot v)) (proposal_at one.proposals promise.position)
+      plan_alike input (plans.Yield i b bound) saw =
+          let known : Running = record one { proposals = filter (λ p. not (is_given_up s.config.nodes i b p)) one.proposals; refused = greatest_with one.refused bound } in
+          elim (is_in b (proposal_at one.proposals i)) as (λ t. AreAlikeTurns records (notes (if t then known else one)) (notes (if t then record known { heard = heard } else other))) [
+            | true ↦ quiet None [] No known refl
+            | false ↦ nothing
           ]
+      plan_alike input (plans.CountVote from i vote) saw =
+          record { written = refl; sent = refl; dropped = refl; running = record { proposals = refl; heard = noted_alike from i vote (ap is_none saw.unlearned); pending = refl; refused = refl } }
+      plan_alike input (plans.Learn i v) saw = learns_alike i v (says_to_others s.config.nodes me (bodies.Decided i v)) []
+      plan_alike input (plans.Follow from i v) saw = learns_alike i v [] (asks_for me from (missing_position (records ++ Learned i v ∷ [])))
+      plan_alike input (plans.Report first) saw = quiet None (report_of me first (applied_of records) ∷ []) No one refl
 
-      body_alike : (nodes me from : ℕ) (body : Body) → AreAlikeTurns records (on_body next answers begin nodes me records one from body) (on_body next answers begin nodes me records other from body)
-      body_alike nodes me from (bodies.Call action) =
-          let applied = applied_of records in
-          call_alike me (kept_of next answers begin applied) (replay_answers next answers begin applied) action
-      body_alike nodes me from (bodies.Prepare i b) = prepares_alike me from i b (prepare_answer records i b)
-      body_alike nodes me from (bodies.Promise i b last) = promise_alike nodes me b (from, last) (proposal_at one.proposals i)
-      body_alike nodes me from (bodies.Accept i b v) = votes_alike me from i b v (accept_answer records i b v)
-      body_alike nodes me from (bodies.Accepted i b v) = accepted_alike nodes me from i (record { ballot = b; action = v })
-      body_alike nodes me from (bodies.Decided i v) = decision_alike me from i v (learned_at records i)
-      body_alike nodes me from (bodies.Ask i) = ask_alike me from i (learned_at records i)
-      body_alike nodes me from (bodies.Nack i b bound) = nack_alike nodes i b bound
-      body_alike nodes me from (bodies.Reply number reply) = nothing
-      body_alike nodes me from (bodies.Report first applied actions) = nothing
-      body_alike nodes me from (bodies.PrepareRange range b) = ranges_alike me from range b (range_answer records range b)
-      body_alike nodes me from (bodies.PromiseRange range b votes) =
-          quiet None [] No (record one { proposals = map (once_promised nodes from range b votes) one.proposals }) refl
-
-      begin_alike : (nodes me i : ℕ) → AreAlikeAnswers records (begins_if next answers begin nodes me records one i) (begins_if next answers begin nodes me records other i)
-      begin_alike nodes me i =
-          let b = next_ballot me (starts_above records one) in
-          let led : Running → Turn = λ running. begins next answers begin nodes me records running i b in
-          elim (nat_le (2 ^ 32) (round_of b))
-          as (λ t. AreAlikeAnswers records (if t then Err BallotsSpent else Ok (led one)) (if t then Err BallotsSpent else Ok (led other))) [
-            | true ↦ refl
-            | false ↦ quiet (Some (Started b)) (says_to_all nodes me (bodies.Prepare i b)) No (led one).running refl
-          ]
-
-      leads_alike : (nodes me i : ℕ) (found : Option Proposal)
-          → AreAlikeAnswers records (leads_at next answers begin nodes me records one i found) (leads_at next answers begin nodes me records other i found)
-      leads_alike nodes me i None = begin_alike nodes me i
-      leads_alike nodes me i (Some p) =
-          let offered : Running → Turn = λ running. offers next answers begin nodes me records running p in
-          let begun : Running → Result Turn Fault = λ running. begins_if next answers begin nodes me records running i in
-          elim (is_prepared nodes p)
-          as (λ t. AreAlikeAnswers records (if t then Ok (offered one) else begun one) (if t then Ok (offered other) else begun other)) [
-            | true ↦ quiet None (offered one).sent No (offered one).running refl
-            | false ↦ begin_alike nodes me i
-          ]
-
-      lead_alike : (config : Config) (me : ℕ) (choice : Option ℕ)
-          → AreAlikeAnswers records (on_lead next answers begin config me records one choice) (on_lead next answers begin config me records other choice)
-      lead_alike config me choice =
-          let i = chosen_position config.nodes records one choice in
-          let led : Running → Result Turn Fault = λ running. leads_at next answers begin config.nodes me records running i (proposal_at running.proposals i) in
-          let Answered : Result Turn Fault → Result Turn Fault → Type 0 = AreAlikeAnswers records in
-          elim (is_some (learned_at records i))
-          as (λ t. Answered (if t then Ok (notes one) else if is_out_of_reach config.max_positions records i then Err LogFull else led one)
-          (if t then Ok (notes other) else if is_out_of_reach config.max_positions records i then Err LogFull else led other)) [
-            | true ↦ nothing
-            | false ↦ elim (is_out_of_reach config.max_positions records i)
-                as (λ t. Answered (if t then Err LogFull else led one) (if t then Err LogFull else led other)) [
-                  | true ↦ refl
-                  | false ↦ leads_alike config.nodes me i (proposal_at one.proposals i)
-                ]
-          ]
-
-      receive_alike : (config : Config) (me : ℕ) (message : Message)
-          → AreAlikeTurns records (receives next answers begin config me records one message) (receives next answers begin config me records other message)
-      receive_alike config me message =
-          let from = party_number message.from in
-          elim (is_for_node config me message)
-          as (λ t. AreAlikeTurns records (if t then on_body next answers begin config.nodes me records one from message.body else drops_foreign one)
-          (if t then on_body next answers begin config.nodes me records other from message.body else drops_foreign other)) [
-            | true ↦ body_alike config.nodes me from message.body
-            | false ↦ quiet None [] Foreign one refl
-          ]
-
-    range_alike : (config : Config) (me : ℕ) (found : Result Range Fault) → AreAlikeAnswers records (on_lead_range config me records one found) (on_lead_range config me records other found)
-    range_alike config me (Err fault) = refl
-    range_alike config me (Ok range) =
-        let b = next_ballot me (starts_above records one) in
-        let led : Running → Turn = λ running. begins_range config.nodes me records running range b in
-        let Answered : Result Turn Fault → Result Turn Fault → Type 0 = AreAlikeAnswers records in
-        elim (list_any (is_out_of_reach config.max_positions records) (positions_of range))
-        as (λ t. Answered
-        (if t then Err LogFull else if nat_eq (length (unlearned_in records range)) 0 then Ok (notes one) else if nat_le (2 ^ 32) (round_of b) then Err BallotsSpent else Ok (led one))
-        (if t then Err LogFull else if nat_eq (length (unlearned_in records range)) 0 then Ok (notes other) else if nat_le (2 ^ 32) (round_of b) then Err BallotsSpent else Ok (led other))) [
-          | true ↦ refl
-          | false ↦ elim (nat_eq (length (unlearned_in records range)) 0)
-              as (λ t. Answered (if t then Ok (notes one) else if nat_le (2 ^ 32) (round_of b) then Err BallotsSpent else Ok (led one))
-              (if t then Ok (notes other) else if nat_le (2 ^ 32) (round_of b) then Err BallotsSpent else Ok (led other))) [
-                | true ↦ nothing
-                | false ↦ elim (nat_le (2 ^ 32) (round_of b))
-                    as (λ t. Answered (if t then Err BallotsSpent else Ok (led one)) (if t then Err BallotsSpent else Ok (led other))) [
-                      | true ↦ refl
-                      | false ↦ quiet (Some (Started b)) (says_to_all config.nodes me (bodies.PrepareRange range b)) No (led one).running refl
-                    ]
-              ]
-        ]
-
-    input_alike : {S : Type 0} (s : Setting S) (me : ℕ) (input : NodeInput) → AreAlikeAnswers records (running_effect s me records one input) (running_effect s me records other input)
-    input_alike s me (inputs.Receive message) = receive_alike s.next s.answers s.begin s.config me message
-    input_alike s me (inputs.Lead choice) = lead_alike s.next s.answers s.begin s.config me choice
-    input_alike s me (inputs.LeadRange first count) = range_alike s.config me (range_of first count)
-    input_alike s me (inputs.Interrupt source occurrence) = interrupt_alike (kept_of s.next s.answers s.begin (applied_of records)) source occurrence
-    input_alike s me (inputs.Tick now) = adds_alike (actions.Tick now)
-    input_alike s me (inputs.Report first) = quiet None (report_of me first (applied_of records) ∷ []) No one refl
+      input_alike : (input : NodeInput) → AreAlikeAnswers records (running_effect s me records one input) (running_effect s me records other input)
+      input_alike input =
+          subst (λ (found : Result Plan Fault). AreAlikeAnswers records (turn_if here (plan_of here input)) (turn_if there found)) (sym (plan_decided input))
+          (by (plan_of here input) (every_plan here input))
+        where
+          by : (found : Result Plan Fault) → SawIf here input found → AreAlikeAnswers records (turn_if here found) (turn_if there found)
+          by (Ok plan) saw = plan_alike input plan saw
+          by (Err fault) saw = refl
 
   pub changes_nothing : {S : Type 0} (s : Setting S) (me : ℕ) (one other : Running) (input : NodeInput) → KnowsAlike records one other
       → AreAlikeAnswers records (running_effect s me records one input) (running_effect s me records other input)

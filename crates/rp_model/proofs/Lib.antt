@@ -1,3 +1,4 @@
+pub mod EveryPlan
 pub mod Forgetting
 pub mod Replying
 pub mod AppliedGrowing

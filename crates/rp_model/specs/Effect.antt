@@ -1,37 +1,28 @@
 -- The result of an input for one node, and what a stop, a cut and a restart leave of it. Nothing
 -- here looks at another actor.
-use Rattle.std.specs.Prelude.{ℕ, ◌-◌, min, nat_le, Option, Some, None, Result, Ok, Err, List, []}
-use Rattle.std.specs.Prelude.{◌∷◌, ◌++◌, length, take, drop, if◌then◌else◌}
-use Rattle.rp_base.specs.declared.action.Action.{Action}
-use Rattle.rp_base.specs.declared.config.Config.{Config}
+use Rattle.std.specs.Prelude.{ℕ, min, nat_le, Option, Some, None, Result, Ok, Err, List, []}
+use Rattle.std.specs.Prelude.{◌∷◌, ◌++◌, length, if◌then◌else◌}
 use Rattle.rp_base.specs.declared.fault.Fault.{Fault}
 use Rattle.rp_base.specs.declared.fault.Fault.TheVariants.{NotRunning}
 use Rattle.rp_base.specs.declared.record.Rec.{Rec}
 use Rattle.rp_base.specs.declared.reply.Answer.{Answer}
-use Rattle.rp_base.specs.Records.{applied_of}
 use Rattle.rp_base.specs.Ranges.{range_of}
-use Rattle.rp_codec.specs.Message.{Message, report_len}
-use Rattle.rp_codec.specs.declared.packet.Party.TheVariants.{Node, Audit}
-use Rattle.rp_codec.specs.declared.packet.Body.TheVariants as bodies
-use Rattle.rp_machine.specs.Replay.{kept_of}
+use Rattle.rp_codec.specs.Message.{Message}
 use Rattle.rp_model.specs.Parts.{Running}
 use Rattle.rp_model.specs.Parts.{NodePart}
 use Rattle.rp_model.specs.Parts.{Turn}
 use Rattle.rp_model.specs.declared.effect.Dropped.{Dropped}
 use Rattle.rp_model.specs.declared.effect.Dropped.TheVariants.{No}
 use Rattle.rp_model.specs.Parts.{fresh_running, with_record}
-use Rattle.rp_model.specs.Says.{sends}
+pub use Rattle.rp_model.specs.Node.{Setting}
+use Rattle.rp_model.specs.Node.{RunningNode, running_node}
 use Rattle.rp_model.specs.Texts.{written_for}
-use Rattle.rp_model.specs.Pending.{on_interrupt, on_tick}
+use Rattle.rp_model.specs.Arrivals.{on_interrupt, on_tick}
 use Rattle.rp_model.specs.Leader.{on_lead, on_lead_range}
 use Rattle.rp_model.specs.Receiving.{receives}
-
--- what all nodes share: the configuration, and the machine with its start
-pub record Setting (S : Type 0) : Type 0 where
-  pub config : Config
-  pub next : S → Action → S
-  pub answers : S → Action → List Answer
-  pub begin : S
+use Rattle.rp_model.specs.Plans.{turn_of}
+use Rattle.rp_model.specs.declared.plan.Plan.{Plan}
+use Rattle.rp_model.specs.declared.plan.Plan.TheVariants as plans
 
 -- The result of an input for one actor: its part after, the record that it writes first, the
 -- packets that it sends in order, what it dropped, the reply that it took, and how many records and
@@ -60,27 +51,25 @@ pub data NodeInput : Type 0 where
   Tick : ℕ → NodeInput
   Report : ℕ → NodeInput
 
--- a report to the audit of these applied actions, from a position on
-abbrev pub report_of : ℕ → ℕ → List Action → Message
-report_of me first applied =
-    let stated = take (report_len first (length applied)) (drop (first - 1) applied) in
-    record { from = Node me; to = Audit; body = bodies.Report first (length applied) stated }
+-- What a node that runs decides of an input: a plan of all that it does, or a refusal.
+abbrev pub plan_of : {S : Type 0} → RunningNode S → NodeInput → Result Plan Fault
+plan_of node (Receive message) = Ok (receives node message)
+plan_of node (Lead choice) = on_lead node choice
+plan_of node (LeadRange first count) = on_lead_range node (range_of first count)
+plan_of node (Interrupt source occurrence) = Ok (on_interrupt node source occurrence)
+plan_of node (Tick now) = Ok (on_tick node now)
+plan_of node (Report first) = Ok (plans.Report first)
 
--- the turn of a node that runs
+-- the turn of a plan, if there is one
+abbrev pub turn_if : {S : Type 0} → RunningNode S → Result Plan Fault → Result Turn Fault
+turn_if node (Ok plan) = Ok (turn_of node plan)
+turn_if node (Err fault) = Err fault
+
+-- the turn of a node that runs: what its plan does
 abbrev pub running_effect : {S : Type 0} → Setting S → ℕ → List Rec → Running → NodeInput
     → Result Turn Fault
-running_effect s me records running (Receive message) =
-    Ok (receives s.next s.answers s.begin s.config me records running message)
-running_effect s me records running (Lead choice) =
-    on_lead s.next s.answers s.begin s.config me records running choice
-running_effect s me records running (LeadRange first count) =
-    on_lead_range s.config me records running (range_of first count)
-running_effect s me records running (Interrupt source occurrence) =
-    Ok (on_interrupt (kept_of s.next s.answers s.begin (applied_of records)) running source
-    occurrence)
-running_effect s me records running (Tick now) = Ok (on_tick running now)
-running_effect s me records running (Report first) =
-    Ok (sends running (report_of me first (applied_of records) ∷ []))
+running_effect s me records running input =
+    turn_if (running_node s me records running) (plan_of (running_node s me records running) input)
 
 -- a turn takes effect: its record is written, then its packets are sent, and the running part is
 -- updated

@@ -1,21 +1,17 @@
--- What a node does to lead. Lamport, "Paxos Made Simple", sections 2.2 and 3; which position, which
+-- What a node decides to lead. Lamport, "Paxos Made Simple", sections 2.2 and 3; which position, which
 -- ballot and which action of its own it takes is ours.
 use Rattle.std.specs.Prelude.{ℕ, zero, suc, ◌+◌, ◌^◌, Bool, true, not, ◌&&◌, ◌||◌, max, nat_eq}
 use Rattle.std.specs.Prelude.{nat_lt, nat_le, is_some, is_none, Option, Some, None, unwrap_or}
 use Rattle.std.specs.Prelude.{Result, Ok, Err, List, length, map, filter, if◌then◌else◌}
 use Rattle.std.specs.List.{list_any}
-use Rattle.rp_base.specs.declared.action.Action.{Action}
-use Rattle.rp_base.specs.declared.reply.Answer.{Answer}
-use Rattle.rp_base.specs.declared.config.Config.{Config}
 use Rattle.rp_base.specs.declared.fault.Fault.{Fault}
 use Rattle.rp_base.specs.declared.fault.Fault.TheVariants.{BallotsSpent, LogFull}
-use Rattle.rp_base.specs.declared.record.Vote.{Vote}
 use Rattle.rp_base.specs.declared.record.Rec.{Rec}
 use Rattle.rp_base.specs.declared.record.Rec.TheVariants.{Started}
 use Rattle.rp_base.specs.Number.{window}
 use Rattle.rp_base.specs.Ballot.{number_of, greatest_with, next_ballot, round_of}
-use Rattle.rp_base.specs.Records.{started_of, learned_at, applied_of, first_unlearned}
-use Rattle.rp_base.specs.Promises.{Promise, offer_of}
+use Rattle.rp_base.specs.Records.{started_of, learned_at, first_unlearned}
+use Rattle.rp_base.specs.Promises.{offer_of}
 use Rattle.rp_base.specs.declared.placed.PlacedVote.{PlacedVote}
 use Rattle.rp_base.specs.Ranges.{Range, positions_of}
 use Rattle.rp_base.specs.Proposals.{Proposal, new_proposal, proposal_at, without_proposal}
@@ -23,11 +19,14 @@ use Rattle.rp_base.specs.Proposals.{with_proposal, is_in, takes_promise, with_pr
 use Rattle.rp_base.specs.Proposals.{after_promise, is_prepared, with_range, once_promised}
 use Rattle.rp_base.specs.Proposals.{as_offered, is_given_up}
 use Rattle.rp_codec.specs.declared.packet.Body.TheVariants as bodies
-use Rattle.rp_machine.specs.Replay.{kept_of}
 use Rattle.rp_model.specs.Parts.{Running}
 use Rattle.rp_model.specs.Parts.{Turn}
-use Rattle.rp_model.specs.Says.{says_to_all, sends, notes, writes}
-use Rattle.rp_model.specs.Pending.{own_action}
+use Rattle.rp_model.specs.Says.{says_to_all, notes, writes}
+use Rattle.rp_model.specs.Node.{RunningNode, nodes_of, own_for}
+use Rattle.rp_model.specs.declared.effect.Dropped.TheVariants.{No}
+use Rattle.rp_model.specs.declared.plan.CountedPromise.{CountedPromise}
+use Rattle.rp_model.specs.declared.plan.Plan.{Plan}
+use Rattle.rp_model.specs.declared.plan.Plan.TheVariants as plans
 
 -- no proposal runs, or one that is prepared
 abbrev pub is_ready : ℕ → Option Proposal → Bool
@@ -70,53 +69,6 @@ is_out_of_reach most records i = nat_lt most i || is_beyond records i
 abbrev pub starts_above : List Rec → Running → ℕ
 starts_above records running = max (started_of records) (number_of running.refused)
 
-module _ {S : Type 0} (next : S → Action → S) (answers : S → Action → List Answer) (begin : S) where
-  -- a proposal begins at the position in the ballot, in place of another there, which is given up
-  -- first
-  abbrev pub begins : ℕ → ℕ → List Rec → Running → ℕ → ℕ → Turn
-  begins nodes me records running i b =
-      let others = without_proposal running.proposals i in
-      let own =
-      own_action (kept_of next answers begin (applied_of records)) others running.pending in
-      writes (Started b)
-      (record running { proposals = with_proposal running.proposals (new_proposal i b (Some own)) })
-      (says_to_all nodes me (bodies.Prepare i b))
-
-  -- a proposal begins, if a ballot is left
-  abbrev pub begins_if : ℕ → ℕ → List Rec → Running → ℕ → Result Turn Fault
-  begins_if nodes me records running i =
-      let b = next_ballot me (starts_above records running) in
-      if nat_le (2 ^ 32) (round_of b) then Err BallotsSpent
-      else Ok (begins nodes me records running i b)
-
-  -- a prepared proposal offers the action of the highest vote reported, or an action of its own if
-  -- none is; its ballot is written, so it writes nothing
-  abbrev pub offers : ℕ → ℕ → List Rec → Running → Proposal → Turn
-  offers nodes me records running p =
-      let others = without_proposal running.proposals p.position in
-      let after = as_offered
-      (own_action (kept_of next answers begin (applied_of records)) others running.pending) p in
-      sends (record running { proposals = with_proposal running.proposals after })
-      (says_to_all nodes me (bodies.Accept p.position p.ballot (offer_of after.own p.promises)))
-
-  -- a prepared proposal offers, any other is given up, and one begins in its place
-  abbrev pub leads_at : ℕ → ℕ → List Rec → Running → ℕ → Option Proposal → Result Turn Fault
-  leads_at nodes me records running i None = begins_if nodes me records running i
-  leads_at nodes me records running i (Some p) =
-      if is_prepared nodes p then Ok (offers nodes me records running p)
-      else begins_if nodes me records running i
-
-  -- Lead: if the chosen position is learned nothing happens; it has to be within reach, and a
-  -- ballot has to be left unless the position is prepared
-  abbrev pub on_lead : Config → ℕ → List Rec → Running → Option ℕ → Result Turn Fault
-  on_lead config me records running choice =
-      let i = chosen_position config.nodes records running choice in
-      if is_some (learned_at records i) then Ok (notes running)
-      else if is_out_of_reach config.max_positions records i then Err LogFull
-      else leads_at config.nodes me records running i (proposal_at running.proposals i)
-
--- ---- ranges
-
 -- the positions of a range at which nothing is learned
 abbrev pub unlearned_in : List Rec → Range → List ℕ
 unlearned_in records range = filter (λ i. is_none (learned_at records i)) (positions_of range)
@@ -129,20 +81,54 @@ begins_range nodes me records running range b =
     (record running { proposals = with_range running.proposals b (unlearned_in records range) })
     (says_to_all nodes me (bodies.PrepareRange range b))
 
--- LeadRange: each position has to be within reach; if all are learned nothing happens; and a
--- ballot has to be left
-abbrev pub leads_range : Config → ℕ → List Rec → Running → Range → Result Turn Fault
-leads_range config me records running range =
-    let b = next_ballot me (starts_above records running) in
-    if list_any (is_out_of_reach config.max_positions records) (positions_of range) then Err LogFull
-    else if nat_eq (length (unlearned_in records range)) 0 then Ok (notes running)
-    else if nat_le (2 ^ 32) (round_of b) then Err BallotsSpent
-    else Ok (begins_range config.nodes me records running range b)
+module _ {S : Type 0} (node : RunningNode S) where
+  -- the next ballot of the node
+  abbrev pub ballot_of : ℕ
+  ballot_of = next_ballot node.me (starts_above node.records node.running)
 
--- the same, if n positions from the first one make a range
-abbrev pub on_lead_range : Config → ℕ → List Rec → Running → Result Range Fault → Result Turn Fault
-on_lead_range config me records running (Ok range) = leads_range config me records running range
-on_lead_range config me records running (Err fault) = Err fault
+  -- no ballot is left to the node
+  abbrev pub is_exhausted : Bool
+  is_exhausted = nat_le (2 ^ 32) (round_of ballot_of)
+
+  -- a proposal begins at the position, if a ballot is left
+  abbrev pub begins_if : ℕ → Result Plan Fault
+  begins_if i =
+      if is_exhausted then Err BallotsSpent else Ok (plans.Lead i ballot_of (own_for node i))
+
+  -- A prepared proposal offers the action of the highest vote reported, or an action of its own if
+  -- none is. Any other is given up, and one begins in its place.
+  abbrev pub leads_at : ℕ → Option Proposal → Result Plan Fault
+  leads_at i None = begins_if i
+  leads_at i (Some p) =
+      if is_prepared (nodes_of node) p
+      then Ok (plans.OfferPrepared i p.ballot (offer_of (Some (own_for node i)) p.promises))
+      else begins_if i
+
+  -- Lead: if the chosen position is learned nothing happens; it has to be within reach, and a
+  -- ballot has to be left unless the position is prepared
+  abbrev pub on_lead : Option ℕ → Result Plan Fault
+  on_lead choice =
+      let i = chosen_position (nodes_of node) node.records node.running choice in
+      if is_some (learned_at node.records i) then Ok (plans.Pass No)
+      else if is_out_of_reach node.setting.config.max_positions node.records i then Err LogFull
+      else leads_at i (proposal_at node.running.proposals i)
+
+  -- LeadRange: each position has to be within reach; if all are learned nothing happens; and a
+  -- ballot has to be left
+  abbrev pub leads_range : Range → Result Plan Fault
+  leads_range range =
+      let most = node.setting.config.max_positions in
+      if list_any (is_out_of_reach most node.records) (positions_of range) then Err LogFull
+      else if nat_eq (length (unlearned_in node.records range)) 0 then Ok (plans.Pass No)
+      else if is_exhausted then Err BallotsSpent
+      else Ok (plans.LeadRange range ballot_of)
+
+  -- the same, if n positions from the first one make a range
+  abbrev pub on_lead_range : Result Range Fault → Result Plan Fault
+  on_lead_range (Ok range) = leads_range range
+  on_lead_range (Err fault) = Err fault
+
+-- ---- promises and refusals
 
 -- PromiseRange: a node promised for a range, and reported its last votes there; noted at each
 -- proposal that takes it
@@ -151,37 +137,35 @@ on_promise_range nodes running from range b votes =
     notes (record running
     { proposals = map (once_promised nodes from range b votes) running.proposals })
 
--- ---- promises and refusals
-
 -- a promise that counts: if it makes a majority the action is offered to all, else it is noted
-abbrev pub counts_promise : ℕ → ℕ → Running → Proposal → Promise → Turn
-counts_promise nodes me running p promise =
-    let after = with_promise p promise in
-    let known = record running
-    { proposals = with_proposal running.proposals (after_promise nodes p promise) } in
-    if is_promised nodes after
-    then sends known (says_to_all nodes me
-    (bodies.Accept p.position p.ballot (offer_of p.own after.promises)))
-    else notes known
+abbrev pub counts_promise : ℕ → CountedPromise → Proposal → Plan
+counts_promise nodes promise p =
+    let after = with_promise p (promise.from, promise.last) in
+    if is_promised nodes after then plans.Offer promise (offer_of p.own after.promises)
+    else plans.CountPromise promise
 
 -- a promise to the proposal that runs at its position, if one does
-abbrev pub on_promise_to : ℕ → ℕ → Running → ℕ → Promise → Option Proposal → Turn
-on_promise_to nodes me running b promise None = notes running
-on_promise_to nodes me running b promise (Some p) =
-    if takes_promise b p then counts_promise nodes me running p promise else notes running
+abbrev pub on_promise_to : ℕ → CountedPromise → Option Proposal → Plan
+on_promise_to nodes promise None = plans.Pass No
+on_promise_to nodes promise (Some p) =
+    if takes_promise promise.ballot p then counts_promise nodes promise p else plans.Pass No
 
 -- Promise: a node promised, and reported its last vote
-abbrev pub on_promise : ℕ → ℕ → Running → ℕ → ℕ → ℕ → Option Vote → Turn
-on_promise nodes me running from i b last =
-    on_promise_to nodes me running b (from, last) (proposal_at running.proposals i)
+abbrev pub on_promise : {S : Type 0} → RunningNode S → CountedPromise → Plan
+on_promise node promise =
+    on_promise_to (nodes_of node) promise
+    (proposal_at node.running.proposals promise.position)
 
 -- Nack: a refusal of the proposal that runs at the position, in its ballot, ends it and each other
 -- of the ballot that gathers promises, and the bound counts for the next ballot
-abbrev pub on_nack : ℕ → Running → ℕ → ℕ → ℕ → Turn
-on_nack nodes running i b bound =
+abbrev pub refused_running : ℕ → Running → ℕ → ℕ → ℕ → Running
+refused_running nodes running i b bound =
     if is_in b (proposal_at running.proposals i)
-    then notes (record running {
+    then record running {
       proposals = filter (λ p. not (is_given_up nodes i b p)) running.proposals;
       refused = greatest_with running.refused bound;
-    })
-    else notes running
+    }
+    else running
+
+abbrev pub on_nack : ℕ → Running → ℕ → ℕ → ℕ → Turn
+on_nack nodes running i b bound = notes (refused_running nodes running i b bound)

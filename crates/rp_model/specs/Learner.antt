@@ -1,4 +1,4 @@
--- What a node does as a learner, and the result for tasks. Lamport, "Paxos Made Simple", section
+-- What a node decides as a learner, and what learning an action does. Lamport, "Paxos Made Simple", section
 -- 2.3; the replies are ours.
 use Rattle.std.specs.Prelude.{ℕ, Bool, false, nat_lt, Option, Some, None, List, [], ◌∷◌, ◌++◌}
 use Rattle.std.specs.Prelude.{length, drop, filter, if◌then◌else◌}
@@ -18,9 +18,13 @@ use Rattle.rp_codec.specs.declared.packet.Body.TheVariants as bodies
 use Rattle.rp_machine.specs.Replay.{kept_of, replay_answers}
 use Rattle.rp_model.specs.Parts.{Running}
 use Rattle.rp_model.specs.Parts.{Turn}
-use Rattle.rp_model.specs.Says.{says, says_to_others, sends, notes, writes}
+use Rattle.rp_model.specs.Node.{RunningNode, nodes_of}
+use Rattle.rp_model.specs.Says.{says, writes}
 use Rattle.rp_model.specs.Pending.{stays, replies_to}
 use Rattle.rp_model.specs.Leader.{is_beyond}
+use Rattle.rp_model.specs.declared.effect.Dropped.TheVariants.{No}
+use Rattle.rp_model.specs.declared.plan.Plan.{Plan}
+use Rattle.rp_model.specs.declared.plan.Plan.TheVariants as plans
 
 -- the record learns an action above a position
 abbrev pub learns_above : ℕ → Rec → Bool
@@ -40,14 +44,6 @@ missing_position records =
 abbrev pub asks_for : ℕ → ℕ → Option ℕ → List Message
 asks_for me from None = []
 asks_for me from (Some i) = says me (bodies.Ask i) from ∷ []
-
--- Ask: a node asks what was decided at a position, and gets the answer if it is learned here
-abbrev pub answers_ask : ℕ → Running → ℕ → ℕ → Option Action → Turn
-answers_ask me running from i None = notes running
-answers_ask me running from i (Some v) = sends running (says me (bodies.Decided i v) from ∷ [])
-
-abbrev pub on_ask : ℕ → List Rec → Running → ℕ → ℕ → Turn
-on_ask me records running from i = answers_ask me running from i (learned_at records i)
 
 module _ {S : Type 0} (next : S → Action → S) (answers : S → Action → List Answer) (begin : S) where
   -- An action is learned at a position: the proposal there ends, the votes heard there are let go,
@@ -70,33 +66,38 @@ module _ {S : Type 0} (next : S → Action → S) (answers : S → Action → Li
       (drop (length (replay_answers next answers begin before)) given)
       ++ following)
 
-  -- a vote at a position that is learned, or not: if it makes a majority of one ballot and
-  -- action the action is learned and the others are informed, else it is noted
-  abbrev pub on_vote : ℕ → ℕ → List Rec → Running → ℕ → ℕ → Vote → Option Action → Turn
-  on_vote nodes me records running from i vote (Some learned) = notes running
-  on_vote nodes me records running from i vote None =
-      let heard = with_member same_heard running.heard (from, i, vote) in
-      if makes_majority nodes i vote heard
-      then learns me records running i vote.action
-      (says_to_others nodes me (bodies.Decided i vote.action)) []
-      else notes (record running { heard = heard })
+-- the answer to an Ask: what is learned, or nothing
+abbrev pub ask_plan : ℕ → ℕ → Option Action → Plan
+ask_plan from i None = plans.Pass No
+ask_plan from i (Some v) = plans.Inform from i v
+
+-- a decision, at a position that is learned or not
+abbrev pub decision_plan : ℕ → ℕ → Action → Option Action → Plan
+decision_plan from i v (Some learned) = plans.Pass No
+decision_plan from i v None = plans.Follow from i v
+
+module _ {S : Type 0} (node : RunningNode S) (from i : ℕ) where
+  -- Ask: a node asks what was decided at a position, and gets the answer if it is learned here
+  abbrev pub on_ask : Plan
+  on_ask = ask_plan from i (learned_at node.records i)
+
+  -- a vote at a position that is learned, or not: if it makes a majority of one ballot and action
+  -- the action is learned, else it is noted
+  abbrev pub on_vote : Vote → Option Action → Plan
+  on_vote vote (Some learned) = plans.Pass No
+  on_vote vote None =
+      if makes_majority (nodes_of node) i vote
+      (with_member same_heard node.running.heard (from, i, vote))
+      then plans.Learn i vote.action
+      else plans.CountVote from i vote
 
   -- Accepted: a vote for an action at a position. Where that is too far above the first unlearned
   -- one, it is not noted.
-  abbrev pub on_accepted : ℕ → ℕ → List Rec → Running → ℕ → ℕ → Vote → Turn
-  on_accepted nodes me records running from i vote =
-      if is_beyond records i then notes running
-      else on_vote nodes me records running from i vote (learned_at records i)
+  abbrev pub on_accepted : Vote → Plan
+  on_accepted vote =
+      if is_beyond node.records i then plans.Pass No
+      else on_vote vote (learned_at node.records i)
 
-  -- a decision at a position that is learned, or not
-  abbrev pub on_decision : ℕ → List Rec → Running → ℕ → ℕ → Action → Option Action → Turn
-  on_decision me records running from i v (Some learned) = notes running
-  on_decision me records running from i v None =
-      learns me records running i v []
-      (asks_for me from (missing_position (records ++ Learned i v ∷ [])))
-
-  -- Decided: the action is learned unless the position is, and if a position is missing below a
-  -- learned one the sender is asked for it
-  abbrev pub on_decided : ℕ → List Rec → Running → ℕ → ℕ → Action → Turn
-  on_decided me records running from i v =
-      on_decision me records running from i v (learned_at records i)
+  -- Decided: the action is learned unless the position is
+  abbrev pub on_decided : Action → Plan
+  on_decided v = decision_plan from i v (learned_at node.records i)

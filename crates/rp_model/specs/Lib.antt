@@ -1,11 +1,14 @@
 pub mod Parts
 pub mod Says
 pub mod Texts
-pub mod Acceptor
 pub mod Pending
+pub mod Node
+pub mod Acceptor
+pub mod Arrivals
 pub mod Leader
 pub mod Learner
 pub mod Receiving
+pub mod Plans
 pub mod Effect
 pub mod Tasks
 pub mod Events

@@ -1,13 +1,9 @@
--- What a node does with a packet, over Lamport's messages.
-use Rattle.std.specs.Prelude.{ℕ, suc, Bool, true, false, not, ◌&&◌, nat_eq, nat_lt, nat_le, List}
+-- What a node decides of a packet, over Lamport's messages.
+use Rattle.std.specs.Prelude.{ℕ, suc, Bool, true, false, not, ◌&&◌, nat_eq, nat_lt, nat_le}
 use Rattle.std.specs.Prelude.{if◌then◌else◌}
-use Rattle.rp_base.specs.declared.action.Action.{Action}
 use Rattle.rp_base.specs.declared.config.Config.{Config}
-use Rattle.rp_base.specs.declared.reply.Answer.{Answer}
-use Rattle.rp_base.specs.declared.record.Rec.{Rec}
 use Rattle.rp_base.specs.Ballot.{owner_of}
 use Rattle.rp_base.specs.Ranges.{Range, end_of}
-use Rattle.rp_base.specs.Records.{applied_of}
 use Rattle.rp_codec.specs.Message.{Message}
 use Rattle.rp_codec.specs.declared.packet.Party.{Party}
 use Rattle.rp_codec.specs.declared.packet.Party.TheVariants.{Node, Task, Audit}
@@ -15,14 +11,14 @@ use Rattle.rp_codec.specs.declared.packet.Body.{Body}
 use Rattle.rp_codec.specs.declared.packet.Body.TheVariants.{Call, Prepare, Promise, Accept}
 use Rattle.rp_codec.specs.declared.packet.Body.TheVariants.{Accepted, Decided, Ask, Nack, Reply}
 use Rattle.rp_codec.specs.declared.packet.Body.TheVariants.{Report, PrepareRange, PromiseRange}
-use Rattle.rp_machine.specs.Replay.{kept_of, replay_answers}
-use Rattle.rp_model.specs.Parts.{Running}
-use Rattle.rp_model.specs.Parts.{Turn}
-use Rattle.rp_model.specs.Says.{notes, drops_foreign}
+use Rattle.rp_model.specs.Node.{RunningNode}
 use Rattle.rp_model.specs.Acceptor.{on_prepare, on_prepare_range, on_accept}
-use Rattle.rp_model.specs.Leader.{on_promise, on_promise_range, on_nack}
-use Rattle.rp_model.specs.Pending.{on_call}
+use Rattle.rp_model.specs.Arrivals.{on_call}
+use Rattle.rp_model.specs.Leader.{on_promise}
 use Rattle.rp_model.specs.Learner.{on_accepted, on_decided, on_ask}
+use Rattle.rp_model.specs.declared.effect.Dropped.TheVariants.{No, Foreign}
+use Rattle.rp_model.specs.declared.plan.Plan.{Plan}
+use Rattle.rp_model.specs.declared.plan.Plan.TheVariants as plans
 
 -- the party is this node
 abbrev pub is_node : ℕ → Party → Bool
@@ -70,37 +66,28 @@ is_for_node config me message =
     is_node me message.to && is_no_node_above config.nodes message.from
     && is_allowed config.max_positions (party_number message.from) message.body
 
-module _ {S : Type 0} (next : S → Action → S) (answers : S → Action → List Answer) (begin : S) where
+module _ {S : Type 0} (node : RunningNode S) where
   -- by what the packet says
-  abbrev pub on_body : ℕ → ℕ → List Rec → Running → ℕ → Body → Turn
-  on_body nodes me records running from (Call action) =
-      let applied = applied_of records in
-      on_call me (kept_of next answers begin applied) (replay_answers next answers begin applied)
-      running action
-  on_body nodes me records running from (Prepare position ballot) =
-      on_prepare me records running from position ballot
-  on_body nodes me records running from (Promise position ballot last) =
-      on_promise nodes me running from position ballot last
-  on_body nodes me records running from (Accept position ballot action) =
-      on_accept me records running from position ballot action
-  on_body nodes me records running from (Accepted position ballot action) =
-      on_accepted next answers begin nodes me records running from position
-      (record { ballot = ballot; action = action })
-  on_body nodes me records running from (Decided position action) =
-      on_decided next answers begin me records running from position action
-  on_body nodes me records running from (Ask position) = on_ask me records running from position
-  on_body nodes me records running from (Nack position ballot bound) =
-      on_nack nodes running position ballot bound
-  on_body nodes me records running from (Reply number reply) = notes running
-  on_body nodes me records running from (Report first applied actions) = notes running
-  on_body nodes me records running from (PrepareRange range ballot) =
-      on_prepare_range me records running from range ballot
-  on_body nodes me records running from (PromiseRange range ballot votes) =
-      on_promise_range nodes running from range ballot votes
+  abbrev pub on_body : ℕ → Body → Plan
+  on_body from (Call action) = on_call node action
+  on_body from (Prepare i b) = on_prepare node from i b
+  on_body from (Promise i b last) =
+      on_promise node (record { from = from; position = i; ballot = b; last = last })
+  on_body from (Accept i b v) = on_accept node from i b v
+  on_body from (Accepted i b v) = on_accepted node from i (record { ballot = b; action = v })
+  on_body from (Decided i v) = on_decided node from i v
+  on_body from (Ask i) = on_ask node from i
+  on_body from (Nack i b bound) = plans.Yield i b bound
+  on_body from (Reply number reply) = plans.Pass No
+  on_body from (Report first applied actions) = plans.Pass No
+  on_body from (PrepareRange range b) = on_prepare_range node from range b
+  on_body from (PromiseRange range b votes) =
+      plans.CountRangePromise
+      (record { from = from; range = range; ballot = b; votes = votes })
 
   -- a packet arrives at a node
-  abbrev pub receives : Config → ℕ → List Rec → Running → Message → Turn
-  receives config me records running message =
-      if is_for_node config me message
-      then on_body config.nodes me records running (party_number message.from) message.body
-      else drops_foreign running
+  abbrev pub receives : Message → Plan
+  receives message =
+      if is_for_node node.setting.config node.me message
+      then on_body (party_number message.from) message.body
+      else plans.Pass Foreign

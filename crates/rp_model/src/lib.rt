@@ -4,6 +4,7 @@
 //! - `interrupt`: an occurrence of an interrupt
 //! - `event`: what can happen in a world
 //! - `effect`: the result of an event, as a step returns it
+//! - `plan`: what a node decided for an input, before anything of it is done
 //! - `right`: actions whose numbers are known to be within their ranges
 //! - `laws`: what every event keeps, at any machine
 #![tactic(auto)]
@@ -12,6 +13,7 @@ mod effect;
 mod event;
 mod interrupt;
 mod laws;
+mod plan;
 mod right;
 
 pub use effect::{Dropped, Effect};
@@ -22,4 +24,5 @@ pub use laws::{
     old_votes_change_nothing, restarts_begin_with_the_records, stops_leave_the_records,
     worlds_grow,
 };
+pub use plan::{CountedPromise, CountedRange, Plan, RangePromise};
 pub use right::RightAction;

@@ -112,12 +112,12 @@ progress_of nodes p promise =
     then Offer (offer_of p.own (with_promise p promise).promises)
     else Waiting
 
--- what a promise for its position in a ballot makes of the proposal that runs there; one that began
--- with a range takes promises for a range alone
+-- what a promise for its position in a ballot makes of the proposal that runs there, if that takes
+-- it
 abbrev pub progress_in : ℕ → ℕ → Promise → Option Proposal → Progress
 progress_in nodes b promise None = Stale
 progress_in nodes b promise (Some p) =
-    if nat_eq p.ballot b && not p.ranged then progress_of nodes p promise else Stale
+    if takes_promise b p then progress_of nodes p promise else Stale
 
 -- a proposal after a promise in its ballot, which counts while promises are waited for
 abbrev pub noted : ℕ → Proposal → Promise → Proposal

@@ -228,7 +228,7 @@ impl Proposer {
             (proposal_at self.now.proposals position) }
     {
         match proposal_at(&self.proposals, position) {
-            Some(proposal) if proposal.ballot() == ballot && !proposal.is_ranged() => {
+            Some(proposal) if proposal.takes(ballot) => {
                 proposal.progress(self.nodes, &HeardPromise { from, last })
             }
             _ => Progress::Stale,

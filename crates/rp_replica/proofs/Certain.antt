@@ -18,9 +18,14 @@ use Rattle.rp_codec.specs.Text.{text_of}
 use Rattle.rp_codec.proofs.Decoded.{whole_read, whole_again}
 use Rattle.rp_machine.specs.Asked.{last_occurrence}
 use Rattle.rp_model.specs.Parts.{Running, Turn}
-use Rattle.rp_model.specs.Pending.{adds_pending, is_same_call, most_pending, on_interrupt}
+use Rattle.rp_model.specs.Arrivals.{adds_pending, on_interrupt}
+use Rattle.rp_model.specs.Node.{RunningNode, kept_by}
+use Rattle.rp_model.specs.Pending.{is_same_call, most_pending}
+use Rattle.rp_model.specs.Plans.{turn_of as plan_turn}
+use Rattle.rp_model.specs.declared.effect.Dropped.TheVariants.{No, Full}
+use Rattle.rp_model.specs.declared.plan.Plan.TheVariants as plans
 use Rattle.rp_model.specs.Says.{notes, drops_full}
-use Rattle.rp_rules.specs.declared.plan.Plan.{Plan}
+use Rattle.rp_model.specs.declared.plan.Plan.{Plan}
 use Rattle.rp_rules.specs.Inputs.{Refuses}
 use Rattle.rp_rules.specs.Plans.{turn_of, TakesNoMemory}
 use Rattle.rp_replica.specs.State.{ReplicaState, server_of}
@@ -40,22 +45,26 @@ notes_again heard from i vote (Err e) unheard same = absurd (unheard (was_heard 
 
 -- ---- what takes none
 
--- an item is added, or not
-pub adds_none : (running : Running) (item : Action) → TakesNoMemory running (adds_pending running item)
-adds_none running item = by (list_any (is_same_call item) running.pending) (nat_lt (length running.pending) most_pending)
-  where
-    by : (there room : Bool) → TakesNoMemory running (cond there (notes running) (cond room (notes (record running { pending = running.pending ++ item ∷ [] })) (drops_full running)))
-    by true room = record { written = refl; sent = refl; heard = refl }
-    by false true = record { written = refl; sent = refl; heard = refl }
-    by false false = record { written = refl; sent = refl; heard = refl }
+module _ {S : Type 0} (node : RunningNode S) where
+  -- the turn of a plan takes none
+  abbrev PlanTakesNone : Plan → Type 0
+  PlanTakesNone plan = TakesNoMemory node.running (plan_turn node plan)
 
--- an interrupt is noted
-pub interrupt_adds_none : (kept : List Action) (running : Running) (source occurrence : ℕ) → TakesNoMemory running (on_interrupt kept running source occurrence)
-interrupt_adds_none kept running source occurrence = by (nat_lt (last_occurrence source kept) occurrence)
-  where
-    by : (above : Bool) → TakesNoMemory running (cond above (adds_pending running (Interrupt source occurrence)) (notes running))
-    by true = adds_none running (Interrupt source occurrence)
-    by false = record { written = refl; sent = refl; heard = refl }
+  one_none : (test : Bool) (one other : Plan) → PlanTakesNone one → PlanTakesNone other → PlanTakesNone (cond test one other)
+  one_none true one other left right = left
+  one_none false one other left right = right
+
+  -- an item is added, or not
+  pub adds_none : (item : Action) → PlanTakesNone (adds_pending node.running.pending item)
+  adds_none item =
+      one_none (list_any (is_same_call item) node.running.pending) (plans.Pass No) _ (record { written = refl; sent = refl; heard = refl })
+      (one_none (nat_lt (length node.running.pending) most_pending) (plans.Await item) (plans.Pass Full) (record { written = refl; sent = refl; heard = refl }) (record { written = refl; sent = refl; heard = refl }))
+
+  -- an interrupt is noted
+  pub interrupt_adds_none : (source occurrence : ℕ) → PlanTakesNone (on_interrupt node source occurrence)
+  interrupt_adds_none source occurrence =
+      one_none (nat_lt (last_occurrence source (kept_by node)) occurrence) (adds_pending node.running.pending (Interrupt source occurrence)) (plans.Pass No)
+      (adds_none (Interrupt source occurrence)) (record { written = refl; sent = refl; heard = refl })
 
 -- ---- what follows for a result
 

@@ -1,3 +1,4 @@
+pub mod Planned
 pub mod Keeping
 pub mod Sending
 pub mod Planning

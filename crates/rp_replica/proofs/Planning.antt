@@ -12,11 +12,12 @@ use Rattle.rp_base.specs.Ballot.{greatest_with}
 use Rattle.rp_base.specs.Proposals.{proposal_at, is_in, is_given_up}
 use Rattle.rp_model.specs.Parts.{Turn}
 use Rattle.rp_model.specs.Says.{notes}
-use Rattle.rp_rules.specs.declared.plan.Plan.{Plan}
-use Rattle.rp_rules.specs.declared.plan.Plan.TheVariants.{Pass, Promise, PromiseRange, Vote, Repeat, Refuse, Inform, Answer as Reply, Await, Lead, LeadRange, OfferPrepared, CountPromise, CountRangePromise, Offer, Yield, CountVote, Learn, Follow, Report}
+use Rattle.rp_model.specs.declared.plan.Plan.{Plan}
+use Rattle.rp_model.specs.declared.plan.Plan.TheVariants.{Pass, Promise, PromiseRange, Vote, Repeat, Refuse, Inform, Answer as Reply, Await, Lead, LeadRange, OfferPrepared, CountPromise, CountRangePromise, Offer, Yield, CountVote, Learn, Follow, Report}
 use Rattle.rp_replica.specs.State.{ReplicaState, server_of}
 use Rattle.rp_rules.specs.Inputs.{Refuses}
-use Rattle.rp_rules.specs.Plans.{turn_of, written_by, dropped_by}
+use Rattle.rp_model.specs.Plans.{written_by, dropped_by}
+use Rattle.rp_rules.specs.Plans.{turn_of}
 use Rattle.rp_codec.specs.Message.{Message}
 use Rattle.rp_model.specs.declared.effect.Dropped.{Dropped}
 use Rattle.rp_model.specs.declared.effect.Dropped.TheVariants.{No}
@@ -41,14 +42,7 @@ module _ {S : Type 0} (next : S → Action → S) (answers : S → Action → Li
   plan_is (CountPromise promise) = (refl, refl)
   plan_is (CountRangePromise promise) = (refl, refl)
   plan_is (Offer promise v) = (refl, refl)
-  plan_is (Yield i b bound) = by (is_in b (proposal_at replica.running.proposals i))
-    where
-      given_up : Turn
-      given_up = notes (record replica.running { proposals = filter (λ p. not (is_given_up replica.config.nodes i b p)) replica.running.proposals; refused = greatest_with replica.running.refused bound })
-
-      by : (t : Bool) → ((cond t given_up (notes replica.running)).written ≡ None) × ((cond t given_up (notes replica.running)).dropped ≡ No)
-      by true = (refl, refl)
-      by false = (refl, refl)
+  plan_is (Yield i b bound) = (refl, refl)
   plan_is (CountVote from i vote) = (refl, refl)
   plan_is (Learn i v) = (refl, refl)
   plan_is (Follow from i v) = (refl, refl)

@@ -15,8 +15,9 @@ ghost use Rattle.rp_model.specs.Pending.{most_pending};
 ghost use Rattle.rp_model.specs.Says.{says, says_to_task, notes, sends, writes};
 ghost use Rattle.rp_replica.specs.Committing.{Commits};
 ghost use Rattle.rp_replica.specs.State.{after_turn, server_of};
-ghost use Rattle.rp_rules.specs.declared.plan.Plan.TheVariants as plans;
-ghost use Rattle.rp_rules.specs.Plans.{turn_of, written_by, MayCommit, OnlySends, TakesNoMemory};
+ghost use Rattle.rp_model.specs.declared.plan.Plan.TheVariants as plans;
+ghost use Rattle.rp_model.specs.Plans.{written_by};
+ghost use Rattle.rp_rules.specs.Plans.{turn_of, MayCommit, OnlySends, TakesNoMemory};
 ghost use Rattle.rp_server.specs.Invariant.{IsAnswer};
 ghost use Rattle.rp_replica.specs.Turning.{Stops};
 
@@ -24,9 +25,8 @@ use crate::replica::Replica;
 use rp_base::{Action, Answer, NodeId, Rec, Reply, TaskId, Vote, WriteFault};
 use rp_codec::{Body, Header};
 use rp_machine::Machine;
-use rp_model::RightAction;
+use rp_model::{Plan, RightAction};
 use rp_outbox::Outbox;
-use rp_rules::Plan;
 use rp_store::Device;
 use std::alloc::Global;
 

@@ -7,13 +7,14 @@ ghost use Rattle.rp_replica.specs.Cutting.{Cuts, CutsIf, IsNotCut, IsNotCutIf};
 ghost use Rattle.rp_replica.specs.Inputs.{input_effect};
 ghost use Rattle.rp_rules.specs.Inputs.{IsRightInput};
 ghost use Rattle.rp_replica.specs.State.{server_of};
-ghost use Rattle.rp_rules.specs.Plans.{MayCommit, written_by};
+ghost use Rattle.rp_model.specs.Plans.{written_by};
+ghost use Rattle.rp_rules.specs.Plans.{MayCommit};
 
 use crate::replica::Replica;
 use rp_base::{Fault, Rec};
 use rp_machine::Machine;
-use rp_model::Dropped;
-use rp_rules::{Input, Plan};
+use rp_model::{Dropped, Plan};
+use rp_rules::Input;
 use rp_server::record_in_range;
 use rp_store::{CutDevice, Device, NotTorn};
 use std::alloc::Global;

@@ -15,7 +15,8 @@ ghost use Rattle.rp_base.specs.Promises.{HeardVote};
 ghost use Rattle.rp_base.specs.Sets.{Has};
 ghost use Rattle.rp_server.specs.Applying.{learns_alone, decided_packets};
 ghost use Rattle.rp_outbox.specs.Packets.{longest_text};
-ghost use Rattle.rp_rules.specs.Plans.{MayHear, MayLearn, once_heard};
+ghost use Rattle.rp_model.specs.Plans.{heard_running};
+ghost use Rattle.rp_rules.specs.Plans.{MayHear, MayLearn};
 ghost use Rattle.rp_replica.specs.Turning.{Stops};
 
 use crate::replica::Replica;
@@ -126,7 +127,7 @@ impl<M: Machine, D: Device> Replica<M, D> {
     ) -> Result<(), WriteFault>
         requires may { MayHear (server_of self.old) from position vote.now }
         ensures ok { OnOk result (self.new ≡ after_turn self.old
-            (notes (once_heard (server_of self.old) from position vote.now))) }
+            (notes (heard_running self.old.running from position vote.now))) }
         ensures err { OnErr result (self.new ≡ self.old) }
         ensures only { IsOkUnless result faults.OutOfMemory }
         ensures unheard { OnErr result

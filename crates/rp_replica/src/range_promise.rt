@@ -16,9 +16,8 @@ use crate::replica::Replica;
 use rp_base::{Rec, WriteFault};
 use rp_codec::{Body, Packet, Party, Votes, encode};
 use rp_machine::Machine;
-use rp_model::Dropped;
+use rp_model::{Dropped, RangePromise};
 use rp_outbox::Outbox;
-use rp_rules::RangePromise;
 use rp_store::Device;
 use std::alloc::{AllocError, Global};
 

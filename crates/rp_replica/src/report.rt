@@ -3,7 +3,7 @@
 ghost use Rattle.std.specs.Prelude.{◌≡◌, [], ◌∷◌, OnOk, OnErr, IsOkUnless};
 ghost use Rattle.rp_base.specs.declared.fault.WriteFault.TheVariants as faults;
 ghost use Rattle.rp_base.specs.Records.{applied_of};
-ghost use Rattle.rp_model.specs.Effect.{report_of};
+ghost use Rattle.rp_model.specs.Plans.{report_of};
 ghost use Rattle.rp_model.specs.Says.{sends};
 ghost use Rattle.rp_replica.specs.Committing.{Commits};
 

@@ -11,7 +11,9 @@ use Rattle.rp_codec.specs.Decoding.{IsLongText}
 use Rattle.rp_codec.specs.Message.{Message}
 use Rattle.rp_codec.specs.Reading.{all_of}
 use Rattle.rp_model.specs.Parts.{Turn}
-use Rattle.rp_model.specs.Effect.{NodeInput, Setting, running_effect}
+use Rattle.rp_model.specs.Effect.{NodeInput, Setting, plan_of, running_effect}
+use Rattle.rp_model.specs.Node.{RunningNode, running_node}
+use Rattle.rp_model.specs.declared.plan.Plan.{Plan}
 use Rattle.rp_model.specs.Effect as nodes
 use Rattle.rp_rules.specs.declared.input.Input.{Input}
 use Rattle.rp_rules.specs.declared.input.Input.TheVariants.{Receive, Lead, LeadRange, Interrupt}
@@ -45,6 +47,19 @@ module _ {S : Type 0} (next : S → Action → S) (answers : S → Action → Li
   setting_of =
       record { config = server.config; next = next; answers = answers; begin = server.begin }
 
+  -- the node that runs
+  abbrev pub node_of : RunningNode S
+  node_of = running_node setting_of server.me server.records server.running
+
+  -- what it decides of an input for a node, if it is one
+  abbrev pub plan_if_given : Result NodeInput Fault → Result Plan Fault
+  plan_if_given (Ok input) = plan_of node_of input
+  plan_if_given (Err refusal) = Err refusal
+
+  -- what it decides of an input for a server
+  abbrev pub input_plan : Input → Result Plan Fault
+  input_plan input = plan_if_given (given_by input)
+
   -- the result of an input for a node, or its refusal
   abbrev pub effect_of : NodeInput → Result Turn Fault
   effect_of input = running_effect setting_of server.me server.records server.running input
@@ -65,6 +80,6 @@ IsLong _ = ⊥
 
 -- why there is no plan: the refusal of the input; where it has a result, the memory that a long
 -- packet takes
-abbrev pub Refuses : Type 0 → Result Turn Fault → Fault → Type 0
-Refuses long (Ok turn) fault = (fault ≡ OutOfMemory) × long
+abbrev pub Refuses : {A : Type 0} → Type 0 → Result A Fault → Fault → Type 0
+Refuses long (Ok result) fault = (fault ≡ OutOfMemory) × long
 Refuses long (Err refusal) fault = fault ≡ refusal

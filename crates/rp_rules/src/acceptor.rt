@@ -5,9 +5,9 @@ ghost use Rattle.std.specs.Prelude.{◌≡◌, ◌≤◌, true};
 ghost use Rattle.rp_base.specs.Action.{IsRight};
 ghost use Rattle.rp_model.specs.Acceptor.{on_prepare, on_prepare_range, on_accept};
 ghost use Rattle.rp_model.specs.Receiving.{is_range_within};
-ghost use Rattle.rp_rules.specs.Plans.{turn_of, MayCommit};
+ghost use Rattle.rp_rules.specs.Inputs.{node_of};
+ghost use Rattle.rp_rules.specs.Plans.{MayCommit};
 
-use crate::plan::{Plan, RangePromise};
 use rp_acceptor::Comparison;
 use rp_base::{
     AcceptAnswer, Action, Ballot, NodeId, Position, PositionRange, PrepareAnswer,
@@ -15,7 +15,7 @@ use rp_base::{
 };
 use rp_codec::Header;
 use rp_machine::Machine;
-use rp_model::Dropped;
+use rp_model::{Dropped, Plan, RangePromise};
 use rp_server::Server;
 
 /// A `Prepare` comes.
@@ -28,8 +28,7 @@ pub(crate) fn on_prepare<M: Machine>(
     plan: &mut Plan,
 )
     requires place { position ≤ server.now.config.max_positions }
-    ensures turn { turn_of M.next M.answers server.now plan.new
-        ≡ on_prepare server.now.me server.now.records server.now.running from position ballot }
+    ensures plan { plan.new ≡ on_prepare (node_of M.next M.answers server.now) from position ballot }
     ensures may { MayCommit server.now plan.new }
 {
     last_votes_lie_below();
@@ -57,8 +56,8 @@ pub(crate) fn on_prepare_range<M: Machine>(
     ballot: Ballot,
 ) -> Plan
     requires place { is_range_within server.now.config.max_positions range ≡ true }
-    ensures turn { turn_of M.next M.answers server.now result
-        ≡ on_prepare_range server.now.me server.now.records server.now.running from range ballot }
+    ensures plan { result
+        ≡ on_prepare_range (node_of M.next M.answers server.now) from range ballot }
     ensures may { MayCommit server.now result }
 {
     range_votes_are_reported();
@@ -89,9 +88,8 @@ pub(crate) fn on_accept<M: Machine>(
 )
     requires place { header.now.position ≤ server.now.config.max_positions }
     requires right { IsRight action.now }
-    ensures turn { turn_of M.next M.answers server.now plan.new
-        ≡ on_accept server.now.me server.now.records server.now.running
-        header.now.from header.now.position header.now.ballot action.now }
+    ensures plan { plan.new ≡ on_accept (node_of M.next M.answers server.now) header.now.from
+        header.now.position header.now.ballot action.now }
     ensures may { MayCommit server.now plan.new }
 {
     match server.accept(header.position, header.ballot, action) {

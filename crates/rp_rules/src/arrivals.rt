@@ -2,16 +2,14 @@
 
 ghost use Rattle.std.specs.Prelude.{◌≡◌, None};
 ghost use Rattle.rp_base.specs.Action.{IsRight};
-ghost use Rattle.rp_base.specs.Records.{applied_of};
 ghost use Rattle.rp_base.specs.declared.action.Action.TheVariants as actions;
-ghost use Rattle.rp_machine.specs.Replay.{kept_of, replay_answers};
-ghost use Rattle.rp_model.specs.Pending.{adds_pending, on_numbered, on_call, on_interrupt, on_tick};
-ghost use Rattle.rp_rules.specs.Plans.{turn_of, MayCommit};
+ghost use Rattle.rp_model.specs.Arrivals.{adds_pending, on_numbered, on_call, on_interrupt, on_tick};
+ghost use Rattle.rp_rules.specs.Inputs.{node_of};
+ghost use Rattle.rp_rules.specs.Plans.{MayCommit};
 
-use crate::plan::Plan;
 use rp_base::{Action, TaskId};
 use rp_machine::Machine;
-use rp_model::{Dropped, RightAction};
+use rp_model::{Dropped, Plan, RightAction};
 use rp_server::Server;
 
 /// The node notes an occurrence of an interrupt's source, 1 to 8 and from 1: it becomes pending
@@ -23,9 +21,8 @@ pub(crate) fn on_interrupt<M: Machine>(
     plan: &mut Plan,
 )
     requires right { IsRight (actions.Interrupt source occurrence) }
-    ensures turn { turn_of M.next M.answers server.now plan.new ≡ on_interrupt
-        (kept_of M.next M.answers server.now.begin (applied_of server.now.records))
-        server.now.running source occurrence }
+    ensures plan { plan.new
+        ≡ on_interrupt (node_of M.next M.answers server.now) source occurrence }
     ensures may { MayCommit server.now plan.new }
 {
     if server.last_occurrence(source) < occurrence {
@@ -39,8 +36,7 @@ pub(crate) fn on_interrupt<M: Machine>(
 /// The node notes a tick of the clock: it becomes pending, and is dropped if 32 items are
 /// pending.
 pub(crate) fn on_tick<M: Machine>(server: &Server<M>, now: u32, plan: &mut Plan)
-    ensures turn { turn_of M.next M.answers server.now plan.new
-        ≡ on_tick server.now.running now }
+    ensures plan { plan.new ≡ on_tick (node_of M.next M.answers server.now) now }
     ensures may { MayCommit server.now plan.new }
 {
     adds(server, RightAction::new(Action::Tick { now }), plan);
@@ -50,10 +46,7 @@ pub(crate) fn on_tick<M: Machine>(server: &Server<M>, now: u32, plan: &mut Plan)
 #[inline(always)]
 pub(crate) fn on_call<M: Machine>(server: &Server<M>, action: Action, plan: &mut Plan)
     requires right { IsRight action }
-    ensures turn { let applied = applied_of server.now.records in
-        turn_of M.next M.answers server.now plan.new ≡ on_call server.now.me
-        (kept_of M.next M.answers server.now.begin applied)
-        (replay_answers M.next M.answers server.now.begin applied) server.now.running action }
+    ensures plan { plan.new ≡ on_call (node_of M.next M.answers server.now) action }
     ensures may { MayCommit server.now plan.new }
 {
     let Action::Call { task, number, .. } = action else {
@@ -76,9 +69,8 @@ fn on_unanswered<M: Machine>(
     plan: &mut Plan,
 )
     requires right { IsRight call }
-    ensures turn { turn_of M.next M.answers server.now plan.new ≡ on_numbered server.now.me
-        (kept_of M.next M.answers server.now.begin (applied_of server.now.records))
-        server.now.running task number call None }
+    ensures plan { plan.new
+        ≡ on_numbered (node_of M.next M.answers server.now) task number call None }
     ensures may { MayCommit server.now plan.new }
 {
     if number < server.last_number(task) {
@@ -91,8 +83,7 @@ fn on_unanswered<M: Machine>(
 /// An item becomes pending, unless it is a call that is, or 32 are.
 #[inline(always)]
 fn adds<M: Machine>(server: &Server<M>, item: RightAction, plan: &mut Plan)
-    ensures turn { turn_of M.next M.answers server.now plan.new
-        ≡ adds_pending server.now.running item }
+    ensures plan { plan.new ≡ adds_pending server.now.running.pending item }
     ensures may { MayCommit server.now plan.new }
 {
     if server.is_pending(item.get()) {

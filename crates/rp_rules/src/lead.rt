@@ -3,14 +3,15 @@
 ghost use Rattle.std.specs.Prelude.{◌≡◌, ◌<◌, ◌≤◌, ◌^◌, true, IfNone, IfSome, IfErr, OnOk, Some, Ok, Err};
 ghost use Rattle.rp_base.specs.declared.fault.Fault.TheVariants.{LogFull};
 ghost use Rattle.rp_model.specs.Effect as inputs;
+ghost use Rattle.rp_model.specs.Effect.{plan_of};
 ghost use Rattle.rp_model.specs.Leader.{is_free_position, is_out_of_reach, least_free};
-ghost use Rattle.rp_rules.specs.Plans.{turn_of, MayCommit};
-ghost use Rattle.rp_rules.specs.Inputs.{effect_of};
+ghost use Rattle.rp_rules.specs.Inputs.{node_of};
+ghost use Rattle.rp_rules.specs.Plans.{MayCommit};
 
 use crate::leader::on_lead_at;
-use crate::plan::Plan;
 use rp_base::{Fault, Position};
 use rp_machine::Machine;
+use rp_model::Plan;
 use rp_server::Server;
 
 /// The command to lead at a position, or with none at the least position that is not learned and at
@@ -22,11 +23,11 @@ pub(crate) fn on_lead<M: Machine>(
     choice: Option<Position>,
     plan: &mut Plan,
 ) -> Result<(), Fault>
-    ensures ok { OnOk result (Ok (turn_of M.next M.answers server.now plan.new)
-        ≡ effect_of M.next M.answers server.now (inputs.NodeInput.Lead choice)) }
+    ensures ok { OnOk result (Ok plan.new
+        ≡ plan_of (node_of M.next M.answers server.now) (inputs.NodeInput.Lead choice)) }
     ensures may { OnOk result (MayCommit server.now plan.new) }
     ensures err { IfErr result (λ fault. Err fault
-        ≡ effect_of M.next M.answers server.now (inputs.NodeInput.Lead choice)) }
+        ≡ plan_of (node_of M.next M.answers server.now) (inputs.NodeInput.Lead choice)) }
 {
     match position_to_lead(server, choice) {
         Some(position) => on_lead_at(server, position, plan),
@@ -38,10 +39,10 @@ pub(crate) fn on_lead<M: Machine>(
 #[inline(always)]
 fn position_to_lead<M: Machine>(server: &Server<M>, choice: Option<Position>) -> Option<Position>
     ensures some { IfSome result (λ position.
-        effect_of M.next M.answers server.now (inputs.NodeInput.Lead (Some position))
-        ≡ effect_of M.next M.answers server.now (inputs.NodeInput.Lead choice)) }
+        plan_of (node_of M.next M.answers server.now) (inputs.NodeInput.Lead (Some position))
+        ≡ plan_of (node_of M.next M.answers server.now) (inputs.NodeInput.Lead choice)) }
     ensures none { IfNone result (Err LogFull
-        ≡ effect_of M.next M.answers server.now (inputs.NodeInput.Lead choice)) }
+        ≡ plan_of (node_of M.next M.answers server.now) (inputs.NodeInput.Lead choice)) }
 {
     match choice {
         Some(position) => Some(position),

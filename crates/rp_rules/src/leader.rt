@@ -4,19 +4,17 @@
 ghost use Rattle.std.specs.Prelude.{◌≡◌, ◌+◌, ◌^◌, ◌<◌, ◌≤◌, Some, is_some, unwrap_or, Ok, Err, IfNone, IfErr, IfSome, OnOk, false};
 ghost use Rattle.rp_base.specs.Action.{IsRight};
 ghost use Rattle.rp_base.specs.Ballot.{IsAbove, next_ballot, round_of};
-ghost use Rattle.rp_base.specs.Proposals.{without_proposal};
-ghost use Rattle.rp_base.specs.Records.{applied_of, learned_at};
-ghost use Rattle.rp_machine.specs.Replay.{kept_of};
+ghost use Rattle.rp_base.specs.Records.{learned_at};
 ghost use Rattle.rp_model.specs.Effect as inputs;
+ghost use Rattle.rp_model.specs.Effect.{plan_of};
 ghost use Rattle.rp_model.specs.Leader.{is_out_of_reach, starts_above, begins_if, on_promise};
-ghost use Rattle.rp_model.specs.Pending.{own_action};
-ghost use Rattle.rp_rules.specs.Plans.{turn_of, MayCommit, MayCount};
-ghost use Rattle.rp_rules.specs.Inputs.{effect_of};
+ghost use Rattle.rp_model.specs.Node.{own_for};
+ghost use Rattle.rp_rules.specs.Inputs.{node_of};
+ghost use Rattle.rp_rules.specs.Plans.{MayCommit, MayCount};
 
-use crate::plan::{CountedPromise, Plan};
 use rp_base::{Action, Fault, Position};
 use rp_machine::Machine;
-use rp_model::Dropped;
+use rp_model::{CountedPromise, Dropped, Plan};
 use rp_proposer::Progress;
 use rp_server::Server;
 
@@ -29,11 +27,11 @@ pub(crate) fn on_lead_at<M: Machine>(
     position: Position,
     plan: &mut Plan,
 ) -> Result<(), Fault>
-    ensures ok { OnOk result (Ok (turn_of M.next M.answers server.now plan.new)
-        ≡ effect_of M.next M.answers server.now (inputs.NodeInput.Lead (Some position))) }
+    ensures ok { OnOk result (Ok plan.new
+        ≡ plan_of (node_of M.next M.answers server.now) (inputs.NodeInput.Lead (Some position))) }
     ensures may { OnOk result (MayCommit server.now plan.new) }
     ensures err { IfErr result (λ fault. Err fault
-        ≡ effect_of M.next M.answers server.now (inputs.NodeInput.Lead (Some position))) }
+        ≡ plan_of (node_of M.next M.answers server.now) (inputs.NodeInput.Lead (Some position))) }
 {
     if server.is_learned(position) {
         *plan = Plan::Pass(Dropped::No);
@@ -59,9 +57,8 @@ fn prepared_action<M: Machine>(
     position: Position,
     reported: Option<Action>,
 ) -> Action
-    ensures action { result ≡ unwrap_or reported (own_action
-        (kept_of M.next M.answers server.now.begin (applied_of server.now.records))
-        (without_proposal server.now.running.proposals position) server.now.running.pending) }
+    ensures action { result
+        ≡ unwrap_or reported (own_for (node_of M.next M.answers server.now) position) }
     ensures right { IfSome reported IsRight → IsRight result }
 {
     match reported {
@@ -79,13 +76,11 @@ fn on_lead_unprepared<M: Machine>(
     requires unlearned { is_some (learned_at server.now.records position) ≡ false }
     requires reach { is_out_of_reach server.now.config.max_positions server.now.records position
         ≡ false }
-    ensures ok { OnOk result (Ok (turn_of M.next M.answers server.now plan.new)
-        ≡ begins_if M.next M.answers server.now.begin server.now.config.nodes server.now.me
-        server.now.records server.now.running position) }
+    ensures ok { OnOk result (Ok plan.new
+        ≡ begins_if (node_of M.next M.answers server.now) position) }
     ensures may { OnOk result (MayCommit server.now plan.new) }
     ensures err { IfErr result (λ fault. Err fault
-        ≡ begins_if M.next M.answers server.now.begin server.now.config.nodes server.now.me
-        server.now.records server.now.running position) }
+        ≡ begins_if (node_of M.next M.answers server.now) position) }
 {
     match server.next_ballot() {
         Some(ballot) => {
@@ -101,9 +96,7 @@ fn on_lead_unprepared<M: Machine>(
 #[inline(always)]
 pub(crate) fn on_promise<M: Machine>(server: &Server<M>, promise: CountedPromise, plan: &mut Plan)
     requires may { MayCount server.now promise }
-    ensures turn { turn_of M.next M.answers server.now plan.new
-        ≡ on_promise server.now.config.nodes server.now.me server.now.running
-        promise.from promise.position promise.ballot promise.last }
+    ensures plan { plan.new ≡ on_promise (node_of M.next M.answers server.now) promise }
     ensures may { MayCommit server.now plan.new }
 {
     let CountedPromise {

@@ -6,21 +6,20 @@ ghost use Rattle.rp_base.specs.Action.{IsRight};
 ghost use Rattle.rp_base.specs.Number.{IsPosition};
 ghost use Rattle.rp_learner.specs.Status.{vote_for};
 ghost use Rattle.rp_model.specs.Learner.{on_ask, on_accepted, on_decided};
-ghost use Rattle.rp_rules.specs.Plans.{turn_of, MayCommit};
+ghost use Rattle.rp_rules.specs.Inputs.{node_of};
+ghost use Rattle.rp_rules.specs.Plans.{MayCommit};
 ghost use Rattle.rp_server.specs.Status.{status_of};
 
-use crate::plan::Plan;
 use rp_base::{Action, NodeId, Position, Vote};
 use rp_codec::Header;
 use rp_learner::VoteStatus;
 use rp_machine::Machine;
-use rp_model::Dropped;
+use rp_model::{Dropped, Plan};
 use rp_server::Server;
 
 /// An `Ask` comes.
 pub(crate) fn on_ask<M: Machine>(server: &Server<M>, from: NodeId, position: Position) -> Plan
-    ensures turn { turn_of M.next M.answers server.now result
-        ≡ on_ask server.now.me server.now.records server.now.running from position }
+    ensures plan { result ≡ on_ask (node_of M.next M.answers server.now) from position }
     ensures may { MayCommit server.now result }
 {
     match server.learned(position) {
@@ -41,9 +40,8 @@ pub(crate) fn on_accepted<M: Machine>(
     requires place { IsPosition header.now.position
         × (header.now.position ≤ server.now.config.max_positions) }
     requires right { IsRight action.now }
-    ensures turn { turn_of M.next M.answers server.now plan.new ≡ on_accepted M.next M.answers
-        server.now.begin server.now.config.nodes server.now.me server.now.records server.now.running
-        header.now.from header.now.position (vote_for header.now.ballot action.now) }
+    ensures plan { plan.new ≡ on_accepted (node_of M.next M.answers server.now) header.now.from
+        header.now.position (vote_for header.now.ballot action.now) }
     ensures may { MayCommit server.now plan.new }
 {
     match server.status(header.from, header.position, header.ballot, action) {
@@ -70,9 +68,8 @@ pub(crate) fn on_decided<M: Machine>(
 )
     requires place { position ≤ server.now.config.max_positions }
     requires right { IsRight action.now }
-    ensures turn { turn_of M.next M.answers server.now plan.new
-        ≡ on_decided M.next M.answers server.now.begin server.now.me
-        server.now.records server.now.running from position action.now }
+    ensures plan { plan.new
+        ≡ on_decided (node_of M.next M.answers server.now) from position action.now }
     ensures may { MayCommit server.now plan.new }
 {
     if server.is_learned(position) {

@@ -1,9 +1,9 @@
-//! The rules: what a server decides of an input. They change nothing of it, and give a plan of all
-//! that the step does; the usual ones write it where the caller holds it, so that none is copied.
+//! The rules: what a server decides of an input. They change nothing of it, and give a plan (`Plan`
+//! of `rp_model`) of all that the step does; the usual ones write it where the caller holds it, so
+//! that none is copied.
 //!
 //! In reading order:
 //! - `input`: what a node may be given
-//! - `plan`: what the rules decided for an input, before anything of it is done
 //! - `rules`: the rule of an input, by its kind
 //! - `texts`: the rule for a packet's text, by the packet's kind
 //! - `packets`: the rules for any packet
@@ -22,12 +22,10 @@ mod lead;
 mod leader;
 mod learner;
 mod packets;
-mod plan;
 mod ranges;
 mod rules;
 mod texts;
 
 pub use input::Input;
-pub use plan::{CountedPromise, CountedRange, Plan, RangePromise};
 pub use rules::decide;
 pub use texts::on_text;

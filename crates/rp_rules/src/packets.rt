@@ -7,17 +7,17 @@ ghost use Rattle.rp_codec.specs.Decoding.{IsLongBody};
 ghost use Rattle.rp_codec.specs.Message.{IsNodeParty, IsPacket};
 ghost use Rattle.rp_codec.specs.declared.packet.Party.TheVariants.{Node};
 ghost use Rattle.rp_model.specs.Receiving.{is_for_node, is_allowed, is_range_within, is_node, is_no_node_above, party_number, on_body, receives};
-ghost use Rattle.rp_rules.specs.Plans.{turn_of, MayCommit};
+ghost use Rattle.rp_rules.specs.Inputs.{node_of};
+ghost use Rattle.rp_rules.specs.Plans.{MayCommit};
 
 use crate::acceptor::{on_accept, on_prepare, on_prepare_range};
 use crate::arrivals::on_call;
 use crate::leader::on_promise;
 use crate::learner::{on_accepted, on_ask, on_decided};
-use crate::plan::{CountedPromise, CountedRange, Plan};
 use rp_base::{Ballot, Config, Fault, NodeId, PositionRange};
 use rp_codec::{Body, Header, Packet, Party};
 use rp_machine::Machine;
-use rp_model::Dropped;
+use rp_model::{CountedPromise, CountedRange, Dropped, Plan};
 use rp_server::Server;
 
 /// A packet comes. Only a promise for a range takes memory: its votes are kept in the plan.
@@ -27,9 +27,8 @@ pub(crate) fn on_packet<M: Machine>(
     packet: &Packet,
     plan: &mut Plan,
 ) -> Result<(), Fault>
-    ensures turn { OnOk result (turn_of M.next M.answers server.now plan.new
-        ≡ receives M.next M.answers server.now.begin server.now.config server.now.me
-        server.now.records server.now.running packet.now) }
+    ensures plan { OnOk result
+        (plan.new ≡ receives (node_of M.next M.answers server.now) packet.now) }
     ensures may { OnOk result (MayCommit server.now plan.new) }
     ensures memory { IfErr result (λ fault. (fault ≡ faults.OutOfMemory)
         × IsLongBody packet.now.body) }
@@ -57,9 +56,8 @@ fn on_node<M: Machine>(
 ) -> Result<(), Fault>
     requires sender { packet.now.from ≡ Node from }
     requires right { is_for_node server.now.config server.now.me packet.now ≡ true }
-    ensures turn { OnOk result (turn_of M.next M.answers server.now plan.new
-        ≡ on_body M.next M.answers server.now.begin server.now.config.nodes server.now.me
-        server.now.records server.now.running from packet.now.body) }
+    ensures plan { OnOk result
+        (plan.new ≡ on_body (node_of M.next M.answers server.now) from packet.now.body) }
     ensures may { OnOk result (MayCommit server.now plan.new) }
     ensures memory { IfErr result (λ fault. (fault ≡ faults.OutOfMemory)
         × IsLongBody packet.now.body) }
@@ -141,8 +139,7 @@ fn on_node<M: Machine>(
 #[inline(always)]
 fn on_task<M: Machine>(server: &Server<M>, packet: &Packet, plan: &mut Plan)
     requires sender { ¬ IsNodeParty packet.now.from }
-    ensures turn { turn_of M.next M.answers server.now plan.new ≡ on_body M.next M.answers
-        server.now.begin server.now.config.nodes server.now.me server.now.records server.now.running
+    ensures plan { plan.new ≡ on_body (node_of M.next M.answers server.now)
         (party_number packet.now.from) packet.now.body }
     ensures may { MayCommit server.now plan.new }
 {

@@ -5,15 +5,15 @@ ghost use Rattle.std.specs.Prelude.{◌≡◌, nat_eq, length, IfOk, IfErr, Ok, 
 ghost use Rattle.std.specs.List.{list_any};
 ghost use Rattle.rp_base.specs.Ranges.{IsRange, positions_of};
 ghost use Rattle.rp_model.specs.Effect as inputs;
+ghost use Rattle.rp_model.specs.Effect.{plan_of};
 ghost use Rattle.rp_model.specs.Leader.{is_out_of_reach, unlearned_in};
 ghost use Rattle.rp_proposer.specs.Proposing.{unskipped};
-ghost use Rattle.rp_rules.specs.Plans.{turn_of, MayCommit};
-ghost use Rattle.rp_rules.specs.Inputs.{effect_of};
+ghost use Rattle.rp_rules.specs.Inputs.{node_of};
+ghost use Rattle.rp_rules.specs.Plans.{MayCommit};
 
-use crate::plan::Plan;
 use rp_base::{Fault, PositionRange};
 use rp_machine::Machine;
-use rp_model::Dropped;
+use rp_model::{Dropped, Plan};
 use rp_server::Server;
 
 /// The command to lead at all unlearned positions of a range. If all are learned nothing
@@ -23,11 +23,10 @@ pub(crate) fn on_lead_range<M: Machine>(
     server: &Server<M>,
     range: PositionRange,
 ) -> Result<Plan, Fault>
-    ensures ok { IfOk result (λ plan. Ok (turn_of M.next M.answers server.now plan)
-        ≡ effect_of M.next M.answers server.now
+    ensures ok { IfOk result (λ plan. Ok plan ≡ plan_of (node_of M.next M.answers server.now)
         (inputs.NodeInput.LeadRange range.first range.count)) }
     ensures may { IfOk result (λ plan. MayCommit server.now plan) }
-    ensures err { IfErr result (λ fault. Err fault ≡ effect_of M.next M.answers server.now
+    ensures err { IfErr result (λ fault. Err fault ≡ plan_of (node_of M.next M.answers server.now)
         (inputs.NodeInput.LeadRange range.first range.count)) }
 {
     if is_range_out_of_reach(server, range) {

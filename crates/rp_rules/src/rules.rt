@@ -1,17 +1,17 @@
 //! What a server decides of an input, by its kind.
 
 ghost use Rattle.std.specs.Prelude.{◌≡◌, Ok, IfErr, OnOk};
-ghost use Rattle.rp_rules.specs.Inputs.{IsLong, IsRightInput, Refuses, input_effect};
-ghost use Rattle.rp_rules.specs.Plans.{turn_of, MayCommit};
+ghost use Rattle.rp_rules.specs.Inputs.{IsLong, IsRightInput, Refuses, input_plan};
+ghost use Rattle.rp_rules.specs.Plans.{MayCommit};
 
 use crate::arrivals::{on_interrupt, on_tick};
 use crate::input::Input;
 use crate::lead::on_lead;
-use crate::plan::Plan;
 use crate::ranges::on_lead_range;
 use crate::texts::on_text;
 use rp_base::Fault;
 use rp_machine::Machine;
+use rp_model::Plan;
 use rp_server::Server;
 use std::alloc::Global;
 
@@ -27,11 +27,10 @@ pub fn decide<M: Machine>(
     plan: &mut Plan,
 ) -> Result<(), Fault>
     requires right { IsRightInput input.now }
-    ensures ok { OnOk result (Ok (turn_of M.next M.answers server.now plan.new)
-        ≡ input_effect M.next M.answers server.now input.now) }
+    ensures ok { OnOk result (Ok plan.new ≡ input_plan M.next M.answers server.now input.now) }
     ensures may { OnOk result (MayCommit server.now plan.new) }
     ensures err { IfErr result
-        (Refuses (IsLong input.now) (input_effect M.next M.answers server.now input.now)) }
+        (Refuses (IsLong input.now) (input_plan M.next M.answers server.now input.now)) }
 {
     match *input {
         Input::Receive(bytes) => return on_text(server, alloc, bytes, plan),

@@ -10,23 +10,22 @@ ghost use Rattle.rp_codec.specs.declared.packet.Party.TheVariants.{Node};
 ghost use Rattle.rp_model.specs.Receiving.{is_for_node, is_node, is_no_node_above};
 ghost use Rattle.rp_model.specs.Says.{says};
 ghost use Rattle.rp_model.specs.declared.effect.Dropped.TheVariants.{Foreign};
-ghost use Rattle.rp_rules.specs.declared.plan.Plan.TheVariants.{Pass};
-ghost use Rattle.rp_rules.specs.Inputs.{Refuses, packet_given, effect_if_given};
-ghost use Rattle.rp_rules.specs.Plans.{Decides, MayCommit, turn_of};
+ghost use Rattle.rp_model.specs.declared.plan.Plan.TheVariants.{Pass};
+ghost use Rattle.rp_rules.specs.Inputs.{Refuses, packet_given, plan_if_given};
+ghost use Rattle.rp_rules.specs.Plans.{Decides, MayCommit};
 
 use crate::acceptor::{on_accept, on_prepare};
 use crate::arrivals::on_call;
 use crate::leader::on_promise;
 use crate::learner::{on_accepted, on_decided};
 use crate::packets::on_packet;
-use crate::plan::{CountedPromise, Plan};
 use rp_base::{Fault, NodeId, Position};
 use rp_codec::{
     Header, Kind, decode, usual_accept, usual_accepted, usual_call, usual_decided, usual_prepare,
     usual_promise,
 };
 use rp_machine::Machine;
-use rp_model::Dropped;
+use rp_model::{CountedPromise, Dropped, Plan};
 use rp_server::Server;
 use std::alloc::Global;
 
@@ -40,11 +39,11 @@ pub fn on_text<M: Machine>(
     bytes: &[u8],
     plan: &mut Plan,
 ) -> Result<(), Fault>
-    ensures ok { OnOk result (Ok (turn_of M.next M.answers server.now plan.new)
-        ≡ effect_if_given M.next M.answers server.now (packet_given (all_of bytes.now))) }
+    ensures ok { OnOk result (Ok plan.new
+        ≡ plan_if_given M.next M.answers server.now (packet_given (all_of bytes.now))) }
     ensures may { OnOk result (MayCommit server.now plan.new) }
     ensures err { IfErr result (Refuses (IsLongText bytes.now)
-        (effect_if_given M.next M.answers server.now (packet_given (all_of bytes.now)))) }
+        (plan_if_given M.next M.answers server.now (packet_given (all_of bytes.now)))) }
 {
     let decided = match Kind::of_text(bytes) {
         Some(Kind::Call) => on_call_text(server, bytes, plan),
@@ -91,11 +90,11 @@ fn on_other_text<M: Machine>(
     bytes: &[u8],
     plan: &mut Plan,
 ) -> Result<(), Fault>
-    ensures ok { OnOk result (Ok (turn_of M.next M.answers server.now plan.new)
-        ≡ effect_if_given M.next M.answers server.now (packet_given (all_of bytes.now))) }
+    ensures ok { OnOk result (Ok plan.new
+        ≡ plan_if_given M.next M.answers server.now (packet_given (all_of bytes.now))) }
     ensures may { OnOk result (MayCommit server.now plan.new) }
     ensures err { IfErr result (Refuses (IsLongText bytes.now)
-        (effect_if_given M.next M.answers server.now (packet_given (all_of bytes.now)))) }
+        (plan_if_given M.next M.answers server.now (packet_given (all_of bytes.now)))) }
 {
     let Ok(read) = decode(alloc, bytes) else {
         return Err(Fault::OutOfMemory);

@@ -32,7 +32,11 @@ use Rattle.rp_model.specs.World.{World, Transition, part_at, with_part, nothing_
 use Rattle.rp_deck.specs.Script.{IsUpTo, IsStepWithin, IsEventWithin}
 use Rattle.rp_base.specs.Proposals.{Proposal, proposal_at, is_prepared}
 use Rattle.rp_base.specs.Ranges.{Range}
-use Rattle.rp_model.specs.Leader.{chosen_position, begins_if, offers, leads_at, on_lead_range}
+use Rattle.rp_model.specs.Effect.{plan_of, turn_if}
+use Rattle.rp_model.specs.Node.{RunningNode, running_node}
+use Rattle.rp_model.specs.declared.plan.Plan.{Plan}
+use Rattle.rp_model.proofs.EveryPlan.{plan_refused}
+use Rattle.std.specs.Prelude.{IfErr}
 
 -- the number is one of those by which a script's step is refused
 abbrev pub IsNumbered : Fault → Type 0
@@ -139,57 +143,30 @@ cut_allowed : (kept : ℕ) (part : NodePart) (answer : Result (Done NodePart) Fa
 cut_allowed kept part (Ok done) allowed = tt
 cut_allowed kept part (Err fault) allowed = allowed
 
-begun_by : (part : NodePart) (exhausted : Bool) (begins : Turn) → IsAllowed (turn_done_if part (cond exhausted (Err BallotsSpent) (Ok begins)))
-begun_by part true begins = (omega arith, omega arith)
-begun_by part false begins = tt
-
-lead_by : (part : NodePart) (learned full : Bool) (quiet : Turn) (led : Result Turn Fault) → IsAllowed (turn_done_if part led)
-    → IsAllowed (turn_done_if part (cond learned (Ok quiet) (cond full (Err LogFull) led)))
-lead_by part true full quiet led allowed = tt
-lead_by part false true quiet led allowed = (omega arith, omega arith)
-lead_by part false false quiet led allowed = allowed
-
-range_by : (part : NodePart) (full learned exhausted : Bool) (quiet begins : Turn)
-    → IsAllowed (turn_done_if part (cond full (Err LogFull) (cond learned (Ok quiet) (cond exhausted (Err BallotsSpent) (Ok begins)))))
-range_by part true learned exhausted quiet begins = (omega arith, omega arith)
-range_by part false true exhausted quiet begins = tt
-range_by part false false exhausted quiet begins = begun_by part exhausted begins
-
 -- a range to lead at has 1 to 64 positions
 abbrev pub HasCount : NodeInput → Type 0
 HasCount (nodes.LeadRange first count) = IsUpTo 64 count
 HasCount _ = Unit {0}
 
 module _ {S : Type 0} (s : Setting S) where
-  led_by : (me : ℕ) (part : NodePart) (running : Running) (i : ℕ) (found : Option Proposal)
-      → IsAllowed (turn_done_if part (leads_at s.next s.answers s.begin s.config.nodes me part.records running i found))
-  led_by me part running i None = begun_by part _ _
-  led_by me part running i (Some p) = by (is_prepared s.config.nodes p)
-    where
-      by : (prepared : Bool)
-          → IsAllowed (turn_done_if part (cond prepared (Ok (offers s.next s.answers s.begin s.config.nodes me part.records running p)) (begins_if s.next s.answers s.begin s.config.nodes me part.records running i)))
-      by true = tt
-      by false = begun_by part _ _
+  turned_allowed : (part : NodePart) (node : RunningNode S) (found : Result Plan Fault) → IfErr found IsNumbered → IsAllowed (turn_done_if part (turn_if node found))
+  turned_allowed part node (Ok plan) is = tt
+  turned_allowed part node (Err fault) is = is
 
-  range_found : (me : ℕ) (part : NodePart) (running : Running) (wrong over : Bool) (range : Range) → wrong ≡ false
-      → IsAllowed (turn_done_if part (on_lead_range s.config me part.records running (cond wrong (Err BadConfig) (cond over (Err LogFull) (Ok range)))))
-  range_found me part running true over range counted = absurd (cc)
-  range_found me part running false true range counted = (omega arith, omega arith)
-  range_found me part running false false range counted = range_by part _ _ _ _ _
+  range_found : (wrong over : Bool) (range : Range) → wrong ≡ false → IfErr (let r : Result Range Fault = cond wrong (Err BadConfig) (cond over (Err LogFull) (Ok range)) in r) IsNumbered
+  range_found true over range counted = absurd (cc)
+  range_found false true range counted = (omega arith, omega arith)
+  range_found false false range counted = tt
 
   count_right : (count : ℕ) → IsUpTo 64 count → not (in_range 1 64 count) ≡ false
   count_right count few =
       ap (λ (t : Bool). not (t && nat_le count 64)) (le-leb 1 count few.0) ∙ ap not (le-leb count 64 few.1)
 
   running_allowed : (me : ℕ) (part : NodePart) (input : NodeInput) (running : Running) → HasCount input → IsAllowed (effect_while s me part input (Some running))
-  running_allowed me part (nodes.Receive message) running counted = tt
-  running_allowed me part (nodes.Lead choice) running counted =
-      let i = chosen_position s.config.nodes part.records running choice in
-      lead_by part _ _ _ _ (led_by me part running i (proposal_at running.proposals i))
-  running_allowed me part (nodes.LeadRange first count) running counted = range_found me part running (not (in_range 1 64 count)) _ _ (count_right count counted)
-  running_allowed me part (nodes.Interrupt source occurrence) running counted = tt
-  running_allowed me part (nodes.Tick now) running counted = tt
-  running_allowed me part (nodes.Report first) running counted = tt
+  running_allowed me part input running counted =
+      let node = running_node s me part.records running in
+      turned_allowed part node (plan_of node input) (plan_refused node input IsNumbered (omega arith, omega arith) (omega arith, omega arith) (λ first count is.
+      range_found (not (in_range 1 64 count)) (nat_lt (2 ^ 16) (first + count)) (record { first = first; count = count }) (count_right count (subst HasCount is counted))))
 
   input_allowed : (me : ℕ) (part : NodePart) (input : NodeInput) (running : Option Running) → HasCount input → IsAllowed (effect_while s me part input running)
   input_allowed me part input None counted = (omega arith, omega arith)

@@ -10,7 +10,10 @@ use Rattle.rp_machine.specs.Asked.{last_number}
 use Rattle.rp_machine.specs.Replay.{replay_of}
 use Rattle.rp_model.specs.Parts.{Running}
 use Rattle.rp_model.specs.Says.{says_to_task, sends, notes}
-use Rattle.rp_model.specs.Pending.{adds_pending, on_numbered}
+use Rattle.rp_model.specs.Arrivals.{adds_pending, on_numbered}
+use Rattle.rp_model.specs.Node.{RunningNode, kept_by}
+use Rattle.rp_model.specs.declared.effect.Dropped.TheVariants.{No}
+use Rattle.rp_model.specs.declared.plan.Plan.TheVariants as plans
 use Rattle.rp_base.specs.declared.action.Action.{Action}
 use Rattle.rp_base.specs.declared.record.Rec.{Rec}
 use Rattle.rp_base.specs.declared.record.Rec.TheVariants.{Started, Promised, Voted, Learned, PromisedRange}
@@ -57,21 +60,19 @@ module _ {S : Type 0} (next : S → Action → S) (answers : S → Action → Li
 
 -- ---- what becomes of a call or an interrupt, by its number
 
--- a call of which a reply is kept
-pub call_again : (me : ℕ) (kept : List Action) (running : Running) (task number : ℕ) (call : Action) (stated : Option Reply) (reply : Reply) → stated ≡ Some reply
-    → sends running (says_to_task me (bodies.Reply number reply) task ∷ []) ≡ on_numbered me kept running task number call stated
-call_again me kept running task number call stated reply is = sym (ap (on_numbered me kept running task number call) is)
+module _ {S : Type 0} (node : RunningNode S) (task number : ℕ) (call : Action) where
+  -- a call of which a reply is kept
+  pub call_again : (stated : Option Reply) (reply : Reply) → stated ≡ Some reply → plans.Answer task number reply ≡ on_numbered node task number call stated
+  call_again stated reply is = sym (ap (on_numbered node task number call) is)
 
--- one below the last that counted
-pub call_past : (me : ℕ) (kept : List Action) (running : Running) (task number last : ℕ) (call : Action) → last ≡ last_number task kept → number < last
-    → notes running ≡ on_numbered me kept running task number call None
-call_past me kept running task number last call is below =
-    let lt : number < last_number task kept = subst (λ (n : ℕ). number < n) is below in
-    sym (ap (λ (b : Bool). cond b (notes running) (adds_pending running call)) (lt-ltb number (last_number task kept) lt))
+  -- one below the last that counted
+  pub call_past : (last : ℕ) → last ≡ last_number task (kept_by node) → number < last → plans.Pass No ≡ on_numbered node task number call None
+  call_past last is below =
+      let lt : number < last_number task (kept_by node) = subst (λ (n : ℕ). number < n) is below in
+      sym (ap (λ (b : Bool). cond b (plans.Pass No) (adds_pending node.running.pending call)) (lt-ltb number (last_number task (kept_by node)) lt))
 
--- another one
-pub call_new : (me : ℕ) (kept : List Action) (running : Running) (task number last : ℕ) (call : Action) → last ≡ last_number task kept → last ≤ number
-    → adds_pending running call ≡ on_numbered me kept running task number call None
-call_new me kept running task number last call is above =
-    let le : last_number task kept ≤ number = subst (λ (n : ℕ). n ≤ number) is above in
-    sym (ap (λ (b : Bool). cond b (notes running) (adds_pending running call)) (le-ltb number (last_number task kept) le))
+  -- another one
+  pub call_new : (last : ℕ) → last ≡ last_number task (kept_by node) → last ≤ number → adds_pending node.running.pending call ≡ on_numbered node task number call None
+  call_new last is above =
+      let le : last_number task (kept_by node) ≤ number = subst (λ (n : ℕ). n ≤ number) is above in
+      sym (ap (λ (b : Bool). cond b (plans.Pass No) (adds_pending node.running.pending call)) (le-ltb number (last_number task (kept_by node)) le))

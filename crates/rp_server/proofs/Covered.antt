@@ -23,9 +23,11 @@ use Rattle.rp_base.proofs.MoreRecords.{started_push}
 use Rattle.rp_learner.specs.Places.{is_marked}
 use Rattle.rp_log.specs.Contents.{Contents}
 use Rattle.rp_machine.specs.Numbered.{Applied}
-use Rattle.rp_model.specs.Leader.{is_out_of_reach, starts_above, unlearned_in, begins_range as begins_at, on_lead_range}
-use Rattle.rp_model.specs.Parts.{Running, Turn}
-use Rattle.rp_model.specs.Says.{notes}
+use Rattle.rp_model.specs.Leader.{is_out_of_reach, unlearned_in, ballot_of, is_exhausted, on_lead_range}
+use Rattle.rp_model.specs.Node.{RunningNode}
+use Rattle.rp_model.specs.declared.effect.Dropped.TheVariants.{No}
+use Rattle.rp_model.specs.declared.plan.Plan.{Plan}
+use Rattle.rp_model.specs.declared.plan.Plan.TheVariants as plans
 use Rattle.rp_base.proofs.Stretches.{range_next}
 use Rattle.rp_proposer.specs.Proposing.{ProposerPart, AreInWindow, IsInWindow, begins_range, unskipped}
 use Rattle.rp_server.specs.Invariant.{IsProposer, IsRightProposal, IsApplied}
@@ -134,55 +136,53 @@ range_is range is =
     let within : nat_lt (2 ^ 16) (end_of range) ≡ false = le-ltb (2 ^ 16) (end_of range) is.last in
     ap (λ (t : Bool). cond (not t) (Err BadConfig) (cond (nat_lt (2 ^ 16) (end_of range)) (Err LogFull) (Ok range))) few ∙ ap (λ (t : Bool). cond t (Err LogFull) (Ok range)) within
 
-module _ (config : Config) (me : ℕ) (records : List Rec) (running : Running) (range : Range) (is : IsRange range) where
-  begun : Result Turn Fault
-  begun =
-      let b = next_ballot me (starts_above records running) in
-      cond (nat_le (2 ^ 32) (round_of b)) (Err BallotsSpent) (Ok (begins_at config.nodes me records running range b))
+module _ {S : Type 0} (node : RunningNode S) (range : Range) (is : IsRange range) where
+  begun : Result Plan Fault
+  begun = cond (is_exhausted node) (Err BallotsSpent) (Ok (plans.LeadRange range (ballot_of node)))
 
-  led : Bool → Bool → Result Turn Fault
-  led out none = cond out (Err LogFull) (cond none (Ok (notes running)) begun)
+  led : Bool → Bool → Result Plan Fault
+  led out none = cond out (Err LogFull) (cond none (Ok (plans.Pass No)) begun)
 
   abbrev IsOut : Bool → Type 0
-  IsOut out = list_any (is_out_of_reach config.max_positions records) (positions_of range) ≡ out
+  IsOut out = list_any (is_out_of_reach node.setting.config.max_positions node.records) (positions_of range) ≡ out
 
   abbrev AreLearned : Bool → Type 0
-  AreLearned all = nat_eq (length (unlearned_in records range)) 0 ≡ all
+  AreLearned all = nat_eq (length (unlearned_in node.records range)) 0 ≡ all
 
-  abbrev answered : Result Turn Fault
-  answered = on_lead_range config me records running (range_of range.first range.count)
+  abbrev answered : Result Plan Fault
+  answered = on_lead_range node (range_of range.first range.count)
 
   -- by whether a position is out of reach, and whether all are learned
   by_range : (out all : Bool) → IsOut out → AreLearned all → answered ≡ led out all
   unfolding led begun
   by_range out all far learned =
-      ap (on_lead_range config me records running) (range_is range is)
-      ∙ ap (λ (t : Bool). led t (nat_eq (length (unlearned_in records range)) 0)) far ∙ ap (led out) learned
+      ap (on_lead_range node) (range_is range is)
+      ∙ ap (λ (t : Bool). led t (nat_eq (length (unlearned_in node.records range)) 0)) far ∙ ap (led out) learned
 
   pub range_full : IsOut true → answered ≡ Err LogFull
   unfolding led
-  range_full far = by_range true (nat_eq (length (unlearned_in records range)) 0) far refl
+  range_full far = by_range true (nat_eq (length (unlearned_in node.records range)) 0) far refl
 
-  pub range_known : IsOut false → AreLearned true → answered ≡ Ok (notes running)
+  pub range_known : IsOut false → AreLearned true → answered ≡ Ok (plans.Pass No)
   unfolding led
   range_known near learned = by_range false true near learned
 
-  begun_if : (b : ℕ) (none : Bool) → nat_le (2 ^ 32) (round_of b) ≡ none → b ≡ next_ballot me (starts_above records running)
-      → begun ≡ cond none (Err BallotsSpent) (Ok (begins_at config.nodes me records running range b))
+  begun_if : (b : ℕ) (none : Bool) → nat_le (2 ^ 32) (round_of b) ≡ none → b ≡ ballot_of node
+      → begun ≡ cond none (Err BallotsSpent) (Ok (plans.LeadRange range b))
   unfolding begun
   begun_if b none round is_next =
-      ap (λ (n : ℕ). cond (nat_le (2 ^ 32) (round_of n)) (Err BallotsSpent) (Ok (begins_at config.nodes me records running range n))) (sym is_next)
-      ∙ ap (λ (t : Bool). cond t (Err BallotsSpent) (Ok (begins_at config.nodes me records running range b))) round
+      ap (λ (n : ℕ). cond (nat_le (2 ^ 32) (round_of n)) (Err BallotsSpent) (Ok (plans.LeadRange range n))) (sym is_next)
+      ∙ ap (λ (t : Bool). cond t (Err BallotsSpent) (Ok (plans.LeadRange range b))) round
 
-  pub range_led : (b : ℕ) → IsOut false → AreLearned false → b ≡ next_ballot me (starts_above records running) → round_of b < 2 ^ 32
-      → answered ≡ Ok (begins_at config.nodes me records running range b)
+  pub range_led : (b : ℕ) → IsOut false → AreLearned false → b ≡ ballot_of node → round_of b < 2 ^ 32
+      → answered ≡ Ok (plans.LeadRange range b)
   unfolding led
   range_led b near some is_next left = by_range false false near some ∙ begun_if b false (lt-leb (2 ^ 32) (round_of b) left) is_next
 
-  pub range_exhausted : IsOut false → AreLearned false → 2 ^ 32 ≤ round_of (next_ballot me (starts_above records running)) → answered ≡ Err BallotsSpent
+  pub range_exhausted : IsOut false → AreLearned false → 2 ^ 32 ≤ round_of (ballot_of node) → answered ≡ Err BallotsSpent
   unfolding led
   range_exhausted near some none =
-      let next : ℕ = next_ballot me (starts_above records running) in
+      let next : ℕ = ballot_of node in
       by_range false false near some ∙ begun_if next true (le-leb (2 ^ 32) (round_of next) none) refl
 
 -- ---- unlearned positions within reach

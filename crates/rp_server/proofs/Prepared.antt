@@ -17,10 +17,12 @@ use Rattle.rp_codec.specs.declared.packet.Body.TheVariants as bodies
 use Rattle.rp_machine.specs.Replay.{kept_of}
 use Rattle.rp_model.specs.Parts.{Running, Turn}
 use Rattle.rp_model.specs.Says.{says_to_all, sends}
-use Rattle.rp_model.specs.Leader.{begins_if, offers, leads_at}
+use Rattle.rp_model.specs.Leader.{begins_if, leads_at}
+use Rattle.rp_model.specs.Node.{RunningNode, nodes_of, own_for}
+use Rattle.rp_model.specs.declared.plan.Plan.{Plan}
+use Rattle.rp_model.specs.declared.plan.Plan.TheVariants as plans
 use Rattle.rp_model.specs.Pending.{own_action}
 use Rattle.rp_proposer.specs.Proposing.{prepared_by, once_offered}
-use Rattle.rp_server.specs.Proposed.{offered_running}
 use Rattle.rp_server.specs.Invariant.{IsRightProposal}
 use Rattle.rp_server.proofs.Promising.{at_position, highest_right, all_found}
 
@@ -43,51 +45,30 @@ same_reported b c r s e = ap (λ (o : Option (ℕ × Option Action)). let found 
 
 -- ---- what is offered
 
-own_same : (own : Action) (o : Option Vote) → own_unless (unwrap_or (reported_of o) own) o ≡ own_unless own o
-own_same own None = refl
-own_same own (Some vote) = refl
-
-offer_same : (own : Action) (o : Option Vote) → unwrap_or (reported_of o) own ≡ action_or (unwrap_or (own_unless own o) Noop) o
+offer_same : (own : Action) (o : Option Vote) → unwrap_or (reported_of o) own ≡ action_or own o
 offer_same own None = refl
 offer_same own (Some vote) = refl
 
-module _ {S : Type 0} (next : S → Action → S) (answers : S → Action → List Answer) (begin : S) (nodes me : ℕ) (records : List Rec) (running : Running) where
-  -- the action that a proposal at a position takes as its own
-  abbrev pub own_at : ℕ → Action
-  own_at i = own_action (kept_of next answers begin (applied_of records)) (without_proposal running.proposals i) running.pending
-
-  abbrev pub offered_turn : ℕ → ℕ → Action → Option Proposal → Turn
-  offered_turn i b v o = sends (offered_running nodes running v o) (says_to_all nodes me (bodies.Accept i b v))
-
-  offers_at : (i b : ℕ) (reported : Option Action) (p : Proposal) → p.position ≡ i → is_prepared nodes p ≡ true → b ≡ p.ballot → reported ≡ reported_of (highest_vote p.promises)
-      → offered_turn i b (unwrap_or reported (own_at i)) (Some p) ≡ offers next answers begin nodes me records running p
-  offers_at i b reported p place prepared ballot is =
-      let vote = highest_vote p.promises in
-      let v = unwrap_or reported (own_at i) in
-      let value : v ≡ unwrap_or (reported_of vote) (own_at p.position) = ap (λ (r : Option Action). unwrap_or r (own_at i)) is ∙ ap (λ (j : ℕ). unwrap_or (reported_of vote) (own_at j)) (sym place) in
-      let taken : own_unless v vote ≡ own_unless (own_at p.position) vote = ap (λ (a : Action). own_unless a vote) value ∙ own_same (own_at p.position) vote in
-      let after : once_offered nodes v p ≡ as_offered (own_at p.position) p =
-      ap (λ (t : Bool). cond t (as_offered v p) p) prepared ∙ ap (λ (o : Option Action). record p { own = o; phase = Offering }) taken in
-      let said : v ≡ offer_of (own_unless (own_at p.position) vote) p.promises = value ∙ offer_same (own_at p.position) vote in
-      λ n. sends (record running { proposals = with_proposal running.proposals (after n) }) (says_to_all nodes me (bodies.Accept (sym place n) (ballot n) (said n)))
-
+module _ {S : Type 0} (node : RunningNode S) (i b : ℕ) (reported : Option Action) where
   -- to lead at a prepared position is to offer there
-  leads_prepared : (i b : ℕ) (reported : Option Action) (o : Option Proposal) → proposal_at running.proposals i ≡ o → prepared_by nodes o ≡ answer b reported
-      → Ok (offered_turn i b (unwrap_or reported (own_at i)) o) ≡ leads_at next answers begin nodes me records running i o
-  leads_prepared i b reported None at found = absurd cc
-  leads_prepared i b reported (Some p) at found = by (is_prepared nodes p) refl found
+  leads_prepared : (o : Option Proposal) → prepared_by (nodes_of node) o ≡ answer b reported → Ok (plans.OfferPrepared i b (unwrap_or reported (own_for node i))) ≡ leads_at node i o
+  leads_prepared None found = absurd cc
+  leads_prepared (Some p) found = by (is_prepared (nodes_of node) p) found
     where
-      by : (t : Bool) → is_prepared nodes p ≡ t → answer_if p t ≡ answer b reported
-          → Ok (offered_turn i b (unwrap_or reported (own_at i)) (Some p)) ≡ cond t (Ok (offers next answers begin nodes me records running p)) (begins_if next answers begin nodes me records running i)
-      by true prepared is =
-          ap Ok (offers_at i b reported p (at_position running.proposals i p at) prepared
-          (sym (same_ballot p.ballot b (reported_of (highest_vote p.promises)) reported is)) (sym (same_reported p.ballot b (reported_of (highest_vote p.promises)) reported is)))
-      by false prepared is = absurd cc
+      by : (t : Bool) → answer_if p t ≡ answer b reported
+          → Ok (plans.OfferPrepared i b (unwrap_or reported (own_for node i))) ≡ cond t (Ok (plans.OfferPrepared i p.ballot (offer_of (Some (own_for node i)) p.promises))) (begins_if node i)
+      by true is =
+          let vote = highest_vote p.promises in
+          let own = own_for node i in
+          let ballot : p.ballot ≡ b = same_ballot p.ballot b (reported_of vote) reported is in
+          let value : unwrap_or reported own ≡ action_or own vote =
+          ap (λ (r : Option Action). unwrap_or r own) (sym (same_reported p.ballot b (reported_of vote) reported is)) ∙ offer_same own vote in
+          λ n. Ok (plans.OfferPrepared i (sym ballot n) (value n))
+      by false is = absurd cc
 
   -- the same, by the action that is offered
-  pub leads_by : (i b : ℕ) (reported : Option Action) (v : Action) (o : Option Proposal) → proposal_at running.proposals i ≡ o → prepared_by nodes o ≡ answer b reported → v ≡ unwrap_or reported (own_at i)
-      → Ok (offered_turn i b v o) ≡ leads_at next answers begin nodes me records running i o
-  leads_by i b reported v o at found is = ap (λ (a : Action). Ok (offered_turn i b a o)) is ∙ leads_prepared i b reported o at found
+  pub leads_by : (v : Action) (o : Option Proposal) → prepared_by (nodes_of node) o ≡ answer b reported → v ≡ unwrap_or reported (own_for node i) → Ok (plans.OfferPrepared i b v) ≡ leads_at node i o
+  leads_by v o found is = ap (λ (a : Action). Ok (plans.OfferPrepared i b a)) is ∙ leads_prepared o found
 
 -- ---- what a proposer reports is right
 

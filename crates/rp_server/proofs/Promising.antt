@@ -27,8 +27,13 @@ use Rattle.rp_proposer.specs.declared.proposal.Progress.TheVariants.{Waiting, Of
 use Rattle.rp_model.specs.Parts.{Running}
 use Rattle.rp_model.specs.Parts.{Turn}
 use Rattle.rp_model.specs.Says.{says_to_all, sends, notes}
-use Rattle.rp_model.specs.Leader.{on_promise_to}
-use Rattle.rp_server.specs.Proposed.{promised_running}
+use Rattle.rp_model.specs.Leader.{on_promise_to, on_promise}
+use Rattle.rp_model.specs.Node.{RunningNode, nodes_of}
+use Rattle.rp_model.specs.Plans.{promised_running}
+use Rattle.rp_model.specs.declared.effect.Dropped.TheVariants.{No}
+use Rattle.rp_model.specs.declared.plan.CountedPromise.{CountedPromise}
+use Rattle.rp_model.specs.declared.plan.Plan.{Plan}
+use Rattle.rp_model.specs.declared.plan.Plan.TheVariants as plans
 use Rattle.rp_server.specs.Invariant.{IsRightPromise, IsRightProposal, IsProposer, IsServer}
 use Rattle.rp_learner.specs.Learning.{Learning}
 use Rattle.rp_log.specs.Contents.{Contents}
@@ -62,44 +67,35 @@ put_back (q ∷ rest) p e = put_here rest q p (nat_eq q.position p.position) (pu
 pub same_back : (ps : List Proposal) (i : ℕ) (p : Proposal) → proposal_at ps i ≡ Some p → with_proposal ps p ≡ ps
 same_back ps i p e = put_back ps p (subst (λ (j : ℕ). proposal_at ps j ≡ Some p) (sym (at_position ps i p e)) e)
 
--- ---- the turn, by what the proposer answers
+-- ---- the plan, by what the proposer answers
 
-abbrev pub promise_turn : ℕ → ℕ → ℕ → ℕ → Running → Running → Progress → Turn
-promise_turn nodes me i b running known Waiting = notes known
-promise_turn nodes me i b running known (Offer v) = sends known (says_to_all nodes me (bodies.Accept i b v))
-promise_turn nodes me i b running known Stale = notes running
+-- what a promise is planned for
+abbrev pub promise_plan : CountedPromise → Progress → Plan
+promise_plan promise Waiting = plans.CountPromise promise
+promise_plan promise (Offer v) = plans.Offer promise v
+promise_plan promise Stale = plans.Pass No
 
-turn_by : (nodes me i b : ℕ) (running : Running) (p waiting offering : Proposal) (v : Action) (same prep alone many : Bool) → p.position ≡ i → (same ≡ true → p.ballot ≡ b)
-    → with_proposal running.proposals p ≡ running.proposals
-    → promise_turn nodes me i b running (record running { proposals = with_proposal running.proposals (cond (same && (prep && alone)) (cond many offering waiting) p) })
-    (cond (same && alone) (cond (prep && many) (Offer v) Waiting) Stale)
-    ≡ cond (same && (prep && alone))
-    (cond many (sends (record running { proposals = with_proposal running.proposals (cond many offering waiting) }) (says_to_all nodes me (bodies.Accept p.position p.ballot v)))
-    (notes (record running { proposals = with_proposal running.proposals (cond many offering waiting) })))
-    (notes running)
-turn_by nodes me i b running p waiting offering v true true true true place ballot back =
-    let known = record running { proposals = with_proposal running.proposals offering } in
-    ap (λ (j : ℕ). sends known (says_to_all nodes me (bodies.Accept j b v))) (sym place)
-    ∙ ap (λ (k : ℕ). sends known (says_to_all nodes me (bodies.Accept p.position k v))) (sym (ballot refl))
-turn_by nodes me i b running p waiting offering v true true true false place ballot back = refl
-turn_by nodes me i b running p waiting offering v true true false many place ballot back = refl
-turn_by nodes me i b running p waiting offering v true false true many place ballot back = ap (λ (ps : List Proposal). notes (record running { proposals = ps })) back
-turn_by nodes me i b running p waiting offering v true false false many place ballot back = refl
-turn_by nodes me i b running p waiting offering v false prep alone many place ballot back = refl
+plan_by : (promise : CountedPromise) (v : Action) (same prep alone many : Bool)
+    → promise_plan promise (cond (same && (prep && alone)) (cond (prep && many) (Offer v) Waiting) Stale)
+    ≡ cond (same && (prep && alone)) (cond many (plans.Offer promise v) (plans.CountPromise promise)) (plans.Pass No)
+plan_by promise v true true true true = refl
+plan_by promise v true true true false = refl
+plan_by promise v true true false many = refl
+plan_by promise v true false alone many = refl
+plan_by promise v false prep alone many = refl
 
-turn_to : (nodes me i b : ℕ) (running : Running) (promise : Promise) (o : Option Proposal) → proposal_at running.proposals i ≡ o
-    → promise_turn nodes me i b running (promised_running nodes running b promise o) (progress_in nodes b promise o) ≡ on_promise_to nodes me running b promise o
-turn_to nodes me i b running promise None at = refl
-turn_to nodes me i b running promise (Some p) at =
-    let after = with_promise p promise in
-    turn_by nodes me i b running p after (record after { phase = Offering }) (offer_of p.own after.promises) (nat_eq p.ballot b) (is_preparing p.phase) (not p.ranged) (is_promised nodes after)
-    (at_position running.proposals i p at) (eqb-true p.ballot b) (same_back running.proposals i p at)
+plan_to : (nodes : ℕ) (promise : CountedPromise) (o : Option Proposal) → promise_plan promise (progress_in nodes promise.ballot (promise.from, promise.last) o) ≡ on_promise_to nodes promise o
+plan_to nodes promise None = refl
+plan_to nodes promise (Some p) =
+    let after = with_promise p (promise.from, promise.last) in
+    plan_by promise (offer_of p.own after.promises) (nat_eq p.ballot promise.ballot) (is_preparing p.phase) (not p.ranged) (is_promised nodes after)
 
-pub turn_is : (nodes me i b : ℕ) (running : Running) (promise : Promise) (answer : Progress) → answer ≡ progress_in nodes b promise (proposal_at running.proposals i)
-    → promise_turn nodes me i b running (promised_running nodes running b promise (proposal_at running.proposals i)) answer ≡ on_promise_to nodes me running b promise (proposal_at running.proposals i)
-turn_is nodes me i b running promise answer is =
-    ap (promise_turn nodes me i b running (promised_running nodes running b promise (proposal_at running.proposals i))) is
-    ∙ turn_to nodes me i b running promise (proposal_at running.proposals i) refl
+-- the plan of a promise, by what the proposer answered
+pub plan_is : {S : Type 0} (node : RunningNode S) (promise : CountedPromise) (answer : Progress)
+    → answer ≡ progress_in (nodes_of node) promise.ballot (promise.from, promise.last) (proposal_at node.running.proposals promise.position)
+    → promise_plan promise answer ≡ on_promise node promise
+plan_is node promise answer is =
+    ap (promise_plan promise) is ∙ plan_to (nodes_of node) promise (proposal_at node.running.proposals promise.position)
 
 -- ---- what is offered is right
 
@@ -155,7 +151,7 @@ progress_right nodes b promise None right last = tt
 progress_right nodes b promise (Some p) right last =
     let after = with_promise p promise in
     let fine : IsRightProposal after = promised_right p promise right last in
-    offer_by (offer_of p.own after.promises) (nat_eq p.ballot b && not p.ranged) (is_preparing p.phase && is_promised nodes after) (offer_is_right p.own after.promises fine.own fine.promises)
+    offer_by (offer_of p.own after.promises) (takes_promise b p) (is_preparing p.phase && is_promised nodes after) (offer_is_right p.own after.promises fine.own fine.promises)
 
 pub all_found : (ps : List Proposal) (i : ℕ) → AllByRecursion IsRightProposal ps → IfSome (proposal_at ps i) IsRightProposal
 all_found [] i all = tt

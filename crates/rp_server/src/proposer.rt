@@ -19,7 +19,7 @@ ghost use Rattle.rp_model.specs.Says.{notes, writes};
 ghost use Rattle.rp_proposer.specs.Proposing.{prepared_by, progress_in, unskipped};
 ghost use Rattle.rp_proposer.specs.declared.proposal.Progress.TheVariants.{Offer};
 ghost use Rattle.rp_store.specs.Stored.{IsPut, IsNotPut};
-ghost use Rattle.rp_server.specs.Proposed.{promised_running, started_running, offered_running};
+ghost use Rattle.rp_model.specs.Plans.{promised_running, started_running, offered_running};
 ghost use Rattle.rp_server.specs.State.{server_after};
 
 use crate::acceptor::write;

@@ -145,7 +145,7 @@ fn the_own_action_is_offered_once_where_no_vote_is_reported(rt: HostRuntime) {
     let own = promised(&rt, &mut proposer, 1, leading, &None);
     expect_eq(&rt, own, Progress::Offer(A));
     let last = promised(&rt, &mut proposer, 3, leading, &None);
-    expect_eq(&rt, last, Progress::Waiting);
+    expect_eq(&rt, last, Progress::Stale);
 }
 
 /// The proposer's next ballot, and the ballot of the proposal at position 1, are these.

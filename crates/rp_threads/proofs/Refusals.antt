@@ -10,41 +10,18 @@ use Rattle.rp_base.specs.declared.fault.Fault.TheVariants.{BallotsSpent, Failed,
 use Rattle.rp_codec.specs.Message.{Message}
 use Rattle.rp_codec.specs.Reading.{all_of}
 use Rattle.rp_model.specs.Effect.{Setting, Done, NodeInput, Receive, Lead, LeadRange, turn_done_if, effect_while, running_effect}
-use Rattle.rp_model.specs.Leader.{chosen_position, is_out_of_reach, begins, begins_if, offers, leads_at, starts_above}
+use Rattle.rp_model.specs.Effect.{plan_of, turn_if}
+use Rattle.rp_model.specs.Node.{RunningNode, running_node}
+use Rattle.rp_model.specs.declared.plan.Plan.{Plan}
+use Rattle.rp_model.proofs.EveryPlan.{plan_refused}
+use Rattle.std.specs.Prelude.{IfErr}
 use Rattle.rp_model.specs.Parts.{NodePart, Running, Turn}
-use Rattle.rp_model.specs.Says.{notes}
 use Rattle.rp_rules.specs.declared.input.Input.{Input}
 use Rattle.rp_rules.specs.declared.input.Input.TheVariants as inputs
 use Rattle.rp_rules.specs.Inputs.{given_by, packet_given}
 use Rattle.rp_boxes.specs.Seats.{IsReason}
 use Rattle.rp_threads.specs.Loops.{is_refusal}
 use Rattle.rp_threads.specs.Turns.{IsReceipt}
-
-led_or_refused : (learned out : Bool) (noted : Turn) (led : Result Turn Fault) (fault : Fault) → (led ≡ Err fault → is_refusal fault ≡ true)
-    → (if learned then Ok noted else if out then Err LogFull else led) ≡ Err fault → is_refusal fault ≡ true
-led_or_refused true out noted led fault rest is = absurd (cc)
-led_or_refused false true noted led fault rest is = let e : LogFull ≡ fault = cc in subst (λ (f : Fault). is_refusal f ≡ true) e refl
-led_or_refused false false noted led fault rest is = rest is
-
-begun_or_refused : (over : Bool) (begun : Turn) (fault : Fault) → (if over then Err BallotsSpent else Ok begun) ≡ Err fault → is_refusal fault ≡ true
-begun_or_refused true begun fault is = let e : BallotsSpent ≡ fault = cc in subst (λ (f : Fault). is_refusal f ≡ true) e refl
-begun_or_refused false begun fault is = absurd (cc)
-
-module _ {S : Type 0} (s : Setting S) (me : ℕ) (records : List Rec) (running : Running) (i : ℕ) where
-  begins_refused : (fault : Fault) → begins_if s.next s.answers s.begin s.config.nodes me records running i ≡ Err fault → is_refusal fault ≡ true
-  begins_refused fault is =
-      let b = next_ballot me (starts_above records running) in
-      begun_or_refused (nat_le (2 ^ 32) (round_of b)) (begins s.next s.answers s.begin s.config.nodes me records running i b) fault is
-
-  leads_refused : (found : Option Proposal) (fault : Fault) → leads_at s.next s.answers s.begin s.config.nodes me records running i found ≡ Err fault → is_refusal fault ≡ true
-  leads_refused None fault is = begins_refused fault is
-  leads_refused (Some p) fault is = by (is_prepared s.config.nodes p) is
-    where
-      by : (prepared : Bool)
-          → (if prepared then Ok (offers s.next s.answers s.begin s.config.nodes me records running p) else begins_if s.next s.answers s.begin s.config.nodes me records running i) ≡ Err fault
-          → is_refusal fault ≡ true
-      by true is = absurd (cc)
-      by false is = begins_refused fault is
 
 -- no range is to be led
 abbrev pub IsNoRange : NodeInput → Type 0
@@ -70,14 +47,15 @@ turned_refused node (Ok turn) fault is = absurd (cc)
 turned_refused node (Err other) fault is = cc
 
 module _ {S : Type 0} (s : Setting S) (me : ℕ) (node : NodePart) where
+  planned_refused : (known : RunningNode S) (found : Result Plan Fault) (fault : Fault) → IfErr found (λ f. is_refusal f ≡ true) → turn_if known found ≡ Err fault → is_refusal fault ≡ true
+  planned_refused known (Ok plan) fault refused is = absurd (cc)
+  planned_refused known (Err other) fault refused is = let e : other ≡ fault = cc in subst (λ (f : Fault). is_refusal f ≡ true) e refused
+
   running_refused : (input : NodeInput) (running : Running) (fault : Fault) → IsNoRange input → running_effect s me node.records running input ≡ Err fault → is_refusal fault ≡ true
-  running_refused (Lead choice) running fault none is =
-      let i = chosen_position s.config.nodes node.records running choice in
-      let found = proposal_at running.proposals i in
-      led_or_refused (is_some (learned_at node.records i)) (is_out_of_reach s.config.max_positions node.records i) (notes running)
-      (leads_at s.next s.answers s.begin s.config.nodes me node.records running i found) fault (leads_refused s me node.records running i found fault) is
-  running_refused (LeadRange first count) running fault none is = absurd none
-  running_refused _ running fault none is = absurd (cc)
+  running_refused input running fault none is =
+      let known = running_node s me node.records running in
+      planned_refused known (plan_of known input) fault
+      (plan_refused known input (λ f. is_refusal f ≡ true) refl refl (λ first count same. absurd (subst IsNoRange same none))) is
 
   refused_by : (input : NodeInput) (running : Running) (effect : Result (Done NodePart) Fault) (fault : Fault) → IsNoRange input → effect_while s me node input (Some running) ≡ effect
       → IsReason (Some running) effect fault → (fault ≡ OutOfMemory) ⊎ (is_refusal fault ≡ true)

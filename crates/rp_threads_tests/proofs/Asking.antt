@@ -12,7 +12,8 @@ use Rattle.rp_base.proofs.Members.{has_right}
 use Rattle.rp_codec.specs.Message.{Message}
 use Rattle.rp_codec.specs.Text.{text_of}
 use Rattle.rp_codec.specs.declared.packet.Party.{Party}
-use Rattle.rp_model.specs.Effect.{Done, report_of}
+use Rattle.rp_model.specs.Effect.{Done}
+use Rattle.rp_model.specs.Plans.{report_of}
 use Rattle.rp_model.specs.Parts.{TaskPart, fresh_task}
 use Rattle.rp_model.specs.Tasks.{Submit, asks, calls_if, may_call, next_call}
 use Rattle.rp_outbox.specs.Packets.{texts_of}

@@ -15,7 +15,9 @@ use Rattle.rp_model.specs.Effect as nodes
 use Rattle.rp_model.specs.Effect.{Setting, NodeInput, node_effect, effect_while, turn_done_if, cut_if}
 use Rattle.rp_model.specs.declared.event.Step.{Step as Taken}
 use Rattle.rp_model.specs.Events.{Deliver, LeadRange, step_of}
+use Rattle.rp_model.specs.Effect.{turn_if}
 use Rattle.rp_model.specs.Leader.{on_lead_range}
+use Rattle.rp_model.specs.Node.{running_node}
 use Rattle.rp_model.specs.Parts.{NodePart, Running}
 use Rattle.rp_model.specs.World.{World, part_at, cut_step, node_named, receiver_of, node_takes, node_done_if, node_is_cut, hearing_is_cut, arrival_is_cut, delivery_is_cut, arrival_writes, delivery_writes, node_writes, step_writes, stepping}
 use Rattle.rp_rules.specs.Inputs.{given_by}
@@ -194,7 +196,7 @@ module _ {S : Type 0} (s : Setting S) (w : World) (me first count : ℕ) where
 
     refused_while : (known : Option Running) (fault : Fault) → IsSome known → range_of first count ≡ Err fault → effect_while s me part given_range known ≡ Err fault
     refused_while None fault runs is = absurd cc
-    refused_while (Some running) fault runs is = ap (λ found. turn_done_if part (on_lead_range s.config me part.records running found)) is
+    refused_while (Some running) fault runs is = ap (λ found. turn_done_if part (turn_if (running_node s me part.records running) (on_lead_range (running_node s me part.records running) found))) is
 
     -- it runs, and the numbers make no range
     pub leads_no_range : (fault : Fault) → IsSome part.running → range_of first count ≡ Err fault → IsRefused s w (LeadRange me first count) fault

@@ -1,6 +1,4 @@
 -- By the cases of what comes in.
-use Rattle.rp_base.specs.Records.{applied_of}
-use Rattle.rp_machine.specs.Replay.{kept_of, replay_answers}
 use Rattle.rp_model.specs.Effect.{running_effect}
 use Rattle.rp_agreement.specs.Over.{brought_by}
 use Rattle.rp_agreement.proofs.CallTurns.{call_taken}
@@ -22,12 +20,10 @@ returns-clause-others g c = λ s me records running input turn result none.
 
 pub returns-clause-calls : goal.returns-clause-calls
 returns-clause-calls g c = λ s me task number object operation arg records running turn result.
-    let applied = applied_of records in
-    call_taken task number object operation arg running s.config me (kept_of s.next s.answers s.begin applied) (replay_answers s.next s.answers s.begin applied) turn result
+    call_taken task number object operation arg s me records running turn result
 
 pub returns-clause-interrupts : goal.returns-clause-interrupts
-returns-clause-interrupts g c = λ s me source occurrence records running turn result.
-    interrupt_taken (kept_of s.next s.answers s.begin (applied_of records)) running source occurrence turn result
+returns-clause-interrupts g c = λ s me source occurrence records running turn result. interrupt_taken s me records running turn source occurrence result
 
 pub returns-clause-ticks : goal.returns-clause-ticks
-returns-clause-ticks g c = λ s me now records running turn result. tick_taken running now turn result
+returns-clause-ticks g c = λ s me now records running turn result. tick_taken s me records running turn now result

@@ -1,7 +1,7 @@
 use Rattle.std.proofs.Common.{sym, subst}
 use Rattle.std.specs.Prelude.{OnOk}
 use Rattle.rp_replica.specs.Committing.{Commits}
-use Rattle.rp_rules.specs.declared.plan.Plan.{Plan}
+use Rattle.rp_model.specs.declared.plan.Plan.{Plan}
 use Rattle.rp_rules.specs.Plans.{turn_of, TakesNoMemory}
 use Rattle.rp_replica.specs.State.{server_of}
 use Rattle.rp_replica.proofs.Certain.{notes_again}

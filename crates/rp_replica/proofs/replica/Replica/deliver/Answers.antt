@@ -7,12 +7,12 @@ use Rattle.rp_codec.specs.Reading.{all_of}
 use Rattle.rp_codec.specs.Text.{text_of}
 use Rattle.rp_model.specs.Effect.{NodeInput}
 use Rattle.rp_model.specs.Parts.{Turn}
-use Rattle.rp_rules.specs.Inputs.{Refuses, packet_given}
-use Rattle.rp_rules.specs.Plans.{turn_of}
+use Rattle.rp_rules.specs.Inputs.{Refuses, packet_given, plan_if_given}
 use Rattle.rp_replica.specs.Inputs.{effect_of, effect_if_given}
 use Rattle.rp_replica.specs.State.{ReplicaState, server_of}
 use Rattle.rp_outbox.proofs.Joined.{text_found_is}
 use Rattle.rp_replica.proofs.Certain.{plan_takes_none, short_text}
+use Rattle.rp_replica.proofs.Planned.{planned, refuses_turn}
 use Rattle.rp_replica.proofs.Planning.{committed, refused}
 use Rattle.rp_replica.proofs.replica.Replica.deliver.Goals as goal
 
@@ -23,9 +23,10 @@ returns-clause-answer g c = λ message at.
     let text : c.unwrap.result.now ≡ text_of message = text_found_is c.text.result c.unwrap.result (slice_get c.args.out.now.sent c.args.place) message c.unwrap.ensures c.text.ensures.text at in
     let given = ap (λ (l : List ℕ). packet_given (all_of l)) text ∙ c.texts_are_packets.ensures message (c.text.ensures.right message at) in
     let working : h.failed ≡ false = sym c.has_failed.ensures ∙ c.if-has_failed.false in
-    let planned = subst (λ (k : ReplicaState g.row.M.Denot). Ok (turn_of m.next m.answers (server_of k) c.on_text.new.plan) ≡ effect_if_given m.next m.answers k (packet_given (all_of c.unwrap.result.now))) c.self.view_is c.in_ok-on_text.ensures.ok in
+    let made = planned m.next m.answers (server_of h) (packet_given (all_of c.unwrap.result.now)) c.on_text.new.plan
+    (subst (λ (k : ReplicaState g.row.M.Denot). Ok c.on_text.new.plan ≡ plan_if_given m.next m.answers (server_of k) (packet_given (all_of c.unwrap.result.now))) c.self.view_is c.in_ok-on_text.ensures.ok) in
     committed m.next m.answers h (effect_of m.next m.answers h (NodeInput.Receive message)) c.on_text.new.plan c.commit.new.self c.args.out.now.sent c.commit.new.out.sent c.dropped.result
-    (planned ∙ ap (effect_if_given m.next m.answers h) given) working c.in_ok-commit.ensures.ok c.dropped.ensures
+    (made ∙ ap (effect_if_given m.next m.answers h) given) working c.in_ok-commit.ensures.ok c.dropped.ensures
 
 pub returns-in_err-commit-clause-answer : goal.returns-in_err-commit-clause-answer
 returns-in_err-commit-clause-answer g c = λ message at.
@@ -33,9 +34,10 @@ returns-in_err-commit-clause-answer g c = λ message at.
     let h = c.args.self.now in
     let text : c.unwrap.result.now ≡ text_of message = text_found_is c.text.result c.unwrap.result (slice_get c.args.out.now.sent c.args.place) message c.unwrap.ensures c.text.ensures.text at in
     let given = ap (λ (l : List ℕ). packet_given (all_of l)) text ∙ c.texts_are_packets.ensures message (c.text.ensures.right message at) in
-    let planned = subst (λ (k : ReplicaState g.row.M.Denot). Ok (turn_of m.next m.answers (server_of k) c.on_text.new.plan) ≡ effect_if_given m.next m.answers k (packet_given (all_of c.unwrap.result.now))) c.self.view_is c.in_ok-on_text.ensures.ok in
+    let made = planned m.next m.answers (server_of h) (packet_given (all_of c.unwrap.result.now)) c.on_text.new.plan
+    (subst (λ (k : ReplicaState g.row.M.Denot). Ok c.on_text.new.plan ≡ plan_if_given m.next m.answers (server_of k) (packet_given (all_of c.unwrap.result.now))) c.self.view_is c.in_ok-on_text.ensures.ok) in
     refused m.next m.answers h (effect_of m.next m.answers h (NodeInput.Receive message)) c.on_text.new.plan c.commit.new.self c.args.out.now.sent c.commit.new.out.sent c.from_residual-in_err-commit.result c.in_err-commit.field-0.0
-    c.from_residual-in_err-commit.ensures.1 (planned ∙ ap (effect_if_given m.next m.answers h) given) c.in_err-commit.ensures.err c.in_err-commit.ensures.unsent
+    c.from_residual-in_err-commit.ensures.1 (made ∙ ap (effect_if_given m.next m.answers h) given) c.in_err-commit.ensures.err c.in_err-commit.ensures.unsent
 
 pub returns-in_err-commit-clause-certain : goal.returns-in_err-commit-clause-certain
 returns-in_err-commit-clause-certain g c = λ message at short turn is free working.
@@ -43,8 +45,9 @@ returns-in_err-commit-clause-certain g c = λ message at short turn is free work
     let h = c.args.self.now in
     let text : c.unwrap.result.now ≡ text_of message = text_found_is c.text.result c.unwrap.result (slice_get c.args.out.now.sent c.args.place) message c.unwrap.ensures c.text.ensures.text at in
     let given = ap (λ (l : List ℕ). packet_given (all_of l)) text ∙ c.texts_are_packets.ensures message (c.text.ensures.right message at) in
-    let planned = subst (λ (k : ReplicaState g.row.M.Denot). Ok (turn_of m.next m.answers (server_of k) c.on_text.new.plan) ≡ effect_if_given m.next m.answers k (packet_given (all_of c.unwrap.result.now))) c.self.view_is c.in_ok-on_text.ensures.ok in
-    let never : false ≡ true = c.in_err-commit.ensures.certain (plan_takes_none m.next m.answers h (effect_of m.next m.answers h (NodeInput.Receive message)) c.on_text.new.plan turn (planned ∙ ap (effect_if_given m.next m.answers h) given) is free) in
+    let made = planned m.next m.answers (server_of h) (packet_given (all_of c.unwrap.result.now)) c.on_text.new.plan
+    (subst (λ (k : ReplicaState g.row.M.Denot). Ok c.on_text.new.plan ≡ plan_if_given m.next m.answers (server_of k) (packet_given (all_of c.unwrap.result.now))) c.self.view_is c.in_ok-on_text.ensures.ok) in
+    let never : false ≡ true = c.in_err-commit.ensures.certain (plan_takes_none m.next m.answers h (effect_of m.next m.answers h (NodeInput.Receive message)) c.on_text.new.plan turn (made ∙ ap (effect_if_given m.next m.answers h) given) is free) in
     cc
 
 pub returns-in_err-on_text-clause-certain : goal.returns-in_err-on_text-clause-certain
@@ -56,6 +59,7 @@ returns-in_err-on_text-clause-certain g c = λ message at short turn is free wor
     let text : bytes ≡ text_of message = text_found_is c.text.result c.unwrap.result (slice_get c.args.out.now.sent c.args.place) message c.unwrap.ensures c.text.ensures.text at in
     let given = ap (λ (l : List ℕ). packet_given (all_of l)) text ∙ c.texts_are_packets.ensures message packet in
     let fault = c.in_err-on_text.field-0.0 in
-    let err = subst (λ (k : ReplicaState g.row.M.Denot). Refuses (IsLongText bytes) (effect_if_given m.next m.answers k (packet_given (all_of bytes))) fault) c.self.view_is c.in_err-on_text.ensures.err in
+    let err = refuses_turn m.next m.answers (server_of h) (packet_given (all_of bytes)) (IsLongText bytes) fault
+    (subst (λ (k : ReplicaState g.row.M.Denot). Refuses (IsLongText bytes) (plan_if_given m.next m.answers (server_of k) (packet_given (all_of bytes))) fault) c.self.view_is c.in_err-on_text.ensures.err) in
     let why : (fault ≡ OutOfMemory) × IsLongText bytes = subst (λ (e : Result Turn Fault). Refuses (IsLongText bytes) e fault) (ap (effect_if_given m.next m.answers h) given ∙ is) err in
     absurd (short_text message bytes text packet short why.1)

@@ -1,7 +1,7 @@
 use Rattle.std.proofs.Common.{Some, [], refl}
 use Rattle.rp_base.specs.declared.record.Rec.TheVariants.{Started}
 use Rattle.rp_model.specs.Says.{writes}
-use Rattle.rp_server.specs.Proposed.{started_running}
+use Rattle.rp_model.specs.Plans.{started_running}
 use Rattle.rp_replica.specs.Cutting.{MayWrite}
 use Rattle.rp_replica.proofs.Cuts.{write_fails}
 use Rattle.rp_replica.proofs.Keeping.{disk_written}

@@ -1,10 +1,14 @@
 use Rattle.std.proofs.Common.{refl}
 use Rattle.rp_base.specs.declared.action.Action.TheVariants.{Tick}
-use Rattle.rp_model.specs.Pending.{on_tick}
+use Rattle.rp_model.specs.Arrivals.{on_tick}
+use Rattle.rp_model.specs.Plans.{turn_of}
+use Rattle.rp_rules.specs.Inputs.{node_of}
+use Rattle.rp_replica.specs.State.{server_of}
 use Rattle.rp_replica.proofs.Certain.{adds_none}
 use Rattle.rp_replica.proofs.replica.Replica.tick.Goals as goal
 
 pub returns-clause-certain : goal.returns-clause-certain
 returns-clause-certain g c = λ working.
-    let known = c.args.self.now.running in
-    c.turn.ensures.certain (λ long. long) (on_tick known c.args.now) refl (adds_none known (Tick c.args.now)) working
+    let m = g.M.Machine in
+    let node = node_of m.next m.answers (server_of c.args.self.now) in
+    c.turn.ensures.certain (λ long. long) (turn_of node (on_tick node c.args.now)) refl (adds_none node (Tick c.args.now)) working

@@ -1,11 +1,12 @@
 //! What the rules decided for an input, before anything of it is done.
 
 ghost use Rattle.std.specs.Prelude.{◌≡◌, IfSome};
-ghost use Rattle.rp_rules.specs.Plans.{dropped_by, written_by};
+ghost use Rattle.rp_model.specs.Plans.{dropped_by, written_by};
 
 use rp_base::{Action, Ballot, NodeId, Position, PositionRange, Rec, Reply, TaskId, Vote};
 use rp_codec::{Header, Votes};
-use rp_model::{Dropped, RightAction};
+use crate::effect::Dropped;
+use crate::right::RightAction;
 
 /// A promise that came from a node, in a ballot at a position, with the vote that it reports.
 #[derive(Clone, Copy, Debug)]

@@ -24,8 +24,10 @@ use Rattle.rp_pending.specs.Making.{GoesOnTo}
 use Rattle.rp_pending.proofs.Stepping.{made}
 use Rattle.rp_installations.specs.Sites.{NodeSite, TaskSite, Installation}
 use Rattle.rp_installations.specs.Moves.{all_given, Moves, OpensFrom, AnswersBy}
-use Rattle.rp_installations.specs.Behind.{IsOpenOver, IsNodeOver, IsOpen, IsSetUp, IsBehind, HasHistory, HasLonger}
+use Rattle.rp_installations.specs.Behind.{IsOpenOver, IsNodeOver, IsOpen, IsBehind, HasHistory, HasLonger}
 use Rattle.rp_installations.specs.Outcomes.{IsOpenAt, IsAllSynced, applied_by, AgreeAs}
+use Rattle.rp_installations.specs.Starts.{BehaveAlike}
+use Rattle.rp_installations.proofs.Opened.{AllAlike, moves_keep}
 use Rattle.rp_installations.proofs.NodeSites.{open_over, settle}
 use Rattle.rp_installations.proofs.Following.{IsChange, behind_on, moves_on}
 
@@ -37,7 +39,6 @@ pub record Reaches {S : Type 0} (s : Setting S) (events : List Event) (me : ℕ)
   pub part : NodePart
   pub here : part_at world.nodes me ≡ Some part
   pub part_is : part_of node.replica ≡ part
-  pub set_up : IsSetUp s me node
 
 -- and that is behind the installation too
 pub record Settles {S : Type 0} (s : Setting S) (events : List Event) (i : Installation S) (me : ℕ) (node : NodeState S) : Type 0 where
@@ -69,7 +70,6 @@ module _ {S : Type 0} (s : Setting S) (ranged : (events : List Event) (w : World
         part = after_steps part o.steps;
         here = all.leads.here;
         part_is = ap (λ (n : NodeState S). part_of n.replica) (sym same) ∙ o.reached;
-        set_up = subst (IsSetUp s me) same o.set_up;
       }
 
   -- where all that they gave is synced, the world is behind the installation still
@@ -101,7 +101,6 @@ module _ {S : Type 0} (s : Setting S) (ranged : (events : List Event) (w : World
           part = after_steps part o.steps;
           here = d.leads.here;
           part_is = ap (λ (n : NodeState S). part_of n.replica) (sym same) ∙ o.reached;
-          set_up = subst (IsSetUp s me) same o.set_up;
         };
         behind = behind_on s ranged image events w history i behind me i (after_steps part o.steps) d.leads change;
       }
@@ -109,30 +108,28 @@ module _ {S : Type 0} (s : Setting S) (ranged : (events : List Event) (w : World
 -- ---- two nodes
 
 -- what a node shows, by its part
-shows : {S : Type 0} (s : Setting S) (image : S → List ℕ) (me : ℕ) (node : NodeState S) (part : NodePart) → IsSetUp s me node → part_of node.replica ≡ part
+shows : {S : Type 0} (s : Setting S) (image : S → List ℕ) (node : NodeState S) (part : NodePart) → BehaveAlike s.next s.answers image node.replica.begin s.begin → part_of node.replica ≡ part
     → image_of s.next s.answers image node ≡ image (replay_state s.next s.answers s.begin (applied_of part.records))
-shows {S} s image me node part set_up is =
-    let at : S → NodePart → List ℕ = λ b p. image (replay_state s.next s.answers b (applied_of p.records)) in
-    λ i. at (set_up.begin i) (is i)
+shows s image node part alike is = alike.shown (applied_of node.replica.records) ∙ ap (λ (p : NodePart). image (replay_state s.next s.answers s.begin (applied_of p.records))) is
 
-agree_at : {S : Type 0} (s : Setting S) (image : S → List ℕ) (x y : ℕ) (one other : NodeState S) (part later_part : NodePart) (now later : World) → IsSetUp s x one → IsSetUp s y other → part_of one.replica ≡ part → part_of other.replica ≡ later_part
-    → part_at now.nodes x ≡ Some part → part_at later.nodes y ≡ Some later_part → Agree s.next s.answers image s.begin now later → AgreeAs s.next s.answers image s.begin one other
-agree_at s image x y one other part later_part now later set_up other_up is other_is here there agree =
-    let alike = agree.applied x y part later_part here there in
+agree_at : {S : Type 0} (s : Setting S) (image : S → List ℕ) (x y : ℕ) (one other : NodeState S) (part later_part : NodePart) (now later : World) → BehaveAlike s.next s.answers image one.replica.begin s.begin → BehaveAlike s.next s.answers image other.replica.begin s.begin
+    → part_of one.replica ≡ part → part_of other.replica ≡ later_part → part_at now.nodes x ≡ Some part → part_at later.nodes y ≡ Some later_part → Agree s.next s.answers image s.begin now later → AgreeAs s.next s.answers image s.begin one other
+agree_at s image x y one other part later_part now later alike other_alike is other_is here there agree =
+    let same = agree.applied x y part later_part here there in
     record {
-      applied = subst (λ (p : NodePart × NodePart). AreAlike (applied_of p.0.records) (applied_of p.1.records)) (λ i. (sym is i, sym other_is i)) alike;
+      applied = subst (λ (p : NodePart × NodePart). AreAlike (applied_of p.0.records) (applied_of p.1.records)) (λ i. (sym is i, sym other_is i)) same;
       images = λ level.
-          shows s image x one part set_up is
+          shows s image one part alike is
           ∙ agree.images x y part later_part here there (subst (λ (p : NodePart × NodePart). length (applied_of p.0.records) ≡ length (applied_of p.1.records)) (λ i. (is i, other_is i)) level)
-          ∙ sym (shows s image y other later_part other_up other_is);
+          ∙ sym (shows s image other later_part other_alike other_is);
     }
 
 -- the one now, with all synced that its steps gave, and the other later
 pub agree_later : {S : Type 0} (s : Setting S) (ranged : (events : List Event) (w : World) → IsHistory s events w → IsRangedWorld s.config.nodes w) (image : S → List ℕ)
     → ((now later : World) → AreMoments s now later → Agree s.next s.answers image s.begin now later)
-    → (now : Installation S) → HasHistory s now → (moves : List (Installation S)) (later : Installation S) → Moves s.config.nodes (OpensFrom s.config s.begin) (AnswersBy s.next s.answers image) now moves later
+    → (now : Installation S) → HasHistory s now → AllAlike s.next s.answers image s.config s.begin now → (moves : List (Installation S)) (later : Installation S) → Moves s.config.nodes (OpensFrom s.next s.answers image s.config s.begin) (AnswersBy s.next s.answers image) now moves later
     → (x y : ℕ) (site other_site : NodeSite S) (one other : NodeState S) → IsOpenAt now x site one → IsOpenAt later y other_site other → IsAllSynced site → AgreeAs s.next s.answers image s.begin one other
-agree_later s ranged image law now h moves later all x y site other_site one other kept other_kept synced =
+agree_later s ranged image law now h alike moves later all x y site other_site one other kept other_kept synced =
     let first = settles s ranged image h.events h.world h.history now h.behind x site one kept synced in
     let r = first.reaches in
     let next = moves_on s ranged image moves (h.events ++ r.more) r.world now later r.history first.behind all in
@@ -143,4 +140,5 @@ agree_later s ranged image law now h moves later all x y site other_site one oth
       before = r.history;
       after = subst (λ (es : List Event). IsHistory s es last.world) (append_assoc (h.events ++ r.more) next.more last.more) last.history;
     } in
-    agree_at s image x y one other r.part last.part r.world last.world r.set_up last.set_up r.part_is last.part_is r.here last.here (law r.world last.world moments)
+    let other_alike = moves_keep s.next s.answers image s.config s.begin now moves later alike all in
+    agree_at s image x y one other r.part last.part r.world last.world (alike.each x site kept.site_is one kept.node_is) (other_alike.each y other_site other_kept.site_is other other_kept.node_is) r.part_is last.part_is r.here last.here (law r.world last.world moments)

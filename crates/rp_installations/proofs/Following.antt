@@ -81,7 +81,7 @@ module _ {S : Type 0} (s : Setting S) (ranged : (events : List Event) (w : World
   }
 
   asked_on : (me : ℕ) (part : NodePart) (here : part_at w.nodes me ≡ Some part) (handed : List (List ℕ)) (site after : NodeSite S) (given : List (List ℕ)) → AllTexts handed w.sent → (o : IsOpenOver s w.sent me part site)
-      → (a : AsksSite s.config.nodes (OpensFrom s.config s.begin) (AnswersBy s.next s.answers image) handed site after) → given ≡ [] → Outcome s.next s.answers (asked_of a.exchange.request) a.old a.new (is_step_made (asked_of a.exchange.request) a.exchange.result) → NodeMoved s events w me after given
+      → (a : AsksSite s.config.nodes (OpensFrom s.next s.answers image s.config s.begin) (AnswersBy s.next s.answers image) handed site after) → given ≡ [] → Outcome s.next s.answers (asked_of a.exchange.request) a.old a.new (is_step_made (asked_of a.exchange.request) a.exchange.result) → NodeMoved s events w me after given
   asked_on me part here handed site after given all o a none (Stepped input turn asked effect goes is) =
       let same : o.node ≡ a.old = ap (λ (x : Option (NodeState S)). unwrap_or x a.old) (sym o.kept ∙ a.opened) in
       let may = may_come handed w.sent a.exchange.request all a.bytes a.arrived input asked in
@@ -95,7 +95,7 @@ module _ {S : Type 0} (s : Setting S) (ranged : (events : List Event) (w : World
   some_node : (site : NodeSite S) (node : NodeState S) → site.node ≡ Some node → IsSome site.node
   some_node site node is = ap (λ (o : Option (NodeState S)). is_some o) is
 
-  opened_on : (me : ℕ) (part : NodePart) (here : part_at w.nodes me ≡ Some part) (site after : NodeSite S) (given : List (List ℕ)) → OpensSite s.config.nodes (OpensFrom s.config s.begin) (AnswersBy s.next s.answers image) me site after → given ≡ [] → IsNodeOver s w.sent me part site
+  opened_on : (me : ℕ) (part : NodePart) (here : part_at w.nodes me ≡ Some part) (site after : NodeSite S) (given : List (List ℕ)) → OpensSite s.config.nodes (OpensFrom s.next s.answers image s.config s.begin) (AnswersBy s.next s.answers image) me site after → given ≡ [] → IsNodeOver s w.sent me part site
       → NodeMoved s events w me after given
   opened_on me part here site after given h none (IsOpen o) = let closed : site.node ≡ None = h.closed in let open_now : site.node ≡ Some o.node = o.kept in absurd (cc)
   opened_on me part here site after given h none (IsClosed c) =
@@ -103,7 +103,7 @@ module _ {S : Type 0} (s : Setting S) (ranged : (events : List Event) (w : World
       record { reached = d.reached; leads = d.leads; over = IsOpen d.over; given_sent = λ packet has. absurd (subst (λ (l : List (List ℕ)). Has packet l) none has) }
 
   pub node_on : (me : ℕ) (part : NodePart) (here : part_at w.nodes me ≡ Some part) (handed : List (List ℕ)) (site after : NodeSite S) (given : List (List ℕ)) → AllTexts handed w.sent → IsNodeOver s w.sent me part site
-      → NodeMove s.config.nodes (OpensFrom s.config s.begin) (AnswersBy s.next s.answers image) handed me site after given → NodeMoved s events w me after given
+      → NodeMove s.config.nodes (OpensFrom s.next s.answers image s.config s.begin) (AnswersBy s.next s.answers image) handed me site after given → NodeMoved s events w me after given
   node_on me part here handed site after given all over (moves.NodeMove.Opened h none) = opened_on me part here site after given h none over
   node_on me part here handed site after given all over (moves.NodeMove.Requested a none) =
       asked_on me part here handed site after given all (open_over s w.sent me part site (some_node site a.old a.opened) over) a none
@@ -200,7 +200,7 @@ module _ {S : Type 0} (s : Setting S) (ranged : (events : List Event) (w : World
     task_on t part here site changed given task over (moves.TaskMove.Opened o none) = opens_task s events w history t part here site changed given over o none
     task_on t part here site changed given task over (moves.TaskMove.Called a) = asks_task s events w history t task part here before.handed_on texts_known site changed given over a
 
-    pub move_on : (after : Installation S) → Move s.config.nodes (OpensFrom s.config s.begin) (AnswersBy s.next s.answers image) before after → HasLonger s events after
+    pub move_on : (after : Installation S) → Move s.config.nodes (OpensFrom s.next s.answers image s.config s.begin) (AnswersBy s.next s.answers image) before after → HasLonger s events after
     move_on after (moves.Move.OfNode me site changed given here move goes) =
         let was = behind.nodes me site here in
         let moved = node_on me was.0 was.1 before.handed_on site changed given texts_known was.2 move in
@@ -220,7 +220,7 @@ module _ {S : Type 0} (s : Setting S) (ranged : (events : List Event) (w : World
 -- ---- moves, one after another
 
 pub moves_on : {S : Type 0} (s : Setting S) (ranged : (events : List Event) (w : World) → IsHistory s events w → IsRangedWorld s.config.nodes w) (image : S → List ℕ) (steps : List (Installation S)) (events : List Event) (w : World)
-    (before after : Installation S) → IsHistory s events w → IsBehind s w before → Moves s.config.nodes (OpensFrom s.config s.begin) (AnswersBy s.next s.answers image) before steps after → HasLonger s events after
+    (before after : Installation S) → IsHistory s events w → IsBehind s w before → Moves s.config.nodes (OpensFrom s.next s.answers image s.config s.begin) (AnswersBy s.next s.answers image) before steps after → HasLonger s events after
 moves_on s ranged image [] events w before after history behind same = record {
   more = [];
   world = w;
@@ -239,7 +239,7 @@ moves_on s ranged image (middle ∷ rest) events w before after history behind a
 
 -- from the state in which nothing was opened
 pub from_nothing : {S : Type 0} (s : Setting S) (ranged : (events : List Event) (w : World) → IsHistory s events w → IsRangedWorld s.config.nodes w) (image : S → List ℕ) → IsRightConfig s.config → (steps : List (Installation S)) (after : Installation S)
-    → Moves s.config.nodes (OpensFrom s.config s.begin) (AnswersBy s.next s.answers image) (nothing_opened s.config.nodes) steps after → HasHistory s after
+    → Moves s.config.nodes (OpensFrom s.next s.answers image s.config s.begin) (AnswersBy s.next s.answers image) (nothing_opened s.config.nodes) steps after → HasHistory s after
 from_nothing s ranged image right steps after all =
     let longer = moves_on s ranged image steps [] (opening_world s.config.nodes) (nothing_opened s.config.nodes) after (first_history s right) (first_behind s s.config.nodes) all in
     record { events = longer.more; world = longer.world; history = longer.history; behind = longer.behind }

@@ -1,6 +1,8 @@
 pub mod Pieces
 pub mod Requested
+pub mod Starts
 pub mod NodeAnswers
+pub mod Opened
 pub mod NodeSites
 pub mod TaskSites
 pub mod Following

@@ -18,6 +18,7 @@ use Rattle.rp_requests.specs.declared.refusal.Refusal.TheVariants as refusals
 use Rattle.rp_installations.specs.Moves.{is_step_made}
 use Rattle.rp_installations.specs.Behind.{IsSetUp}
 use Rattle.rp_installations.specs.Outcomes.{GivesAnswer}
+use Rattle.rp_installations.proofs.Starts.{effect_alike}
 
 pub data Outcome {S : Type 0} (next : S → Action → S) (answers : S → Action → List Answer) (asked : Option Asked) (old new : NodeState S) (made : Bool) : Type 0 where
   Stepped : (input : NodeInput) (turn : Turn) → asked ≡ Some (Step (Ok input)) → effect_if_given next answers old.replica (Ok input) ≡ Ok turn → new ≡ after_step old turn → made ≡ true → Outcome next answers asked old new made
@@ -44,9 +45,9 @@ module _ {S : Type 0} (next : S → Action → S) (answers : S → Action → Li
 pub effect_on_part : {S : Type 0} (s : Setting S) (me : ℕ) (node : NodeState S) (input : NodeInput) (turn : Turn) → IsSetUp s me node → effect_if_given s.next s.answers node.replica (Ok input) ≡ Ok turn
     → node_effect s me (part_of node.replica) input ≡ Ok (turn_done (part_of node.replica) turn)
 effect_on_part {S} s me node input turn set_up effect =
-    let at : ℕ → Config → S → Result Turn Fault =
-    λ k c b. (let setting : Setting S = record { config = c; next = s.next; answers = s.answers; begin = b } in running_effect setting k node.replica.records node.replica.running input) in
-    ap (turn_done_if (part_of node.replica)) (sym (λ i. at (set_up.me_is i) (set_up.config i) (set_up.begin i)) ∙ effect)
+    let at : ℕ → Config → Result Turn Fault =
+    λ k c. (let setting : Setting S = record { config = c; next = s.next; answers = s.answers; begin = node.replica.begin } in running_effect setting k node.replica.records node.replica.running input) in
+    ap (turn_done_if (part_of node.replica)) (sym (effect_alike s.config s.next s.answers node.replica.begin s.begin set_up.begin me node.replica.records node.replica.running input) ∙ sym (λ i. at (set_up.me_is i) (set_up.config i)) ∙ effect)
 
 -- ---- the bytes of an answer
 

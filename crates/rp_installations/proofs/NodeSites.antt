@@ -30,6 +30,7 @@ use Rattle.rp_pending.proofs.Stepping.{steps_stay, one_more, leads_on, stands_st
 use Rattle.rp_pending.proofs.Stopping.{Fronts, fronts, taken_front, texts_after, torn_after, stopped}
 use Rattle.rp_installations.specs.Sites.{StepPackets, NodeSite, closed_over}
 use Rattle.rp_installations.specs.Moves.{IsPacketIn, all_given, with_step, Appends, Syncs, Closes, HandsOn, OpensSite, OpensFrom, AnswersBy}
+use Rattle.rp_installations.specs.Starts.{AnswerAlike}
 use Rattle.rp_installations.specs.Behind.{AreTextsSent, IsSetUp, IsOpenOver, IsClosedOver, IsNodeOver, IsOpen, IsClosed, packets_of}
 use Rattle.rp_installations.proofs.NodeAnswers.{effect_on_part}
 use Rattle.rp_installations.proofs.Pieces.{steps_more, after_append, bytes_append, packets_append, FoundStep, found_step, packets_sent, sent_later, same_messages, each_packet, taken_drop, all_pass}
@@ -305,26 +306,27 @@ module _ {S : Type 0} (s : Setting S) (ranged : (events : List Event) (w : World
     pub leads : GoesOnTo s events w me reached
     pub over : IsOpenOver s leads.world.sent me reached after
 
-  pub opens : (image : S → List ℕ) (c : IsClosedOver part site) (after : NodeSite S) → OpensSite s.config.nodes (OpensFrom s.config s.begin) (AnswersBy s.next s.answers image) me site after → OpenedAfter after
+  pub opens : (image : S → List ℕ) (c : IsClosedOver part site) (after : NodeSite S) → OpensSite s.config.nodes (OpensFrom s.next s.answers image s.config s.begin) (AnswersBy s.next s.answers image) me site after → OpenedAfter after
   opens image c after h =
       let node = h.node in
-      let o = h.opens.opens in
+      let from = h.opens.opens in
+      let o = from.opens in
       let found = o.opened.found in
-      let same = same_reading h.opens.disk.contents c.torn found.0 part.records o.all (subst (λ (l : List ℕ). AreRecordsOf l part.records c.torn) (sym h.opens.holds) c.records) found.1 in
+      let same = same_reading from.disk.contents c.torn found.0 part.records o.all (subst (λ (l : List ℕ). AreRecordsOf l part.records c.torn) (sym from.holds) c.records) found.1 in
       let in_log : records_in_log s.config.max_positions part.records ≡ part.records =
       all_pass (is_in_log s.config.max_positions) part.records (history_in_log s events w history part (part_has w.nodes me part here)) in
       let bytes = node.replica.disk.contents in
       let records : node.replica.records ≡ part.records = ap (λ (r : ReplicaState S). r.records) o.starts ∙ ap (records_in_log s.config.max_positions) (sym same.0) ∙ in_log in
       let running : node.replica.running ≡ fresh_running = ap (λ (r : ReplicaState S). r.running) o.starts in
       let leads = restarts_then (stops_first part.running refl) in
-      let front : take h.kept site.synced ≡ bytes = ap (λ (n : ℕ). take n site.synced) h.opens.kept_is ∙ ap (λ (l : List ℕ). take (length bytes) l) (sym h.opens.holds ∙ o.opened.contents) ∙ taken_front bytes found.0 in
+      let front : take h.kept site.synced ≡ bytes = ap (λ (n : ℕ). take n site.synced) from.kept_is ∙ ap (λ (l : List ℕ). take (length bytes) l) (sym from.holds ∙ o.opened.contents) ∙ taken_front bytes found.0 in
       record {
         reached = (restart_part (stop_part part)).part;
         leads = leads;
         over = subst (IsOpenOver s leads.world.sent me (restart_part (stop_part part)).part) (sym h.goes) (record {
           node = node;
           kept = refl;
-          set_up = record { me_is = ap (λ (r : ReplicaState S). r.me) o.starts; config = ap (λ (r : ReplicaState S). r.config) o.starts; begin = ap (λ (r : ReplicaState S). r.begin) o.starts };
+          set_up = record { me_is = ap (λ (r : ReplicaState S). r.me) o.starts; config = ap (λ (r : ReplicaState S). r.config) o.starts; begin = subst (λ (b : S). AnswerAlike s.next s.answers b s.begin) (sym (ap (λ (r : ReplicaState S). r.begin) o.starts)) h.opens.alike.answer };
           untorn = refl;
           bytes = bytes;
           records = subst (λ (rs : List Rec). AreTextsOf rs bytes) (sym same.0) (alone bytes o.all o.opened.kept);

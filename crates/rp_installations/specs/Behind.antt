@@ -18,6 +18,7 @@ use Rattle.rp_requests.specs.Nodes.{NodeState}
 use Rattle.rp_tasks.specs.Calls.{Calls}
 use Rattle.rp_installations.specs.Sites.{StepPackets, NodeSite, TaskSite, Installation, closed_over}
 use Rattle.rp_installations.specs.Moves.{all_given}
+use Rattle.rp_installations.specs.Starts.{AnswerAlike}
 
 -- where the device ends once it has the bytes of a step, if it had n before
 abbrev pub end_after : ℕ → PendingStep → ℕ
@@ -36,11 +37,11 @@ pub record AreTextsSent (sent : List Message) (texts : List ℕ) : Type 0 where
   pub joined : texts ≡ texts_of messages
   pub all : (m : Message) → Has m messages → Has m sent
 
--- the node runs in this setting, under this number
+-- the node runs in this setting, under this number, from a start that answers alike
 pub record IsSetUp {S : Type 0} (s : Setting S) (me : ℕ) (node : NodeState S) : Type 0 where
   pub me_is : node.replica.me ≡ me
   pub config : node.replica.config ≡ s.config
-  pub begin : node.replica.begin ≡ s.begin
+  pub begin : AnswerAlike s.next s.answers node.replica.begin s.begin
 
 -- An open node. The world's records of it are synced, at the front of its device; its pending steps
 -- lead from its part in the world to what its handle keeps, and gave what is after these records;

@@ -1,3 +1,4 @@
+pub mod Starts
 pub mod Sites
 pub mod Moves
 pub mod Behind

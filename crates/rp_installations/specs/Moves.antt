@@ -23,6 +23,7 @@ use Rattle.rp_requests.specs.declared.buffer.Lengths.{Lengths}
 use Rattle.rp_requests.specs.declared.refusal.Refusal.{Refusal}
 use Rattle.rp_requests.specs.declared.refusal.Refusal.TheVariants.{LongAnswer}
 use Rattle.rp_tasks.specs.Calls.{Calls, no_calls}
+use Rattle.rp_installations.specs.Starts.{BehaveAlike}
 use Rattle.rp_installations.specs.Sites.{StepPackets, NodeSite, TaskSite, Installation, closed_over}
 use Rattle.rp_installations.specs.Sites.{nothing_opened}
 
@@ -240,10 +241,14 @@ module _ {S : Type 0} (nodes : ℕ) (Opens : ℕ → List ℕ → NodeState S �
 
 -- ---- nodes of a machine
 
--- a node is opened in this configuration, at the start of the machine
-abbrev pub OpensFrom : {S : Type 0} → Config → S → ℕ → List ℕ → NodeState S → ℕ → ℕ → Type 0
-OpensFrom config begin me bytes node records kept =
-    IsOpenedNode me config begin bytes node records kept
+-- A node is opened in this configuration, at a start that behaves as the machine's: two readings of
+-- one text may give values that differ in memory.
+pub record OpensFrom {S : Type 0} (next : S → Action → S) (answers : S → Action → List Answer)
+    (image : S → List ℕ) (config : Config) (begin : S) (me : ℕ) (bytes : List ℕ)
+    (node : NodeState S) (records kept : ℕ) : Type 0 where
+  pub start : S
+  pub alike : BehaveAlike next answers image start begin
+  pub opens : IsOpenedNode me config start bytes node records kept
 
 -- it answers by the machine
 abbrev pub AnswersBy : {S : Type 0} → (S → Action → S) → (S → Action → List Answer) → (S → List ℕ)
@@ -257,7 +262,8 @@ module _ {S : Type 0} (next : S → Action → S) (answers : S → Action → Li
   -- Moves of nodes of this machine lead from the one to the other.
   abbrev pub MachineMoves : Installation S → List (Installation S) → Installation S → Type 0
   MachineMoves =
-      Moves config.nodes (OpensFrom config begin) (AnswersBy next answers image)
+      Moves config.nodes (OpensFrom next answers image config begin)
+      (AnswersBy next answers image)
 
   -- They lead there from the state in which nothing was opened.
   abbrev pub IsInstallation : List (Installation S) → Installation S → Type 0

@@ -1,7 +1,9 @@
 use Rattle.rp_agreement.specs.Answered.{setting_for}
 use Rattle.rp_installations.proofs.Following.{from_nothing, moves_on}
 use Rattle.rp_installations.proofs.Agreeing.{agree_later}
+use Rattle.rp_installations.proofs.Opened.{moves_keep, none_yet}
 use Rattle.rp_installations.proofs.Ordering.{order_now}
+use Rattle.rp_installations.specs.Sites.{nothing_opened}
 use Rattle.rp_installations.proofs.laws.installations_are_histories.Goals as goal
 
 pub returns-clause-history : goal.returns-clause-history
@@ -21,7 +23,8 @@ returns-clause-agree g c = λ config program moves more now later x y site other
     let m = g.M.Machine in
     let s = setting_for m.next m.answers m.begin config program in
     let ranged = c.histories_keep_ranges.ensures config program in
-    agree_later s ranged m.image (c.histories_are_ordered.ensures.agree config program) now (from_nothing s ranged m.image right moves now first) more later all x y site other_site one other kept other_kept synced
+    agree_later s ranged m.image (c.histories_are_ordered.ensures.agree config program) now (from_nothing s ranged m.image right moves now first)
+    (moves_keep m.next m.answers m.image config (m.begin program) (nothing_opened config.nodes) moves now (none_yet m.next m.answers m.image config (m.begin program)) first) more later all x y site other_site one other kept other_kept synced
 
 pub returns-clause-ordered : goal.returns-clause-ordered
 returns-clause-ordered g c = λ config program moves now right all.

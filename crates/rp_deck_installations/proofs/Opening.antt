@@ -1,10 +1,14 @@
 -- Moves by handle are moves of nodes of protected objects.
-use Rattle.std.proofs.Common.{◌≡◌, ℕ, Option, Some, None, List, [], ◌∷◌, refl, sym, ap, subst, ◌∙◌}
+use Rattle.std.proofs.Common.{◌≡◌, ℕ, Option, Some, None, Result, Ok, Err, List, [], ◌∷◌, refl, sym, ap, subst, ◌∙◌}
 use Rattle.std.specs.Arc.{arc_value}
 use Rattle.rp_base.specs.declared.config.Config.{Config}
 use Rattle.rp_deck.specs.declared.deck.Deck.{Deck}
-use Rattle.rp_deck_declarations.specs.declared.deck_program.DeckProgram.{DeckProgram}
-use Rattle.rp_deck_declarations.specs.declared.deck_program.DeckProgram.TheVariants.{Objects}
+use Rattle.rp_deck.specs.DeckViews.{deck_text}
+use Rattle.rp_deck.specs.Meaning.{DeckText}
+use Rattle.rp_deck_readings.specs.Readings.{IsDeckOfObjects}
+use Rattle.rp_handles.specs.DeckNodes.{MeansDeck}
+use Rattle.rp_words.specs.LineFaults.{BadLine}
+use Rattle.rp_installations.specs.Starts.{BehaveAlike}
 use Rattle.rp_object.specs.Image.{objects_image}
 use Rattle.rp_object.specs.State.{Running, first_state}
 use Rattle.rp_object.specs.Step.{objects_next, objects_answers}
@@ -16,22 +20,32 @@ use Rattle.rp_installations.specs.Moves as moves
 use Rattle.rp_installations.specs.Sites.{Installation, NodeSite}
 use Rattle.rp_deck_installations.specs.HandleMoves.{IsDeckOf, OpensByHandle, AnswersByHandle, HandleMoves}
 
-same_program : (one other : Program) → Objects one ≡ Objects other → one ≡ other
-same_program one other e = cc
+-- Two decks that the text means have one meaning.
+same_meaning : (text : List ℕ) (one other : Deck) → MeansDeck text one → MeansDeck text other → deck_text one ≡ deck_text other
+same_meaning text one other is other_is = ap (meant (deck_text one)) (sym is.meaning ∙ other_is.meaning)
+  where
+    meant : DeckText → Result DeckText BadLine → DeckText
+    meant none (Ok deck) = deck
+    meant none (Err bad) = none
 
-module _ (text : List ℕ) (deck : Deck) (program : Program) (is : IsDeckOf text deck program) where
+module _ (text : List ℕ) (deck : Deck) (program : Program) (is : IsDeckOf text deck program)
+    (configs : (one other : Deck) → deck_text one ≡ deck_text other → one.config ≡ other.config)
+    (behave : (one other : Deck) (p q : Program) → deck_text one ≡ deck_text other → IsDeckOfObjects one p → IsDeckOfObjects other q → BehaveAlike objects_next objects_answers objects_image (first_state (arc_value p.declarations)) (first_state (arc_value q.declarations))) where
   abbrev start : Running
   start = first_state (arc_value program.declarations)
 
-  opens_so : (me : ℕ) (bytes : List ℕ) (node : NodeState Running) (records kept : ℕ) → OpensByHandle text deck me bytes node records kept → IsOpenedNode me deck.config start bytes node records kept
-  opens_so me bytes node records kept o =
-      let k = o.keeps in
-      let same : k.program ≡ program = same_program k.program program (sym k.objects ∙ ap (λ (d : Deck). d.program) o.same_deck ∙ is.objects) in
-      let P : Config → Program → Type 0 = λ c p. IsOpenedNode me c (first_state (arc_value p.declarations)) bytes node records kept in
-      subst (λ (c : Config). P c program) (ap (λ (d : Deck). d.config) o.same_deck) (subst (P k.deck.config) same k.opens)
+  opens_so : (me : ℕ) (bytes : List ℕ) (node : NodeState Running) (records kept : ℕ) → OpensByHandle text me bytes node records kept → OpensFrom objects_next objects_answers objects_image deck.config start me bytes node records kept
+  opens_so me bytes node records kept k =
+      let same = same_meaning text k.deck deck k.means is.means in
+      let from : Running = first_state (arc_value k.program.declarations) in
+      record {
+        start = from;
+        alike = behave k.deck deck k.program program same (record { right = k.means.right; objects = k.objects }) (record { right = is.means.right; objects = is.objects });
+        opens = subst (λ (c : Config). IsOpenedNode me c from bytes node records kept) (configs k.deck deck same) k.opens;
+      }
 
-  node_so : (packets : List (List ℕ)) (me : ℕ) (before after : NodeSite Running) (given : List (List ℕ)) → NodeMove deck.config.nodes (OpensByHandle text deck) AnswersByHandle packets me before after given
-      → NodeMove deck.config.nodes (OpensFrom deck.config start) (AnswersBy objects_next objects_answers objects_image) packets me before after given
+  node_so : (packets : List (List ℕ)) (me : ℕ) (before after : NodeSite Running) (given : List (List ℕ)) → NodeMove deck.config.nodes (OpensByHandle text) AnswersByHandle packets me before after given
+      → NodeMove deck.config.nodes (OpensFrom objects_next objects_answers objects_image deck.config start) (AnswersBy objects_next objects_answers objects_image) packets me before after given
   node_so packets me before after given (moves.NodeMove.Opened h none) = moves.NodeMove.Opened (record {
     closed = h.closed;
     node = h.node;
@@ -55,7 +69,7 @@ module _ (text : List ℕ) (deck : Deck) (program : Program) (is : IsDeckOf text
   node_so packets me before after given (moves.NodeMove.HandedOn packet h same gives) = moves.NodeMove.HandedOn packet h same gives
   node_so packets me before after given (moves.NodeMove.Closed c none) = moves.NodeMove.Closed c none
 
-  move_so : (before after : Installation Running) → Move deck.config.nodes (OpensByHandle text deck) AnswersByHandle before after → Move deck.config.nodes (OpensFrom deck.config start) (AnswersBy objects_next objects_answers objects_image) before after
+  move_so : (before after : Installation Running) → Move deck.config.nodes (OpensByHandle text) AnswersByHandle before after → Move deck.config.nodes (OpensFrom objects_next objects_answers objects_image deck.config start) (AnswersBy objects_next objects_answers objects_image) before after
   move_so before after (moves.Move.OfNode me site changed given here move goes) = moves.Move.OfNode me site changed given here (node_so before.handed_on me site changed given move) goes
   move_so before after (moves.Move.OfTask t site changed given here move goes) = moves.Move.OfTask t site changed given here move goes
 

@@ -18,11 +18,9 @@ pub record IsDeckOf (text : List ℕ) (deck : Deck) (program : Program) : Type 0
   pub objects : deck.program ≡ Objects program
 
 -- A handle keeps the node of this number of the deck that the text means, opened over these bytes.
--- The deck that was read is this one: no clause says that two readings of one text give one value.
-pub record OpensByHandle (text : List ℕ) (deck : Deck) (number : ℕ) (bytes : List ℕ)
-    (node : NodeState Running) (records kept : ℕ) : Type 0 where
-  pub keeps : KeepsNode text number bytes (Some (Node node)) records kept
-  pub same_deck : keeps.deck ≡ deck
+abbrev pub OpensByHandle : List ℕ → ℕ → List ℕ → NodeState Running → ℕ → ℕ → Type 0
+OpensByHandle text number bytes node records kept =
+    KeepsNode text number bytes (Some (Node node)) records kept
 
 -- The answer to a call by the handle that keeps the node.
 abbrev pub AnswersByHandle : AnsweredRequest → NodeState Running → NodeState Running → Type 0
@@ -36,7 +34,7 @@ abbrev pub HandleMoves : List ℕ → Deck → Installation Running → List (In
     → Installation Running
     → Type 0
 HandleMoves text deck before moves after =
-    Moves deck.config.nodes (OpensByHandle text deck) AnswersByHandle before moves after
+    Moves deck.config.nodes (OpensByHandle text) AnswersByHandle before moves after
 
 -- They lead there from the state in which nothing was opened.
 abbrev pub IsHandleInstallation : List ℕ → Deck → List (Installation Running)

@@ -15,12 +15,14 @@ ghost use Rattle.rp_installations.specs.Sites.{Installation, NodeSite};
 ghost use Rattle.rp_deck_installations.specs.HandleMoves.{HandleMoves, IsDeckOf};
 ghost use Rattle.rp_deck_installations.specs.HandleMoves.{IsHandleInstallation};
 
+use rp_deck_readings::decks_of_one_meaning_behave_alike;
 use rp_installations::installations_are_histories;
 use rp_object::Objects;
 
 /// Whatever callers do with the handles of the nodes of a deck of protected objects and of tasks,
 /// by the rules for devices and packets, is a history of the model. So nodes by handle agree, and
-/// the replies that tasks by handle return are those of one order.
+/// the replies that tasks by handle return are those of one order. The deck may be read anew at each
+/// opening: what is read means the same.
 pub fn handles_agree()
     // claim: What callers do with the handles of a deck's nodes and of tasks, by the rules for
     //   devices and packets, is a history of right events
@@ -52,4 +54,5 @@ pub fn handles_agree()
         → HasOrder setting now }
 {
     installations_are_histories::<Objects>();
+    decks_of_one_meaning_behave_alike();
 }

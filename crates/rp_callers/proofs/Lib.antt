@@ -1,0 +1,4 @@
+pub mod Moving
+pub mod Packets
+pub mod Deeds
+pub mod Plays

@@ -1,0 +1,18 @@
+//! No rule for the callers of nodes by handle can be left out, and the rules can be kept.
+
+ghost use Rattle.rp_callers.specs.Breaches.{TwoDiffer, HandsOnUnsynced, GetsForgedPacket, GetsOtherDevice};
+
+use rp_request_texts::node_requests_are_read_back;
+
+/// For each of the three rules there are callers who keep the other two, and after whose moves two
+/// nodes have applied different actions.
+pub fn no_rule_can_be_left_out()
+    // claim (devices): If packets are handed on before the sync, two nodes may come to differ
+    ensures devices { TwoDiffer HandsOnUnsynced }
+    // claim (packets): If packets come that nobody sent, two nodes may come to differ
+    ensures packets { TwoDiffer GetsForgedPacket }
+    // claim (handles): If a node is opened over another node's device, two nodes may come to differ
+    ensures handles { TwoDiffer GetsOtherDevice }
+{
+    node_requests_are_read_back();
+}

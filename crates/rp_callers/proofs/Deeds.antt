@@ -1,12 +1,17 @@
 -- Deeds of callers as data: what each leads to is computed, and a test says whether it is a move.
-use Rattle.std.proofs.Common.{◌≡◌, ℕ, zero, suc, ◌+◌, ◌<◌, ◌≤◌, ℤ, Bool, true, false, ◌&&◌, Option, Some, None, Result, Ok, Err, List, [], ◌∷◌, ◌++◌, length, inl, inr, refl, sym, ap, subst, ◌∙◌, is_some, is_none, is_ok, IsSome, nat_eq, nat_le, slice_get, arith}
+use Rattle.std.proofs.Common.{◌≡◌, ℕ, zero, suc, ◌+◌, ◌<◌, ◌≤◌, ℤ, Bool, true, false, ◌&&◌, Option, Some, None, Result, Ok, Err, List, [], ◌∷◌, ◌++◌, length, inl, inr, refl, sym, ap, subst, ◌∙◌, is_some, is_none, is_ok, IsSome, nat_eq, nat_le, nat_lt, slice_get, arith}
 use Rattle.std.specs.Prelude.{unwrap_or}
 use Rattle.std.specs.List.{AllByRecursion}
 use Rattle.std.proofs.lemmas.Bool.{and_parts, eqb-true}
 use Rattle.rp_base.specs.Sets.{Has}
 use Rattle.rp_base.specs.declared.fault.Fault.{Fault}
 use Rattle.rp_codec.specs.Message.{Message, IsPacket}
-use Rattle.rp_codec.specs.Text.{text_of}
+use Rattle.rp_base.specs.Calls.{next_call}
+use Rattle.rp_base.specs.declared.action.Action.{Action}
+use Rattle.rp_base.specs.declared.action.Operation.{Operation}
+use Rattle.rp_base.specs.declared.reply.Reply.{Reply}
+use Rattle.rp_base.specs.declared.reply.Reply.TheVariants.{ConstraintError}
+use Rattle.rp_codec.specs.Text.{text_of, reply_text}
 use Rattle.rp_machine.specs.TallyRule.{tally_next, tally_answers}
 use Rattle.rp_model.specs.Effect.{NodeInput}
 use Rattle.rp_model.specs.Effect as inputs
@@ -15,14 +20,17 @@ use Rattle.rp_model.specs.Says.{notes}
 use Rattle.rp_model.specs.World.{part_at}
 use Rattle.rp_outbox.specs.Packets.{texts_of}
 use Rattle.rp_replica.specs.Inputs.{effect_if_given}
-use Rattle.rp_request_texts.specs.Texts.{step_text, FitsStep}
+use Rattle.rp_request_texts.specs.Texts.{step_text, FitsStep, task_request_text, FitsTaskRequest}
+use Rattle.rp_requests.specs.TaskRequests.{TaskAsked, MakeCall, TakePacket, task_asked_of}
+use Rattle.rp_requests.specs.Tasks.{call_packet, reply_taken}
+use Rattle.rp_tasks.specs.Calls.{Calls, no_calls, refusal_of, with_call, with_reply}
 use Rattle.rp_requests.specs.Nodes.{NodeState, after_step, step_bytes}
 use Rattle.rp_requests.specs.Requests.{Asked, Step, asked_of}
 use Rattle.rp_installations.specs.Moves.{with_step}
-use Rattle.rp_installations.specs.Sites.{StepPackets, NodeSite, closed_over}
+use Rattle.rp_installations.specs.Sites.{StepPackets, NodeSite, TaskSite, closed_over, unopened_task}
 use Rattle.rp_agreement.proofs.PartPlaces.{put_there}
 use Rattle.rp_callers.specs.Breaches.{Callers, MoveOr, MovesOr}
-use Rattle.rp_callers.proofs.Moving.{are_bytes, CameFrom, fresh, with_node, handed, appended_site, synced_site, opens, steps, appends, syncs, hands, closes}
+use Rattle.rp_callers.proofs.Moving.{are_bytes, CameFrom, fresh, with_node, handed, appended_site, synced_site, opens, steps, appends, syncs, hands, closes, with_task, opens_task, calls, takes}
 
 -- ---- tests
 
@@ -103,6 +111,27 @@ step_at site k = unwrap_or (slice_get site.step_packets k) no_packets
 abbrev is_open : Callers → ℕ → Bool
 is_open i me = is_some (part_at i.nodes me) && is_some (site_at i me).node
 
+abbrev pub task_at : Callers → ℕ → TaskSite
+task_at i t = unwrap_or (part_at i.tasks t) unopened_task
+
+abbrev pub calls_at : Callers → ℕ → Calls
+calls_at i t = unwrap_or (task_at i t).task (no_calls t)
+
+abbrev is_open_task : Callers → ℕ → Bool
+is_open_task i t = is_some (part_at i.tasks t) && is_some (task_at i t).task
+
+open_task_parts : (i : Callers) (t : ℕ) → is_open_task i t ≡ true → (part_at i.tasks t ≡ Some (task_at i t)) × ((task_at i t).task ≡ Some (calls_at i t))
+open_task_parts i t e =
+    let both = and_parts (is_some (part_at i.tasks t)) (is_some (task_at i t).task) e in
+    (some_is (part_at i.tasks t) unopened_task both.0, some_is (task_at i t).task (no_calls t) both.1)
+
+-- the call that a task makes, and the reply that it takes
+abbrev call_at : Callers → ℕ → ℕ → Operation → ℤ → Action
+call_at i t object operation arg = next_call (calls_at i t).task (calls_at i t).made object operation arg
+
+abbrev reply_at : Callers → ℕ → Message → Reply
+reply_at i t message = unwrap_or (reply_taken (calls_at i t) message) ConstraintError
+
 abbrev is_empty : NodeSite (List ℤ) → Bool
 is_empty site = is_none site.node && (is_nil site.synced && (is_nil site.appended && (is_nil site.given && is_nil site.step_packets)))
 
@@ -134,13 +163,16 @@ came_is i (inputs.NodeInput.Report first) k e = tt
 
 -- A node is opened over an empty device; is asked for a step, where a packet is the one that was handed on at this place; has all
 -- appended and synced that its steps gave; hands on one of the packets of the step of this place; is closed, and keeps what was
--- synced; or a rule is broken.
+-- synced. A task is opened; makes a call, through a node; takes the reply in the packet that was handed on at this place. Or a rule is broken.
 pub data Deed (B : Type 0) : Type 0 where
   Open : (me : ℕ) → Deed B
   Take : (me : ℕ) (input : NodeInput) (place : ℕ) → Deed B
   Keep : (me : ℕ) → Deed B
   Hand : (me place : ℕ) (messages : List Message) (message : Message) → Deed B
   Close : (me : ℕ) → Deed B
+  OpenTask : (task : ℕ) → Deed B
+  MakesCall : (task node object : ℕ) (operation : Operation) (arg : ℤ) → Deed B
+  TakeReply : (task : ℕ) (message : Message) (place : ℕ) → Deed B
   Break : B → Deed B
 
 module _ (Breaks : Callers → Callers → Type 0) (B : Type 0) (breaks_to : B → Callers → Callers) (may_break : B → Callers → Bool) (FitsBreach : B → Type 0)
@@ -151,6 +183,10 @@ module _ (Breaks : Callers → Callers → Type 0) (B : Type 0) (breaks_to : B �
   does (Keep me) i = with_node (with_node i me (appended_site (site_at i me))) me (synced_site (appended_site (site_at i me)))
   does (Hand me place messages message) i = handed i me (site_at i me) (text_of message)
   does (Close me) i = with_node i me (closed_over ((site_at i me).synced ++ []))
+  does (OpenTask t) i = with_task i t (record (task_at i t) { task = Some (no_calls t) }) []
+  does (MakesCall t node object operation arg) i =
+      with_task i t (record { task = Some (with_call (calls_at i t) (call_at i t object operation arg)); replies = (task_at i t).replies ++ [] }) (text_of (call_packet (calls_at i t).task node (call_at i t object operation arg)) ∷ [])
+  does (TakeReply t message place) i = with_task i t (record { task = Some (with_reply (calls_at i t)); replies = (task_at i t).replies ++ reply_text (reply_at i t message) ∷ [] }) []
   does (Break b) i = breaks_to b i
 
   -- whether it is a move
@@ -161,6 +197,11 @@ module _ (Breaks : Callers → Callers → Type 0) (B : Type 0) (breaks_to : B �
   may (Hand me place messages message) i =
       is_open i me && (is_some (slice_get (site_at i me).step_packets place) && (nat_le (step_at (site_at i me) place).end (length (site_at i me).synced) && same_bytes (step_at (site_at i me) place).texts (texts_of messages)))
   may (Close me) i = is_open i me
+  may (OpenTask t) i = is_some (part_at i.tasks t) && is_none (task_at i t).task
+  may (MakesCall t node object operation arg) i =
+      is_open_task i t && (are_bytes (task_request_text (MakeCall node object operation arg)) && (is_none (refusal_of (calls_at i t)) && nat_lt 0 (length (text_of (call_packet (calls_at i t).task node (call_at i t object operation arg))))))
+  may (TakeReply t message place) i =
+      is_open_task i t && (are_bytes (task_request_text (TakePacket (text_of message))) && (is_at i.handed_on place (text_of message) && (is_some (reply_taken (calls_at i t) message) && nat_lt 0 (length (reply_text (reply_at i t message))))))
   may (Break b) i = may_break b i
 
   abbrev pub Fits : Deed B → Type 0
@@ -169,6 +210,9 @@ module _ (Breaks : Callers → Callers → Type 0) (B : Type 0) (breaks_to : B �
   Fits (Keep me) = Unit {0}
   Fits (Hand me place messages message) = AllByRecursion IsPacket messages × Has message messages
   Fits (Close me) = Unit {0}
+  Fits (OpenTask t) = Unit {0}
+  Fits (MakesCall t node object operation arg) = FitsTaskRequest (MakeCall node object operation arg) × (node ≤ 3)
+  Fits (TakeReply t message place) = IsPacket message
   Fits (Break b) = FitsBreach b
 
   abbrev pub plays : List (Deed B) → Callers → Callers
@@ -207,7 +251,8 @@ module _ (Breaks : Callers → Callers → Type 0) (B : Type 0) (breaks_to : B �
   on : (i j k : Callers) → Leads i j → Leads j k → Leads i k
   on i j k first second = (first.0 ++ second.0, joined i j k first.0 second.0 first.1 second.1)
 
-  module _ (buffer : List ℕ) (room : step_bytes ≤ length buffer) (reads : (input : NodeInput) → FitsStep input → asked_of (step_text input) ≡ Some (Step (Ok input))) where
+  module _ (buffer : List ℕ) (room : step_bytes ≤ length buffer) (reads : (input : NodeInput) → FitsStep input → asked_of (step_text input) ≡ Some (Step (Ok input)))
+      (reads_task : (request : TaskAsked) → FitsTaskRequest request → task_asked_of (task_request_text request) ≡ Some request) where
     deed_leads : (deed : Deed B) (i : Callers) → Fits deed → may deed i ≡ true → Leads i (does deed i)
     deed_leads (Open me) i fits e =
         let both = and_parts (is_some (part_at i.nodes me)) (is_empty (site_at i me)) e in
@@ -233,6 +278,25 @@ module _ (Breaks : Callers → Callers → Type 0) (B : Type 0) (breaks_to : B �
         one i _ (hands Breaks i me s (step_at s place) messages message here.0 (has_at s.step_packets place (step_at s place) (some_is (slice_get s.step_packets place) no_packets b.0)) c.0
         (same_is (step_at s place).texts (texts_of messages) c.1) fits.0 fits.1)
     deed_leads (Close me) i fits e = let here = open_parts i me e in one i _ (closes Breaks i me (site_at i me) here.0 here.2)
+    deed_leads (OpenTask t) i fits e =
+        let both = and_parts (is_some (part_at i.tasks t)) (is_none (task_at i t).task) e in
+        one i _ (opens_task Breaks i t (task_at i t) (some_is (part_at i.tasks t) unopened_task both.0) (none_is (task_at i t).task both.1))
+    deed_leads (MakesCall t node object operation arg) i fits e =
+        let text = text_of (call_packet (calls_at i t).task node (call_at i t object operation arg)) in
+        let a = and_parts (is_open_task i t) (are_bytes (task_request_text (MakeCall node object operation arg)) && (is_none (refusal_of (calls_at i t)) && nat_lt 0 (length text))) e in
+        let b = and_parts (are_bytes (task_request_text (MakeCall node object operation arg))) (is_none (refusal_of (calls_at i t)) && nat_lt 0 (length text)) a.1 in
+        let c = and_parts (is_none (refusal_of (calls_at i t))) (nat_lt 0 (length text)) b.1 in
+        let here = open_task_parts i t a.0 in
+        one i _ (calls Breaks buffer room reads_task i t (task_at i t) (calls_at i t) node object operation arg here.0 here.1 fits.0 b.0 fits.1 (none_is (refusal_of (calls_at i t)) c.0) c.1)
+    deed_leads (TakeReply t message place) i fits e =
+        let taken = reply_taken (calls_at i t) message in
+        let long = nat_lt 0 (length (reply_text (reply_at i t message))) in
+        let a = and_parts (is_open_task i t) (are_bytes (task_request_text (TakePacket (text_of message))) && (is_at i.handed_on place (text_of message) && (is_some taken && long))) e in
+        let b = and_parts (are_bytes (task_request_text (TakePacket (text_of message)))) (is_at i.handed_on place (text_of message) && (is_some taken && long)) a.1 in
+        let c = and_parts (is_at i.handed_on place (text_of message)) (is_some taken && long) b.1 in
+        let d = and_parts (is_some taken) long c.1 in
+        let here = open_task_parts i t a.0 in
+        one i _ (takes Breaks buffer room reads_task i t (task_at i t) (calls_at i t) message (reply_at i t message) here.0 here.1 fits b.0 (was_at i.handed_on place (text_of message) c.0) (some_is taken ConstraintError d.0) d.1)
     deed_leads (Break b) i fits e = one i _ (breach b i fits e)
 
     pub plays_lead : (deeds : List (Deed B)) (i : Callers) → AllFit deeds → all_may deeds i ≡ true → Leads i (plays deeds i)

@@ -1,4 +1,6 @@
+pub mod Buffer
 pub mod Moving
 pub mod Packets
 pub mod Deeds
 pub mod Plays
+pub mod Replied

@@ -1,12 +1,16 @@
 -- Moves of callers, each by what it needs.
-use Rattle.std.proofs.Common.{◌≡◌, ℕ, zero, suc, ◌+◌, ◌<◌, ◌≤◌, ◌^◌, ℤ, pos, Bool, true, false, Option, Some, None, Result, Ok, Err, List, [], ◌∷◌, ◌++◌, length, take, drop, replicate, inl, inr, refl, sym, ap, subst, ◌∙◌, is_some, IsSome, arith}
+use Rattle.std.proofs.Common.{cond, ◌≡◌, ℕ, zero, suc, ◌+◌, ◌<◌, ◌≤◌, ◌^◌, ℤ, pos, Bool, true, false, Option, Some, None, Result, Ok, Err, List, [], ◌∷◌, ◌++◌, length, take, drop, replicate, inl, inr, refl, sym, ap, subst, ◌∙◌, is_some, IsSome, arith}
 use Rattle.std.specs.Prelude.{nat_lt, nat_le}
 use Rattle.std.specs.List.{AllByRecursion, list_all}
 use Rattle.std.proofs.lemmas.Bool.{leb-true, ltb-true, and_parts}
 use Rattle.rp_base.specs.Sets.{Has}
 use Rattle.rp_base.specs.declared.fault.Fault.{Fault}
 use Rattle.rp_codec.specs.Message.{Message, IsPacket}
-use Rattle.rp_codec.specs.Text.{text_of}
+use Rattle.rp_base.specs.Calls.{next_call}
+use Rattle.rp_base.specs.declared.action.Operation.{Operation}
+use Rattle.rp_base.specs.declared.reply.Reply.{Reply}
+use Rattle.rp_codec.proofs.Decoded.{whole_again}
+use Rattle.rp_codec.specs.Text.{text_of, reply_text}
 use Rattle.rp_machine.specs.TallyRule.{tally_next, tally_answers, tally_image}
 use Rattle.rp_model.specs.Effect.{NodeInput}
 use Rattle.rp_model.specs.Effect as inputs
@@ -14,14 +18,18 @@ use Rattle.rp_model.specs.Parts.{Turn, fresh_running}
 use Rattle.rp_model.specs.World.{part_at, with_part}
 use Rattle.rp_outbox.specs.Packets.{texts_of}
 use Rattle.rp_replica.specs.Inputs.{effect_if_given}
-use Rattle.rp_request_texts.specs.Texts.{step_text, FitsStep}
+use Rattle.rp_request_texts.specs.Texts.{step_text, FitsStep, task_request_text, FitsTaskRequest}
+use Rattle.rp_requests.specs.Buffers.{IsPut}
+use Rattle.rp_requests.specs.TaskRequests.{TaskAsked, MakeCall, SendAgain, TakePacket, task_asked_of}
+use Rattle.rp_requests.specs.Tasks.{TaskAnswers, task_bytes, call_packet, reply_taken, once_taken, taken_text}
+use Rattle.rp_tasks.specs.Calls.{Calls, no_calls, refusal_of, with_call, with_reply}
 use Rattle.rp_requests.specs.Nodes.{NodeState, Answers, after_step, stored_by, step_bytes}
 use Rattle.rp_requests.specs.Requests.{Asked, Step, asked_of}
 use Rattle.rp_requests.specs.declared.buffer.Lengths.{Lengths}
 use Rattle.rp_requests.specs.declared.refusal.Refusal.{Refusal}
 use Rattle.rp_store.specs.Disk.{Disk, empty_disk}
 use Rattle.rp_store.proofs.Whole.{are_alone}
-use Rattle.rp_installations.specs.Moves.{AreBytes, IsPacketIn, WasHandedOn, node_receives_byte, AsksSite, HandsOn, is_step_made, with_step, site_answered, OpensFrom, AnswersBy, AnsweredRequest}
+use Rattle.rp_installations.specs.Moves.{AreBytes, IsPacketIn, WasHandedOn, node_receives_byte, AsksSite, AsksTask, IsThroughNode, task_receives_byte, answer_in, call_given, reply_given, HandsOn, is_step_made, with_step, site_answered, OpensFrom, AnswersBy, AnsweredRequest}
 use Rattle.rp_installations.specs.Moves as moves
 use Rattle.rp_installations.specs.Sites.{StepPackets, NodeSite, TaskSite, Installation, closed_over, nothing_opened}
 use Rattle.rp_callers.specs.Breaches.{Callers, three_nodes, one_sum, MoveOr, Keeps, Breaches, MovesOr, GetsForgedPacket, HandsOnUnsynced, GetsOtherDevice}
@@ -45,16 +53,18 @@ CameFrom packets (inputs.NodeInput.Interrupt source occurrence) = Unit {0}
 CameFrom packets (inputs.NodeInput.Tick now) = Unit {0}
 CameFrom packets (inputs.NodeInput.Report first) = Unit {0}
 
-rest_of : List ℕ → List ℕ
+abbrev rest_of : List ℕ → List ℕ
 rest_of [] = []
 rest_of (b ∷ rest) = rest
 
-first_of : List ℕ → ℕ
+rests : {b : ℕ} {p q : List ℕ} → b ∷ p ≡ b ∷ q → p ≡ q
+rests is = ap rest_of is
+
+abbrev first_of : List ℕ → ℕ
 first_of [] = 0
 first_of (b ∷ rest) = b
 
 came : (packets : List (List ℕ)) (input : NodeInput) → CameFrom packets input → WasHandedOn packets node_receives_byte (step_text input)
-unfolding rest_of first_of
 came packets (inputs.NodeInput.Receive message) has packet is = subst (λ (p : List ℕ). Has p packets) (ap rest_of is) has
 came packets (inputs.NodeInput.Lead None) none packet is = absurd (let e : 2 ≡ 1 = ap first_of is in omega (arith, e))
 came packets (inputs.NodeInput.Lead (Some position)) none packet is = absurd (let e : 2 ≡ 1 = ap first_of is in omega (arith, e))
@@ -187,6 +197,106 @@ module _ (Breaks : Callers → Callers → Type 0) where
 
   pub closes : (i : Callers) (me : ℕ) (site : NodeSite (List ℤ)) → part_at i.nodes me ≡ Some site → IsSome site.node → MoveOr Breaks i (with_node i me (closed_over (site.synced ++ [])))
   closes i me site here opened = Keeps (moves.Move.OfNode me site (closed_over (site.synced ++ [])) [] here (moves.NodeMove.Closed (record { opened = opened; kept = 0; goes = refl }) refl) refl)
+
+-- ---- tasks
+
+front_of : (front rest : List ℕ) → take (length front) (front ++ rest) ≡ front
+front_of [] rest = refl
+front_of (x ∷ front) rest = ap (λ (l : List ℕ). x ∷ l) (front_of front rest)
+
+abbrev pub with_task : Callers → ℕ → TaskSite → List (List ℕ) → Callers
+with_task i t site given = record { nodes = i.nodes; tasks = with_part i.tasks t site; handed_on = i.handed_on ++ given }
+
+-- the answer that has a text
+abbrev answered : List ℕ → List ℕ → List ℕ → AnsweredRequest
+answered request text buffer = record {
+  request = request;
+  before = buffer;
+  after = text ++ drop (length text) buffer;
+  result = Ok (record { stored = 0; used = length text });
+}
+
+answer_is : (request text buffer : List ℕ) → nat_lt 0 (length text) ≡ true → answer_in (answered request text buffer) (answered request text buffer).result ≡ text ∷ []
+answer_is request text buffer some =
+    ap (λ (b : Bool). cond {A = List (List ℕ)} b (take (length text) (text ++ drop (length text) buffer) ∷ []) []) some
+    ∙ ap (λ (l : List ℕ). l ∷ []) (front_of text (drop (length text) buffer))
+
+-- a request that brings no packet
+no_arrival : (packets : List (List ℕ)) (kind : ℕ) (operands : List ℕ) → ¬ (kind ≡ 3) → WasHandedOn packets task_receives_byte (kind ∷ operands)
+no_arrival packets kind operands other packet is = absurd (other (ap first_of is))
+
+module _ (Breaks : Callers → Callers → Type 0) where
+  pub opens_task : (i : Callers) (t : ℕ) (site : TaskSite) → part_at i.tasks t ≡ Some site → site.task ≡ None → MoveOr Breaks i (with_task i t (record site { task = Some (no_calls t) }) [])
+  opens_task i t site here once = Keeps (moves.Move.OfTask t site (record site { task = Some (no_calls t) }) [] here (moves.TaskMove.Opened (record { once = once; goes = refl }) refl) refl)
+
+  module _ (buffer : List ℕ) (room : step_bytes ≤ length buffer) (reads : (request : TaskAsked) → FitsTaskRequest request → task_asked_of (task_request_text request) ≡ Some request) where
+    room_for : task_bytes ≤ length buffer
+    room_for = omega (arith, room)
+
+    pub calls : (i : Callers) (t : ℕ) (site : TaskSite) (old : Calls) (node object : ℕ) (operation : Operation) (arg : ℤ) → part_at i.tasks t ≡ Some site → site.task ≡ Some old → FitsTaskRequest (MakeCall node object operation arg)
+        → are_bytes (task_request_text (MakeCall node object operation arg)) ≡ true → node ≤ 3 → refusal_of old ≡ None
+        → nat_lt 0 (length (text_of (call_packet old.task node (next_call old.task old.made object operation arg)))) ≡ true
+        → MoveOr Breaks i (with_task i t (record { task = Some (with_call old (next_call old.task old.made object operation arg)); replies = site.replies ++ [] }) (text_of (call_packet old.task node (next_call old.task old.made object operation arg)) ∷ []))
+    calls i t site old node object operation arg here opened fits bytes through free some =
+        let call = next_call old.task old.made object operation arg in
+        let text = text_of (call_packet old.task node call) in
+        let request = task_request_text (MakeCall node object operation arg) in
+        let exchange = answered request text buffer in
+        let new = with_call old call in
+        let changed : TaskSite = record { task = Some new; replies = site.replies ++ [] } in
+        let read = reads (MakeCall node object operation arg) fits in
+        let answer : TaskAnswers (Some (MakeCall node object operation arg)) old new buffer exchange.after exchange.result =
+        inr (room_for, record { may = free; goes = refl; put = record { front = refl; stored_is = refl; used_is = refl } }) in
+        let asks : AsksTask 3 i.handed_on site changed (text ∷ []) = record {
+          exchange = exchange;
+          old = old;
+          new = new;
+          opened = opened;
+          bytes = bytes_are request bytes;
+          arrived = no_arrival i.handed_on 1 (rest_of request) (λ is. omega (arith, is));
+          through = subst (IsThroughNode 3) (sym read) through;
+          answers = subst (λ (a : Option TaskAsked). TaskAnswers a old new buffer exchange.after exchange.result) (sym read) answer;
+          goes = ap (λ (a : Option TaskAsked). (let s : TaskSite = record { task = Some new; replies = site.replies ++ reply_given exchange a } in s)) (sym read);
+          gives = sym (ap (call_given exchange) read ∙ answer_is request text buffer some);
+        } in
+        Keeps (moves.Move.OfTask t site changed (text ∷ []) here (moves.TaskMove.Called asks) refl)
+
+    pub takes : (i : Callers) (t : ℕ) (site : TaskSite) (old : Calls) (message : Message) (reply : Reply) → part_at i.tasks t ≡ Some site → site.task ≡ Some old → IsPacket message → are_bytes (task_request_text (TakePacket (text_of message))) ≡ true
+        → Has (text_of message) i.handed_on → reply_taken old message ≡ Some reply → nat_lt 0 (length (reply_text reply)) ≡ true
+        → MoveOr Breaks i (with_task i t (record { task = Some (with_reply old); replies = site.replies ++ reply_text reply ∷ [] }) [])
+    takes i t site old message reply here opened packet bytes has taken some =
+        let text = reply_text reply in
+        let request = task_request_text (TakePacket (text_of message)) in
+        let exchange = answered request text buffer in
+        let new = with_reply old in
+        let changed : TaskSite = record { task = Some new; replies = site.replies ++ text ∷ [] } in
+        let read = reads (TakePacket (text_of message)) tt in
+        let answer : TaskAnswers (Some (TakePacket (text_of message))) old new buffer exchange.after exchange.result =
+        inr (
+          room_for,
+          record {
+            packet = message;
+            is = whole_again message packet;
+            goes = ap (once_taken old) (sym taken);
+            put = subst (λ (o : Option Reply). IsPut [] (taken_text o) buffer exchange.after (record { stored = 0; used = length text })) (sym taken) (record { front = refl; stored_is = refl; used_is = refl });
+          },
+        ) in
+        let asks : AsksTask 3 i.handed_on site changed [] = record {
+          exchange = exchange;
+          old = old;
+          new = new;
+          opened = opened;
+          bytes = bytes_are request bytes;
+          arrived = λ other is. subst (λ (p : List ℕ). Has p i.handed_on) (brought is) has;
+          through = subst (IsThroughNode 3) (sym read) tt;
+          answers = subst (λ (a : Option TaskAsked). TaskAnswers a old new buffer exchange.after exchange.result) (sym read) answer;
+          goes = ap (λ (l : List (List ℕ)). (let s : TaskSite = record { task = Some new; replies = site.replies ++ l } in s)) (sym (answer_is request text buffer some) ∙ ap (reply_given exchange) (sym read));
+          gives = ap (call_given exchange) (sym read);
+        } in
+        Keeps (moves.Move.OfTask t site changed [] here (moves.TaskMove.Called asks) refl)
+      where
+        brought : {p q : List ℕ} → 3 ∷ p ≡ 3 ∷ q → p ≡ q
+        brought is = rests is
 
 -- ---- moves that break a rule
 

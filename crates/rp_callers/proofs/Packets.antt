@@ -3,7 +3,7 @@ use Rattle.std.proofs.Common.{◌≡◌, ℕ, ◌<◌, ◌≤◌, ◌^◌, Optio
 use Rattle.std.specs.List.{AllByRecursion}
 use Rattle.rp_base.specs.Action.{IsRight}
 use Rattle.rp_base.specs.Ballot.{IsBallot}
-use Rattle.rp_base.specs.Number.{IsNode, IsPosition}
+use Rattle.rp_base.specs.Number.{IsNode, IsTask, IsPosition}
 use Rattle.rp_base.specs.declared.action.Action.{Action}
 use Rattle.rp_base.specs.declared.action.Action.TheVariants.{Noop, Interrupt}
 use Rattle.rp_codec.specs.Message.{Message, IsPacket}
@@ -18,6 +18,9 @@ node_2 = (omega arith, omega arith)
 
 pub node_3 : IsNode 3
 node_3 = (omega arith, omega arith)
+
+pub task_1 : IsTask 1
+task_1 = (omega arith, omega arith)
 
 -- the action that node 1 notes
 abbrev pub occurrence : Action

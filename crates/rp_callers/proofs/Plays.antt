@@ -16,7 +16,8 @@ use Rattle.rp_model.specs.Effect as inputs
 use Rattle.rp_model.specs.Says.{says, says_to_all, says_to_others}
 use Rattle.rp_model.specs.World.{part_at}
 use Rattle.rp_outbox.specs.Packets.{texts_of}
-use Rattle.rp_request_texts.specs.Texts.{step_text, FitsStep}
+use Rattle.rp_request_texts.specs.Texts.{step_text, FitsStep, task_request_text, FitsTaskRequest}
+use Rattle.rp_requests.specs.TaskRequests.{TaskAsked, task_asked_of}
 use Rattle.rp_requests.specs.Nodes.{NodeState, step_bytes}
 use Rattle.rp_requests.specs.Requests.{Asked, Step, asked_of}
 use Rattle.rp_installations.specs.Outcomes.{IsAllSynced, applied_by}
@@ -88,11 +89,12 @@ forged =
 abbrev after_forging : Callers
 after_forging = plays GetsForgedPacket (List ℕ) forged_to any_packet any_fits forging forged (nothing_opened 3)
 
-module _ (buffer : List ℕ) (room : step_bytes ≤ length buffer) (reads : (input : NodeInput) → FitsStep input → asked_of (step_text input) ≡ Some (Step (Ok input))) where
+module _ (buffer : List ℕ) (room : step_bytes ≤ length buffer) (reads : (input : NodeInput) → FitsStep input → asked_of (step_text input) ≡ Some (Step (Ok input)))
+    (reads_task : (request : TaskAsked) → FitsTaskRequest request → task_asked_of (task_request_text request) ≡ Some request) where
   pub forged_packets : TwoDiffer GetsForgedPacket
   unfolding number_text
   forged_packets =
-      let led = plays_lead GetsForgedPacket (List ℕ) forged_to any_packet any_fits forging buffer room reads forged (nothing_opened 3)
+      let led = plays_lead GetsForgedPacket (List ℕ) forged_to any_packet any_fits forging buffer room reads reads_task forged (nothing_opened 3)
       (tt, (tt, (tt, (tt, (decided_is 3 1 node_3 node_1 occurrence right_occurrence, (tt, (decided_is 3 2 node_3 node_2 Noop tt, (tt, tt)))))))) refl in
       differ GetsForgedPacket after_forging led.0 led.1 1 2
       (record { here = refl; opened = refl; appended = refl; given = refl; applied_is = refl })
@@ -174,13 +176,14 @@ exchanged =
 abbrev after_exchanged : Callers
 after_exchanged = plays GetsOtherDevice Exchange exchanged_to may_exchange exchange_fits exchanging exchanged (nothing_opened 3)
 
-module _ (buffer : List ℕ) (room : step_bytes ≤ length buffer) (reads : (input : NodeInput) → FitsStep input → asked_of (step_text input) ≡ Some (Step (Ok input))) where
+module _ (buffer : List ℕ) (room : step_bytes ≤ length buffer) (reads : (input : NodeInput) → FitsStep input → asked_of (step_text input) ≡ Some (Step (Ok input)))
+    (reads_task : (request : TaskAsked) → FitsTaskRequest request → task_asked_of (task_request_text request) ≡ Some request) where
   pub exchanged_device : TwoDiffer GetsOtherDevice
   unfolding number_text
   exchanged_device =
       let fits : AllFit GetsOtherDevice Exchange exchanged_to may_exchange exchange_fits exchanging exchanged =
       (tt, (tt, (right_occurrence, (position, (tt, ((all_prepare, inl refl), ((all_prepare, inr (inl refl)), (prepare_is 1 1 node_1 node_1, (tt, (((promise_is 1 1 node_1 node_1, tt), inl refl), (prepare_is 1 2 node_1 node_2, (tt, (((promise_is 2 1 node_2 node_1, tt), inl refl), (promise_is 1 1 node_1 node_1, (promise_is 2 1 node_2 node_1, ((all_accept occurrence right_occurrence, inl refl), ((all_accept occurrence right_occurrence, inr (inl refl)), (accept_is 1 1 node_1 node_1 occurrence right_occurrence, (tt, (((accepted_is 1 1 node_1 node_1 occurrence right_occurrence, tt), inl refl), (accept_is 1 2 node_1 node_2 occurrence right_occurrence, (tt, (((accepted_is 2 1 node_2 node_1 occurrence right_occurrence, tt), inl refl), (accepted_is 1 1 node_1 node_1 occurrence right_occurrence, (accepted_is 2 1 node_2 node_1 occurrence right_occurrence, (tt, ((others_decided occurrence right_occurrence, inl refl), (decided_is 1 2 node_1 node_2 occurrence right_occurrence, (tt, (tt, (tt, (tt, (tt, (position, (tt, (promise_is 1 1 node_1 node_1, (promise_is 2 1 node_2 node_1, ((all_accept Noop tt, inl refl), ((all_accept Noop tt, inr (inr (inl refl))), (accept_is 1 1 node_1 node_1 Noop tt, (tt, (((accepted_is 1 1 node_1 node_1 Noop tt, tt), inl refl), (accept_is 1 3 node_1 node_3 Noop tt, (tt, (((accepted_is 3 1 node_3 node_1 Noop tt, tt), inl refl), (accepted_is 1 1 node_1 node_1 Noop tt, (accepted_is 3 1 node_3 node_1 Noop tt, (tt, tt)))))))))))))))))))))))))))))))))))))))))))))))) in
-      let led = plays_lead GetsOtherDevice Exchange exchanged_to may_exchange exchange_fits exchanging buffer room reads exchanged (nothing_opened 3) fits refl in
+      let led = plays_lead GetsOtherDevice Exchange exchanged_to may_exchange exchange_fits exchanging buffer room reads reads_task exchanged (nothing_opened 3) fits refl in
       differ GetsOtherDevice after_exchanged led.0 led.1 2 1
       (record { here = refl; opened = refl; appended = refl; given = refl; applied_is = refl })
       (record { here = refl; opened = refl; appended = refl; given = refl; applied_is = refl })
@@ -260,13 +263,14 @@ early =
 abbrev after_early : Callers
 after_early = plays HandsOnUnsynced Early early_to may_be_early early_fits handing_early early (nothing_opened 3)
 
-module _ (buffer : List ℕ) (room : step_bytes ≤ length buffer) (reads : (input : NodeInput) → FitsStep input → asked_of (step_text input) ≡ Some (Step (Ok input))) where
+module _ (buffer : List ℕ) (room : step_bytes ≤ length buffer) (reads : (input : NodeInput) → FitsStep input → asked_of (step_text input) ≡ Some (Step (Ok input)))
+    (reads_task : (request : TaskAsked) → FitsTaskRequest request → task_asked_of (task_request_text request) ≡ Some request) where
   pub early_packets : TwoDiffer HandsOnUnsynced
   unfolding number_text
   early_packets =
       let fits : AllFit HandsOnUnsynced Early early_to may_be_early early_fits handing_early early =
       (tt, (tt, (right_occurrence, (position, ((all_prepare, inl refl), ((all_prepare, inr (inl refl)), (prepare_is 1 1 node_1 node_1, (((promise_is 1 1 node_1 node_1, tt), inl refl), (prepare_is 1 2 node_1 node_2, (tt, (((promise_is 2 1 node_2 node_1, tt), inl refl), (promise_is 1 1 node_1 node_1, (promise_is 2 1 node_2 node_1, ((all_accept occurrence right_occurrence, inl refl), ((all_accept occurrence right_occurrence, inr (inl refl)), (accept_is 1 1 node_1 node_1 occurrence right_occurrence, (((accepted_is 1 1 node_1 node_1 occurrence right_occurrence, tt), inl refl), (accept_is 1 2 node_1 node_2 occurrence right_occurrence, (tt, (((accepted_is 2 1 node_2 node_1 occurrence right_occurrence, tt), inl refl), (accepted_is 1 1 node_1 node_1 occurrence right_occurrence, (accepted_is 2 1 node_2 node_1 occurrence right_occurrence, ((others_decided occurrence right_occurrence, inl refl), (decided_is 1 2 node_1 node_2 occurrence right_occurrence, (tt, (tt, (tt, (tt, (position, (tt, (promise_is 1 1 node_1 node_1, (promise_is 2 1 node_2 node_1, ((all_accept Noop tt, inl refl), ((all_accept Noop tt, inr (inr (inl refl))), (accept_is 1 1 node_1 node_1 Noop tt, (tt, (((accepted_is 1 1 node_1 node_1 Noop tt, tt), inl refl), (accept_is 1 3 node_1 node_3 Noop tt, (tt, (((accepted_is 3 1 node_3 node_1 Noop tt, tt), inl refl), (accepted_is 1 1 node_1 node_1 Noop tt, (accepted_is 3 1 node_3 node_1 Noop tt, (tt, tt))))))))))))))))))))))))))))))))))))))))))) in
-      let led = plays_lead HandsOnUnsynced Early early_to may_be_early early_fits handing_early buffer room reads early (nothing_opened 3) fits refl in
+      let led = plays_lead HandsOnUnsynced Early early_to may_be_early early_fits handing_early buffer room reads reads_task early (nothing_opened 3) fits refl in
       differ HandsOnUnsynced after_early led.0 led.1 2 1
       (record { here = refl; opened = refl; appended = refl; given = refl; applied_is = refl })
       (record { here = refl; opened = refl; appended = refl; given = refl; applied_is = refl })

@@ -1,8 +1,10 @@
 //! No rule for the callers of nodes by handle can be left out, and the rules can be kept.
 
-ghost use Rattle.rp_callers.specs.Breaches.{TwoDiffer, HandsOnUnsynced, GetsForgedPacket, GetsOtherDevice};
+ghost use Rattle.rp_callers.specs.Breaches.{TwoDiffer, HandsOnUnsynced, GetsForgedPacket};
+ghost use Rattle.rp_callers.specs.Breaches.{GetsOtherDevice};
+ghost use Rattle.rp_callers.specs.Replies.{AreAnswered};
 
-use rp_request_texts::node_requests_are_read_back;
+use rp_request_texts::{node_requests_are_read_back, task_requests_are_read_back};
 
 /// For each of the three rules there are callers who keep the other two, and after whose moves two
 /// nodes have applied different actions.
@@ -15,4 +17,15 @@ pub fn no_rule_can_be_left_out()
     ensures handles { TwoDiffer GetsOtherDevice }
 {
     node_requests_are_read_back();
+    task_requests_are_read_back();
+}
+
+/// The rules can be kept: there are callers who keep all of them and whose task gets its reply.
+pub fn some_callers_get_a_reply()
+    // claim: Callers who keep the rules get a reply: a task of a tally adds 5 to 0 and gets 5, and
+    //   another node applies its call
+    ensures { AreAnswered }
+{
+    node_requests_are_read_back();
+    task_requests_are_read_back();
 }

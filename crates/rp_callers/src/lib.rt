@@ -7,4 +7,4 @@
 
 mod laws;
 
-pub use laws::no_rule_can_be_left_out;
+pub use laws::{no_rule_can_be_left_out, some_callers_get_a_reply};

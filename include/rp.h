@@ -86,6 +86,8 @@ uint8_t rp_run_deck(const uint8_t *deck, size_t count, bool traced, uint8_t *ans
  *    late, again or never: a packet that nobody sent may tell of a vote that nobody cast.
  * 3. A node has one open handle at a time, opened over its own device, and a task is opened once: two handles
  *    of one node vote twice, and a task that counts from 1 again gets the first old reply.
+ * None of them can be left out (docs/C.md, proved): for each there are callers who break it alone, and two
+ * nodes that have applied different actions then.
  *
  * The caller keeps the handle. The node or the task that it keeps is the library's, from rp_node_open or
  * rp_task_open until the handle is closed or opened again. A handle that is never closed leaks it. */

@@ -19,6 +19,7 @@ use Rattle.rp_model.specs.Parts.{Turn, fresh_running}
 use Rattle.rp_model.specs.Says.{notes}
 use Rattle.rp_model.specs.World.{part_at}
 use Rattle.rp_outbox.specs.Packets.{texts_of}
+use Rattle.rp_pending.specs.Pending.{noted_by}
 use Rattle.rp_replica.specs.Inputs.{effect_if_given}
 use Rattle.rp_request_texts.specs.Texts.{step_text, FitsStep, task_request_text, FitsTaskRequest}
 use Rattle.rp_requests.specs.TaskRequests.{TaskAsked, MakeCall, TakePacket, task_asked_of}
@@ -85,7 +86,7 @@ was_at packets k packet e =
 -- ---- where a deed is done
 
 abbrev pub site_at : Callers → ℕ → NodeSite (List ℤ)
-site_at i me = unwrap_or (part_at i.nodes me) (closed_over [])
+site_at i me = unwrap_or (part_at i.nodes me) (closed_over [] [])
 
 abbrev pub node_at : Callers → ℕ → NodeState (List ℤ)
 node_at i me = unwrap_or (site_at i me).node (fresh me)
@@ -135,13 +136,13 @@ reply_at i t message = unwrap_or (reply_taken (calls_at i t) message) Constraint
 abbrev is_empty : NodeSite (List ℤ) → Bool
 is_empty site = is_none site.node && (is_nil site.synced && (is_nil site.appended && (is_nil site.given && is_nil site.step_packets)))
 
-empty_is : (site : NodeSite (List ℤ)) → is_empty site ≡ true → site ≡ closed_over []
+empty_is : (site : NodeSite (List ℤ)) → is_empty site ≡ true → site ≡ closed_over [] site.noted
 empty_is site e =
     let a = and_parts (is_none site.node) (is_nil site.synced && (is_nil site.appended && (is_nil site.given && is_nil site.step_packets))) e in
     let b = and_parts (is_nil site.synced) (is_nil site.appended && (is_nil site.given && is_nil site.step_packets)) a.1 in
     let c = and_parts (is_nil site.appended) (is_nil site.given && is_nil site.step_packets) b.1 in
     let d = and_parts (is_nil site.given) (is_nil site.step_packets) c.1 in
-    λ i. record { node = none_is site.node a.0 i; synced = nil_is site.synced b.0 i; appended = nil_is site.appended c.0 i; given = nil_is site.given d.0 i; step_packets = nil_is site.step_packets d.1 i }
+    λ i. record { node = none_is site.node a.0 i; synced = nil_is site.synced b.0 i; appended = nil_is site.appended c.0 i; given = nil_is site.given d.0 i; step_packets = nil_is site.step_packets d.1 i; noted = site.noted }
 
 abbrev pub came_at : Callers → NodeInput → ℕ → Bool
 came_at i (inputs.NodeInput.Receive message) k = is_at i.handed_on k (text_of message)
@@ -178,11 +179,11 @@ pub data Deed (B : Type 0) : Type 0 where
 module _ (Breaks : Callers → Callers → Type 0) (B : Type 0) (breaks_to : B → Callers → Callers) (may_break : B → Callers → Bool) (FitsBreach : B → Type 0)
     (breach : (b : B) (i : Callers) → FitsBreach b → may_break b i ≡ true → MoveOr Breaks i (breaks_to b i)) where
   abbrev pub does : Deed B → Callers → Callers
-  does (Open me) i = with_node i me (record (closed_over []) { node = Some (fresh me) })
-  does (Take me input place) i = with_node i me (with_step (site_at i me) (after_step (node_at i me) (turn_of (effect_at i me input))))
+  does (Open me) i = with_node i me (record (closed_over [] (site_at i me).noted) { node = Some (fresh me) })
+  does (Take me input place) i = with_node i me (with_step (site_at i me) (after_step (node_at i me) (turn_of (effect_at i me input))) (noted_by input))
   does (Keep me) i = with_node (with_node i me (appended_site (site_at i me))) me (synced_site (appended_site (site_at i me)))
   does (Hand me place messages message) i = handed i me (site_at i me) (text_of message)
-  does (Close me) i = with_node i me (closed_over ((site_at i me).synced ++ []))
+  does (Close me) i = with_node i me (closed_over ((site_at i me).synced ++ []) (site_at i me).noted)
   does (OpenTask t) i = with_task i t (record (task_at i t) { task = Some (no_calls t) }) []
   does (MakesCall t node object operation arg) i =
       with_task i t (record { task = Some (with_call (calls_at i t) (call_at i t object operation arg)); replies = (task_at i t).replies ++ [] }) (text_of (call_packet (calls_at i t).task node (call_at i t object operation arg)) ∷ [])
@@ -232,7 +233,7 @@ module _ (Breaks : Callers → Callers → Type 0) (B : Type 0) (breaks_to : B �
   open_parts : (i : Callers) (me : ℕ) → is_open i me ≡ true → (part_at i.nodes me ≡ Some (site_at i me)) × ((site_at i me).node ≡ Some (node_at i me)) × IsSome (site_at i me).node
   open_parts i me e =
       let both = and_parts (is_some (part_at i.nodes me)) (is_some (site_at i me).node) e in
-      (some_is (part_at i.nodes me) (closed_over []) both.0, some_is (site_at i me).node (fresh me) both.1, both.1)
+      (some_is (part_at i.nodes me) (closed_over [] []) both.0, some_is (site_at i me).node (fresh me) both.1, both.1)
 
   -- moves that lead from the one to the other
   abbrev pub Leads : Callers → Callers → Type 0
@@ -256,7 +257,7 @@ module _ (Breaks : Callers → Callers → Type 0) (B : Type 0) (breaks_to : B �
     deed_leads : (deed : Deed B) (i : Callers) → Fits deed → may deed i ≡ true → Leads i (does deed i)
     deed_leads (Open me) i fits e =
         let both = and_parts (is_some (part_at i.nodes me)) (is_empty (site_at i me)) e in
-        one i _ (opens Breaks i me (some_is (part_at i.nodes me) (closed_over []) both.0 ∙ ap (λ (s : NodeSite (List ℤ)). Some s) (empty_is (site_at i me) both.1)))
+        one i _ (opens Breaks i me (site_at i me).noted (some_is (part_at i.nodes me) (closed_over [] []) both.0 ∙ ap (λ (s : NodeSite (List ℤ)). Some s) (empty_is (site_at i me) both.1)))
     deed_leads (Take me input place) i fits e =
         let a = and_parts (is_open i me) (are_bytes (step_text input) && (came_at i input place && is_ok (effect_at i me input))) e in
         let b = and_parts (are_bytes (step_text input)) (came_at i input place && is_ok (effect_at i me input)) a.1 in

@@ -7,6 +7,7 @@ use Rattle.rp_base.specs.Sets.{Has}
 use Rattle.rp_base.specs.declared.fault.Fault.{Fault}
 use Rattle.rp_codec.specs.Message.{Message, IsPacket}
 use Rattle.rp_base.specs.Calls.{next_call}
+use Rattle.rp_base.specs.declared.action.Action.{Action}
 use Rattle.rp_base.specs.declared.action.Operation.{Operation}
 use Rattle.rp_base.specs.declared.reply.Reply.{Reply}
 use Rattle.rp_codec.proofs.Decoded.{whole_again}
@@ -17,6 +18,7 @@ use Rattle.rp_model.specs.Effect as inputs
 use Rattle.rp_model.specs.Parts.{Turn, fresh_running}
 use Rattle.rp_model.specs.World.{part_at, with_part}
 use Rattle.rp_outbox.specs.Packets.{texts_of}
+use Rattle.rp_pending.specs.Pending.{noted_by}
 use Rattle.rp_replica.specs.Inputs.{effect_if_given}
 use Rattle.rp_request_texts.specs.Texts.{step_text, FitsStep, task_request_text, FitsTaskRequest}
 use Rattle.rp_requests.specs.Buffers.{IsPut}
@@ -29,7 +31,7 @@ use Rattle.rp_requests.specs.declared.buffer.Lengths.{Lengths}
 use Rattle.rp_requests.specs.declared.refusal.Refusal.{Refusal}
 use Rattle.rp_store.specs.Disk.{Disk, empty_disk}
 use Rattle.rp_store.proofs.Whole.{are_alone}
-use Rattle.rp_installations.specs.Moves.{AreBytes, IsPacketIn, WasHandedOn, node_receives_byte, AsksSite, AsksTask, IsThroughNode, task_receives_byte, answer_in, call_given, reply_given, HandsOn, is_step_made, with_step, site_answered, OpensFrom, AnswersBy, AnsweredRequest}
+use Rattle.rp_installations.specs.Moves.{AreBytes, IsPacketIn, WasHandedOn, node_receives_byte, AsksSite, AsksTask, IsThroughNode, task_receives_byte, answer_in, call_given, reply_given, HandsOn, noted_if, is_step_made, with_step, site_answered, OpensFrom, AnswersBy, AnsweredRequest}
 use Rattle.rp_installations.specs.Moves as moves
 use Rattle.rp_installations.specs.Sites.{StepPackets, NodeSite, TaskSite, Installation, closed_over, nothing_opened}
 use Rattle.rp_callers.specs.Breaches.{Callers, three_nodes, one_sum, MoveOr, Keeps, Breaches, MovesOr, GetsForgedPacket, HandsOnUnsynced, GetsOtherDevice}
@@ -129,8 +131,8 @@ with_packet i packet = record { nodes = i.nodes; tasks = i.tasks; handed_on = i.
 abbrev pub handed : Callers → ℕ → NodeSite (List ℤ) → List ℕ → Callers
 handed i me site packet = record { nodes = with_part i.nodes me site; tasks = i.tasks; handed_on = i.handed_on ++ packet ∷ [] }
 
-abbrev pub on_device : Callers → ℕ → NodeSite (List ℤ) → Callers
-on_device i me its = record { nodes = with_part i.nodes me (closed_over its.synced); tasks = i.tasks; handed_on = i.handed_on }
+abbrev pub on_device : Callers → ℕ → NodeSite (List ℤ) → NodeSite (List ℤ) → Callers
+on_device i me site its = record { nodes = with_part i.nodes me (closed_over its.synced site.noted); tasks = i.tasks; handed_on = i.handed_on }
 
 -- all that was given is appended and synced
 abbrev pub appended_site : NodeSite (List ℤ) → NodeSite (List ℤ)
@@ -140,6 +142,7 @@ appended_site site = record {
   appended = site.appended ++ take (length site.given) site.given;
   given = drop (length site.given) site.given;
   step_packets = site.step_packets;
+  noted = site.noted;
 }
 
 abbrev pub synced_site : NodeSite (List ℤ) → NodeSite (List ℤ)
@@ -149,19 +152,20 @@ synced_site site = record {
   appended = [];
   given = site.given;
   step_packets = site.step_packets;
+  noted = site.noted;
 }
 
 -- ---- moves
 
 module _ (Breaks : Callers → Callers → Type 0) where
-  pub opens : (i : Callers) (me : ℕ) → part_at i.nodes me ≡ Some (closed_over []) → MoveOr Breaks i (with_node i me (record (closed_over []) { node = Some (fresh me) }))
-  opens i me here =
-      let after : NodeSite (List ℤ) = record (closed_over []) { node = Some (fresh me) } in
-      Keeps (moves.Move.OfNode me (closed_over []) after [] here (moves.NodeMove.Opened (record { closed = refl; node = fresh me; records = 0; kept = 0; opens = fresh_opens me; goes = refl }) refl) refl)
+  pub opens : (i : Callers) (me : ℕ) (noted : List Action) → part_at i.nodes me ≡ Some (closed_over [] noted) → MoveOr Breaks i (with_node i me (record (closed_over [] noted) { node = Some (fresh me) }))
+  opens i me noted here =
+      let after : NodeSite (List ℤ) = record (closed_over [] noted) { node = Some (fresh me) } in
+      Keeps (moves.Move.OfNode me (closed_over [] noted) after [] here (moves.NodeMove.Opened (record { closed = refl; node = fresh me; records = 0; kept = 0; opens = fresh_opens me; goes = refl }) refl) refl)
 
   module _ (buffer : List ℕ) (room : step_bytes ≤ length buffer) (reads : (input : NodeInput) → FitsStep input → asked_of (step_text input) ≡ Some (Step (Ok input))) where
     pub steps : (i : Callers) (me : ℕ) (site : NodeSite (List ℤ)) (node : NodeState (List ℤ)) (input : NodeInput) (turn : Turn) → part_at i.nodes me ≡ Some site → site.node ≡ Some node → FitsStep input → are_bytes (step_text input) ≡ true
-        → CameFrom i.handed_on input → effect_if_given tally_next tally_answers node.replica (Ok input) ≡ Ok turn → MoveOr Breaks i (with_node i me (with_step site (after_step node turn)))
+        → CameFrom i.handed_on input → effect_if_given tally_next tally_answers node.replica (Ok input) ≡ Ok turn → MoveOr Breaks i (with_node i me (with_step site (after_step node turn) (noted_by input)))
     steps i me site node input turn here opened fits bytes has effect =
         let front = stored_by turn.written ++ texts_of turn.sent in
         let lengths : Lengths = record { stored = length (stored_by turn.written); used = length front } in
@@ -170,7 +174,7 @@ module _ (Breaks : Callers → Callers → Type 0) where
         let read = reads input fits in
         let answer : Answers tally_next tally_answers tally_image (Some (Step (Ok input))) node (after_step node turn) buffer exchange.after result =
         record { room = room; turn = turn; takes = effect; goes = refl; put = record { front = refl; stored_is = refl; used_is = refl } } in
-        let asks : AsksSite 3 (OpensFrom tally_next tally_answers tally_image three_nodes one_sum) (AnswersBy tally_next tally_answers tally_image) i.handed_on site (with_step site (after_step node turn)) = record {
+        let asks : AsksSite 3 (OpensFrom tally_next tally_answers tally_image three_nodes one_sum) (AnswersBy tally_next tally_answers tally_image) i.handed_on site (with_step site (after_step node turn) (noted_by input)) = record {
           exchange = exchange;
           old = node;
           new = after_step node turn;
@@ -178,9 +182,9 @@ module _ (Breaks : Callers → Callers → Type 0) where
           bytes = bytes_are (step_text input) bytes;
           arrived = came i.handed_on input has;
           answers = subst (λ (a : Option Asked). Answers tally_next tally_answers tally_image a node (after_step node turn) buffer exchange.after result) (sym read) answer;
-          goes = sym (ap (λ (a : Option Asked). site_answered site (after_step node turn) (is_step_made a result)) read);
+          goes = sym (ap (λ (a : Option Asked). site_answered site (after_step node turn) (noted_if a) (is_step_made a result)) read);
         } in
-        Keeps (moves.Move.OfNode me site (with_step site (after_step node turn)) [] here (moves.NodeMove.Requested asks refl) refl)
+        Keeps (moves.Move.OfNode me site (with_step site (after_step node turn) (noted_by input)) [] here (moves.NodeMove.Requested asks refl) refl)
 
   pub appends : (i : Callers) (me : ℕ) (site : NodeSite (List ℤ)) → part_at i.nodes me ≡ Some site → IsSome site.node → MoveOr Breaks i (with_node i me (appended_site site))
   appends i me site here opened = Keeps (moves.Move.OfNode me site (appended_site site) [] here (moves.NodeMove.Appended (record { opened = opened; count = length site.given; goes = refl }) refl) refl)
@@ -195,8 +199,8 @@ module _ (Breaks : Callers → Callers → Type 0) where
       let h : HandsOn site (text_of m) = record { step = step; made = made; synced = leb-true step.end (length site.synced) synced; one = packet } in
       Keeps (moves.Move.OfNode me site site (text_of m ∷ []) here (moves.NodeMove.HandedOn (text_of m) h refl refl) refl)
 
-  pub closes : (i : Callers) (me : ℕ) (site : NodeSite (List ℤ)) → part_at i.nodes me ≡ Some site → IsSome site.node → MoveOr Breaks i (with_node i me (closed_over (site.synced ++ [])))
-  closes i me site here opened = Keeps (moves.Move.OfNode me site (closed_over (site.synced ++ [])) [] here (moves.NodeMove.Closed (record { opened = opened; kept = 0; goes = refl }) refl) refl)
+  pub closes : (i : Callers) (me : ℕ) (site : NodeSite (List ℤ)) → part_at i.nodes me ≡ Some site → IsSome site.node → MoveOr Breaks i (with_node i me (closed_over (site.synced ++ []) site.noted))
+  closes i me site here opened = Keeps (moves.Move.OfNode me site (closed_over (site.synced ++ []) site.noted) [] here (moves.NodeMove.Closed (record { opened = opened; kept = 0; goes = refl }) refl) refl)
 
 -- ---- tasks
 
@@ -312,5 +316,5 @@ hands_early i me site step messages m here made texts each one =
     Breaches (record { me = me; site = site; here = here; step = step; made = made; packet = text_of m; one = packet; goes = refl })
 
 -- another node's device
-pub gets_device : (i : Callers) (me other : ℕ) (site its : NodeSite (List ℤ)) → part_at i.nodes me ≡ Some site → site.node ≡ None → part_at i.nodes other ≡ Some its → MoveOr GetsOtherDevice i (on_device i me its)
+pub gets_device : (i : Callers) (me other : ℕ) (site its : NodeSite (List ℤ)) → part_at i.nodes me ≡ Some site → site.node ≡ None → part_at i.nodes other ≡ Some its → MoveOr GetsOtherDevice i (on_device i me site its)
 gets_device i me other site its here closed there = Breaches (record { me = me; site = site; here = here; closed = closed; other = other; its = its; there = there; goes = refl })

@@ -107,7 +107,7 @@ record Exchange : Type 0 where
   pub other : ℕ
 
 abbrev exchanged_to : Exchange → Callers → Callers
-exchanged_to e i = on_device i e.me (site_at i e.other)
+exchanged_to e i = on_device i e.me (site_at i e.me) (site_at i e.other)
 
 abbrev may_exchange : Exchange → Callers → Bool
 may_exchange e i = is_some (part_at i.nodes e.me) && (is_none (site_at i e.me).node && is_some (part_at i.nodes e.other))
@@ -119,7 +119,7 @@ exchanging : (e : Exchange) (i : Callers) → exchange_fits e → may_exchange e
 exchanging e i fits may =
     let a = and_parts (is_some (part_at i.nodes e.me)) (is_none (site_at i e.me).node && is_some (part_at i.nodes e.other)) may in
     let b = and_parts (is_none (site_at i e.me).node) (is_some (part_at i.nodes e.other)) a.1 in
-    gets_device i e.me e.other (site_at i e.me) (site_at i e.other) (some_is (part_at i.nodes e.me) (closed_over []) a.0) (none_is (site_at i e.me).node b.0) (some_is (part_at i.nodes e.other) (closed_over []) b.1)
+    gets_device i e.me e.other (site_at i e.me) (site_at i e.other) (some_is (part_at i.nodes e.me) (closed_over [] []) a.0) (none_is (site_at i e.me).node b.0) (some_is (part_at i.nodes e.other) (closed_over [] []) b.1)
 
 abbrev exchanged : List (Deed Exchange)
 exchanged =
@@ -210,7 +210,7 @@ handing_early e i fits may =
     let s = site_at i e.me in
     let a = and_parts (is_some (part_at i.nodes e.me)) (is_some (slice_get s.step_packets e.place) && same_bytes (step_at s e.place).texts (texts_of e.messages)) may in
     let b = and_parts (is_some (slice_get s.step_packets e.place)) (same_bytes (step_at s e.place).texts (texts_of e.messages)) a.1 in
-    hands_early i e.me s (step_at s e.place) e.messages e.message (some_is (part_at i.nodes e.me) (closed_over []) a.0) (has_at s.step_packets e.place (step_at s e.place) (some_is (slice_get s.step_packets e.place) no_packets b.0))
+    hands_early i e.me s (step_at s e.place) e.messages e.message (some_is (part_at i.nodes e.me) (closed_over [] []) a.0) (has_at s.step_packets e.place (step_at s e.place) (some_is (slice_get s.step_packets e.place) no_packets b.0))
     (same_is (step_at s e.place).texts (texts_of e.messages) b.1) fits.0 fits.1
 
 abbrev early : List (Deed Early)

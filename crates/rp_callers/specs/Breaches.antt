@@ -48,7 +48,7 @@ pub record GetsOtherDevice (before after : Callers) : Type 0 where
   pub other : ℕ
   pub its : NodeSite (List ℤ)
   pub there : part_at before.nodes other ≡ Some its
-  pub goes : after ≡ record before { nodes = with_part before.nodes me (closed_over its.synced) }
+  pub goes : after ≡ record before { nodes = with_part before.nodes me (closed_over its.synced site.noted) }
 
 -- ---- moves by all rules but one
 

@@ -44,8 +44,8 @@ pub fn handles_agree()
         → AgreeAs objects_next objects_answers objects_image
         (first_state (arc_value program.declarations)) one other }
     // claim: There is one order of what the nodes and tasks of a deck did by handle: what each open
-    //   node has applied is a prefix of it, and each reply that a task's request returned is the
-    //   one that it gives
+    //   node has applied is a prefix of it, each reply that a task's request returned is the one
+    //   that it gives, and a request asked a node to note each interrupt and each tick in it
     ensures ordered { (text : List ℕ) (deck : Deck) (program : Program)
         (moves : List (Installation Running)) (now : Installation Running)
         → let begin = λ (p : Program). first_state (arc_value p.declarations) in

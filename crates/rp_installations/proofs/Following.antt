@@ -25,7 +25,10 @@ use Rattle.rp_requests.specs.Requests.{asked_of}
 use Rattle.rp_pending.specs.Making.{GoesOnTo}
 use Rattle.rp_pending.proofs.Stepping.{stands_still, leads_on}
 use Rattle.rp_installations.specs.Sites.{NodeSite, TaskSite, Installation, closed_over, unopened_task, nothing_opened}
-use Rattle.rp_installations.specs.Moves.{is_step_made, site_answered, with_step, AsksSite, OpensSite, NodeMove, TaskMove, Move, Moves, OpensFrom, AnswersBy}
+use Rattle.rp_pending.specs.Making.{AreAmong}
+use Rattle.rp_pending.specs.Pending.{noted_by}
+use Rattle.rp_installations.proofs.Asking.{asked_later}
+use Rattle.rp_installations.specs.Moves.{noted_if, is_step_made, site_answered, with_step, AsksSite, OpensSite, NodeMove, TaskMove, Move, Moves, OpensFrom, AnswersBy}
 use Rattle.rp_installations.specs.Moves as moves
 use Rattle.rp_installations.specs.Behind.{IsSetUp, IsOpenOver, IsNodeOver, IsOpen, IsClosed, IsTaskOver, IsBehind, HasHistory, HasLonger}
 use Rattle.rp_installations.proofs.NodeAnswers.{Outcome, Stepped, Unchanged, outcome, effect_on_part}
@@ -44,7 +47,7 @@ replicate_at : {A B : Type 0} (n place : ℕ) (x y : A) (z : B) → part_at (rep
 replicate_at n zero x y z e = absurd (cc)
 replicate_at n (suc place) x y z e = replicate_get n place x y z e
 
-first_node : {S : Type 0} (s : Setting S) (me : ℕ) (site : NodeSite S) → site ≡ closed_over [] → IsNodeOver s [] me fresh_node site
+first_node : {S : Type 0} (s : Setting S) (me : ℕ) (site : NodeSite S) → site ≡ closed_over [] [] → IsNodeOver s [] me fresh_node site
 first_node s me site is = subst (IsNodeOver s [] me fresh_node) (sym is) (IsClosed (record { closed = refl; torn = []; records = are_alone [] [] refl tt; torn_is = refl }))
 
 first_task : (t : ℕ) (site : TaskSite) → site ≡ unopened_task → IsTaskOver t fresh_task site
@@ -52,7 +55,7 @@ first_task t site is = subst (IsTaskOver t fresh_task) (sym is) (record { unopen
 
 pub first_behind : {S : Type 0} (s : Setting S) (nodes : ℕ) → IsBehind s (opening_world nodes) (nothing_opened nodes)
 first_behind s nodes = record {
-  nodes = λ me site here. (let at = replicate_at nodes me (closed_over []) site fresh_node here in (fresh_node, at.1, first_node s me site at.0));
+  nodes = λ me site here. (let at = replicate_at nodes me (closed_over [] []) site fresh_node here in (fresh_node, at.1, first_node s me site at.0));
   tasks = λ t site here. (let at = replicate_at 8 t unopened_task site fresh_task here in (fresh_task, at.1, first_task t site at.0));
   eight_tasks = refl;
   packets = λ packet none. absurd none;
@@ -68,6 +71,7 @@ pub record NodeMoved {S : Type 0} (s : Setting S) (events : List Event) (w : Wor
   pub reached : NodePart
   pub leads : GoesOnTo s events w me reached
   pub over : IsNodeOver s leads.world.sent me reached after
+  pub noted : AreAmong leads.noted after.noted
   pub given_sent : (packet : List ℕ) → Has packet given → (m : Message) × Has m leads.world.sent × (packet ≡ text_of m)
 
 module _ {S : Type 0} (s : Setting S) (ranged : (events : List Event) (w : World) → IsHistory s events w → IsRangedWorld s.config.nodes w) (image : S → List ℕ) (events : List Event) (w : World) (history : IsHistory s events w) where
@@ -77,6 +81,7 @@ module _ {S : Type 0} (s : Setting S) (ranged : (events : List Event) (w : World
     reached = part;
     leads = stands_still s events w me part part history here refl;
     over = over;
+    noted = λ v none. absurd none;
     given_sent = λ packet has. absurd (subst (λ (l : List (List ℕ)). Has packet l) none has);
   }
 
@@ -86,10 +91,10 @@ module _ {S : Type 0} (s : Setting S) (ranged : (events : List Event) (w : World
       let same : o.node ≡ a.old = ap (λ (x : Option (NodeState S)). unwrap_or x a.old) (sym o.kept ∙ a.opened) in
       let may = may_come handed w.sent a.exchange.request all a.bytes a.arrived input asked in
       let on_part = effect_on_part s me a.old input turn (subst (IsSetUp s me) same o.set_up) effect in
-      let site_is : after ≡ with_step site (after_step a.old turn) = a.goes ∙ ap (site_answered site a.new) is ∙ ap (with_step site) goes in
+      let site_is : after ≡ with_step site (after_step a.old turn) (noted_by input) = a.goes ∙ ap (site_answered site a.new (noted_if (asked_of a.exchange.request))) is ∙ ap (with_step site a.new) (ap noted_if asked) ∙ ap (λ (n : NodeState S). with_step site n (noted_by input)) goes in
       waits me part here after given (subst (IsNodeOver s w.sent me part) (sym site_is) (IsOpen (step_over s w.sent me part site o a.old input turn a.opened may on_part))) none
   asked_on me part here handed site after given all o a none (Unchanged goes is) =
-      let site_is : after ≡ record site { node = Some a.new } = a.goes ∙ ap (site_answered site a.new) is in
+      let site_is : after ≡ record site { node = Some a.new } = a.goes ∙ ap (site_answered site a.new (noted_if (asked_of a.exchange.request))) is in
       waits me part here after given (subst (IsNodeOver s w.sent me part) (sym site_is) (IsOpen (same_over s w.sent me part site o a.old a.new a.opened goes))) none
 
   some_node : (site : NodeSite S) (node : NodeState S) → site.node ≡ Some node → IsSome site.node
@@ -100,7 +105,7 @@ module _ {S : Type 0} (s : Setting S) (ranged : (events : List Event) (w : World
   opened_on me part here site after given h none (IsOpen o) = let closed : site.node ≡ None = h.closed in let open_now : site.node ≡ Some o.node = o.kept in absurd (cc)
   opened_on me part here site after given h none (IsClosed c) =
       let d = opens s ranged events w history me part here site image c after h in
-      record { reached = d.reached; leads = d.leads; over = IsOpen d.over; given_sent = λ packet has. absurd (subst (λ (l : List (List ℕ)). Has packet l) none has) }
+      record { reached = d.reached; leads = d.leads; over = IsOpen d.over; noted = λ v has. absurd (d.noted v has); given_sent = λ packet has. absurd (subst (λ (l : List (List ℕ)). Has packet l) none has) }
 
   pub node_on : (me : ℕ) (part : NodePart) (here : part_at w.nodes me ≡ Some part) (handed : List (List ℕ)) (site after : NodeSite S) (given : List (List ℕ)) → AllTexts handed w.sent → IsNodeOver s w.sent me part site
       → NodeMove s.config.nodes (OpensFrom s.next s.answers image s.config s.begin) (AnswersBy s.next s.answers image) handed me site after given → NodeMoved s events w me after given
@@ -118,11 +123,12 @@ module _ {S : Type 0} (s : Setting S) (ranged : (events : List Event) (w : World
         reached = d.reached;
         leads = d.leads;
         over = subst (IsNodeOver s d.leads.world.sent me d.reached) (sym same) (IsOpen d.over);
+        noted = subst (λ (x : NodeSite S). AreAmong d.leads.noted x.noted) (sym same) d.noted;
         given_sent = λ p has. elim (subst (λ (l : List (List ℕ)). Has p l) gives has) [ inl is ↦ (d.sent.0, d.sent.1, is ∙ d.sent.2) | inr none ↦ absurd none ];
       }
   node_on me part here handed site after given all over (moves.NodeMove.Closed c none) =
       let d = closes s ranged events w history me part here site (open_over s w.sent me part site c.opened over) after c in
-      record { reached = d.reached; leads = d.leads; over = IsClosed d.over; given_sent = λ packet has. absurd (subst (λ (l : List (List ℕ)). Has packet l) none has) }
+      record { reached = d.reached; leads = d.leads; over = IsClosed d.over; noted = subst (λ (x : NodeSite S). AreAmong d.leads.noted x.noted) (sym c.goes) d.noted; given_sent = λ packet has. absurd (subst (λ (l : List (List ℕ)). Has packet l) none has) }
 
   -- ---- the world behind it all
 
@@ -209,13 +215,14 @@ module _ {S : Type 0} (s : Setting S) (ranged : (events : List Event) (w : World
           world = moved.leads.world;
           history = moved.leads.history;
           behind = behind_on me after moved.reached moved.leads (node_change me site changed given after here goes moved);
+          noted = λ event has v there. (me, changed, ap (λ (i : Installation S). part_at i.nodes me) goes ∙ put_there before.nodes me site changed here, moved.noted v (moved.leads.notes event has v there));
         }
     move_on after (moves.Move.OfTask t site changed given here move goes) =
         let was = behind.tasks t site here in
         let place = part_below before.tasks t site here in
         let task : IsTask t = (place.0, omega (arith, place.1, behind.eight_tasks)) in
         let moved = task_on t was.0 was.1 site changed given task was.2 move in
-        record { more = moved.more; world = moved.world; history = moved.history; behind = task_behind t site changed given after here goes moved }
+        record { more = moved.more; world = moved.world; history = moved.history; behind = task_behind t site changed given after here goes moved; noted = λ event has v there. absurd (moved.notes event has v there) }
 
 -- ---- moves, one after another
 
@@ -226,6 +233,7 @@ moves_on s ranged image [] events w before after history behind same = record {
   world = w;
   history = subst (λ (es : List Event). IsHistory s es w) (sym (append-nil events)) history;
   behind = subst (IsBehind s w) (sym same) behind;
+  noted = λ event none. absurd none;
 }
 moves_on s ranged image (middle ∷ rest) events w before after history behind all =
     let first = move_on s ranged image events w history before behind middle all.0 in
@@ -235,6 +243,10 @@ moves_on s ranged image (middle ∷ rest) events w before after history behind a
       world = then_on.world;
       history = subst (λ (es : List Event). IsHistory s es then_on.world) (append_assoc events first.more then_on.more) then_on.history;
       behind = then_on.behind;
+      noted = λ event has v there. elim (has_split event first.more then_on.more has) [
+        | inl old ↦ asked_later s.config.nodes (OpensFrom s.next s.answers image s.config s.begin) (AnswersBy s.next s.answers image) middle rest after all.1 v (first.noted event old v there)
+        | inr new ↦ then_on.noted event new v there
+      ];
     }
 
 -- from the state in which nothing was opened
@@ -242,4 +254,4 @@ pub from_nothing : {S : Type 0} (s : Setting S) (ranged : (events : List Event) 
     → Moves s.config.nodes (OpensFrom s.next s.answers image s.config s.begin) (AnswersBy s.next s.answers image) (nothing_opened s.config.nodes) steps after → HasHistory s after
 from_nothing s ranged image right steps after all =
     let longer = moves_on s ranged image steps [] (opening_world s.config.nodes) (nothing_opened s.config.nodes) after (first_history s right) (first_behind s s.config.nodes) all in
-    record { events = longer.more; world = longer.world; history = longer.history; behind = longer.behind }
+    record { events = longer.more; world = longer.world; history = longer.history; behind = longer.behind; noted = longer.noted }

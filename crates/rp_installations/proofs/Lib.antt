@@ -5,6 +5,7 @@ pub mod NodeAnswers
 pub mod Opened
 pub mod NodeSites
 pub mod TaskSites
+pub mod Asking
 pub mod Following
 pub mod Agreeing
 pub mod Ordering

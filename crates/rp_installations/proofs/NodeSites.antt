@@ -24,9 +24,10 @@ use Rattle.rp_replica.specs.State.{ReplicaState, part_of}
 use Rattle.rp_requests.specs.Nodes.{NodeState, after_step}
 use Rattle.rp_requests.specs.Opening.{IsOpenedNode}
 use Rattle.rp_requests.specs.Requests.{asked_of}
-use Rattle.rp_pending.specs.Pending.{PendingStep, MayCome, AreSteps, after_steps, bytes_of, bytes_written}
-use Rattle.rp_pending.specs.Making.{GoesOnTo, Made, Stopped}
-use Rattle.rp_pending.proofs.Stepping.{steps_stay, one_more, leads_on, stands_still, made, node_here}
+use Rattle.rp_pending.specs.Pending.{noted_by, noted_in, PendingStep, MayCome, AreSteps, after_steps, bytes_of, bytes_written}
+use Rattle.rp_base.specs.declared.action.Action.{Action}
+use Rattle.rp_pending.specs.Making.{AreAmong, GoesOnTo, Made, Stopped}
+use Rattle.rp_pending.proofs.Stepping.{steps_stay, one_more, leads_on, stands_still, made, node_here, noted_append}
 use Rattle.rp_pending.proofs.Stopping.{Fronts, fronts, taken_front, texts_after, torn_after, stopped}
 use Rattle.rp_installations.specs.Sites.{StepPackets, NodeSite, closed_over}
 use Rattle.rp_installations.specs.Moves.{IsPacketIn, all_given, with_step, Appends, Syncs, Closes, HandsOn, OpensSite, OpensFrom, AnswersBy}
@@ -55,6 +56,7 @@ over_later s sent later me part site all (IsOpen o) = IsOpen (record {
   settled = o.settled;
   packets = o.packets;
   are_sent = λ p has. sent_later sent later p.texts all (o.are_sent p has);
+  noted = o.noted;
 })
 
 -- an open site
@@ -94,6 +96,7 @@ module _ {S : Type 0} (s : Setting S) (sent : List Message) (me : ℕ) (part : N
         settled = o.settled;
         packets = o.packets;
         are_sent = o.are_sent;
+        noted = o.noted;
       })
 
   -- what was appended is synced
@@ -114,12 +117,13 @@ module _ {S : Type 0} (s : Setting S) (sent : List Message) (me : ℕ) (part : N
     settled = o.settled;
     packets = o.packets;
     are_sent = o.are_sent;
+    noted = o.noted;
   })
 
   -- ---- a step
 
   pub step_over : (old : NodeState S) (input : NodeInput) (turn : Turn) (seen : before.node ≡ Some old) → MayCome sent input → node_effect s me (part_of old.replica) input ≡ Ok (turn_done (part_of old.replica) turn)
-      → IsOpenOver s sent me part (with_step before (after_step old turn))
+      → IsOpenOver s sent me part (with_step before (after_step old turn) (noted_by input))
   step_over old input turn seen may effect =
       let same : o.node ≡ old = ap (λ (x : Option (NodeState S)). unwrap_or x old) (sym o.kept ∙ seen) in
       let step : PendingStep = record { input = input; turn = turn } in
@@ -149,6 +153,10 @@ module _ {S : Type 0} (s : Setting S) (sent : List Message) (me : ℕ) (part : N
             ∙ append_assoc o.settled (packets_of (length o.bytes) o.steps) (item ((length o.bytes + length (bytes_of o.steps)) + length stored) ∷ [])
             ∙ ap (λ (l : List StepPackets). o.settled ++ l) (sym (packets_append (length o.bytes) o.steps (step ∷ [])));
         are_sent = o.are_sent;
+        noted = λ v has. elim (has_split v (noted_in o.steps) (noted_in (step ∷ [])) (subst (λ (l : List Action). Has v l) (noted_append o.steps (step ∷ [])) has)) [
+          | inl old ↦ has_left v before.noted (noted_by input) (o.noted v old)
+          | inr new ↦ has_right v before.noted (noted_by input) (subst (λ (l : List Action). Has v l) (append-nil (noted_by input)) new)
+        ];
       }
 
   -- nothing changed but that the handle was asked
@@ -169,6 +177,7 @@ module _ {S : Type 0} (s : Setting S) (sent : List Message) (me : ℕ) (part : N
     settled = o.settled;
     packets = o.packets;
     are_sent = o.are_sent;
+    noted = o.noted;
   }
 
 -- ---- the first pending steps are made
@@ -177,6 +186,7 @@ pub record Settled {S : Type 0} (s : Setting S) (events : List Event) (w : World
   pub leads : GoesOnTo s events w me (after_steps part front)
   pub over : IsOpenOver s leads.world.sent me (after_steps part front) site
   pub left : over.steps ≡ back
+  pub noted : AreAmong leads.noted site.noted
   pub sent : (p : StepPackets) → Has p (packets_of n front) → AreTextsSent leads.world.sent p.texts
 
 module _ {S : Type 0} (s : Setting S) (ranged : (events : List Event) (w : World) → IsHistory s events w → IsRangedWorld s.config.nodes w) (events : List Event) (w : World) (history : IsHistory s events w)
@@ -191,6 +201,7 @@ module _ {S : Type 0} (s : Setting S) (ranged : (events : List Event) (w : World
       let f = fronts bytes (bytes_of back) site.synced (site.appended ++ site.given) (sym whole ∙ append_assoc site.synced site.appended site.given) (omega (arith, fits, length-append o.bytes (bytes_of front))) in
       let n = length o.bytes in
       let sent = packets_sent m.leads.world.sent n front m.packets in
+      let noted_parts : noted_in o.steps ≡ noted_in front ++ noted_in back = ap noted_in parts ∙ noted_append front back in
       record {
         leads = m.leads;
         over = record {
@@ -214,8 +225,10 @@ module _ {S : Type 0} (s : Setting S) (ranged : (events : List Event) (w : World
             | inl old ↦ sent_later w.sent m.leads.world.sent p.texts m.leads.sent (o.are_sent p old)
             | inr new ↦ sent p new
           ];
+          noted = λ v has. o.noted v (subst (λ (l : List Action). Has v l) (sym noted_parts) (has_right v (noted_in front) (noted_in back) has));
         };
         left = refl;
+        noted = λ v has. o.noted v (subst (λ (l : List Action). Has v l) (sym noted_parts) (has_left v (noted_in front) (noted_in back) (m.noted v has)));
         sent = sent;
       }
 
@@ -232,6 +245,7 @@ module _ {S : Type 0} (s : Setting S) (ranged : (events : List Event) (w : World
     pub leads : GoesOnTo s events w me reached
     pub over : IsOpenOver s leads.world.sent me reached site
     pub sent : (m : Message) × Has m leads.world.sent × (packet ≡ text_of m)
+    pub noted : AreAmong leads.noted site.noted
 
   pub hands_on : (o : IsOpenOver s w.sent me part site) (packet : List ℕ) → HandsOn site packet → HandedOn packet
   hands_on o packet h =
@@ -241,6 +255,7 @@ module _ {S : Type 0} (s : Setting S) (ranged : (events : List Event) (w : World
           leads = stands_still s events w me part part history here refl;
           over = o;
           sent = handed h.step.texts packet w.sent (ranged events w history).packets (o.are_sent h.step old) h.one;
+          noted = λ v none. absurd none;
         }
         | inr new ↦
             let f = found_step (length o.bytes) o.steps h.step new in
@@ -250,6 +265,7 @@ module _ {S : Type 0} (s : Setting S) (ranged : (events : List Event) (w : World
               reached = after_steps part front;
               leads = d.leads;
               over = d.over;
+              noted = d.noted;
               sent = handed h.step.texts packet d.leads.world.sent (ranged (events ++ d.leads.more) d.leads.world d.leads.history).packets (d.sent h.step f.here) h.one;
             }
       ]
@@ -260,6 +276,7 @@ module _ {S : Type 0} (s : Setting S) (ranged : (events : List Event) (w : World
     pub reached : NodePart
     pub leads : GoesOnTo s events w me reached
     pub over : IsClosedOver reached after
+    pub noted : AreAmong leads.noted site.noted
 
   pub closes : (o : IsOpenOver s w.sent me part site) (after : NodeSite S) → Closes site after → ClosedAfter after
   closes o after c =
@@ -281,6 +298,7 @@ module _ {S : Type 0} (s : Setting S) (ranged : (events : List Event) (w : World
           records = subst (λ (l : List ℕ). AreRecordsOf l stop.reached.records stop.torn) at stop.records;
           torn_is = stop.length_is;
         });
+        noted = λ v has. o.noted v (stop.noted v has);
       }
     where
       regroup : (a b c d e : List ℕ) → ((a ++ b) ++ (c ++ d)) ++ e ≡ a ++ ((b ++ c) ++ (d ++ e))
@@ -289,13 +307,17 @@ module _ {S : Type 0} (s : Setting S) (ranged : (events : List Event) (w : World
   -- ---- a node is opened
 
   -- it is stopped first, if it runs in the world
-  stops_first : (running : Option Running) → part.running ≡ running → GoesOnTo s events w me (stop_part part)
+  abbrev stops_first : (running : Option Running) → part.running ≡ running → GoesOnTo s events w me (stop_part part)
   stops_first None is = stands_still s events w me part (stop_part part) history here (ap (λ (r : Option Running). let p : NodePart = record { records = part.records; torn = part.torn; running = r } in p) (sym is))
   stops_first (Some known) is =
       one_more s events w me part (goes_on_as (stop_part part)) (Stop me) history here (node_here s ranged events w me part history here)
       (ap (stops w me) here ∙ ap (λ (r : Option Running). node_done_if w me (stops_while part r)) is)
 
-  restarts_then : (first : GoesOnTo s events w me (stop_part part)) → GoesOnTo s events w me (restart_part (stop_part part)).part
+  stops_noted : (running : Option Running) (is : part.running ≡ running) → AreAmong (stops_first running is).noted []
+  stops_noted None is = λ v none. none
+  stops_noted (Some known) is = λ v none. none
+
+  abbrev restarts_then : (first : GoesOnTo s events w me (stop_part part)) → GoesOnTo s events w me (restart_part (stop_part part)).part
   restarts_then first =
       leads_on s events w me (stop_part part) (restart_part (stop_part part)).part first
       (one_more s (events ++ first.more) first.world me (stop_part part) (restart_part (stop_part part)) (Restart me) first.history first.here
@@ -305,6 +327,7 @@ module _ {S : Type 0} (s : Setting S) (ranged : (events : List Event) (w : World
     pub reached : NodePart
     pub leads : GoesOnTo s events w me reached
     pub over : IsOpenOver s leads.world.sent me reached after
+    pub noted : AreAmong leads.noted []
 
   pub opens : (image : S → List ℕ) (c : IsClosedOver part site) (after : NodeSite S) → OpensSite s.config.nodes (OpensFrom s.next s.answers image s.config s.begin) (AnswersBy s.next s.answers image) me site after → OpenedAfter after
   opens image c after h =
@@ -323,6 +346,7 @@ module _ {S : Type 0} (s : Setting S) (ranged : (events : List Event) (w : World
       record {
         reached = (restart_part (stop_part part)).part;
         leads = leads;
+        noted = λ v has. elim (has_split v (stops_first part.running refl).noted [] has) [ inl old ↦ stops_noted part.running refl v old | inr none ↦ none ];
         over = subst (IsOpenOver s leads.world.sent me (restart_part (stop_part part)).part) (sym h.goes) (record {
           node = node;
           kept = refl;
@@ -339,5 +363,6 @@ module _ {S : Type 0} (s : Setting S) (ranged : (events : List Event) (w : World
           settled = [];
           packets = refl;
           are_sent = λ p none. absurd none;
+          noted = λ v none. absurd none;
         });
       }

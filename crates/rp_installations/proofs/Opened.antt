@@ -11,7 +11,7 @@ use Rattle.rp_model.specs.World.{part_at, with_part}
 use Rattle.rp_replica.specs.State.{ReplicaState}
 use Rattle.rp_requests.specs.Nodes.{NodeState, after_step}
 use Rattle.rp_requests.specs.Requests.{Asked, asked_of}
-use Rattle.rp_installations.specs.Moves.{Move, NodeMove, OpensSite, AsksSite, OpensFrom, AnswersBy, MachineMoves, is_step_made, with_step, site_answered}
+use Rattle.rp_installations.specs.Moves.{Move, NodeMove, OpensSite, AsksSite, OpensFrom, AnswersBy, MachineMoves, noted_if, is_step_made, with_step, site_answered}
 use Rattle.rp_installations.specs.Moves as moves
 use Rattle.rp_installations.specs.Outcomes.{IsOpenAt}
 use Rattle.rp_installations.specs.Sites.{Installation, NodeSite, closed_over, nothing_opened}
@@ -34,9 +34,9 @@ module _ {S : Type 0} (next : S → Action → S) (answers : S → Action → Li
   one_open : (site : NodeSite S) (kept : NodeState S) → site.node ≡ Some kept → Alike kept → SiteAlike site
   one_open site kept is alike node some = subst Alike (ap (λ (o : Option (NodeState S)). unwrap_or o kept) (sym is ∙ some)) alike
 
-  asked_start : (a : NodeSite S) (old new : NodeState S) (made : Bool) (after : NodeSite S) → after ≡ site_answered a new made → Alike new → SiteAlike after
-  asked_start a old new true after goes alike = one_open after new (ap (λ (s : NodeSite S). s.node) goes) alike
-  asked_start a old new false after goes alike = one_open after new (ap (λ (s : NodeSite S). s.node) goes) alike
+  asked_start : (a : NodeSite S) (old new : NodeState S) (noted : List Action) (made : Bool) (after : NodeSite S) → after ≡ site_answered a new noted made → Alike new → SiteAlike after
+  asked_start a old new noted true after goes alike = one_open after new (ap (λ (s : NodeSite S). s.node) goes) alike
+  asked_start a old new noted false after goes alike = one_open after new (ap (λ (s : NodeSite S). s.node) goes) alike
 
   same_start : (asked : Option Asked) (old new : NodeState S) (made : Bool) → Outcome next answers asked old new made → Alike old → Alike new
   same_start asked old new made (Stepped input turn is effect goes made_is) alike = subst Alike (sym goes) alike
@@ -47,7 +47,7 @@ module _ {S : Type 0} (next : S → Action → S) (answers : S → Action → Li
       one_open after h.node (ap (λ (s : NodeSite S). s.node) h.goes)
       (subst (λ (b : S). BehaveAlike next answers image b begin) (sym (ap (λ (r : ReplicaState S). r.begin) h.opens.opens.opens.starts)) h.opens.alike)
   node_keeps packets me before after given alike (moves.NodeMove.Requested a none) =
-      asked_start before a.old a.new (is_step_made (asked_of a.exchange.request) a.exchange.result) after a.goes
+      asked_start before a.old a.new (noted_if (asked_of a.exchange.request)) (is_step_made (asked_of a.exchange.request) a.exchange.result) after a.goes
       (same_start (asked_of a.exchange.request) a.old a.new (is_step_made (asked_of a.exchange.request) a.exchange.result)
       (outcome next answers image (asked_of a.exchange.request) a.old a.new a.exchange.before a.exchange.after a.exchange.result a.answers) (alike a.old a.opened))
   node_keeps packets me before after given alike (moves.NodeMove.Appended a none) = λ node some. alike node (ap (λ (s : NodeSite S). s.node) (sym a.goes) ∙ some)
@@ -72,10 +72,10 @@ module _ {S : Type 0} (next : S → Action → S) (answers : S → Action → Li
   moves_keep before [] after all same = subst AllAlike (sym same) all
   moves_keep before (middle ∷ rest) after all steps = moves_keep middle rest after (move_keeps before middle all steps.0) steps.1
 
-  closed_each : (n : ℕ) (site : NodeSite S) → Has site (replicate n (closed_over [])) → SiteAlike site
+  closed_each : (n : ℕ) (site : NodeSite S) → Has site (replicate n (closed_over [] [])) → SiteAlike site
   closed_each zero site none = absurd none
   closed_each (suc n) site (inl is) = none_open site (ap (λ (s : NodeSite S). s.node) is)
   closed_each (suc n) site (inr rest) = closed_each n site rest
 
   pub none_yet : AllAlike (nothing_opened config.nodes)
-  none_yet = record { each = λ x site there. closed_each config.nodes site (part_has (replicate config.nodes (closed_over [])) x site there) }
+  none_yet = record { each = λ x site there. closed_each config.nodes site (part_has (replicate config.nodes (closed_over [] [])) x site there) }

@@ -5,9 +5,17 @@ use Rattle.std.proofs.lemmas.Bool.{cases_eq}
 use Rattle.std.proofs.lemmas.List.{append-nil}
 use Rattle.rp_base.specs.Records.{applied_of}
 use Rattle.rp_base.specs.declared.reply.Answer.{Answer}
+use Rattle.rp_base.specs.Sets.{Has}
+use Rattle.rp_base.proofs.Members.{has_split}
+use Rattle.rp_base.specs.declared.action.Action.{Action}
+use Rattle.rp_base.specs.declared.action.Action.TheVariants.{Noop, Call, Interrupt, Tick}
+use Rattle.rp_agreement.proofs.Lists.{has_get}
+use Rattle.rp_agreement.specs.Noted.{IsNoted}
+use Rattle.rp_model.specs.Facts.{IsDecided}
+use Rattle.rp_model.specs.Events as happenings
 use Rattle.rp_codec.specs.Text.{reply_text}
 use Rattle.rp_model.specs.Effect.{Setting}
-use Rattle.rp_model.specs.Events.{Event}
+use Rattle.rp_model.specs.Events.{Event, Makes}
 use Rattle.rp_model.specs.Parts.{NodePart, TaskPart}
 use Rattle.rp_model.specs.World.{World, part_at}
 use Rattle.rp_agreement.specs.History.{IsHistory}
@@ -20,8 +28,8 @@ use Rattle.rp_requests.specs.Nodes.{NodeState}
 use Rattle.rp_pending.specs.Pending.{AreSteps, after_steps}
 use Rattle.rp_pending.proofs.Stepping.{made}
 use Rattle.rp_installations.specs.Sites.{NodeSite, TaskSite, Installation}
-use Rattle.rp_installations.specs.Behind.{IsOpenOver, IsClosedOver, IsNodeOver, IsOpen, IsClosed, IsTaskOver, IsBehind, HasHistory}
-use Rattle.rp_installations.specs.Outcomes.{IsOpenAt, applied_by, IsReplyTo, HasWorldNow, HasOrder}
+use Rattle.rp_installations.specs.Behind.{IsOpenOver, IsClosedOver, IsNodeOver, IsOpen, IsClosed, IsTaskOver, IsBehind, AreAskedFor, HasHistory}
+use Rattle.rp_installations.specs.Outcomes.{IsOpenAt, applied_by, IsReplyTo, HasWorldNow, IsAskedFor, HasOrder}
 use Rattle.rp_installations.proofs.NodeSites.{over_later}
 
 -- The nodes up to k have their parts in the world, and the others are over theirs.
@@ -37,6 +45,7 @@ record UpTo {S : Type 0} (s : Setting S) (events : List Event) (w : World) (i : 
   pub history : IsHistory s (events ++ more) world
   pub nodes : (me : ℕ) (site : NodeSite S) → part_at i.nodes me ≡ Some site → IsAt s k world me site
   pub tasks : world.tasks ≡ w.tasks
+  pub noted : AreAskedFor i more
 
 module _ {S : Type 0} (s : Setting S) (ranged : (events : List Event) (w : World) → IsHistory s events w → IsRangedWorld s.config.nodes w) (events : List Event) (w : World) (history : IsHistory s events w) (i : Installation S) (behind : IsBehind s w i) where
   none_yet : UpTo s events w i 0
@@ -49,6 +58,7 @@ module _ {S : Type 0} (s : Setting S) (ranged : (events : List Event) (w : World
         let place = part_below i.nodes me site there in
         record { part = was.0; here = was.1; done = λ low node is. absurd (omega (arith, low, place.0)); later = λ high. was.2 });
     tasks = refl;
+    noted = λ event none. absurd none;
   }
 
   -- the node of the next number has no steps that are pending
@@ -69,6 +79,7 @@ module _ {S : Type 0} (s : Setting S) (ranged : (events : List Event) (w : World
           later = λ high. was.later (omega (arith, high));
         });
     tasks = u.tasks;
+    noted = u.noted;
   }
 
   -- its steps are made
@@ -101,6 +112,10 @@ module _ {S : Type 0} (s : Setting S) (ranged : (events : List Event) (w : World
               }
         ];
         tasks = all.leads.tasks ∙ u.tasks;
+        noted = λ event has v mentions. elim (has_split event u.more all.leads.more has) [
+          | inl old ↦ u.noted event old v mentions
+          | inr new ↦ (suc k, site, there, o.noted v (all.noted v (all.leads.notes event new v mentions)))
+        ];
       }
 
   by_over : (k : ℕ) (u : UpTo s events w i k) (site : NodeSite S) (there : part_at i.nodes (suc k) ≡ Some site) (part : NodePart) → part_at u.world.nodes (suc k) ≡ Some part → IsNodeOver s u.world.sent (suc k) part site → UpTo s events w i (suc k)
@@ -120,8 +135,8 @@ module _ {S : Type 0} (s : Setting S) (ranged : (events : List Event) (w : World
   up_to zero = none_yet
   up_to (suc k) = let u = up_to k in one_further k u (part_at i.nodes (suc k)) refl
 
-  pub world_now : HasWorldNow s i
-  world_now =
+  pub world_now : AreAskedFor i events → HasWorldNow s i
+  world_now asked =
       let u = up_to (length i.nodes) in
       record {
         events = events ++ u.more;
@@ -132,6 +147,7 @@ module _ {S : Type 0} (s : Setting S) (ranged : (events : List Event) (w : World
             let place = part_below i.nodes x site kept.site_is in
             at.here ∙ ap (λ (p : NodePart). Some p) (sym (at.done place.1 node kept.node_is)));
         tasks = λ t site there. (let was = behind.tasks t site there in (was.0, ap (λ (l : List TaskPart). part_at l t) u.tasks ∙ was.1, was.2));
+        noted = λ event has v mentions. elim (has_split event events u.more has) [ inl old ↦ asked event old v mentions | inr new ↦ u.noted event new v mentions ];
       }
 
 -- ---- the order
@@ -141,10 +157,18 @@ got f [] k y e = absurd (cc)
 got f (x ∷ xs) zero y e = (x, refl, sym (ap (λ (o : Option _). unwrap_or o y) e))
 got f (x ∷ xs) (suc k) y e = got f xs k y e
 
+-- what was noted by an event was asked for
+asked_for : {S : Type 0} (i : Installation S) (events : List Event) → AreAskedFor i events → (v : Action) → IsNoted events v → IsAskedFor i v
+asked_for i events all Noop none = tt
+asked_for i events all (Call task number object operation arg) none = tt
+asked_for i events all (Interrupt source occurrence) is = all (Makes (happenings.Interrupt is.0 source occurrence)) is.1 (Interrupt source occurrence) (inl refl)
+asked_for i events all (Tick now) is = all (Makes (happenings.Tick is.0 now)) is.1 (Tick now) (inl refl)
+
 pub order_now : {S : Type 0} (s : Setting S) (ranged : (events : List Event) (w : World) → IsHistory s events w → IsRangedWorld s.config.nodes w)
-    → ((events : List Event) (w : World) → IsHistory s events w → IsOrdered s.next s.answers s.begin s.config.nodes w) → (i : Installation S) → HasHistory s i → HasOrder s i
-order_now s ranged law i h =
-    let now = world_now s ranged h.events h.world h.history i h.behind in
+    → ((events : List Event) (w : World) → IsHistory s events w → IsOrdered s.next s.answers s.begin s.config.nodes w)
+    → ((events : List Event) (w : World) → IsHistory s events w → (k : ℕ) (v : Action) → IsDecided s.config.nodes w.sent k v → IsNoted events v) → (i : Installation S) → HasHistory s i → HasOrder s i
+order_now s ranged law noted_law i h =
+    let now = world_now s ranged h.events h.world h.history i h.behind h.noted in
     let ordered = law now.events now.world now.history in
     record {
       now = now;
@@ -154,4 +178,7 @@ order_now s ranged law i h =
           (let task = now.tasks t site there in
           let found = got (λ (a : Answer). reply_text a.reply) task.0.replies k reply (ap (λ (l : List (List ℕ)). slice_get l k) (sym task.2.replies) ∙ is) in
           (found.0, ordered.replies t k task.0 found.0 task.1 found.1, found.2));
+      noted = λ v has.
+          (let place = has_get ordered.order v has in
+          asked_for i now.events now.noted v (noted_law now.events now.world now.history (suc place.0) v (ordered.decided.decided place.0 v place.1)));
     }

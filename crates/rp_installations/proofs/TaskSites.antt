@@ -45,6 +45,7 @@ use Rattle.rp_requests.specs.Tasks.{TaskAnswers, TaskDoes, CallPut, ReplyPut, ca
 use Rattle.rp_requests.specs.declared.buffer.Lengths.{Lengths}
 use Rattle.rp_requests.specs.declared.refusal.Refusal.{Refusal}
 use Rattle.rp_tasks.specs.Calls.{Calls, no_calls, refusal_of, with_call, with_reply}
+use Rattle.rp_pending.specs.Making.{NoteOnly, notes_of}
 use Rattle.rp_installations.specs.Sites.{TaskSite}
 use Rattle.rp_installations.specs.Moves.{AnsweredRequest, IsThroughNode, answer_in, call_given, reply_given, OpensTask, AsksTask}
 use Rattle.rp_installations.specs.Behind.{IsTaskOver, calls_kept}
@@ -88,6 +89,7 @@ pub record TaskMoved {S : Type 0} (s : Setting S) (events : List Event) (w : Wor
   pub sent : AllSent w.sent world.sent
   pub over : IsTaskOver t part after
   pub given_sent : (packet : List ℕ) → Has packet given → (m : Message) × Has m world.sent × (packet ≡ text_of m)
+  pub notes : NoteOnly more []
 
 module _ {S : Type 0} (s : Setting S) (events : List Event) (w : World) (history : IsHistory s events w) (t : ℕ) (part : TaskPart) (here : part_at w.tasks t ≡ Some part) where
   -- nothing happens
@@ -103,12 +105,14 @@ module _ {S : Type 0} (s : Setting S) (events : List Event) (w : World) (history
     sent = λ m has. has;
     over = over;
     given_sent = λ packet has. absurd (subst (λ (l : List (List ℕ)). Has packet l) none has);
+    notes = λ event none. absurd none;
   }
 
   -- one event
-  happens : (event : Event) (done : Done TaskPart) (after : TaskSite) (given : List (List ℕ)) → IsRightEvent event → event_effect s w event ≡ Ok (task_done w t done) → IsTaskOver t done.part after
+  happens : (event : Event) (done : Done TaskPart) (after : TaskSite) (given : List (List ℕ)) → notes_of event ≡ [] → IsRightEvent event → event_effect s w event ≡ Ok (task_done w t done) → IsTaskOver t done.part after
       → ((packet : List ℕ) → Has packet given → (m : Message) × Has m done.sends × (packet ≡ text_of m)) → TaskMoved s events w t after given
-  happens event done after given right effect over gives = record {
+  happens event done after given quiet right effect over gives = record {
+    notes = λ other has v there. elim has [ inl same ↦ subst (λ (l : List Action). Has v l) quiet (subst (λ (e : Event). Has v (notes_of e)) same there) | inr none ↦ absurd none ];
     more = event ∷ [];
     world = (task_done w t done).world;
     history = goes_on s events w history event (task_done w t done) right effect;
@@ -230,7 +234,7 @@ module _ {S : Type 0} (s : Setting S) (events : List Event) (w : World) (history
         let done_is : Done TaskPart = record (goes_on_as after) { sends = asks t node call ∷ [] } in
         let may : may_call s.config node part_is call outstanding ≡ Ok call = ap (may_call s.config node part_is call) is ∙ may_be_called s.config node part_is call more within (right_call t (length answered) object operation arg task right.2 right.3) in
         let effect : task_effect s.config t part_is (tasks.Submit node object operation arg) ≡ Ok done_is = ap (calls_if t node part_is) may in
-        happens s events w history t part_is here (Submit t node object operation arg) done_is (after_answer exchange before (Some (MakeCall node object operation arg)) new) given
+        happens s events w history t part_is here (Submit t node object operation arg) done_is (after_answer exchange before (Some (MakeCall node object operation arg)) new) given refl
         (task, right.0, (let top = right.1.1 in omega (arith, top)), operation_in operation right.3, right.4)
         (ap (task_takes s.config w t (tasks.Submit node object operation arg)) here ∙ ap (task_done_if w t) effect)
         (record {
@@ -250,7 +254,7 @@ module _ {S : Type 0} (s : Setting S) (events : List Event) (w : World) (history
         let done_is : Done TaskPart = record (goes_on_as part_is) { sends = asks t node call ∷ [] } in
         let effect : task_effect s.config t part_is (tasks.Again node) ≡ Ok done_is =
         cond-false (nat_lt s.config.nodes node) (Err BadConfig) (Ok (asks_again t node part_is outstanding)) (not_below s.config.nodes node within) ∙ ap (λ (o : Option Action). Ok (asks_again t node part_is o)) is in
-        happens s events w history t part_is here (Again t node) done_is (after_answer exchange before (Some (SendAgain node)) new) given (task, right)
+        happens s events w history t part_is here (Again t node) done_is (after_answer exchange before (Some (SendAgain node)) new) given refl (task, right)
         (ap (task_takes s.config w t (tasks.Again node)) here ∙ ap (task_done_if w t) effect)
         (same_over (Some (SendAgain node)) new same refl)
         (one_given given (asks t node call) (gives ∙ ap (answer_in exchange) done ∙ answer_is exchange (text_of (call_packet t node call)) exchange.before lengths (subst (λ (o : Option Action). IsPut [] (again_text t node o) exchange.before exchange.after lengths) is put) (some_text (call_packet t node call))))
@@ -275,7 +279,7 @@ module _ {S : Type 0} (s : Setting S) (events : List Event) (w : World) (history
         let hears : task_hears t part_is m.body ≡ done_is = ap (task_hears t part_is) body ∙ cond-true (is_reply_to number outstanding) done_is (goes_on_as part_is) is in
         let made : calls_so_far part_is ≡ length (answered ++ answer ∷ []) = ap (λ (b : Bool). cond b (suc (length answered)) (length answered)) (number_some number outstanding is) ∙ omega (arith, length-append answered (answer ∷ [])) in
         let text : Answer → List ℕ = λ a. reply_text a.reply in
-        happens s events w history t part_is here (Makes (Deliver (suc found.0))) done_is (after_answer exchange before (Some (TakePacket packet)) new) given tt
+        happens s events w history t part_is here (Makes (Deliver (suc found.0))) done_is (after_answer exchange before (Some (TakePacket packet)) new) given refl tt
         (ap (delivers s w) found.1 ∙ ap (arrives s w m) to ∙ ap (task_receives s.config w t m) here ∙ ap (λ (d : Done TaskPart). task_done_if w t (Ok d)) hears)
         (record {
           unopened = λ e. absurd (cc);

@@ -2,6 +2,7 @@
 -- the steps up to some place within what is synced. The later ones are pending.
 use Rattle.std.specs.Prelude.{◌≡◌, ℕ, ◌+◌, Option, Some, None, Ok, List, [], ◌∷◌, ◌++◌, length, map}
 use Rattle.rp_base.specs.Sets.{Has}
+use Rattle.rp_base.specs.declared.action.Action.{Action}
 use Rattle.rp_codec.specs.Message.{Message}
 use Rattle.rp_codec.specs.Text.{text_of, reply_text}
 use Rattle.rp_store.specs.Records.{AreTextsOf, AreRecordsOf}
@@ -12,7 +13,9 @@ use Rattle.rp_agreement.specs.Answered.{calls_so_far}
 use Rattle.rp_agreement.specs.History.{IsHistory}
 use Rattle.rp_model.specs.Events.{Event}
 use Rattle.rp_outbox.specs.Packets.{texts_of}
+use Rattle.rp_pending.specs.Making.{AreAmong, notes_of}
 use Rattle.rp_pending.specs.Pending.{PendingStep, AreSteps, after_steps, bytes_of, bytes_written}
+use Rattle.rp_pending.specs.Pending.{noted_in}
 use Rattle.rp_replica.specs.State.{part_of}
 use Rattle.rp_requests.specs.Nodes.{NodeState}
 use Rattle.rp_tasks.specs.Calls.{Calls}
@@ -63,10 +66,11 @@ pub record IsOpenOver {S : Type 0} (s : Setting S) (sent : List Message) (me : �
   pub settled : List StepPackets
   pub packets : site.step_packets ≡ settled ++ packets_of (length bytes) steps
   pub are_sent : (p : StepPackets) → Has p settled → AreTextsSent sent p.texts
+  pub noted : AreAmong (noted_in steps) site.noted
 
 -- A closed node: its device holds the records that it has in the world, and the torn bytes.
 pub record IsClosedOver {S : Type 0} (part : NodePart) (site : NodeSite S) : Type 0 where
-  pub closed : site ≡ closed_over site.synced
+  pub closed : site ≡ closed_over site.synced site.noted
   pub torn : List ℕ
   pub records : AreRecordsOf site.synced part.records torn
   pub torn_is : part.torn ≡ length torn
@@ -100,17 +104,31 @@ pub record IsBehind {S : Type 0} (s : Setting S) (w : World) (i : Installation S
   pub packets : (packet : List ℕ) → Has packet i.handed_on
       → (m : Message) × Has m w.sent × (packet ≡ text_of m)
 
--- Right events lead to a world that is behind the installation.
+-- a node of the installation was asked to note the action
+abbrev pub WasAskedFor : {S : Type 0} → Installation S → Action → Type 0
+WasAskedFor {S} i v =
+    (me : ℕ) × (site : NodeSite S) × (part_at i.nodes me ≡ Some site) × Has v site.noted
+
+-- what the events note some node was asked to note
+abbrev pub AreAskedFor : {S : Type 0} → Installation S → List Event → Type 0
+AreAskedFor i happened =
+    (event : Event) → Has event happened → (v : Action) → Has v (notes_of event) → WasAskedFor i v
+
+-- Right events lead to a world that is behind the installation; they note what nodes were asked to
+-- note, and nothing else.
 pub record HasHistory {S : Type 0} (s : Setting S) (i : Installation S) : Type 0 where
   pub events : List Event
   pub world : World
   pub history : IsHistory s events world
   pub behind : IsBehind s world i
+  pub noted : AreAskedFor i events
 
--- These events and further ones lead to a world that is behind the installation.
+-- These events and further ones lead to a world that is behind the installation; the further ones
+-- note what nodes were asked to note.
 pub record HasLonger {S : Type 0} (s : Setting S) (events : List Event) (i : Installation S)
     : Type 0 where
   pub more : List Event
   pub world : World
   pub history : IsHistory s (events ++ more) world
   pub behind : IsBehind s world i
+  pub noted : AreAskedFor i more

@@ -13,6 +13,7 @@ use Rattle.rp_codec.specs.Message.{Message, IsPacket}
 use Rattle.rp_codec.specs.Text.{text_of}
 use Rattle.rp_model.specs.World.{part_at, with_part}
 use Rattle.rp_outbox.specs.Packets.{texts_of}
+use Rattle.rp_pending.specs.Pending.{noted_by}
 use Rattle.rp_requests.specs.Nodes.{NodeState, Answers}
 use Rattle.rp_requests.specs.Opening.{IsOpenedNode}
 use Rattle.rp_requests.specs.Requests.{Asked, Step, asked_of}
@@ -68,13 +69,18 @@ is_step_made (Some (Step input)) (Ok lengths) = true
 is_step_made (Some (Step input)) (Err (LongAnswer needed)) = true
 is_step_made asked result = false
 
+-- the interrupt or the tick that a node is asked to note, if one is asked for
+abbrev pub noted_if : Option Asked → List Action
+noted_if (Some (Step (Ok input))) = noted_by input
+noted_if asked = []
+
 -- what the device holds, and what it is yet to hold
 abbrev pub all_given : {S : Type 0} → NodeSite S → List ℕ
 all_given site = (site.synced ++ site.appended) ++ site.given
 
 -- A step gives the bytes of its record for the device, and its packets.
-abbrev pub with_step : {S : Type 0} → NodeSite S → NodeState S → NodeSite S
-with_step site node = record {
+abbrev pub with_step : {S : Type 0} → NodeSite S → NodeState S → List Action → NodeSite S
+with_step site node noted = record {
   node = Some node;
   synced = site.synced;
   appended = site.appended;
@@ -83,12 +89,14 @@ with_step site node = record {
     texts = node.packets;
     end = length (all_given site ++ node.stored);
   } ∷ [];
+  noted = site.noted ++ noted;
 }
 
--- what a request leaves of a site, by whether a step was made
-abbrev pub site_answered : {S : Type 0} → NodeSite S → NodeState S → Bool → NodeSite S
-site_answered site node true = with_step site node
-site_answered site node false = record site { node = Some node }
+-- what a request leaves of a site, by what it asks to note and whether a step was made
+abbrev pub site_answered : {S : Type 0} → NodeSite S → NodeState S → List Action → Bool
+    → NodeSite S
+site_answered site node noted true = with_step site node noted
+site_answered site node noted false = record site { node = Some node }
 
 -- What an open node gave first for its device is appended first, some bytes of it.
 pub record Appends {S : Type 0} (before after : NodeSite S) : Type 0 where
@@ -109,7 +117,7 @@ pub record Syncs {S : Type 0} (before after : NodeSite S) : Type 0 where
 pub record Closes {S : Type 0} (before after : NodeSite S) : Type 0 where
   pub opened : IsSome before.node
   pub kept : ℕ
-  pub goes : after ≡ closed_over (before.synced ++ take kept before.appended)
+  pub goes : after ≡ closed_over (before.synced ++ take kept before.appended) before.noted
 
 -- A packet of a step is handed on, once all is synced that the node's steps gave for the device, up
 -- to this step.
@@ -193,7 +201,8 @@ module _ {S : Type 0} (nodes : ℕ) (Opens : ℕ → List ℕ → NodeState S �
     pub records : ℕ
     pub kept : ℕ
     pub opens : Opens me before.synced node records kept
-    pub goes : after ≡ record (closed_over (take kept before.synced)) { node = Some node }
+    pub goes : after
+        ≡ record (closed_over (take kept before.synced) before.noted) { node = Some node }
 
   -- A request to a node that is open, whatever it asks and whatever the answer.
   pub record AsksSite (packets : List (List ℕ)) (before after : NodeSite S) : Type 0 where
@@ -205,7 +214,8 @@ module _ {S : Type 0} (nodes : ℕ) (Opens : ℕ → List ℕ → NodeState S �
     pub arrived : WasHandedOn packets node_receives_byte exchange.request
     pub answers : AnswersAs exchange old new
     pub goes : after
-        ≡ site_answered before new (is_step_made (asked_of exchange.request) exchange.result)
+        ≡ site_answered before new (noted_if (asked_of exchange.request))
+        (is_step_made (asked_of exchange.request) exchange.result)
 
   -- What a node's caller does, and the packets that it hands on by that.
   pub data NodeMove (packets : List (List ℕ)) (me : ℕ) (before after : NodeSite S)

@@ -1,7 +1,9 @@
 -- What nodes and tasks of an installation have in common.
 use Rattle.std.specs.Prelude.{◌≡◌, ℕ, suc, Some, List, [], length, take, drop, slice_get}
 use Rattle.rp_base.specs.Records.{applied_of}
+use Rattle.rp_base.specs.Sets.{Has}
 use Rattle.rp_base.specs.declared.action.Action.{Action}
+use Rattle.rp_base.specs.declared.action.Action.TheVariants.{Noop, Call, Interrupt, Tick}
 use Rattle.rp_base.specs.declared.reply.Answer.{Answer}
 use Rattle.rp_codec.specs.Text.{reply_text}
 use Rattle.rp_machine.specs.Places.{HasReply}
@@ -16,7 +18,7 @@ use Rattle.rp_replica.specs.State.{part_of}
 use Rattle.rp_requests.specs.Nodes.{NodeState, image_of}
 use Rattle.rp_requests.specs.declared.buffer.Lengths.{Lengths}
 use Rattle.rp_world.specs.Agreeing.{IsOrdered}
-use Rattle.rp_installations.specs.Behind.{IsTaskOver}
+use Rattle.rp_installations.specs.Behind.{IsTaskOver, WasAskedFor, AreAskedFor}
 use Rattle.rp_installations.specs.Sites.{NodeSite, TaskSite, Installation}
 
 -- a node of the installation is open, and its handle keeps this node
@@ -59,7 +61,8 @@ pub record GivesAnswer {S : Type 0} (node : NodeState S) (buffer : List ℕ) (le
 
 -- Right events lead to a world in which each open node is as its handle keeps it, and in which each
 -- task got the replies that its requests returned. Steps whose packets were not handed on yet have
--- happened in it, so it may be ahead of what is synced.
+-- happened in it, so it may be ahead of what is synced. The events note what nodes were asked to
+-- note, and nothing else.
 pub record HasWorldNow {S : Type 0} (s : Setting S) (i : Installation S) : Type 0 where
   pub events : List Event
   pub world : World
@@ -68,9 +71,18 @@ pub record HasWorldNow {S : Type 0} (s : Setting S) (i : Installation S) : Type 
       → part_at world.nodes x ≡ Some (part_of node.replica)
   pub tasks : (t : ℕ) (site : TaskSite) → part_at i.tasks t ≡ Some site
       → (part : TaskPart) × (part_at world.tasks t ≡ Some part) × IsTaskOver t part site
+  pub noted : AreAskedFor i events
+
+-- the action is no interrupt and no tick, or a node was asked to note it
+abbrev pub IsAskedFor : {S : Type 0} → Installation S → Action → Type 0
+IsAskedFor i Noop = Unit {0}
+IsAskedFor i (Call task number object operation arg) = Unit {0}
+IsAskedFor i (Interrupt source occurrence) = WasAskedFor i (Interrupt source occurrence)
+IsAskedFor i (Tick now) = WasAskedFor i (Tick now)
 
 -- There is one order of all that is decided in such a world: what each open node has applied is a
--- prefix of it, and each reply that a request of a task returned is the one that it gives.
+-- prefix of it, each reply that a request of a task returned is the one that it gives, and a node was
+-- asked to note each interrupt and each tick in it.
 pub record HasOrder {S : Type 0} (s : Setting S) (i : Installation S) : Type 0 where
   pub now : HasWorldNow s i
   pub ordered : IsOrdered s.next s.answers s.begin s.config.nodes now.world
@@ -79,3 +91,4 @@ pub record HasOrder {S : Type 0} (s : Setting S) (i : Installation S) : Type 0 w
   pub replies : (t k : ℕ) (site : TaskSite) (reply : List ℕ) → part_at i.tasks t ≡ Some site
       → slice_get site.replies k ≡ Some reply
       → IsReplyTo s.next s.answers s.begin ordered.order t (suc k) reply
+  pub noted : (v : Action) → Has v ordered.order → IsAskedFor i v

@@ -40,7 +40,8 @@ pub fn answers_give_the_step<M: Machine>()
 /// specs/Moves, right events lead to a world behind it, and what they do later is more events. So
 /// two nodes by handle agree, at any two moments, where all is synced that the steps of the earlier one
 /// gave; and at each moment there is one order, of which what each node has applied is a prefix and
-/// which gives each reply that a request of a task returned.
+/// which gives each reply that a request of a task returned, and in which each interrupt and each
+/// tick is one that a request asked a node to note.
 pub fn installations_are_histories<M: Machine>()
     // claim: What callers do with nodes and tasks by handle, by the rules for devices and packets,
     //   is a history of right events: each node and each task is over its part in a world of it
@@ -69,8 +70,8 @@ pub fn installations_are_histories<M: Machine>()
         → IsOpenAt now x site one → IsOpenAt later y other_site other → IsAllSynced site
         → AgreeAs M.next M.answers M.image (M.begin program) one other }
     // claim: There is one order of what nodes and tasks by handle did: what each open node has
-    //   applied is a prefix of it, and each reply that a task's request returned is the one that it
-    //   gives
+    //   applied is a prefix of it, each reply that a task's request returned is the one that it
+    //   gives, and a request asked a node to note each interrupt and each tick in it
     ensures ordered { (config : Config) (program : M.Program) (moves : List (Installation M))
         (now : Installation M)
         → let setting = setting_for M.next M.answers M.begin config program in

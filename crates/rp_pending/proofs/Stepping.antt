@@ -26,8 +26,9 @@ use Rattle.rp_agreement.proofs.Lists.{has_get}
 use Rattle.rp_agreement.proofs.PartPlaces.{part_below, put_there, put_beside, put_length}
 use Rattle.rp_agreement.proofs.Playing.{happen_on}
 use Rattle.rp_agreement.specs.Ranges.{IsRangedWorld}
-use Rattle.rp_pending.specs.Pending.{PendingStep, MayCome, AreSteps, after_steps}
-use Rattle.rp_pending.specs.Making.{GoesOnTo, AreAllSent, Made}
+use Rattle.rp_pending.specs.Pending.{PendingStep, MayCome, AreSteps, after_steps, noted_by, noted_in}
+use Rattle.rp_pending.specs.Making.{notes_of, AreAmong, GoesOnTo, AreAllSent, Made}
+use Rattle.rp_base.specs.declared.action.Action.{Action}
 
 -- ---- what others send
 
@@ -76,6 +77,8 @@ stands_still s events w me part reached history here same = record {
   others = λ k other. refl;
   tasks = refl;
   sent = λ m has. has;
+  noted = [];
+  notes = λ event none. absurd none;
 }
 
 -- one event of the node more
@@ -89,6 +92,8 @@ one_more s events w me part done event history here right effect = record {
   others = λ k other. put_beside w.nodes me k done.part other;
   tasks = refl;
   sent = λ m has. has_left m w.sent done.sends has;
+  noted = notes_of event;
+  notes = λ other has v there. elim has [ inl same ↦ subst (λ (e : Event). Has v (notes_of e)) same there | inr none ↦ absurd none ];
 }
 
 -- and then others
@@ -101,7 +106,20 @@ leads_on s events w me middle reached first second = record {
   others = λ k other. second.others k other ∙ first.others k other;
   tasks = second.tasks ∙ first.tasks;
   sent = λ m has. second.sent m (first.sent m has);
+  noted = first.noted ++ second.noted;
+  notes = λ event has v there. elim (has_split event first.more second.more has) [
+    | inl old ↦ has_left v first.noted second.noted (first.notes event old v there)
+    | inr new ↦ has_right v first.noted second.noted (second.notes event new v there)
+  ];
 }
+
+-- what two lists have among the others, both have joined
+pub joined_among : (some more others : List Action) → AreAmong some others → AreAmong more others → AreAmong (some ++ more) others
+joined_among some more others first second = λ v has. elim (has_split v some more has) [ inl old ↦ first v old | inr new ↦ second v new ]
+
+pub noted_append : (xs ys : List PendingStep) → noted_in (xs ++ ys) ≡ noted_in xs ++ noted_in ys
+noted_append [] ys = refl
+noted_append (x ∷ xs) ys = ap (λ (l : List Action). noted_by x.input ++ l) (noted_append xs ys) ∙ sym (append_assoc (noted_by x.input) (noted_in xs) (noted_in ys))
 
 -- ---- the event of a step
 
@@ -113,6 +131,15 @@ step_for me number (nodes.LeadRange first count) = LeadRange me first count
 step_for me number (nodes.Interrupt source occurrence) = Interrupt me source occurrence
 step_for me number (nodes.Tick now) = Tick me now
 step_for me number (nodes.Report first) = Report me first
+
+-- its event notes what the input does
+notes_same : (me number : ℕ) (input : NodeInput) → notes_of (Makes (step_for me number input)) ≡ noted_by input
+notes_same me number (nodes.Receive message) = refl
+notes_same me number (nodes.Lead choice) = refl
+notes_same me number (nodes.LeadRange first count) = refl
+notes_same me number (nodes.Interrupt source occurrence) = refl
+notes_same me number (nodes.Tick now) = refl
+notes_same me number (nodes.Report first) = refl
 
 -- a node that has an effect runs
 runs_if : {S : Type 0} (s : Setting S) (me : ℕ) (part : NodePart) (input : NodeInput) (done : Done NodePart) (running : Option Running) → part.running ≡ running → effect_while s me part input running ≡ Ok done → (known : Running) × (part.running ≡ Some known)
@@ -196,30 +223,33 @@ module _ {S : Type 0} (s : Setting S) (ranged : (events : List Event) (w : World
       (place.0, omega (arith, place.1, size, history.config.nodes.1))
 
   -- a step is an event, or is lost
-  pub record OneMade (events : List Event) (w : World) (me : ℕ) (part : NodePart) (turn : Turn) : Type 0 where
+  pub record OneMade (events : List Event) (w : World) (me : ℕ) (part : NodePart) (input : NodeInput) (turn : Turn) : Type 0 where
     pub leads : GoesOnTo s events w me (turn_done part turn).part
+    pub noted : AreAmong leads.noted (noted_by input)
     pub sends : (m : Message) → Has m turn.sent → Has m leads.world.sent
 
   module _ (events : List Event) (w : World) (me : ℕ) (part : NodePart) (history : IsHistory s events w) (here : part_at w.nodes me ≡ Some part) where
-    happens : (input : NodeInput) (turn : Turn) → MayCome w.sent input → IsFor me input true → node_effect s me part input ≡ Ok (turn_done part turn) → OneMade events w me part turn
+    happens : (input : NodeInput) (turn : Turn) → MayCome w.sent input → IsFor me input true → node_effect s me part input ≡ Ok (turn_done part turn) → OneMade events w me part input turn
     happens input turn may is effect =
         let event = event_is s w me part here input (turn_done part turn) may is effect in
         record {
           leads = one_more s events w me part (turn_done part turn) (Makes (step_for me event.0 input)) history here (right_step w.sent me event.0 input (node_here events w me part history here) may) event.1;
+          noted = λ v has. subst (λ (l : List Action). Has v l) (notes_same me event.0 input) has;
           sends = λ m has. has_right m w.sent turn.sent has;
         }
 
-    loses : (turn : Turn) → IsLost part turn → OneMade events w me part turn
-    loses turn is = record {
+    loses : (input : NodeInput) (turn : Turn) → IsLost part turn → OneMade events w me part input turn
+    loses input turn is = record {
+      noted = λ v none. absurd none;
       leads = stands_still s events w me part (turn_done part turn).part history here is.part_is;
       sends = λ m has. absurd (subst (λ (ms : List Message). Has m ms) is.sent has);
     }
 
-    pub one_made : (input : NodeInput) (turn : Turn) → MayCome w.sent input → node_effect s me part input ≡ Ok (turn_done part turn) → OneMade events w me part turn
+    pub one_made : (input : NodeInput) (turn : Turn) → MayCome w.sent input → node_effect s me part input ≡ Ok (turn_done part turn) → OneMade events w me part input turn
     one_made (nodes.Receive message) turn may effect =
         elim (cases_Bool (is_node me message.to)) [
           | inl own ↦ happens (nodes.Receive message) turn may own effect
-          | inr foreign ↦ loses turn (lost s me part turn message foreign effect)
+          | inr foreign ↦ loses (nodes.Receive message) turn (lost s me part turn message foreign effect)
         ]
     one_made (nodes.Lead choice) turn may effect = happens (nodes.Lead choice) turn may tt effect
     one_made (nodes.LeadRange first count) turn may effect = happens (nodes.LeadRange first count) turn may tt effect
@@ -232,6 +262,7 @@ module _ {S : Type 0} (s : Setting S) (ranged : (events : List Event) (w : World
     leads = stands_still s events w me part part history here refl;
     pending = are;
     packets = λ step none. absurd none;
+    noted = λ v none. absurd none;
   }
   made (step ∷ front) back events w me part history here are =
       let one = one_made events w me part history here step.input step.turn are.0 are.1 in
@@ -244,4 +275,5 @@ module _ {S : Type 0} (s : Setting S) (ranged : (events : List Event) (w : World
           | inl same ↦ λ m there. rest.leads.sent m (one.sends m (subst (λ (st : PendingStep). Has m st.turn.sent) same there))
           | inr later_one ↦ rest.packets other later_one
         ];
+        noted = joined_among one.leads.noted rest.leads.noted (noted_in (step ∷ front)) (λ v has. has_left v (noted_by step.input) (noted_in front) (one.noted v has)) (λ v has. has_right v (noted_by step.input) (noted_in front) (rest.noted v has));
       }

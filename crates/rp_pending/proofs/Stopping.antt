@@ -5,7 +5,7 @@ use Rattle.std.specs.List.{AllByRecursion}
 use Rattle.std.proofs.lemmas.Bool.{cases_Bool, cases_lt, lt-leb}
 use Rattle.std.proofs.lemmas.List.{append-nil}
 use Rattle.rp_base.specs.Sets.{Has}
-use Rattle.rp_base.proofs.Members.{has_right}
+use Rattle.rp_base.proofs.Members.{has_left, has_right}
 use Rattle.rp_base.specs.declared.action.Action.{Action}
 use Rattle.rp_base.specs.declared.action.Action.TheVariants as actions
 use Rattle.rp_base.specs.declared.record.Rec.{Rec}
@@ -29,9 +29,9 @@ use Rattle.rp_agreement.specs.History.{IsHistory}
 use Rattle.rp_agreement.specs.Ranges.{IsRangedWorld}
 use Rattle.rp_agreement.proofs.Lists.{has_get}
 use Rattle.rp_agreement.proofs.PartPlaces.{part_has}
-use Rattle.rp_pending.specs.Pending.{PendingStep, MayCome, AreSteps, after_steps, bytes_written, bytes_of}
-use Rattle.rp_pending.specs.Making.{GoesOnTo, Made, Stopped}
-use Rattle.rp_pending.proofs.Stepping.{IsFor, party_is, lost, step_for, right_step, one_more, leads_on, node_here, OneMade, one_made, made}
+use Rattle.rp_pending.specs.Pending.{PendingStep, MayCome, AreSteps, after_steps, bytes_written, bytes_of, noted_in}
+use Rattle.rp_pending.specs.Making.{AreAmong, GoesOnTo, Made, Stopped}
+use Rattle.rp_pending.proofs.Stepping.{IsFor, party_is, lost, step_for, right_step, one_more, leads_on, node_here, OneMade, one_made, made, noted_append, joined_among}
 
 -- ---- where the bytes end
 
@@ -170,7 +170,7 @@ module _ {S : Type 0} (s : Setting S) (ranged : (events : List Event) (w : World
 
   -- where they end between two steps
   between : (events : List Event) (w : World) (me : ℕ) (part : NodePart) (front back : List PendingStep) (bytes left : List ℕ) → IsHistory s events w → part_at w.nodes me ≡ Some part → part.torn ≡ 0
-      → AreTextsOf part.records bytes → AreSteps s w.sent me part (front ++ back) → left ≡ bytes_of front → Stopped s events w me (bytes ++ left)
+      → AreTextsOf part.records bytes → AreSteps s w.sent me part (front ++ back) → left ≡ bytes_of front → Stopped s events w me (front ++ back) (bytes ++ left)
   between events w me part front back bytes left history here untorn texts are at =
       let m = made s ranged front back events w me part history here are in
       let reached = after_steps part front in
@@ -181,12 +181,13 @@ module _ {S : Type 0} (s : Setting S) (ranged : (events : List Event) (w : World
         records = are_alone (bytes ++ left) reached.records (subst (λ (l : List ℕ). AreTextsOf reached.records (bytes ++ l)) (sym at) (texts_after part front bytes texts))
             (each_record reached.records (records_here (events ++ m.leads.more) m.leads.world me reached m.leads.history m.leads.here));
         length_is = torn_after part front ∙ untorn;
+        noted = λ v has. subst (λ (l : List Action). Has v l) (sym (noted_append front back)) (has_left v (noted_in front) (noted_in back) (m.noted v has));
       }
 
   -- where they end within a record
   module _ (events : List Event) (w : World) (me : ℕ) (part : NodePart) (history : IsHistory s events w) (here : part_at w.nodes me ≡ Some part) where
     torn_step : (step : PendingStep) (rec : Rec) (kept : ℕ) (bytes : List ℕ) → AreTextsOf part.records bytes → MayCome w.sent step.input → node_effect s me part step.input ≡ Ok (turn_done part step.turn)
-        → step.turn.written ≡ Some rec → kept < length (record_text rec) → Stopped s events w me (bytes ++ take kept (record_text rec))
+        → step.turn.written ≡ Some rec → kept < length (record_text rec) → Stopped s events w me [] (bytes ++ take kept (record_text rec))
     torn_step step rec kept bytes texts may effect writes less =
         let done : Done NodePart = goes_on_as (cut_part kept part (Some rec)) in
         let cut : cut_effect s me part step.input kept ≡ Ok done = ap (cut_if kept part) effect ∙ ap (λ (o : Option Rec). Ok (goes_on_as (cut_part kept part o))) writes in
@@ -204,11 +205,14 @@ module _ {S : Type 0} (s : Setting S) (ranged : (events : List Event) (w : World
           torn = take kept (record_text rec);
           records = subst (λ (p : NodePart). AreRecordsOf (bytes ++ take kept (record_text rec)) p.records (take kept (record_text rec))) (sym is) (before_put bytes part.records rec kept found right less);
           length_is = ap (λ (p : NodePart). p.torn) is ∙ sym (taken_all kept (record_text rec) (omega (arith, less)));
+          noted = λ v none. absurd none;
         }
 
   -- and after the steps before it
-  stops_later : (events : List Event) (w : World) (me : ℕ) (middle : NodePart) (bytes : List ℕ) (first : GoesOnTo s events w me middle) → Stopped s (events ++ first.more) first.world me bytes → Stopped s events w me bytes
-  stops_later events w me middle bytes first stopped = record {
+  stops_later : (events : List Event) (w : World) (me : ℕ) (middle : NodePart) (steps : List PendingStep) (bytes : List ℕ) (first : GoesOnTo s events w me middle) → AreAmong first.noted (noted_in steps) → Stopped s (events ++ first.more) first.world me [] bytes
+      → Stopped s events w me steps bytes
+  stops_later events w me middle steps bytes first among stopped = record {
+    noted = joined_among first.noted stopped.leads.noted (noted_in steps) among (λ v has. absurd (stopped.noted v has));
     reached = stopped.reached;
     leads = leads_on s events w me middle stopped.reached first stopped.leads;
     torn = stopped.torn;
@@ -218,17 +222,18 @@ module _ {S : Type 0} (s : Setting S) (ranged : (events : List Event) (w : World
 
   within : (events : List Event) (w : World) (me : ℕ) (part : NodePart) (front : List PendingStep) (step : PendingStep) (back : List PendingStep) (rec : Rec) (kept : ℕ) (bytes left : List ℕ) → IsHistory s events w → part_at w.nodes me ≡ Some part
       → AreTextsOf part.records bytes → AreSteps s w.sent me part (front ++ step ∷ back) → step.turn.written ≡ Some rec → kept < length (record_text rec) → left ≡ bytes_of front ++ take kept (record_text rec)
-      → Stopped s events w me (bytes ++ left)
+      → Stopped s events w me (front ++ step ∷ back) (bytes ++ left)
   within events w me part front step back rec kept bytes left history here texts are writes less at =
       let m = made s ranged front (step ∷ back) events w me part history here are in
       let stop = torn_step (events ++ m.leads.more) m.leads.world me (after_steps part front) m.leads.history m.leads.here step rec kept (bytes ++ bytes_of front) (texts_after part front bytes texts) m.pending.0 m.pending.1 writes less in
-      subst (Stopped s events w me) (append_assoc bytes (bytes_of front) (take kept (record_text rec)) ∙ ap (λ (l : List ℕ). bytes ++ l) (sym at))
-      (stops_later events w me (after_steps part front) ((bytes ++ bytes_of front) ++ take kept (record_text rec)) m.leads stop)
+      let among : AreAmong m.leads.noted (noted_in (front ++ step ∷ back)) = λ v has. subst (λ (l : List Action). Has v l) (sym (noted_append front (step ∷ back))) (has_left v (noted_in front) (noted_in (step ∷ back)) (m.noted v has)) in
+      subst (Stopped s events w me (front ++ step ∷ back)) (append_assoc bytes (bytes_of front) (take kept (record_text rec)) ∙ ap (λ (l : List ℕ). bytes ++ l) (sym at))
+      (stops_later events w me (after_steps part front) (front ++ step ∷ back) ((bytes ++ bytes_of front) ++ take kept (record_text rec)) m.leads among stop)
 
   pub stopped : (events : List Event) (w : World) (me : ℕ) (part : NodePart) (steps : List PendingStep) (bytes left rest : List ℕ) → IsHistory s events w → part_at w.nodes me ≡ Some part → part.torn ≡ 0
-      → AreTextsOf part.records bytes → AreSteps s w.sent me part steps → bytes_of steps ≡ left ++ rest → Stopped s events w me (bytes ++ left)
+      → AreTextsOf part.records bytes → AreSteps s w.sent me part steps → bytes_of steps ≡ left ++ rest → Stopped s events w me steps (bytes ++ left)
   stopped events w me part steps bytes left rest history here untorn texts are e = by_end (ends steps left rest e)
     where
-      by_end : Ends steps left → Stopped s events w me (bytes ++ left)
-      by_end (Between front back parts at) = between events w me part front back bytes left history here untorn texts (subst (AreSteps s w.sent me part) parts are) at
-      by_end (Within front step back rec kept parts writes less at) = within events w me part front step back rec kept bytes left history here texts (subst (AreSteps s w.sent me part) parts are) writes less at
+      by_end : Ends steps left → Stopped s events w me steps (bytes ++ left)
+      by_end (Between front back parts at) = subst (λ (l : List PendingStep). Stopped s events w me l (bytes ++ left)) (sym parts) (between events w me part front back bytes left history here untorn texts (subst (AreSteps s w.sent me part) parts are) at)
+      by_end (Within front step back rec kept parts writes less at) = subst (λ (l : List PendingStep). Stopped s events w me l (bytes ++ left)) (sym parts) (within events w me part front step back rec kept bytes left history here texts (subst (AreSteps s w.sent me part) parts are) writes less at)

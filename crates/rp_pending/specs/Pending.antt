@@ -4,6 +4,8 @@ use Rattle.std.specs.Prelude.{length, IfSome}
 use Rattle.rp_base.specs.Action.{IsIndex, IsCount}
 use Rattle.rp_base.specs.Number.{IsPosition}
 use Rattle.rp_base.specs.Sets.{Has}
+use Rattle.rp_base.specs.declared.action.Action.{Action}
+use Rattle.rp_base.specs.declared.action.Action.TheVariants as actions
 use Rattle.rp_base.specs.declared.record.Rec.{Rec}
 use Rattle.rp_codec.specs.Message.{Message}
 use Rattle.rp_codec.specs.Record.{record_text}
@@ -24,6 +26,20 @@ MayCome sent (LeadRange first count) = IsPosition first × (count < 2 ^ 8)
 MayCome sent (Interrupt source occurrence) = IsIndex source × IsCount occurrence
 MayCome sent (Tick now) = now < 2 ^ 32
 MayCome sent (Report first) = IsPosition first
+
+-- the interrupt or the tick that the input has a node note
+abbrev pub noted_by : NodeInput → List Action
+noted_by (Receive message) = []
+noted_by (Lead choice) = []
+noted_by (LeadRange first count) = []
+noted_by (Interrupt source occurrence) = actions.Interrupt source occurrence ∷ []
+noted_by (Tick now) = actions.Tick now ∷ []
+noted_by (Report first) = []
+
+-- those that the steps noted
+abbrev pub noted_in : List PendingStep → List Action
+noted_in [] = []
+noted_in (step ∷ rest) = noted_by step.input ++ noted_in rest
 
 -- the part that the steps leave, one after another
 abbrev pub after_steps : NodePart → List PendingStep → NodePart

@@ -39,7 +39,7 @@ pub fn pending_steps_become_events<M: Machine>()
         (steps : List PendingStep) → AllSent sent later
         → AreSteps setting sent me part steps → AreSteps setting later me part steps }
     // claim: Steps that a world does not have yet become events of its history, the first ones
-    //   first, and no other node or task changes
+    //   first, and no other node or task changes; they note what the steps noted, and nothing else
     ensures made { (config : Config) (program : M.Program) (events : List Event) (world : World)
         (me : ℕ) (part : NodePart) (front back : List PendingStep)
         → let setting = setting_for M.next M.answers M.begin config program in
@@ -54,7 +54,7 @@ pub fn pending_steps_become_events<M: Machine>()
         IsHistory setting events world → part_at world.nodes me ≡ Some part → part.torn ≡ 0
         → AreTextsOf part.records bytes → AreSteps setting world.sent me part steps
         → bytes_of steps ≡ left ++ rest
-        → Stopped setting events world me (bytes ++ left) }
+        → Stopped setting events world me steps (bytes ++ left) }
 {
     histories_keep_ranges::<M>();
 }

@@ -31,4 +31,4 @@ returns-clause-ordered g c = λ config program moves now right all.
     let m = g.M.Machine in
     let s = setting_for m.next m.answers m.begin config program in
     let ranged = c.histories_keep_ranges.ensures config program in
-    order_now s ranged (c.histories_are_ordered.ensures.ordered config program) now (from_nothing s ranged m.image right moves now all)
+    order_now s ranged (c.histories_are_ordered.ensures.ordered config program) (c.histories_are_ordered.ensures.noted config program) now (from_nothing s ranged m.image right moves now all)

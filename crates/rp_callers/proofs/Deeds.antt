@@ -1,5 +1,5 @@
 -- Deeds of callers as data: what each leads to is computed, and a test says whether it is a move.
-use Rattle.std.proofs.Common.{◌≡◌, ℕ, zero, suc, ◌+◌, ◌<◌, ◌≤◌, ℤ, Bool, true, false, ◌&&◌, Option, Some, None, Result, Ok, Err, List, [], ◌∷◌, ◌++◌, length, inl, inr, refl, sym, ap, subst, ◌∙◌, is_some, is_none, is_ok, IsSome, nat_eq, nat_le, nat_lt, slice_get, arith}
+use Rattle.std.proofs.Common.{◌≡◌, ℕ, zero, suc, ◌≤◌, ℤ, Bool, true, false, ◌&&◌, Option, Some, None, Result, Ok, Err, List, [], ◌∷◌, ◌++◌, length, inl, inr, refl, sym, ap, subst, ◌∙◌, is_some, is_none, is_ok, IsSome, nat_eq, nat_le, nat_lt, slice_get}
 use Rattle.std.specs.Prelude.{unwrap_or}
 use Rattle.std.specs.List.{AllByRecursion}
 use Rattle.std.proofs.lemmas.Bool.{and_parts, eqb-true}
@@ -26,7 +26,7 @@ use Rattle.rp_requests.specs.TaskRequests.{TaskAsked, MakeCall, TakePacket, task
 use Rattle.rp_requests.specs.Tasks.{call_packet, reply_taken}
 use Rattle.rp_tasks.specs.Calls.{Calls, no_calls, refusal_of, with_call, with_reply}
 use Rattle.rp_requests.specs.Nodes.{NodeState, after_step, step_bytes}
-use Rattle.rp_requests.specs.Requests.{Asked, Step, asked_of}
+use Rattle.rp_requests.specs.Requests.{Step, asked_of}
 use Rattle.rp_installations.specs.Moves.{with_step}
 use Rattle.rp_installations.specs.Sites.{StepPackets, NodeSite, TaskSite, closed_over, unopened_task}
 use Rattle.rp_agreement.proofs.PartPlaces.{put_there}

@@ -3,4 +3,4 @@ pub mod Moving
 pub mod Packets
 pub mod Deeds
 pub mod Plays
-pub mod Replied
+pub mod Kept

@@ -1,10 +1,9 @@
 -- Moves of callers, each by what it needs.
-use Rattle.std.proofs.Common.{cond, ◌≡◌, ℕ, zero, suc, ◌+◌, ◌<◌, ◌≤◌, ◌^◌, ℤ, pos, Bool, true, false, Option, Some, None, Result, Ok, Err, List, [], ◌∷◌, ◌++◌, length, take, drop, replicate, inl, inr, refl, sym, ap, subst, ◌∙◌, is_some, IsSome, arith}
+use Rattle.std.proofs.Common.{cond, ◌≡◌, ℕ, ◌<◌, ◌≤◌, ℤ, Bool, true, false, Option, Some, None, Result, Ok, List, [], ◌∷◌, ◌++◌, length, take, drop, inl, inr, refl, sym, ap, subst, ◌∙◌, IsSome, arith}
 use Rattle.std.specs.Prelude.{nat_lt, nat_le}
 use Rattle.std.specs.List.{AllByRecursion, list_all}
 use Rattle.std.proofs.lemmas.Bool.{leb-true, ltb-true, and_parts}
 use Rattle.rp_base.specs.Sets.{Has}
-use Rattle.rp_base.specs.declared.fault.Fault.{Fault}
 use Rattle.rp_codec.specs.Message.{Message, IsPacket}
 use Rattle.rp_base.specs.Calls.{next_call}
 use Rattle.rp_base.specs.declared.action.Action.{Action}
@@ -22,19 +21,19 @@ use Rattle.rp_pending.specs.Pending.{noted_by}
 use Rattle.rp_replica.specs.Inputs.{effect_if_given}
 use Rattle.rp_request_texts.specs.Texts.{step_text, FitsStep, task_request_text, FitsTaskRequest}
 use Rattle.rp_requests.specs.Buffers.{IsPut}
-use Rattle.rp_requests.specs.TaskRequests.{TaskAsked, MakeCall, SendAgain, TakePacket, task_asked_of}
+use Rattle.rp_requests.specs.TaskRequests.{TaskAsked, MakeCall, TakePacket, task_asked_of}
 use Rattle.rp_requests.specs.Tasks.{TaskAnswers, task_bytes, call_packet, reply_taken, once_taken, taken_text}
 use Rattle.rp_tasks.specs.Calls.{Calls, no_calls, refusal_of, with_call, with_reply}
 use Rattle.rp_requests.specs.Nodes.{NodeState, Answers, after_step, stored_by, step_bytes}
 use Rattle.rp_requests.specs.Requests.{Asked, Step, asked_of}
 use Rattle.rp_requests.specs.declared.buffer.Lengths.{Lengths}
 use Rattle.rp_requests.specs.declared.refusal.Refusal.{Refusal}
-use Rattle.rp_store.specs.Disk.{Disk, empty_disk}
+use Rattle.rp_store.specs.Disk.{empty_disk}
 use Rattle.rp_store.proofs.Whole.{are_alone}
 use Rattle.rp_installations.specs.Moves.{AreBytes, IsPacketIn, WasHandedOn, node_receives_byte, AsksSite, AsksTask, IsThroughNode, task_receives_byte, answer_in, call_given, reply_given, HandsOn, noted_if, is_step_made, with_step, site_answered, OpensFrom, AnswersBy, AnsweredRequest}
 use Rattle.rp_installations.specs.Moves as moves
-use Rattle.rp_installations.specs.Sites.{StepPackets, NodeSite, TaskSite, Installation, closed_over, nothing_opened}
-use Rattle.rp_callers.specs.Breaches.{Callers, three_nodes, one_sum, MoveOr, Keeps, Breaches, MovesOr, GetsForgedPacket, HandsOnUnsynced, GetsOtherDevice}
+use Rattle.rp_installations.specs.Sites.{StepPackets, NodeSite, TaskSite, closed_over}
+use Rattle.rp_callers.specs.Breaches.{Callers, three_nodes, one_sum, MoveOr, Keeps, Breaches, GetsForgedPacket, HandsOnUnsynced, GetsOtherDevice}
 
 -- ---- bytes
 

@@ -1,11 +1,11 @@
 -- The packets of the plays are packets.
-use Rattle.std.proofs.Common.{◌≡◌, ℕ, ◌<◌, ◌≤◌, ◌^◌, Option, Some, None, List, [], ◌∷◌, refl, arith}
+use Rattle.std.proofs.Common.{ℕ, None, List, arith}
 use Rattle.std.specs.List.{AllByRecursion}
 use Rattle.rp_base.specs.Action.{IsRight}
 use Rattle.rp_base.specs.Ballot.{IsBallot}
 use Rattle.rp_base.specs.Number.{IsNode, IsTask, IsPosition}
 use Rattle.rp_base.specs.declared.action.Action.{Action}
-use Rattle.rp_base.specs.declared.action.Action.TheVariants.{Noop, Interrupt}
+use Rattle.rp_base.specs.declared.action.Action.TheVariants.{Interrupt}
 use Rattle.rp_codec.specs.Message.{Message, IsPacket}
 use Rattle.rp_codec.specs.declared.packet.Body.TheVariants as bodies
 use Rattle.rp_model.specs.Says.{says, says_to_all, says_to_others}

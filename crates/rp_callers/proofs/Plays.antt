@@ -1,15 +1,13 @@
 -- Callers who break one rule, played: what two nodes have applied then.
-use Rattle.std.proofs.Common.{◌≡◌, ℕ, ◌≤◌, ℤ, Bool, true, false, ◌&&◌, Option, Some, None, Result, Ok, List, [], ◌∷◌, ◌++◌, length, inl, inr, refl, sym, ap, subst, ◌∙◌, is_some, is_none, slice_get, arith}
+use Rattle.std.proofs.Common.{◌≡◌, ℕ, ◌≤◌, Bool, true, ◌&&◌, Some, None, Ok, List, [], ◌∷◌, ◌++◌, length, inl, inr, refl, subst, is_some, is_none, slice_get}
 use Rattle.std.specs.List.{AllByRecursion}
 use Rattle.std.proofs.lemmas.Bool.{and_parts}
 use Rattle.rp_agreement.specs.Order.{AreAlike}
-use Rattle.rp_base.specs.Action.{IsRight}
 use Rattle.rp_base.specs.Sets.{Has}
 use Rattle.rp_base.specs.declared.action.Action.{Action}
 use Rattle.rp_base.specs.declared.action.Action.TheVariants.{Noop}
 use Rattle.rp_codec.specs.Message.{Message, IsPacket}
 use Rattle.rp_codec.specs.Text.{text_of, number_text}
-use Rattle.rp_codec.specs.declared.packet.Body.{Body}
 use Rattle.rp_codec.specs.declared.packet.Body.TheVariants as bodies
 use Rattle.rp_model.specs.Effect.{NodeInput}
 use Rattle.rp_model.specs.Effect as inputs
@@ -18,13 +16,13 @@ use Rattle.rp_model.specs.World.{part_at}
 use Rattle.rp_outbox.specs.Packets.{texts_of}
 use Rattle.rp_request_texts.specs.Texts.{step_text, FitsStep, task_request_text, FitsTaskRequest}
 use Rattle.rp_requests.specs.TaskRequests.{TaskAsked, task_asked_of}
-use Rattle.rp_requests.specs.Nodes.{NodeState, step_bytes}
-use Rattle.rp_requests.specs.Requests.{Asked, Step, asked_of}
-use Rattle.rp_installations.specs.Outcomes.{IsAllSynced, applied_by}
-use Rattle.rp_installations.specs.Sites.{NodeSite, closed_over, nothing_opened}
+use Rattle.rp_requests.specs.Nodes.{step_bytes}
+use Rattle.rp_requests.specs.Requests.{Step, asked_of}
+use Rattle.rp_installations.specs.Outcomes.{applied_by}
+use Rattle.rp_installations.specs.Sites.{closed_over, nothing_opened}
 use Rattle.rp_callers.specs.Breaches.{Callers, MoveOr, MovesOr, TwoDiffer, HandsOnUnsynced, GetsForgedPacket, GetsOtherDevice}
-use Rattle.rp_callers.proofs.Deeds.{Deed, Open, Take, Keep, Hand, Close, Break, site_at, node_at, step_at, no_packets, same_bytes, same_is, some_is, none_is, has_at, plays, all_may, AllFit, plays_lead}
-use Rattle.rp_callers.proofs.Moving.{forges, hands_early, gets_device, with_packet, on_device, fresh}
+use Rattle.rp_callers.proofs.Deeds.{Deed, Open, Take, Keep, Hand, Close, Break, site_at, node_at, step_at, no_packets, same_bytes, same_is, some_is, none_is, has_at, plays, AllFit, plays_lead}
+use Rattle.rp_callers.proofs.Moving.{forges, hands_early, gets_device, with_packet, on_device}
 use Rattle.rp_callers.proofs.Packets.{node_1, node_2, node_3, occurrence, right_occurrence, position, prepare_is, promise_is, accept_is, accepted_is, decided_is, all_prepare, all_accept, others_decided}
 
 -- neither is a prefix of the other

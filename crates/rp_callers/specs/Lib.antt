@@ -1,2 +1,2 @@
 pub mod Breaches
-pub mod Replies
+pub mod Kept

@@ -2,7 +2,7 @@
 
 ghost use Rattle.rp_callers.specs.Breaches.{TwoDiffer, HandsOnUnsynced, GetsForgedPacket};
 ghost use Rattle.rp_callers.specs.Breaches.{GetsOtherDevice};
-ghost use Rattle.rp_callers.specs.Replies.{AreAnswered};
+ghost use Rattle.rp_callers.specs.Kept.{AreAnswered, AreNoted};
 
 use rp_request_texts::{node_requests_are_read_back, task_requests_are_read_back};
 
@@ -20,11 +20,15 @@ pub fn no_rule_can_be_left_out()
     task_requests_are_read_back();
 }
 
-/// The rules can be kept: there are callers who keep all of them and whose task gets its reply.
-pub fn some_callers_get_a_reply()
-    // claim: Callers who keep the rules get a reply: a task of a tally adds 5 to 0 and gets 5, and
-    //   another node applies its call
-    ensures { AreAnswered }
+/// The rules can be kept: there are callers who keep all of them and whose task gets its reply, and
+/// others whose node notes an interrupt that another node applies.
+pub fn the_rules_can_be_kept()
+    // claim (replies): Callers who keep the rules get a reply: a task of a tally adds 5 to 0 and
+    //   gets 5, and another node than the one that it called applies its call
+    ensures replies { AreAnswered }
+    // claim (interrupts): An interrupt that a node notes for callers who keep the rules is applied,
+    //   also by another node
+    ensures interrupts { AreNoted }
 {
     node_requests_are_read_back();
     task_requests_are_read_back();

@@ -7,4 +7,4 @@
 
 mod laws;
 
-pub use laws::{no_rule_can_be_left_out, some_callers_get_a_reply};
+pub use laws::{no_rule_can_be_left_out, the_rules_can_be_kept};

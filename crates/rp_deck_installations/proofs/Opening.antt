@@ -1,5 +1,5 @@
 -- Moves by handle are moves of nodes of protected objects.
-use Rattle.std.proofs.Common.{◌≡◌, ℕ, Option, Some, None, Result, Ok, Err, List, [], ◌∷◌, refl, sym, ap, subst, ◌∙◌}
+use Rattle.std.proofs.Common.{◌≡◌, ℕ, Result, Ok, Err, List, [], ◌∷◌, sym, ap, subst, ◌∙◌}
 use Rattle.std.specs.Arc.{arc_value}
 use Rattle.rp_base.specs.declared.config.Config.{Config}
 use Rattle.rp_deck.specs.declared.deck.Deck.{Deck}

@@ -1,13 +1,9 @@
 -- Two nodes of an installation at two moments, over two moments of one history.
-use Rattle.std.proofs.Common.{◌≡◌, ◌≢◌, ℕ, zero, suc, ◌+◌, ◌≤◌, Option, Some, None, List, [], ◌∷◌, ◌++◌, length, map, inl, inr, ◌⊎◌, refl, sym, ap, subst, ◌∙◌, append_assoc, length-append, arith}
-use Rattle.std.specs.Prelude.{unwrap_or, slice_get, is_some}
+use Rattle.std.proofs.Common.{◌≡◌, ℕ, Option, Some, List, [], ◌++◌, length, inl, inr, refl, sym, ap, subst, ◌∙◌, append_assoc, length-append, arith}
+use Rattle.std.specs.Prelude.{unwrap_or, is_some}
 use Rattle.std.proofs.lemmas.Bool.{cases_eq}
 use Rattle.std.proofs.lemmas.List.{append-nil}
 use Rattle.rp_base.specs.Records.{applied_of}
-use Rattle.rp_base.specs.Sets.{Has}
-use Rattle.rp_base.specs.declared.action.Action.{Action}
-use Rattle.rp_base.specs.declared.reply.Answer.{Answer}
-use Rattle.rp_codec.specs.Text.{reply_text}
 use Rattle.rp_machine.specs.Replay.{replay_state}
 use Rattle.rp_model.specs.Effect.{Setting}
 use Rattle.rp_model.specs.Events.{Event}
@@ -19,13 +15,12 @@ use Rattle.rp_agreement.specs.Ranges.{IsRangedWorld}
 use Rattle.rp_world.specs.Agreeing.{Agree}
 use Rattle.rp_replica.specs.State.{part_of}
 use Rattle.rp_requests.specs.Nodes.{NodeState, image_of}
-use Rattle.rp_pending.specs.Pending.{PendingStep, AreSteps, after_steps, bytes_of}
-use Rattle.rp_pending.specs.Making.{GoesOnTo}
+use Rattle.rp_pending.specs.Pending.{AreSteps, after_steps, bytes_of}
 use Rattle.rp_pending.proofs.Stepping.{made}
-use Rattle.rp_installations.specs.Sites.{NodeSite, TaskSite, Installation}
-use Rattle.rp_installations.specs.Moves.{all_given, Moves, OpensFrom, AnswersBy}
-use Rattle.rp_installations.specs.Behind.{IsOpenOver, IsNodeOver, IsOpen, IsBehind, HasHistory, HasLonger}
-use Rattle.rp_installations.specs.Outcomes.{IsOpenAt, IsAllSynced, applied_by, AgreeAs}
+use Rattle.rp_installations.specs.Sites.{NodeSite, Installation}
+use Rattle.rp_installations.specs.Moves.{Moves, OpensFrom, AnswersBy}
+use Rattle.rp_installations.specs.Behind.{IsOpenOver, IsNodeOver, IsOpen, IsBehind, HasHistory}
+use Rattle.rp_installations.specs.Outcomes.{IsOpenAt, IsAllSynced, AgreeAs}
 use Rattle.rp_installations.specs.Starts.{BehaveAlike}
 use Rattle.rp_installations.proofs.Opened.{AllAlike, moves_keep}
 use Rattle.rp_installations.proofs.NodeSites.{open_over, settle}

@@ -1,12 +1,12 @@
 -- What a node was asked to note it was asked to note later too.
-use Rattle.std.proofs.Common.{◌≡◌, ◌≢◌, ℕ, Bool, true, false, Option, Some, List, [], ◌∷◌, ◌++◌, inl, inr, refl, sym, ap, subst, ◌∙◌}
+use Rattle.std.proofs.Common.{◌≡◌, ℕ, Bool, true, false, Option, List, [], ◌∷◌, inl, inr, sym, ap, subst, ◌∙◌}
 use Rattle.std.specs.Prelude.{unwrap_or}
 use Rattle.std.proofs.lemmas.Bool.{cases_eq}
 use Rattle.rp_agreement.proofs.PartPlaces.{put_there, put_beside}
 use Rattle.rp_base.proofs.Members.{has_left}
 use Rattle.rp_base.specs.Sets.{Has}
 use Rattle.rp_base.specs.declared.action.Action.{Action}
-use Rattle.rp_model.specs.World.{part_at, with_part}
+use Rattle.rp_model.specs.World.{part_at}
 use Rattle.rp_pending.specs.Making.{AreAmong}
 use Rattle.rp_requests.specs.Nodes.{NodeState}
 use Rattle.rp_requests.specs.Requests.{asked_of}

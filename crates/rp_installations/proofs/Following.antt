@@ -1,5 +1,5 @@
 -- Each move of an installation, over a world that is behind it.
-use Rattle.std.proofs.Common.{◌≡◌, ◌≢◌, ℕ, zero, suc, ◌+◌, ◌<◌, ◌≤◌, Bool, true, false, cond, Option, Some, None, Result, Ok, Err, List, [], ◌∷◌, ◌++◌, length, map, take, drop, inl, inr, ◌⊎◌, refl, sym, ap, subst, ◌∙◌, append_assoc, length-append, arith}
+use Rattle.std.proofs.Common.{◌≡◌, ◌≢◌, ℕ, zero, suc, Option, Some, None, List, [], ◌∷◌, ◌++◌, length, inl, inr, ◌⊎◌, refl, sym, ap, subst, ◌∙◌, append_assoc, arith}
 use Rattle.std.specs.Prelude.{IsSome, unwrap_or, replicate, slice_get, is_some}
 use Rattle.std.proofs.lemmas.Bool.{cases_eq}
 use Rattle.std.proofs.lemmas.List.{append-nil}
@@ -7,23 +7,20 @@ use Rattle.rp_base.specs.Config.{IsRightConfig}
 use Rattle.rp_base.specs.Number.{IsTask}
 use Rattle.rp_base.specs.Sets.{Has}
 use Rattle.rp_base.proofs.Members.{has_split}
-use Rattle.rp_base.specs.declared.action.Action.{Action}
-use Rattle.rp_base.specs.declared.reply.Answer.{Answer}
 use Rattle.rp_codec.specs.Message.{Message}
 use Rattle.rp_codec.specs.Text.{text_of}
 use Rattle.rp_store.proofs.Whole.{are_alone}
-use Rattle.rp_model.specs.Effect.{Setting, NodeInput}
+use Rattle.rp_model.specs.Effect.{Setting}
 use Rattle.rp_model.specs.Events.{Event}
-use Rattle.rp_model.specs.Parts.{NodePart, TaskPart, Turn, fresh_node, fresh_task}
+use Rattle.rp_model.specs.Parts.{NodePart, TaskPart, fresh_node, fresh_task}
 use Rattle.rp_model.specs.World.{World, part_at, with_part, opening_world}
 use Rattle.rp_agreement.specs.History.{IsHistory}
-use Rattle.rp_agreement.specs.Order.{AllSent}
 use Rattle.rp_agreement.specs.Ranges.{IsRangedWorld}
 use Rattle.rp_agreement.proofs.PartPlaces.{part_below, put_there, put_beside, put_length}
 use Rattle.rp_requests.specs.Nodes.{NodeState, after_step}
 use Rattle.rp_requests.specs.Requests.{asked_of}
 use Rattle.rp_pending.specs.Making.{GoesOnTo}
-use Rattle.rp_pending.proofs.Stepping.{stands_still, leads_on}
+use Rattle.rp_pending.proofs.Stepping.{stands_still}
 use Rattle.rp_installations.specs.Sites.{NodeSite, TaskSite, Installation, closed_over, unopened_task, nothing_opened}
 use Rattle.rp_pending.specs.Making.{AreAmong}
 use Rattle.rp_pending.specs.Pending.{noted_by}

@@ -1,7 +1,6 @@
 -- Each move of a node, over its part in a world.
-use Rattle.std.proofs.Common.{◌≡◌, ◌≢◌, ℕ, zero, suc, ◌+◌, ◌<◌, ◌≤◌, Bool, true, false, cond, Option, Some, None, Result, Ok, Err, List, [], ◌∷◌, ◌++◌, length, take, drop, inl, inr, refl, sym, ap, subst, ◌∙◌, append_assoc, length-append, arith}
-use Rattle.std.specs.Prelude.{IsSome, unwrap_or, filter}
-use Rattle.std.specs.List.{AllByRecursion}
+use Rattle.std.proofs.Common.{◌≡◌, ℕ, ◌+◌, ◌≤◌, Option, Some, None, Ok, List, [], ◌∷◌, ◌++◌, length, take, drop, inl, inr, refl, sym, ap, subst, ◌∙◌, append_assoc, length-append, arith}
+use Rattle.std.specs.Prelude.{IsSome, unwrap_or}
 use Rattle.std.proofs.lemmas.List.{append-nil, append_cancel_left}
 use Rattle.rp_base.specs.Sets.{Has}
 use Rattle.rp_base.proofs.Members.{has_split, has_left, has_right}
@@ -10,10 +9,10 @@ use Rattle.rp_codec.specs.Message.{Message, IsPacket}
 use Rattle.rp_codec.specs.Text.{text_of}
 use Rattle.rp_store.specs.Records.{AreTextsOf, AreRecordsOf}
 use Rattle.rp_store.proofs.Whole.{same_reading, alone}
-use Rattle.rp_model.specs.Effect.{Setting, NodeInput, stop_effect, stops_while, stop_part, restart_part, goes_on_as, turn_done, node_effect}
+use Rattle.rp_model.specs.Effect.{Setting, NodeInput, stops_while, stop_part, restart_part, goes_on_as, turn_done, node_effect}
 use Rattle.rp_model.specs.Events.{Event, Stop, Restart}
 use Rattle.rp_model.specs.Parts.{NodePart, Running, Turn, fresh_running, is_in_log, records_in_log}
-use Rattle.rp_model.specs.World.{World, part_at, stops, restarts, node_done_if, event_effect}
+use Rattle.rp_model.specs.World.{World, part_at, stops, restarts, node_done_if}
 use Rattle.rp_agreement.specs.History.{IsHistory}
 use Rattle.rp_agreement.specs.Order.{AllSent}
 use Rattle.rp_agreement.specs.Ranges.{IsRangedWorld}
@@ -22,19 +21,16 @@ use Rattle.rp_agreement.proofs.PartPlaces.{part_has}
 use Rattle.rp_outbox.specs.Packets.{texts_of}
 use Rattle.rp_replica.specs.State.{ReplicaState, part_of}
 use Rattle.rp_requests.specs.Nodes.{NodeState, after_step}
-use Rattle.rp_requests.specs.Opening.{IsOpenedNode}
-use Rattle.rp_requests.specs.Requests.{asked_of}
 use Rattle.rp_pending.specs.Pending.{noted_by, noted_in, PendingStep, MayCome, AreSteps, after_steps, bytes_of, bytes_written}
 use Rattle.rp_base.specs.declared.action.Action.{Action}
-use Rattle.rp_pending.specs.Making.{AreAmong, GoesOnTo, Made, Stopped}
+use Rattle.rp_pending.specs.Making.{AreAmong, GoesOnTo}
 use Rattle.rp_pending.proofs.Stepping.{steps_stay, one_more, leads_on, stands_still, made, node_here, noted_append}
-use Rattle.rp_pending.proofs.Stopping.{Fronts, fronts, taken_front, texts_after, torn_after, stopped}
-use Rattle.rp_installations.specs.Sites.{StepPackets, NodeSite, closed_over}
+use Rattle.rp_pending.proofs.Stopping.{fronts, taken_front, texts_after, torn_after, stopped}
+use Rattle.rp_installations.specs.Sites.{StepPackets, NodeSite}
 use Rattle.rp_installations.specs.Moves.{IsPacketIn, all_given, with_step, Appends, Syncs, Closes, HandsOn, OpensSite, OpensFrom, AnswersBy}
 use Rattle.rp_installations.specs.Starts.{AnswerAlike}
 use Rattle.rp_installations.specs.Behind.{AreTextsSent, IsSetUp, IsOpenOver, IsClosedOver, IsNodeOver, IsOpen, IsClosed, packets_of}
-use Rattle.rp_installations.proofs.NodeAnswers.{effect_on_part}
-use Rattle.rp_installations.proofs.Pieces.{steps_more, after_append, bytes_append, packets_append, FoundStep, found_step, packets_sent, sent_later, same_messages, each_packet, taken_drop, all_pass}
+use Rattle.rp_installations.proofs.Pieces.{steps_more, after_append, bytes_append, packets_append, found_step, packets_sent, sent_later, same_messages, each_packet, taken_drop, all_pass}
 
 -- ---- a site over its part, whatever others send
 

@@ -1,5 +1,5 @@
 -- Each open node was opened at a start that behaves alike.
-use Rattle.std.proofs.Common.{◌≡◌, ◌≢◌, ℕ, zero, suc, Bool, true, false, Option, Some, None, List, [], ◌∷◌, ◌++◌, inl, inr, refl, sym, ap, subst, ◌∙◌}
+use Rattle.std.proofs.Common.{◌≡◌, ℕ, zero, suc, Bool, true, false, Option, Some, None, List, [], ◌∷◌, inl, inr, sym, ap, subst, ◌∙◌}
 use Rattle.std.specs.Prelude.{unwrap_or, replicate}
 use Rattle.std.proofs.lemmas.Bool.{cases_eq}
 use Rattle.rp_agreement.proofs.PartPlaces.{part_has, put_there, put_beside}
@@ -9,11 +9,10 @@ use Rattle.rp_base.specs.declared.action.Action.{Action}
 use Rattle.rp_base.specs.declared.reply.Answer.{Answer}
 use Rattle.rp_model.specs.World.{part_at, with_part}
 use Rattle.rp_replica.specs.State.{ReplicaState}
-use Rattle.rp_requests.specs.Nodes.{NodeState, after_step}
+use Rattle.rp_requests.specs.Nodes.{NodeState}
 use Rattle.rp_requests.specs.Requests.{Asked, asked_of}
 use Rattle.rp_installations.specs.Moves.{Move, NodeMove, OpensSite, AsksSite, OpensFrom, AnswersBy, MachineMoves, noted_if, is_step_made, with_step, site_answered}
 use Rattle.rp_installations.specs.Moves as moves
-use Rattle.rp_installations.specs.Outcomes.{IsOpenAt}
 use Rattle.rp_installations.specs.Sites.{Installation, NodeSite, closed_over, nothing_opened}
 use Rattle.rp_installations.specs.Starts.{BehaveAlike}
 use Rattle.rp_installations.proofs.NodeAnswers.{Outcome, Stepped, Unchanged, outcome}

@@ -1,11 +1,9 @@
 -- All pending steps of all nodes are made, and what follows of the order.
-use Rattle.std.proofs.Common.{◌≡◌, ◌≢◌, ℕ, zero, suc, ◌+◌, ◌<◌, ◌≤◌, Option, Some, None, List, [], ◌∷◌, ◌++◌, length, map, inl, inr, ◌⊎◌, refl, sym, ap, subst, ◌∙◌, append_assoc, arith}
+use Rattle.std.proofs.Common.{◌≡◌, ℕ, zero, suc, ◌<◌, ◌≤◌, Option, Some, None, List, [], ◌∷◌, ◌++◌, length, map, inl, inr, refl, sym, ap, subst, ◌∙◌, append_assoc, arith}
 use Rattle.std.specs.Prelude.{unwrap_or, slice_get}
 use Rattle.std.proofs.lemmas.Bool.{cases_eq}
 use Rattle.std.proofs.lemmas.List.{append-nil}
-use Rattle.rp_base.specs.Records.{applied_of}
 use Rattle.rp_base.specs.declared.reply.Answer.{Answer}
-use Rattle.rp_base.specs.Sets.{Has}
 use Rattle.rp_base.proofs.Members.{has_split}
 use Rattle.rp_base.specs.declared.action.Action.{Action}
 use Rattle.rp_base.specs.declared.action.Action.TheVariants.{Noop, Call, Interrupt, Tick}
@@ -19,7 +17,6 @@ use Rattle.rp_model.specs.Events.{Event, Makes}
 use Rattle.rp_model.specs.Parts.{NodePart, TaskPart}
 use Rattle.rp_model.specs.World.{World, part_at}
 use Rattle.rp_agreement.specs.History.{IsHistory}
-use Rattle.rp_agreement.specs.Order.{IsPrefix}
 use Rattle.rp_agreement.specs.Ranges.{IsRangedWorld}
 use Rattle.rp_agreement.proofs.PartPlaces.{part_below}
 use Rattle.rp_world.specs.Agreeing.{IsOrdered}
@@ -27,9 +24,9 @@ use Rattle.rp_replica.specs.State.{part_of}
 use Rattle.rp_requests.specs.Nodes.{NodeState}
 use Rattle.rp_pending.specs.Pending.{AreSteps, after_steps}
 use Rattle.rp_pending.proofs.Stepping.{made}
-use Rattle.rp_installations.specs.Sites.{NodeSite, TaskSite, Installation}
-use Rattle.rp_installations.specs.Behind.{IsOpenOver, IsClosedOver, IsNodeOver, IsOpen, IsClosed, IsTaskOver, IsBehind, AreAskedFor, HasHistory}
-use Rattle.rp_installations.specs.Outcomes.{IsOpenAt, applied_by, IsReplyTo, HasWorldNow, IsAskedFor, HasOrder}
+use Rattle.rp_installations.specs.Sites.{NodeSite, Installation}
+use Rattle.rp_installations.specs.Behind.{IsOpenOver, IsNodeOver, IsOpen, IsClosed, IsBehind, AreAskedFor, HasHistory}
+use Rattle.rp_installations.specs.Outcomes.{HasWorldNow, IsAskedFor, HasOrder}
 use Rattle.rp_installations.proofs.NodeSites.{over_later}
 
 -- The nodes up to k have their parts in the world, and the others are over theirs.

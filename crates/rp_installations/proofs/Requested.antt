@@ -1,15 +1,14 @@
 -- What a request in bytes asks for is within the ranges of its numbers, and its packet was sent.
-use Rattle.std.proofs.Common.{◌≡◌, ℕ, suc, ◌+◌, ◌<◌, ◌≤◌, Bool, true, false, cond, Option, Some, None, Result, Ok, Err, List, [], ◌∷◌, ◌++◌, length, inl, inr, ◌⊎◌, refl, sym, ap, subst, ◌∙◌, arith}
-use Rattle.std.specs.Prelude.{◌^◌, ◌==◌, ◌&&◌, nat_le, nat_lt, not, ℤ, FitsSigned, if◌then◌else◌}
+use Rattle.std.proofs.Common.{◌≡◌, ℕ, ◌+◌, ◌<◌, Bool, true, false, cond, Option, Some, None, Result, Ok, Err, List, [], ◌∷◌, length, inl, inr, ◌⊎◌, refl, sym, ap, subst, ◌∙◌, arith}
+use Rattle.std.specs.Prelude.{◌^◌, ◌==◌, ◌&&◌, nat_le, nat_lt, not, ℤ, FitsSigned}
 use Rattle.std.specs.Int.{w16, w32, w64, from_be_bytes, cast_signed}
 use Rattle.std.proofs.Math.Facts.{sfits_to_z}
-use Rattle.std.proofs.lemmas.Bool.{eqb-true, leb-true, and_parts, both_ways}
-use Rattle.rp_base.specs.Action.{IsIndex, IsCount, is_right_operation}
+use Rattle.std.proofs.lemmas.Bool.{eqb-true, leb-true, and_parts}
+use Rattle.rp_base.specs.Action.{IsIndex, is_right_operation}
 use Rattle.rp_base.specs.Number.{IsPosition, IsNode, in_range}
 use Rattle.rp_base.specs.Ranges.{Range, range_of}
 use Rattle.rp_base.specs.Sets.{Has}
 use Rattle.rp_base.specs.declared.action.Operation.{Operation}
-use Rattle.rp_base.specs.declared.action.Operation.TheVariants.{Function, Procedure, Entry, SetTimer, CancelTimer}
 use Rattle.rp_base.specs.declared.fault.Fault.{Fault}
 use Rattle.rp_base.specs.declared.fault.PacketReason.{PacketReason}
 use Rattle.rp_codec.specs.Message.{Message, IsPacket}
@@ -18,9 +17,8 @@ use Rattle.rp_codec.specs.Text.{text_of}
 use Rattle.rp_codec.proofs.Decoded.{whole_again}
 use Rattle.rp_model.specs.Effect as nodes
 use Rattle.rp_model.specs.Effect.{NodeInput}
-use Rattle.rp_model.specs.Events.{IsOperation}
 use Rattle.rp_rules.specs.Inputs.{packet_given}
-use Rattle.rp_requests.specs.Requests.{Asked, Step, Applied, Image, LastAnswer, given, lead_at, lead_asked, interrupt_at, interrupt_asked, tick_asked, report_from, report_asked, range_if, range_from, range_asked, question_asked, asked_by, asked_of}
+use Rattle.rp_requests.specs.Requests.{Asked, Step, Applied, Image, LastAnswer, given, lead_asked, interrupt_asked, tick_asked, report_asked, range_if, range_asked, question_asked, asked_by, asked_of}
 use Rattle.rp_requests.specs.TaskRequests.{TaskAsked, MakeCall, SendAgain, TakePacket, operation_at, is_party, arg_at, call_with, call_if, call_asked, again_asked, task_asked_by, task_asked_of}
 use Rattle.rp_pending.specs.Pending.{MayCome}
 use Rattle.rp_installations.specs.Moves.{AreBytes, WasHandedOn, node_receives_byte, task_receives_byte}

@@ -1,5 +1,5 @@
 -- A node has the same effects from starts that answer alike.
-use Rattle.std.proofs.Common.{◌≡◌, ℕ, Bool, cond, Option, Some, None, Result, Ok, Err, List, [], ◌∷◌, ◌++◌, length, drop, filter, refl, ap}
+use Rattle.std.proofs.Common.{◌≡◌, ℕ, cond, Option, Some, None, Result, Ok, Err, List, [], ◌∷◌, ◌++◌, length, drop, filter, refl, ap}
 use Rattle.std.specs.Prelude.{is_some, nat_le, ◌^◌}
 use Rattle.rp_base.specs.Ballot.{next_ballot, round_of}
 use Rattle.rp_base.specs.Promises.{heard_elsewhere, makes_majority, same_heard, offer_of}
@@ -17,10 +17,9 @@ use Rattle.rp_base.specs.declared.reply.Answer.{Answer}
 use Rattle.rp_codec.specs.Message.{Message}
 use Rattle.rp_codec.specs.declared.packet.Body.{Body}
 use Rattle.rp_codec.specs.declared.packet.Body.TheVariants as bodies
-use Rattle.rp_machine.specs.Replay.{kept_of, replay_answers}
-use Rattle.rp_model.specs.Effect.{Setting, NodeInput, running_effect}
-use Rattle.rp_model.specs.Leader.{starts_above, begins, begins_if, offers, leads_at, on_lead, chosen_position, is_beyond, is_out_of_reach}
-use Rattle.rp_model.specs.Learner.{learns, on_vote, on_accepted, on_decision, on_decided, missing_position, asks_for}
+use Rattle.rp_model.specs.Effect.{NodeInput, running_effect}
+use Rattle.rp_model.specs.Leader.{starts_above, begins_if, leads_at, on_lead, chosen_position, is_beyond, is_out_of_reach}
+use Rattle.rp_model.specs.Learner.{learns, on_vote, on_decision, missing_position, asks_for}
 use Rattle.rp_model.specs.Parts.{Running, Turn}
 use Rattle.rp_model.specs.Pending.{on_call, on_interrupt, own_action, stays, replies_to}
 use Rattle.rp_model.specs.Receiving.{is_for_node, on_body, party_number}

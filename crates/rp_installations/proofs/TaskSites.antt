@@ -1,7 +1,6 @@
 -- Each move of a task, over its part in a world.
-use Rattle.std.proofs.Common.{◌≡◌, ◌≢◌, ℕ, zero, suc, ◌+◌, ◌<◌, ◌≤◌, Bool, true, false, cond, Option, Some, None, Result, Ok, Err, List, [], ◌∷◌, ◌++◌, length, map, take, drop, inl, inr, ◌⊎◌, refl, sym, ap, subst, ◌∙◌, add-one, length-append, arith}
-use Rattle.std.specs.Prelude.{◌^◌, nat_lt, nat_le, not, ◌&&◌, ◌||◌, is_some, ℤ, FitsSigned, nat_eq}
-use Rattle.std.specs.Int.{w64}
+use Rattle.std.proofs.Common.{◌≡◌, ◌≢◌, ℕ, suc, ◌+◌, ◌<◌, ◌≤◌, Bool, true, false, cond, Option, Some, None, Result, Ok, Err, List, [], ◌∷◌, ◌++◌, length, map, take, drop, inl, inr, refl, sym, ap, subst, ◌∙◌, add-one, length-append, arith}
+use Rattle.std.specs.Prelude.{◌^◌, nat_lt, nat_le, not, ◌&&◌, ◌||◌, is_some, ℤ, nat_eq}
 use Rattle.std.proofs.lemmas.Bool.{cases_Bool, cond-true, cond-false, and_parts, eqb-true, ltb-true, lt-ltb, le-leb, le-ltb, leb-true}
 use Rattle.std.proofs.lemmas.List.{append-nil, map-append}
 use Rattle.rp_base.specs.Action.{is_right, is_right_operation}
@@ -21,7 +20,6 @@ use Rattle.rp_base.specs.declared.reply.Answer.{Answer}
 use Rattle.rp_base.specs.declared.reply.Reply.{Reply}
 use Rattle.rp_base.specs.declared.reply.Reply.TheVariants as replies
 use Rattle.rp_codec.specs.Message.{Message}
-use Rattle.rp_codec.specs.Reading.{all_of}
 use Rattle.rp_codec.specs.Text.{text_of, reply_text}
 use Rattle.rp_codec.specs.declared.packet.Body.{Body}
 use Rattle.rp_codec.specs.declared.packet.Body.TheVariants as bodies
@@ -29,7 +27,7 @@ use Rattle.rp_codec.specs.declared.packet.Party.{Party}
 use Rattle.rp_codec.specs.declared.packet.Party.TheVariants as parties
 use Rattle.rp_model.specs.Effect.{Setting, Done, goes_on_as}
 use Rattle.rp_model.specs.Events.{Event, Submit, Again, Makes, Deliver, IsRightEvent, IsOperation}
-use Rattle.rp_model.specs.Parts.{TaskPart, fresh_task}
+use Rattle.rp_model.specs.Parts.{TaskPart}
 use Rattle.rp_model.specs.Tasks as tasks
 use Rattle.rp_model.specs.Tasks.{may_call, calls_if, asks, asks_again, takes_reply, task_hears, task_effect}
 use Rattle.rp_model.specs.World.{World, part_at, event_effect, task_done, task_done_if, task_takes, task_receives, arrives, delivers}
@@ -41,10 +39,10 @@ use Rattle.rp_agreement.proofs.PartPlaces.{put_there, put_beside}
 use Rattle.rp_pending.proofs.Stepping.{goes_on}
 use Rattle.rp_requests.specs.Buffers.{IsPut}
 use Rattle.rp_requests.specs.TaskRequests.{TaskAsked, MakeCall, SendAgain, TakePacket, task_asked_of}
-use Rattle.rp_requests.specs.Tasks.{TaskAnswers, TaskDoes, CallPut, ReplyPut, call_packet, again_text, is_task, reply_in, reply_taken, once_taken, taken_text}
+use Rattle.rp_requests.specs.Tasks.{TaskAnswers, TaskDoes, CallPut, call_packet, again_text, is_task, reply_in, reply_taken, once_taken, taken_text}
 use Rattle.rp_requests.specs.declared.buffer.Lengths.{Lengths}
 use Rattle.rp_requests.specs.declared.refusal.Refusal.{Refusal}
-use Rattle.rp_tasks.specs.Calls.{Calls, no_calls, refusal_of, with_call, with_reply}
+use Rattle.rp_tasks.specs.Calls.{Calls, no_calls, refusal_of, with_reply}
 use Rattle.rp_pending.specs.Making.{NoteOnly, notes_of}
 use Rattle.rp_installations.specs.Sites.{TaskSite}
 use Rattle.rp_installations.specs.Moves.{AnsweredRequest, IsThroughNode, answer_in, call_given, reply_given, OpensTask, AsksTask}

@@ -1,6 +1,6 @@
 -- What callers do with the handles of a configuration's nodes and of its tasks, one move after
 -- another, and the rules that they keep.
-use Rattle.std.specs.Prelude.{◌≡◌, ℕ, ◌+◌, ◌<◌, ◌≤◌, ◌^◌, Bool, true, false, nat_lt, Option, Some}
+use Rattle.std.specs.Prelude.{◌≡◌, ℕ, ◌<◌, ◌≤◌, ◌^◌, Bool, true, false, nat_lt, Option, Some}
 use Rattle.std.specs.Prelude.{None, IsSome}
 use Rattle.std.specs.Prelude.{Result, Ok, Err, List, [], ◌∷◌, ◌++◌, length, take, drop}
 use Rattle.std.specs.Prelude.{if◌then◌else◌}

@@ -1,33 +1,29 @@
 -- Pending steps stay steps whatever others send, and the first ones become events.
-use Rattle.std.proofs.Common.{◌≡◌, ◌≢◌, ℕ, zero, suc, ◌+◌, ◌<◌, ◌≤◌, Bool, true, false, cond, Option, Some, None, Result, Ok, Err, List, [], ◌∷◌, ◌++◌, length, inl, inr, refl, sym, ap, subst, ◌∙◌, append_assoc, arith}
-use Rattle.std.specs.Prelude.{nat_eq, slice_get, slice_set, unwrap_or, IfSome}
+use Rattle.std.proofs.Common.{◌≡◌, ℕ, zero, suc, Bool, true, false, Option, Some, None, Ok, List, [], ◌∷◌, ◌++◌, length, inl, inr, refl, sym, ap, subst, ◌∙◌, append_assoc, arith}
+use Rattle.std.specs.Prelude.{slice_get, slice_set, unwrap_or}
 use Rattle.std.proofs.lemmas.Bool.{cases_Bool, eqb-true}
 use Rattle.std.proofs.lemmas.List.{append-nil}
 use Rattle.rp_base.specs.Number.{IsNode}
-use Rattle.rp_base.specs.Config.{IsRightConfig}
 use Rattle.rp_base.specs.Sets.{Has}
 use Rattle.rp_base.proofs.Members.{has_split, has_left, has_right}
-use Rattle.rp_base.specs.declared.fault.Fault.{Fault}
-use Rattle.rp_base.specs.declared.record.Rec.{Rec}
 use Rattle.rp_codec.specs.Message.{Message}
 use Rattle.rp_codec.specs.declared.packet.Party.{Party}
 use Rattle.rp_codec.specs.declared.packet.Party.TheVariants as parties
-use Rattle.rp_model.specs.Answers.{Happen}
 use Rattle.rp_model.specs.Effect as nodes
 use Rattle.rp_model.specs.Effect.{Setting, Done, NodeInput, node_effect, effect_while, running_effect, turn_done, turn_done_if}
 use Rattle.rp_model.specs.Events.{Event, Step, Deliver, Lead, LeadRange, Interrupt, Tick, Report, Makes, IsRightEvent, IsRightStep}
 use Rattle.rp_model.specs.Parts.{NodePart, Running, Turn}
 use Rattle.rp_model.specs.Receiving.{is_node, is_for_node, receives}
 use Rattle.rp_model.specs.Says.{drops_foreign}
-use Rattle.rp_model.specs.World.{World, Transition, part_at, with_part, opening_world, event_effect, node_done, node_done_if, node_takes, node_hears, node_receives, arrives, delivers}
+use Rattle.rp_model.specs.World.{World, Transition, part_at, opening_world, event_effect, node_done, node_done_if, node_takes, node_hears, node_receives, arrives, delivers}
 use Rattle.rp_agreement.specs.History.{IsHistory}
 use Rattle.rp_agreement.specs.Order.{AllSent}
 use Rattle.rp_agreement.proofs.Lists.{has_get}
-use Rattle.rp_agreement.proofs.PartPlaces.{part_below, put_there, put_beside, put_length}
+use Rattle.rp_agreement.proofs.PartPlaces.{part_below, put_there, put_beside}
 use Rattle.rp_agreement.proofs.Playing.{happen_on}
 use Rattle.rp_agreement.specs.Ranges.{IsRangedWorld}
 use Rattle.rp_pending.specs.Pending.{PendingStep, MayCome, AreSteps, after_steps, noted_by, noted_in}
-use Rattle.rp_pending.specs.Making.{notes_of, AreAmong, GoesOnTo, AreAllSent, Made}
+use Rattle.rp_pending.specs.Making.{notes_of, AreAmong, GoesOnTo, Made}
 use Rattle.rp_base.specs.declared.action.Action.{Action}
 
 -- ---- what others send

@@ -1,6 +1,6 @@
 -- What a stop leaves of the bytes that pending steps wrote, and the events that leave the same.
-use Rattle.std.proofs.Common.{◌≡◌, ◌≢◌, ℕ, zero, suc, ◌+◌, ◌<◌, ◌≤◌, Bool, true, false, cond, Option, Some, None, Result, Ok, Err, List, [], ◌∷◌, ◌++◌, length, take, inl, inr, refl, sym, ap, subst, ◌∙◌, append_assoc, length-append, arith}
-use Rattle.std.specs.Prelude.{nat_le, ◌^◌}
+use Rattle.std.proofs.Common.{◌≡◌, ℕ, zero, suc, ◌<◌, ◌≤◌, Bool, true, cond, Option, Some, None, Ok, List, [], ◌∷◌, ◌++◌, length, take, inl, inr, refl, sym, ap, subst, ◌∙◌, append_assoc, arith}
+use Rattle.std.specs.Prelude.{◌^◌}
 use Rattle.std.specs.List.{AllByRecursion}
 use Rattle.std.proofs.lemmas.Bool.{cases_Bool, cases_lt, lt-leb}
 use Rattle.std.proofs.lemmas.List.{append-nil}
@@ -21,7 +21,7 @@ use Rattle.rp_store.specs.Records.{AreTextsOf, AreRecordsOf}
 use Rattle.rp_store.proofs.Whole.{texts_end, are_alone, before_put}
 use Rattle.rp_model.specs.Effect as nodes
 use Rattle.rp_model.specs.Effect.{Setting, Done, NodeInput, node_effect, cut_effect, cut_if, cut_part, goes_on_as, turn_done}
-use Rattle.rp_model.specs.Events.{Event, Cut, IsRightEvent}
+use Rattle.rp_model.specs.Events.{Event, Cut}
 use Rattle.rp_model.specs.Parts.{NodePart, Turn, with_record}
 use Rattle.rp_model.specs.Receiving.{is_node}
 use Rattle.rp_model.specs.World.{World, part_at, event_effect, node_done, node_done_if, delivery_is_cut, arrival_is_cut, hearing_is_cut, node_is_cut}
@@ -30,8 +30,8 @@ use Rattle.rp_agreement.specs.Ranges.{IsRangedWorld}
 use Rattle.rp_agreement.proofs.Lists.{has_get}
 use Rattle.rp_agreement.proofs.PartPlaces.{part_has}
 use Rattle.rp_pending.specs.Pending.{PendingStep, MayCome, AreSteps, after_steps, bytes_written, bytes_of, noted_in}
-use Rattle.rp_pending.specs.Making.{AreAmong, GoesOnTo, Made, Stopped}
-use Rattle.rp_pending.proofs.Stepping.{IsFor, party_is, lost, step_for, right_step, one_more, leads_on, node_here, OneMade, one_made, made, noted_append, joined_among}
+use Rattle.rp_pending.specs.Making.{AreAmong, GoesOnTo, Stopped}
+use Rattle.rp_pending.proofs.Stepping.{IsFor, party_is, lost, step_for, right_step, one_more, leads_on, node_here, one_made, made, noted_append, joined_among}
 
 -- ---- where the bytes end
 

@@ -1,6 +1,6 @@
 -- Steps of a node that it made and that a world does not have yet.
-use Rattle.std.specs.Prelude.{◌≡◌, ℕ, ◌+◌, ◌<◌, ◌^◌, Option, Some, None, Ok, List, [], ◌∷◌, ◌++◌}
-use Rattle.std.specs.Prelude.{length, IfSome}
+use Rattle.std.specs.Prelude.{◌≡◌, ℕ, ◌<◌, ◌^◌, Option, Some, None, Ok, List, [], ◌∷◌, ◌++◌}
+use Rattle.std.specs.Prelude.{IfSome}
 use Rattle.rp_base.specs.Action.{IsIndex, IsCount}
 use Rattle.rp_base.specs.Number.{IsPosition}
 use Rattle.rp_base.specs.Sets.{Has}

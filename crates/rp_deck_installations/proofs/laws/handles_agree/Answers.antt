@@ -1,14 +1,4 @@
-use Rattle.std.proofs.Common.{◌≡◌}
-use Rattle.std.specs.Arc.{arc_value}
-use Rattle.rp_deck.specs.DeckViews.{deck_text}
-use Rattle.rp_deck.specs.declared.deck.Deck.{Deck}
-use Rattle.rp_object.specs.Image.{objects_image}
-use Rattle.rp_object.specs.State.{first_state}
-use Rattle.rp_object.specs.Step.{objects_next, objects_answers}
-use Rattle.rp_object.specs.declared.program.Program.{Program}
-use Rattle.rp_deck_readings.specs.Readings.{IsDeckOfObjects}
 use Rattle.rp_installations.specs.Sites.{nothing_opened}
-use Rattle.rp_installations.specs.Starts.{BehaveAlike}
 use Rattle.rp_deck_installations.proofs.Opening.{moves_so}
 use Rattle.rp_deck_installations.proofs.laws.handles_agree.Goals as goal
 

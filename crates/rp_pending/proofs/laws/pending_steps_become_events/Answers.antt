@@ -1,9 +1,5 @@
 -- By the walk over the events, which keeps each number within its range.
 use Rattle.rp_agreement.specs.Answered.{setting_for}
-use Rattle.rp_agreement.specs.Ranges.{IsRangedWorld}
-use Rattle.rp_model.specs.World.{opening_world}
-use Rattle.rp_agreement.proofs.EventWalk.{any_input, any_event, history_keeps}
-use Rattle.rp_agreement.proofs.RangeKeeping.{ranges_kept, opening_ranged}
 use Rattle.rp_pending.proofs.Stepping.{steps_stay, made}
 use Rattle.rp_pending.proofs.Stopping.{stopped}
 use Rattle.rp_pending.proofs.laws.pending_steps_become_events.Goals as goal

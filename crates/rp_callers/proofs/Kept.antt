@@ -1,12 +1,10 @@
--- Callers who keep the rules, played: a task gets its reply.
-use Rattle.std.proofs.Common.{◌≡◌, ℕ, ◌≤◌, ℤ, pos, Bool, true, FitsSigned, Option, Some, None, Result, Ok, List, [], ◌∷◌, ◌++◌, length, inl, inr, refl, arith}
+-- Callers who keep the rules, played: a task gets its reply, and an interrupt is applied.
+use Rattle.std.proofs.Common.{◌≡◌, ℕ, ◌≤◌, pos, Bool, true, Some, None, Ok, List, [], ◌∷◌, ◌++◌, length, inl, inr, refl, arith}
 use Rattle.std.specs.List.{AllByRecursion}
 use Rattle.rp_base.specs.Action.{IsRight}
-use Rattle.rp_base.specs.declared.action.Action.{Action}
 use Rattle.rp_base.specs.declared.action.Operation.TheVariants.{Procedure}
-use Rattle.rp_base.specs.declared.reply.Reply.TheVariants.{Value}
 use Rattle.rp_codec.specs.Message.{Message, IsPacket}
-use Rattle.rp_codec.specs.Text.{text_of, number_text}
+use Rattle.rp_codec.specs.Text.{number_text}
 use Rattle.rp_codec.specs.declared.packet.Body.TheVariants as bodies
 use Rattle.rp_machine.specs.TallyRule.{tally_next, tally_answers, tally_image}
 use Rattle.rp_model.specs.Effect.{NodeInput}
@@ -14,15 +12,15 @@ use Rattle.rp_model.specs.Effect as inputs
 use Rattle.rp_model.specs.Says.{says, says_to_all, says_to_others, says_to_task}
 use Rattle.rp_request_texts.specs.Texts.{step_text, FitsStep, task_request_text, FitsTaskRequest}
 use Rattle.rp_requests.specs.Nodes.{step_bytes}
-use Rattle.rp_requests.specs.Requests.{Asked, Step, asked_of}
+use Rattle.rp_requests.specs.Requests.{Step, asked_of}
 use Rattle.rp_requests.specs.TaskRequests.{TaskAsked, MakeCall, task_asked_of}
 use Rattle.rp_requests.specs.Tasks.{call_packet}
 use Rattle.rp_installations.specs.Moves.{Move, OpensFrom, AnswersBy, MachineMoves}
 use Rattle.rp_installations.specs.Sites.{nothing_opened}
 use Rattle.rp_callers.specs.Breaches.{Callers, MoveOr, Keeps, Breaches, MovesOr, three_nodes, one_sum}
-use Rattle.rp_callers.specs.Replies.{the_call, the_reply, AreAnswered}
-use Rattle.rp_callers.proofs.Deeds.{Deed, Open, Take, Keep, Hand, OpenTask, MakesCall, TakeReply, site_at, node_at, task_at, plays, all_may, AllFit, plays_lead}
-use Rattle.rp_callers.proofs.Packets.{node_1, node_2, node_3, task_1, position, prepare_is, promise_is, accept_is, accepted_is, decided_is, all_prepare, all_accept, others_decided}
+use Rattle.rp_callers.specs.Kept.{the_call, the_reply, AreAnswered, AreNoted}
+use Rattle.rp_callers.proofs.Deeds.{Deed, Open, Take, Keep, Hand, OpenTask, MakesCall, TakeReply, site_at, node_at, task_at, plays, AllFit, plays_lead}
+use Rattle.rp_callers.proofs.Packets.{node_1, node_2, node_3, task_1, occurrence, right_occurrence, position, prepare_is, promise_is, accept_is, accepted_is, decided_is, all_prepare, all_accept, others_decided}
 
 -- ---- callers who break no rule
 
@@ -130,6 +128,65 @@ module _ (buffer : List ℕ) (room : step_bytes ≤ length buffer) (reads : (inp
         replies = refl;
         site = site_at after_answering 2;
         node = node_at after_answering 2;
+        opened = record { site_is = refl; node_is = refl };
+        applied = refl;
+      }
+
+-- ---- an interrupt
+
+abbrev noting : List (Deed ⊥)
+noting =
+    Open 1
+    ∷ Open 2
+    ∷ Take 1 (inputs.NodeInput.Interrupt 1 1) 0
+    ∷ Take 1 (inputs.NodeInput.Lead (Some 1)) 0
+    ∷ Keep 1
+    ∷ Hand 1 1 (says_to_all 3 1 (bodies.Prepare 1 9)) (says 1 (bodies.Prepare 1 9) 1)
+    ∷ Hand 1 1 (says_to_all 3 1 (bodies.Prepare 1 9)) (says 1 (bodies.Prepare 1 9) 2)
+    ∷ Take 1 (inputs.NodeInput.Receive (says 1 (bodies.Prepare 1 9) 1)) 0
+    ∷ Keep 1
+    ∷ Hand 1 2 (says 1 (bodies.Promise 1 9 None) 1 ∷ []) (says 1 (bodies.Promise 1 9 None) 1)
+    ∷ Take 2 (inputs.NodeInput.Receive (says 1 (bodies.Prepare 1 9) 2)) 1
+    ∷ Keep 2
+    ∷ Hand 2 0 (says 2 (bodies.Promise 1 9 None) 1 ∷ []) (says 2 (bodies.Promise 1 9 None) 1)
+    ∷ Take 1 (inputs.NodeInput.Receive (says 1 (bodies.Promise 1 9 None) 1)) 2
+    ∷ Take 1 (inputs.NodeInput.Receive (says 2 (bodies.Promise 1 9 None) 1)) 3
+    ∷ Hand 1 4 (says_to_all 3 1 (bodies.Accept 1 9 occurrence)) (says 1 (bodies.Accept 1 9 occurrence) 1)
+    ∷ Hand 1 4 (says_to_all 3 1 (bodies.Accept 1 9 occurrence)) (says 1 (bodies.Accept 1 9 occurrence) 2)
+    ∷ Take 1 (inputs.NodeInput.Receive (says 1 (bodies.Accept 1 9 occurrence) 1)) 4
+    ∷ Keep 1
+    ∷ Hand 1 5 (says 1 (bodies.Accepted 1 9 occurrence) 1 ∷ []) (says 1 (bodies.Accepted 1 9 occurrence) 1)
+    ∷ Take 2 (inputs.NodeInput.Receive (says 1 (bodies.Accept 1 9 occurrence) 2)) 5
+    ∷ Keep 2
+    ∷ Hand 2 1 (says 2 (bodies.Accepted 1 9 occurrence) 1 ∷ []) (says 2 (bodies.Accepted 1 9 occurrence) 1)
+    ∷ Take 1 (inputs.NodeInput.Receive (says 1 (bodies.Accepted 1 9 occurrence) 1)) 6
+    ∷ Take 1 (inputs.NodeInput.Receive (says 2 (bodies.Accepted 1 9 occurrence) 1)) 7
+    ∷ Keep 1
+    ∷ Hand 1 7 (says_to_others 3 1 (bodies.Decided 1 occurrence)) (says 1 (bodies.Decided 1 occurrence) 2)
+    ∷ Take 2 (inputs.NodeInput.Receive (says 1 (bodies.Decided 1 occurrence) 2)) 8
+    ∷ Keep 2
+    ∷ []
+
+abbrev after_noting : Callers
+after_noting = plays Never ⊥ no_move none_may none_fits no_breach noting (nothing_opened 3)
+
+module _ (buffer : List ℕ) (room : step_bytes ≤ length buffer) (reads : (input : NodeInput) → FitsStep input → asked_of (step_text input) ≡ Some (Step (Ok input)))
+    (reads_task : (request : TaskAsked) → FitsTaskRequest request → task_asked_of (task_request_text request) ≡ Some request) where
+  pub noted : AreNoted
+  unfolding number_text
+  noted =
+      let fits : AllFit Never ⊥ no_move none_may none_fits no_breach noting =
+      (tt, (tt, (right_occurrence, (position, (tt, ((all_prepare, inl refl), ((all_prepare, inr (inl refl)), (prepare_is 1 1 node_1 node_1, (tt, (((promise_is 1 1 node_1 node_1, tt), inl refl), (prepare_is 1 2 node_1 node_2, (tt, (((promise_is 2 1 node_2 node_1, tt), inl refl), (promise_is 1 1 node_1 node_1, (promise_is 2 1 node_2 node_1, ((all_accept occurrence right_occurrence, inl refl), ((all_accept occurrence right_occurrence, inr (inl refl)), (accept_is 1 1 node_1 node_1 occurrence right_occurrence, (tt, (((accepted_is 1 1 node_1 node_1 occurrence right_occurrence, tt), inl refl), (accept_is 1 2 node_1 node_2 occurrence right_occurrence, (tt, (((accepted_is 2 1 node_2 node_1 occurrence right_occurrence, tt), inl refl), (accepted_is 1 1 node_1 node_1 occurrence right_occurrence, (accepted_is 2 1 node_2 node_1 occurrence right_occurrence, (tt, ((others_decided occurrence right_occurrence, inl refl), (decided_is 1 2 node_1 node_2 occurrence right_occurrence, (tt, tt))))))))))))))))))))))))))))) in
+      let led = plays_lead Never ⊥ no_move none_may none_fits no_breach buffer room reads reads_task noting (nothing_opened 3) fits refl in
+      record {
+        moves = led.0;
+        now = after_noting;
+        all = all_kept (nothing_opened 3) led.0 after_noting led.1;
+        asked_site = site_at after_noting 1;
+        asked = refl;
+        noted = refl;
+        site = site_at after_noting 2;
+        node = node_at after_noting 2;
         opened = record { site_is = refl; node_is = refl };
         applied = refl;
       }

@@ -1,7 +1,8 @@
--- Callers of a tally's three nodes who keep the rules, and whose task gets its reply.
+-- Callers of a tally's three nodes who keep the rules: their task gets its reply, and an interrupt that
+-- a node notes is applied.
 use Rattle.std.specs.Prelude.{◌≡◌, ℤ, pos, Some, List, [], ◌∷◌}
 use Rattle.rp_base.specs.declared.action.Action.{Action}
-use Rattle.rp_base.specs.declared.action.Action.TheVariants.{Call}
+use Rattle.rp_base.specs.declared.action.Action.TheVariants.{Call, Interrupt}
 use Rattle.rp_base.specs.declared.action.Operation.TheVariants.{Procedure}
 use Rattle.rp_base.specs.declared.reply.Reply.{Reply}
 use Rattle.rp_base.specs.declared.reply.Reply.TheVariants.{Value}
@@ -34,3 +35,21 @@ pub record AreAnswered : Type 0 where
   pub node : NodeState (List ℤ)
   pub opened : IsOpenAt now 2 site node
   pub applied : applied_by node ≡ the_call ∷ []
+
+-- the first occurrence of interrupt 1
+abbrev pub the_interrupt : Action
+the_interrupt = Interrupt 1 1
+
+-- By moves that keep the rules node 1 was asked to note this interrupt, and nothing else, and node 2
+-- has applied it, and nothing else.
+pub record AreNoted : Type 0 where
+  pub moves : List Callers
+  pub now : Callers
+  pub all : IsInstallation tally_next tally_answers tally_image three_nodes one_sum moves now
+  pub asked_site : NodeSite (List ℤ)
+  pub asked : part_at now.nodes 1 ≡ Some asked_site
+  pub noted : asked_site.noted ≡ the_interrupt ∷ []
+  pub site : NodeSite (List ℤ)
+  pub node : NodeState (List ℤ)
+  pub opened : IsOpenAt now 2 site node
+  pub applied : applied_by node ≡ the_interrupt ∷ []

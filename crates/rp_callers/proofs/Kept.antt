@@ -17,7 +17,7 @@ use Rattle.rp_requests.specs.TaskRequests.{TaskAsked, MakeCall, task_asked_of}
 use Rattle.rp_requests.specs.Tasks.{call_packet}
 use Rattle.rp_installations.specs.Moves.{Move, OpensFrom, AnswersBy, MachineMoves}
 use Rattle.rp_installations.specs.Sites.{nothing_opened}
-use Rattle.rp_callers.specs.Breaches.{Callers, MoveOr, Keeps, Breaches, MovesOr, three_nodes, one_sum}
+use Rattle.rp_callers.specs.Breaches.{Callers, MoveOr, Keeps, Breaches, MovesOr, three_node_config, one_sum}
 use Rattle.rp_callers.specs.Kept.{the_call, the_reply, AreAnswered, AreNoted}
 use Rattle.rp_callers.proofs.Deeds.{Deed, Open, Take, Keep, Hand, OpenTask, MakesCall, TakeReply, site_at, node_at, task_at, plays, AllFit, plays_lead}
 use Rattle.rp_callers.proofs.Packets.{node_1, node_2, node_3, task_1, occurrence, right_occurrence, position, prepare_is, promise_is, accept_is, accepted_is, decided_is, all_prepare, all_accept, others_decided}
@@ -39,11 +39,11 @@ none_fits none = Unit {0}
 no_breach : (none : ⊥) (i : Callers) → none_fits none → none_may none i ≡ true → MoveOr Never i (no_move none i)
 no_breach none i fits e = absurd none
 
-kept : (before after : Callers) → MoveOr Never before after → Move 3 (OpensFrom tally_next tally_answers tally_image three_nodes one_sum) (AnswersBy tally_next tally_answers tally_image) before after
+kept : (before after : Callers) → MoveOr Never before after → Move 3 (OpensFrom tally_next tally_answers tally_image three_node_config one_sum) (AnswersBy tally_next tally_answers tally_image) before after
 kept before after (Keeps move) = move
 kept before after (Breaches none) = absurd none
 
-all_kept : (before : Callers) (steps : List Callers) (after : Callers) → MovesOr Never before steps after → MachineMoves tally_next tally_answers tally_image three_nodes one_sum before steps after
+all_kept : (before : Callers) (steps : List Callers) (after : Callers) → MovesOr Never before steps after → MachineMoves tally_next tally_answers tally_image three_node_config one_sum before steps after
 all_kept before [] after same = same
 all_kept before (middle ∷ rest) after all = (kept before middle all.0, all_kept middle rest after all.1)
 

@@ -33,7 +33,7 @@ use Rattle.rp_store.proofs.Whole.{are_alone}
 use Rattle.rp_installations.specs.Moves.{AreBytes, IsPacketIn, WasHandedOn, node_receives_byte, AsksSite, AsksTask, IsThroughNode, task_receives_byte, answer_in, call_given, reply_given, HandsOn, noted_if, is_step_made, with_step, site_answered, OpensFrom, AnswersBy, AnsweredRequest}
 use Rattle.rp_installations.specs.Moves as moves
 use Rattle.rp_installations.specs.Sites.{StepPackets, NodeSite, TaskSite, closed_over}
-use Rattle.rp_callers.specs.Breaches.{Callers, three_nodes, one_sum, MoveOr, Keeps, Breaches, GetsForgedPacket, HandsOnUnsynced, GetsOtherDevice}
+use Rattle.rp_callers.specs.Breaches.{Callers, three_node_config, one_sum, MoveOr, Keeps, Breaches, GetsForgedPacket, HandsOnUnsynced, GetsOtherDevice}
 
 -- ---- bytes
 
@@ -81,7 +81,7 @@ abbrev pub fresh : ℕ → NodeState (List ℤ)
 fresh me = record {
   replica = record {
     me = me;
-    config = three_nodes;
+    config = three_node_config;
     begin = one_sum;
     records = [];
     running = fresh_running;
@@ -92,7 +92,7 @@ fresh me = record {
   packets = [];
 }
 
-fresh_opens : (me : ℕ) → OpensFrom tally_next tally_answers tally_image three_nodes one_sum me [] (fresh me) 0 0
+fresh_opens : (me : ℕ) → OpensFrom tally_next tally_answers tally_image three_node_config one_sum me [] (fresh me) 0 0
 fresh_opens me = record {
   start = one_sum;
   alike = record { answer = record { kept = λ log. refl; given = λ log. refl }; shown = λ log. refl };
@@ -173,7 +173,7 @@ module _ (Breaks : Callers → Callers → Type 0) where
         let read = reads input fits in
         let answer : Answers tally_next tally_answers tally_image (Some (Step (Ok input))) node (after_step node turn) buffer exchange.after result =
         record { room = room; turn = turn; takes = effect; goes = refl; put = record { front = refl; stored_is = refl; used_is = refl } } in
-        let asks : AsksSite 3 (OpensFrom tally_next tally_answers tally_image three_nodes one_sum) (AnswersBy tally_next tally_answers tally_image) i.handed_on site (with_step site (after_step node turn) (noted_by input)) = record {
+        let asks : AsksSite 3 (OpensFrom tally_next tally_answers tally_image three_node_config one_sum) (AnswersBy tally_next tally_answers tally_image) i.handed_on site (with_step site (after_step node turn) (noted_by input)) = record {
           exchange = exchange;
           old = node;
           new = after_step node turn;

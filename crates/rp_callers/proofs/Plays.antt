@@ -55,7 +55,7 @@ differ Breaks i moves all x y one other = record {
   there = record { site_is = other.here; node_is = other.opened };
   synced = record { appended = one.appended; given = one.given };
   other_synced = record { appended = other.appended; given = other.given };
-  differ = λ agree. apart (subst (λ (p : List Action × List Action). AreAlike p.0 p.1) (λ i. (one.applied_is i, other.applied_is i)) agree.applied);
+  differ = λ alike. apart (subst (λ (p : List Action × List Action). AreAlike p.0 p.1) (λ i. (one.applied_is i, other.applied_is i)) alike);
 }
 
 -- ---- packets that nobody sent

@@ -1,18 +1,19 @@
 -- Callers of a tally's three nodes who break one rule, and nodes that differ.
 use Rattle.std.specs.Prelude.{◌≡◌, ℕ, ℤ, pos, Some, None, List, [], ◌∷◌, ◌++◌}
+use Rattle.rp_agreement.specs.Order.{AreAlike}
 use Rattle.rp_base.specs.Sets.{Has}
 use Rattle.rp_base.specs.declared.config.Config.{Config}
 use Rattle.rp_machine.specs.TallyRule.{tally_next, tally_answers, tally_image}
 use Rattle.rp_model.specs.World.{part_at, with_part}
 use Rattle.rp_requests.specs.Nodes.{NodeState}
 use Rattle.rp_installations.specs.Moves.{Move, OpensFrom, AnswersBy, IsPacketIn}
-use Rattle.rp_installations.specs.Outcomes.{IsOpenAt, IsAllSynced, AgreeAs}
+use Rattle.rp_installations.specs.Outcomes.{IsOpenAt, IsAllSynced, applied_by}
 use Rattle.rp_installations.specs.Sites.{StepPackets, NodeSite, Installation, closed_over}
 use Rattle.rp_installations.specs.Sites.{nothing_opened}
 
 -- three nodes, a log of one position, and one sum
-abbrev pub three_nodes : Config
-three_nodes = record { nodes = 3; max_positions = 1 }
+abbrev pub three_node_config : Config
+three_node_config = record { nodes = 3; max_positions = 1 }
 
 abbrev pub one_sum : List ℤ
 one_sum = pos 0 ∷ []
@@ -48,13 +49,15 @@ pub record GetsOtherDevice (before after : Callers) : Type 0 where
   pub other : ℕ
   pub its : NodeSite (List ℤ)
   pub there : part_at before.nodes other ≡ Some its
-  pub goes : after ≡ record before { nodes = with_part before.nodes me (closed_over its.synced site.noted) }
+  pub goes : after ≡ record before {
+    nodes = with_part before.nodes me (closed_over its.synced site.noted);
+  }
 
 -- ---- moves by all rules but one
 
 -- A move of an installation, or one that breaks a rule.
 pub data MoveOr (Breaks : Callers → Callers → Type 0) (before after : Callers) : Type 0 where
-  Keeps : Move 3 (OpensFrom tally_next tally_answers tally_image three_nodes one_sum)
+  Keeps : Move 3 (OpensFrom tally_next tally_answers tally_image three_node_config one_sum)
       (AnswersBy tally_next tally_answers tally_image) before after
       → MoveOr Breaks before after
   Breaches : Breaks before after → MoveOr Breaks before after
@@ -81,4 +84,4 @@ pub record TwoDiffer (Breaks : Callers → Callers → Type 0) : Type 0 where
   pub there : IsOpenAt now y other_site other
   pub synced : IsAllSynced site
   pub other_synced : IsAllSynced other_site
-  pub differ : ¬ AgreeAs tally_next tally_answers tally_image one_sum one other
+  pub differ : ¬ AreAlike (applied_by one) (applied_by other)

@@ -1,5 +1,5 @@
--- Callers of a tally's three nodes who keep the rules: their task gets its reply, and an interrupt that
--- a node notes is applied.
+-- Callers of a tally's three nodes who keep the rules: their task gets its reply, and an interrupt
+-- that a node notes is applied.
 use Rattle.std.specs.Prelude.{◌≡◌, ℤ, pos, Some, List, [], ◌∷◌}
 use Rattle.rp_base.specs.declared.action.Action.{Action}
 use Rattle.rp_base.specs.declared.action.Action.TheVariants.{Call, Interrupt}
@@ -13,7 +13,7 @@ use Rattle.rp_requests.specs.Nodes.{NodeState}
 use Rattle.rp_installations.specs.Moves.{IsInstallation}
 use Rattle.rp_installations.specs.Outcomes.{IsOpenAt, applied_by}
 use Rattle.rp_installations.specs.Sites.{NodeSite, TaskSite}
-use Rattle.rp_callers.specs.Breaches.{Callers, three_nodes, one_sum}
+use Rattle.rp_callers.specs.Breaches.{Callers, three_node_config, one_sum}
 
 -- the first call of task 1, which adds 5 to the sum, and the reply to it
 abbrev pub the_call : Action
@@ -27,7 +27,7 @@ the_reply = Value (pos 5)
 pub record AreAnswered : Type 0 where
   pub moves : List Callers
   pub now : Callers
-  pub all : IsInstallation tally_next tally_answers tally_image three_nodes one_sum moves now
+  pub all : IsInstallation tally_next tally_answers tally_image three_node_config one_sum moves now
   pub task : TaskSite
   pub here : part_at now.tasks 1 ≡ Some task
   pub replies : task.replies ≡ reply_text the_reply ∷ []
@@ -40,12 +40,12 @@ pub record AreAnswered : Type 0 where
 abbrev pub the_interrupt : Action
 the_interrupt = Interrupt 1 1
 
--- By moves that keep the rules node 1 was asked to note this interrupt, and nothing else, and node 2
--- has applied it, and nothing else.
+-- By moves that keep the rules node 1 was asked to note this interrupt, and nothing else, and node
+-- 2 has applied it, and nothing else.
 pub record AreNoted : Type 0 where
   pub moves : List Callers
   pub now : Callers
-  pub all : IsInstallation tally_next tally_answers tally_image three_nodes one_sum moves now
+  pub all : IsInstallation tally_next tally_answers tally_image three_node_config one_sum moves now
   pub asked_site : NodeSite (List ℤ)
   pub asked : part_at now.nodes 1 ≡ Some asked_site
   pub noted : asked_site.noted ≡ the_interrupt ∷ []

@@ -21,8 +21,8 @@ use rp_object::Objects;
 
 /// Whatever callers do with the handles of the nodes of a deck of protected objects and of tasks,
 /// by the rules for devices and packets, is a history of the model. So nodes by handle agree, and
-/// the replies that tasks by handle return are those of one order. The deck may be read anew at each
-/// opening: what is read means the same.
+/// the replies that tasks by handle return are those of one order. The deck may be read anew at
+/// each opening: what is read means the same.
 pub fn handles_agree()
     // claim: What callers do with the handles of a deck's nodes and of tasks, by the rules for
     //   devices and packets, is a history of right events

@@ -81,8 +81,8 @@ IsAskedFor i (Interrupt source occurrence) = WasAskedFor i (Interrupt source occ
 IsAskedFor i (Tick now) = WasAskedFor i (Tick now)
 
 -- There is one order of all that is decided in such a world: what each open node has applied is a
--- prefix of it, each reply that a request of a task returned is the one that it gives, and a node was
--- asked to note each interrupt and each tick in it.
+-- prefix of it, each reply that a request of a task returned is the one that it gives, and a node
+-- was asked to note each interrupt and each tick in it.
 pub record HasOrder {S : Type 0} (s : Setting S) (i : Installation S) : Type 0 where
   pub now : HasWorldNow s i
   pub ordered : IsOrdered s.next s.answers s.begin s.config.nodes now.world

@@ -38,10 +38,10 @@ pub fn answers_give_the_step<M: Machine>()
 
 /// Whatever callers do with the handles of one configuration's nodes and tasks by the rules of
 /// specs/Moves, right events lead to a world behind it, and what they do later is more events. So
-/// two nodes by handle agree, at any two moments, where all is synced that the steps of the earlier one
-/// gave; and at each moment there is one order, of which what each node has applied is a prefix and
-/// which gives each reply that a request of a task returned, and in which each interrupt and each
-/// tick is one that a request asked a node to note.
+/// two nodes by handle agree, at any two moments, where all is synced that the steps of the earlier
+/// one gave. At each moment there is one order, of which what each node has applied is a prefix and
+/// which gives each reply that a request of a task returned; and a request asked a node to note
+/// each interrupt and each tick in it.
 pub fn installations_are_histories<M: Machine>()
     // claim: What callers do with nodes and tasks by handle, by the rules for devices and packets,
     //   is a history of right events: each node and each task is over its part in a world of it

@@ -30,7 +30,8 @@ abbrev pub AreAmong : List Action → List Action → Type 0
 AreAmong some others = (v : Action) → Has v some → Has v others
 
 -- Further events lead to a world in which the node of this number has this part, every other node
--- and each task is as it was, and all that was sent is. They note no interrupts and ticks but these.
+-- and each task is as it was, and all that was sent is. They note no interrupts and ticks but
+-- these.
 pub record GoesOnTo {S : Type 0} (s : Setting S) (events : List Event) (w : World) (me : ℕ)
     (reached : NodePart) : Type 0 where
   pub more : List Event

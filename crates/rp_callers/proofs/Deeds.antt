@@ -249,7 +249,7 @@ module _ (Breaks : Callers → Callers → Type 0) (B : Type 0) (breaks_to : B �
   joined i j k [] more same all = subst (λ (x : Callers). MovesOr Breaks x more k) same all
   joined i j k (middle ∷ rest) more first all = (first.0, joined middle j k rest more first.1 all)
 
-  on : (i j k : Callers) → Leads i j → Leads j k → Leads i k
+  pub on : (i j k : Callers) → Leads i j → Leads j k → Leads i k
   on i j k first second = (first.0 ++ second.0, joined i j k first.0 second.0 first.1 second.1)
 
   module _ (buffer : List ℕ) (room : step_bytes ≤ length buffer) (reads : (input : NodeInput) → FitsStep input → asked_of (step_text input) ≡ Some (Step (Ok input)))

@@ -58,10 +58,10 @@ fits_call = (node_1, (omega arith, omega arith), (omega arith, omega arith), rec
 call_is : IsPacket (call_packet 1 1 the_call)
 call_is = record { ranges = record { from = task_1; to = node_1; body = tt }; rules = (tt, tt, refl, right_call) }
 
-abbrev reply_packet : Message
+abbrev pub reply_packet : Message
 reply_packet = says_to_task 1 (bodies.Reply 1 the_reply) 1
 
-reply_is : IsPacket reply_packet
+pub reply_is : IsPacket reply_packet
 reply_is = record { ranges = record { from = node_1; to = task_1; body = record { sfits = omega arith } }; rules = (tt, tt, (omega arith, omega arith)) }
 
 -- what the step sends in which node 1 learns the call
@@ -71,8 +71,8 @@ decided_and_replied = says_to_others 3 1 (bodies.Decided 1 the_call) ++ reply_pa
 each_is : AllByRecursion IsPacket decided_and_replied
 each_is = (decided_is 1 2 node_1 node_2 the_call right_call, (decided_is 1 3 node_1 node_3 the_call right_call, (reply_is, tt)))
 
-abbrev answering : List (Deed ⊥)
-answering =
+abbrev pub answering : (B : Type 0) → List (Deed B)
+answering B =
     OpenTask 1
     ∷ Open 1
     ∷ Open 2
@@ -108,17 +108,21 @@ answering =
     ∷ TakeReply 1 reply_packet 10
     ∷ []
 
+pub answering_fits : (Breaks : Callers → Callers → Type 0) (B : Type 0) (breaks_to : B → Callers → Callers) (may_break : B → Callers → Bool) (FitsBreach : B → Type 0) (breach : (b : B) (i : Callers) → FitsBreach b → may_break b i ≡ true → MoveOr Breaks i (breaks_to b i))
+    → AllFit Breaks B breaks_to may_break FitsBreach breach (answering B)
+answering_fits Breaks B breaks_to may_break FitsBreach breach =
+    (tt, (tt, (tt, ((fits_call, omega arith), (call_is, (position, (tt, ((all_prepare, inl refl), ((all_prepare, inr (inl refl)), (prepare_is 1 1 node_1 node_1, (tt, (((promise_is 1 1 node_1 node_1, tt), inl refl), (prepare_is 1 2 node_1 node_2, (tt, (((promise_is 2 1 node_2 node_1, tt), inl refl), (promise_is 1 1 node_1 node_1, (promise_is 2 1 node_2 node_1, ((all_accept the_call right_call, inl refl), ((all_accept the_call right_call, inr (inl refl)), (accept_is 1 1 node_1 node_1 the_call right_call, (tt, (((accepted_is 1 1 node_1 node_1 the_call right_call, tt), inl refl), (accept_is 1 2 node_1 node_2 the_call right_call, (tt, (((accepted_is 2 1 node_2 node_1 the_call right_call, tt), inl refl), (accepted_is 1 1 node_1 node_1 the_call right_call, (accepted_is 2 1 node_2 node_1 the_call right_call, (tt, ((each_is, inl refl), ((each_is, inr (inr (inl refl))), (decided_is 1 2 node_1 node_2 the_call right_call, (tt, (reply_is, tt)))))))))))))))))))))))))))))))))
+
 abbrev after_answering : Callers
-after_answering = plays Never ⊥ no_move none_may none_fits no_breach answering (nothing_opened 3)
+after_answering = plays Never ⊥ no_move none_may none_fits no_breach (answering ⊥) (nothing_opened 3)
 
 module _ (buffer : List ℕ) (room : step_bytes ≤ length buffer) (reads : (input : NodeInput) → FitsStep input → asked_of (step_text input) ≡ Some (Step (Ok input)))
     (reads_task : (request : TaskAsked) → FitsTaskRequest request → task_asked_of (task_request_text request) ≡ Some request) where
   pub answered : AreAnswered
   unfolding number_text
   answered =
-      let fits : AllFit Never ⊥ no_move none_may none_fits no_breach answering =
-      (tt, (tt, (tt, ((fits_call, omega arith), (call_is, (position, (tt, ((all_prepare, inl refl), ((all_prepare, inr (inl refl)), (prepare_is 1 1 node_1 node_1, (tt, (((promise_is 1 1 node_1 node_1, tt), inl refl), (prepare_is 1 2 node_1 node_2, (tt, (((promise_is 2 1 node_2 node_1, tt), inl refl), (promise_is 1 1 node_1 node_1, (promise_is 2 1 node_2 node_1, ((all_accept the_call right_call, inl refl), ((all_accept the_call right_call, inr (inl refl)), (accept_is 1 1 node_1 node_1 the_call right_call, (tt, (((accepted_is 1 1 node_1 node_1 the_call right_call, tt), inl refl), (accept_is 1 2 node_1 node_2 the_call right_call, (tt, (((accepted_is 2 1 node_2 node_1 the_call right_call, tt), inl refl), (accepted_is 1 1 node_1 node_1 the_call right_call, (accepted_is 2 1 node_2 node_1 the_call right_call, (tt, ((each_is, inl refl), ((each_is, inr (inr (inl refl))), (decided_is 1 2 node_1 node_2 the_call right_call, (tt, (reply_is, tt))))))))))))))))))))))))))))))))) in
-      let led = plays_lead Never ⊥ no_move none_may none_fits no_breach buffer room reads reads_task answering (nothing_opened 3) fits refl in
+      let fits = answering_fits Never ⊥ no_move none_may none_fits no_breach in
+      let led = plays_lead Never ⊥ no_move none_may none_fits no_breach buffer room reads reads_task (answering ⊥) (nothing_opened 3) fits refl in
       record {
         moves = led.0;
         now = after_answering;

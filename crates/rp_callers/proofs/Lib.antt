@@ -4,3 +4,4 @@ pub mod Packets
 pub mod Deeds
 pub mod Plays
 pub mod Kept
+pub mod Reopened

@@ -2,14 +2,20 @@
 use Rattle.std.specs.Prelude.{◌≡◌, ℕ, ℤ, pos, Some, None, List, [], ◌∷◌, ◌++◌}
 use Rattle.rp_agreement.specs.Order.{AreAlike}
 use Rattle.rp_base.specs.Sets.{Has}
+use Rattle.rp_base.specs.declared.action.Action.TheVariants.{Call}
+use Rattle.rp_base.specs.declared.action.Operation.TheVariants.{Procedure}
 use Rattle.rp_base.specs.declared.config.Config.{Config}
+use Rattle.rp_base.specs.declared.reply.Reply.TheVariants.{Value}
+use Rattle.rp_codec.specs.Text.{reply_text, text_of}
 use Rattle.rp_machine.specs.TallyRule.{tally_next, tally_answers, tally_image}
 use Rattle.rp_model.specs.World.{part_at, with_part}
 use Rattle.rp_requests.specs.Nodes.{NodeState}
+use Rattle.rp_requests.specs.Tasks.{call_packet}
+use Rattle.rp_tasks.specs.Calls.{no_calls}
 use Rattle.rp_installations.specs.Moves.{Move, OpensFrom, AnswersBy, IsPacketIn}
 use Rattle.rp_installations.specs.Outcomes.{IsOpenAt, IsAllSynced, applied_by}
-use Rattle.rp_installations.specs.Sites.{StepPackets, NodeSite, Installation, closed_over}
-use Rattle.rp_installations.specs.Sites.{nothing_opened}
+use Rattle.rp_installations.specs.Sites.{StepPackets, NodeSite, TaskSite, Installation}
+use Rattle.rp_installations.specs.Sites.{closed_over, nothing_opened}
 
 -- three nodes, a log of one position, and one sum
 abbrev pub three_node_config : Config
@@ -53,6 +59,15 @@ pub record GetsOtherDevice (before after : Callers) : Type 0 where
     nodes = with_part before.nodes me (closed_over its.synced site.noted);
   }
 
+-- A task that was opened is opened again, and counts its calls from 1.
+pub record OpensTaskAgain (before after : Callers) : Type 0 where
+  pub task : ℕ
+  pub site : TaskSite
+  pub here : part_at before.tasks task ≡ Some site
+  pub goes : after ≡ record before {
+    tasks = with_part before.tasks task (record site { task = Some (no_calls task) });
+  }
+
 -- ---- moves by all rules but one
 
 -- A move of an installation, or one that breaks a rule.
@@ -85,3 +100,18 @@ pub record TwoDiffer (Breaks : Callers → Callers → Type 0) : Type 0 where
   pub synced : IsAllSynced site
   pub other_synced : IsAllSynced other_site
   pub differ : ¬ AreAlike (applied_by one) (applied_by other)
+
+-- By such moves task 1 gets two replies of 5, though node 1 has applied one call, which adds 5, and
+-- nothing else. The second reply is to a call that adds 7: its packet was handed on.
+pub record TakesOldReply (Breaks : Callers → Callers → Type 0) : Type 0 where
+  pub moves : List Callers
+  pub now : Callers
+  pub all : MovesOr Breaks (nothing_opened 3) moves now
+  pub task : TaskSite
+  pub here : part_at now.tasks 1 ≡ Some task
+  pub replies : task.replies ≡ reply_text (Value (pos 5)) ∷ reply_text (Value (pos 5)) ∷ []
+  pub called : Has (text_of (call_packet 1 1 (Call 1 1 1 (Procedure 1) (pos 7)))) now.handed_on
+  pub site : NodeSite (List ℤ)
+  pub node : NodeState (List ℤ)
+  pub opened : IsOpenAt now 1 site node
+  pub applied : applied_by node ≡ Call 1 1 1 (Procedure 1) (pos 5) ∷ []

@@ -1,13 +1,14 @@
 //! No rule for the callers of nodes by handle can be left out, and the rules can be kept.
 
 ghost use Rattle.rp_callers.specs.Breaches.{TwoDiffer, HandsOnUnsynced, GetsForgedPacket};
-ghost use Rattle.rp_callers.specs.Breaches.{GetsOtherDevice};
+ghost use Rattle.rp_callers.specs.Breaches.{GetsOtherDevice, TakesOldReply, OpensTaskAgain};
 ghost use Rattle.rp_callers.specs.Kept.{AreAnswered, AreNoted};
 
 use rp_request_texts::{node_requests_are_read_back, task_requests_are_read_back};
 
-/// For each of the three rules there are callers who keep the other two, and after whose moves two
-/// nodes have applied different actions.
+/// For each of the three rules there are callers who keep all others, and after whose moves two
+/// nodes have applied different actions; and callers who open a task twice, and after whose moves a
+/// call has the reply to another one.
 pub fn no_rule_can_be_left_out()
     // claim (devices): If packets are handed on before the sync, two nodes may come to differ
     ensures devices { TwoDiffer HandsOnUnsynced }
@@ -15,6 +16,8 @@ pub fn no_rule_can_be_left_out()
     ensures packets { TwoDiffer GetsForgedPacket }
     // claim (handles): If a node is opened over another node's device, two nodes may come to differ
     ensures handles { TwoDiffer GetsOtherDevice }
+    // claim (tasks): If a task is opened again, a later call may get the reply to an earlier one
+    ensures tasks { TakesOldReply OpensTaskAgain }
 {
     node_requests_are_read_back();
     task_requests_are_read_back();

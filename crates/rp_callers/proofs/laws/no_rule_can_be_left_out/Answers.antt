@@ -1,5 +1,6 @@
 use Rattle.rp_callers.proofs.Buffer.{buffer, room}
 use Rattle.rp_callers.proofs.Plays.{forged_packets, exchanged_device, early_packets}
+use Rattle.rp_callers.proofs.Reopened.{old_reply}
 use Rattle.rp_callers.proofs.laws.no_rule_can_be_left_out.Goals as goal
 
 pub returns-clause-devices : goal.returns-clause-devices
@@ -10,3 +11,6 @@ returns-clause-packets c = forged_packets buffer room c.node_requests_are_read_b
 
 pub returns-clause-handles : goal.returns-clause-handles
 returns-clause-handles c = exchanged_device buffer room c.node_requests_are_read_back.ensures.steps c.task_requests_are_read_back.ensures
+
+pub returns-clause-tasks : goal.returns-clause-tasks
+returns-clause-tasks c = old_reply buffer room c.node_requests_are_read_back.ensures.steps c.task_requests_are_read_back.ensures

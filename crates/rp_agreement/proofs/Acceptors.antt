@@ -6,13 +6,8 @@ use Rattle.rp_base.specs.declared.action.Action.{Action}
 use Rattle.rp_base.specs.declared.record.Vote.{Vote}
 use Rattle.rp_base.specs.declared.record.Rec.{Rec}
 use Rattle.rp_base.specs.declared.record.Rec.TheVariants.{Promised, Voted, PromisedRange}
-use Rattle.rp_base.specs.declared.voting.PrepareAnswer.{PrepareAnswer}
-use Rattle.rp_base.specs.declared.voting.PrepareAnswer.TheVariants as prepares
 use Rattle.rp_base.specs.declared.voting.AcceptAnswer.{AcceptAnswer}
 use Rattle.rp_base.specs.declared.voting.AcceptAnswer.TheVariants as accepts
-use Rattle.rp_base.specs.declared.voting.RangeAnswer.{RangeAnswer}
-use Rattle.rp_base.specs.declared.voting.RangeAnswer.TheVariants as range_prepares
-use Rattle.rp_base.specs.declared.placed.PlacedVote.{PlacedVote}
 use Rattle.rp_base.specs.PlacedVotes.{last_votes}
 use Rattle.rp_base.specs.Ranges.{Range, end_of, is_covered}
 use Rattle.rp_agreement.specs.Justified.{Reports}
@@ -26,22 +21,10 @@ use Rattle.std.specs.List.{list_all, range_with_len}
 use Rattle.rp_codec.specs.Message.{Message}
 use Rattle.rp_codec.specs.declared.packet.Body.{Body}
 use Rattle.rp_codec.specs.declared.packet.Body.TheVariants as bodies
-use Rattle.rp_agreement.specs.Sound.{IsSo, IsRunning}
+use Rattle.rp_agreement.specs.Sound.{IsSo}
 use Rattle.rp_agreement.proofs.RecordGrowth.{reports, range_reports, last_cast}
-use Rattle.rp_agreement.proofs.Turns.{IsSoundTurn, IsOffer, IsPlain, one_plain, plain, quiet, sending, runs_written}
-use Rattle.rp_model.specs.Effect.{Setting, NodeInput, Receive, Lead, LeadRange, Interrupt, Tick, Report, plan_of, turn_if, running_effect}
-use Rattle.rp_model.specs.Leader.{is_out_of_reach, is_beyond, unlearned_in, refused_running}
-use Rattle.rp_model.specs.Learner.{missing_position, asks_for, learns}
-use Rattle.rp_model.specs.Node.{RunningNode, running_node, nodes_of, kept_by, given_by, own_for}
-use Rattle.rp_model.specs.Parts.{Running, Turn, with_record}
-use Rattle.rp_model.specs.Pending.{most_pending, is_same_call, is_answered_by, replies_to, own_action, stays}
-use Rattle.rp_model.specs.Plans.{started_running, heard_running, offered_running, promised_running, once_counted, once_learned, report_of, turn_of}
-use Rattle.rp_model.specs.Receiving.{party_number}
-use Rattle.rp_model.specs.Says.{says, says_to_all, says_to_others, says_to_task, sends, notes, writes}
-use Rattle.rp_model.specs.declared.plan.CountedPromise.{CountedPromise}
-use Rattle.rp_model.specs.declared.plan.Plan.{Plan}
-use Rattle.rp_model.specs.declared.plan.Plan.TheVariants as plans
-use Rattle.rp_model.proofs.EveryPlan.{Came, Brings, ByCall, ByInterrupt, ByTick, Saw, SawPromise, SawPrepared, SawPlace, came_allowed, promised_is, offered_is, by_plan}
+use Rattle.rp_agreement.proofs.Turns.{IsOffer, IsPlain, one_plain}
+use Rattle.rp_model.specs.Says.{says}
 use Rattle.rp_base.specs.Voting.{is_above_bounds, accept_answer, vote_answer}
 use Rattle.rp_base.specs.Action.{same_action}
 
@@ -119,4 +102,3 @@ vote_allowed records i b v =
       | inr above ↦ subst (AllowsVote records i b v) (sym (cond-false (nat_lt b (bound_at records i)) low rest above))
           (last_allowed records i b v (last_vote_at records i) refl (ltb-false b (bound_at records i) above))
     ]
-

@@ -1,5 +1,5 @@
 -- A call that is asked for waits at the node after the turn, unless it is over or no place is left.
-use Rattle.std.proofs.Common.{◌≡◌, ℕ, suc, ◌≤◌, ℤ, Bool, true, false, if◌then◌else◌, Result, Ok, ◌⊎◌, inl, inr, Option, Some, None, List, [], ◌∷◌, ◌++◌, length, refl, sym, ap, subst, ◌∙◌, arith, lt-ltb, eq-eqb, eqb-true, ltb-true}
+use Rattle.std.proofs.Common.{◌≡◌, ℕ, suc, ◌≤◌, ℤ, Bool, true, false, if◌then◌else◌, Result, Ok, ◌⊎◌, inl, inr, Option, Some, None, List, [], ◌∷◌, length, refl, sym, ap, subst, ◌∙◌, arith, lt-ltb, eq-eqb, eqb-true, ltb-true}
 use Rattle.std.specs.Prelude.{nat_eq, nat_lt, ◌&&◌, ◌||◌}
 use Rattle.std.specs.Option.{option_map}
 use Rattle.std.specs.List.{list_any}
@@ -7,7 +7,6 @@ use Rattle.std.proofs.lemmas.Bool.{cases_Bool, cases_lt, and_from, and_parts, co
 use Rattle.rp_base.specs.declared.action.Action.{Action}
 use Rattle.rp_base.specs.declared.action.Action.TheVariants.{Noop, Call, Interrupt, Tick}
 use Rattle.rp_base.specs.declared.action.Operation.{Operation}
-use Rattle.rp_base.specs.declared.config.Config.{Config}
 use Rattle.rp_base.specs.declared.fault.Fault.{Fault}
 use Rattle.rp_base.specs.declared.reply.Answer.{Answer}
 use Rattle.rp_base.specs.declared.reply.Reply.{Reply}
@@ -20,19 +19,13 @@ use Rattle.rp_agreement.specs.Answered.{named}
 use Rattle.rp_agreement.specs.Over.{IsOver, IsCallTaken}
 use Rattle.rp_agreement.proofs.AnswerAgain.{call_is}
 use Rattle.rp_agreement.proofs.Lists.{found_has}
-use Rattle.rp_model.specs.Effect.{Setting, NodeInput, Receive, Lead, LeadRange, Interrupt, Tick, Report, plan_of, turn_if, running_effect}
-use Rattle.rp_model.specs.Leader.{is_out_of_reach, is_beyond, unlearned_in, refused_running}
-use Rattle.rp_model.specs.Learner.{missing_position, asks_for, learns}
-use Rattle.rp_model.specs.Node.{RunningNode, running_node, nodes_of, kept_by, given_by, own_for}
-use Rattle.rp_model.specs.Parts.{Running, Turn, with_record}
-use Rattle.rp_model.specs.Pending.{most_pending, is_same_call, is_answered_by, replies_to, own_action, stays}
-use Rattle.rp_model.specs.Plans.{started_running, heard_running, offered_running, promised_running, once_counted, once_learned, report_of, turn_of}
-use Rattle.rp_model.specs.Receiving.{party_number}
-use Rattle.rp_model.specs.Says.{says, says_to_all, says_to_others, says_to_task, sends, notes, writes}
-use Rattle.rp_model.specs.declared.plan.CountedPromise.{CountedPromise}
+use Rattle.rp_model.specs.Effect.{Setting, Receive, Interrupt, Tick, running_effect}
+use Rattle.rp_model.specs.Node.{RunningNode, running_node, kept_by, given_by}
+use Rattle.rp_model.specs.Parts.{Running, Turn}
+use Rattle.rp_model.specs.Pending.{most_pending, is_same_call}
+use Rattle.rp_model.specs.Plans.{turn_of}
 use Rattle.rp_model.specs.declared.plan.Plan.{Plan}
 use Rattle.rp_model.specs.declared.plan.Plan.TheVariants as plans
-use Rattle.rp_model.proofs.EveryPlan.{Came, Brings, ByCall, ByInterrupt, ByTick, Saw, SawPromise, SawPrepared, SawPlace, came_allowed, promised_is, offered_is, by_plan}
 use Rattle.rp_base.specs.declared.record.Rec.{Rec}
 use Rattle.rp_model.specs.Arrivals.{adds_pending, on_numbered, on_call}
 use Rattle.rp_model.specs.Receiving.{is_for_node}

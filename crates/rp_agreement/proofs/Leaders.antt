@@ -1,31 +1,27 @@
 -- A node's steps as a leader are sound.
-use Rattle.std.proofs.Common.{◌≡◌, ℕ, ◌+◌, ◌-◌, ◌/◌, ◌<◌, ◌≤◌, max, Bool, true, false, if◌then◌else◌, Result, Ok, Err, Option, Some, None, List, [], ◌∷◌, ◌++◌, map, inl, inr, refl, sym, ap, subst, ◌∙◌, arith}
-use Rattle.std.specs.Prelude.{nat_eq, nat_le, is_some, ◌^◌, ◌&&◌, not, IfSome, find, filter, length}
-use Rattle.std.specs.List.{list_any}
+use Rattle.std.proofs.Common.{◌≡◌, ℕ, ◌+◌, ◌-◌, ◌/◌, ◌<◌, ◌≤◌, max, Bool, true, false, if◌then◌else◌, Option, Some, None, List, [], ◌∷◌, ◌++◌, map, inl, inr, refl, sym, ap, subst, ◌∙◌, arith}
+use Rattle.std.specs.Prelude.{◌&&◌, not, IfSome, find, filter}
 use Rattle.std.proofs.lemmas.Bool.{cases_Bool, cond-true, cond-false, eqb-true, and_parts, false≢true}
 use Rattle.std.proofs.Math.Nat.{mul-add-mod_self_left, mod-eq_of_lt}
 use Rattle.rp_base.specs.declared.action.Action.{Action}
 use Rattle.rp_base.specs.declared.action.Action.TheVariants.{Noop}
-use Rattle.rp_base.specs.declared.reply.Answer.{Answer}
-use Rattle.rp_base.specs.declared.config.Config.{Config}
-use Rattle.rp_base.specs.declared.fault.Fault.{Fault}
 use Rattle.rp_base.specs.declared.proposal.Phase.{Phase}
 use Rattle.rp_base.specs.declared.proposal.Phase.TheVariants.{Preparing, Offering}
 use Rattle.rp_base.specs.declared.record.Vote.{Vote}
 use Rattle.rp_base.specs.declared.record.Rec.{Rec}
 use Rattle.rp_base.specs.declared.record.Rec.TheVariants.{Started}
-use Rattle.rp_base.specs.Ballot.{owner_of, next_ballot, round_of, greatest_with}
+use Rattle.rp_base.specs.Ballot.{owner_of, next_ballot, greatest_with}
 use Rattle.rp_base.specs.Sets.{Has, IsSet}
 use Rattle.rp_base.specs.declared.placed.PlacedVote.{PlacedVote}
 use Rattle.rp_base.specs.PlacedVotes.{placed_at}
-use Rattle.rp_base.specs.Ranges.{Range, is_covered, positions_of as positions_in}
-use Rattle.rp_base.specs.Records.{started_of, learned_at, applied_of}
-use Rattle.rp_base.specs.Promises.{Promise, same_promise, highest_vote, offer_of}
-use Rattle.rp_base.specs.Proposals.{Proposal, new_proposal, proposal_at, with_proposal, without_proposal, is_in, is_preparing, takes_promise, with_promise, is_promised, is_prepared, takes_range_promise, range_proposal, with_range, once_promised, own_unless, is_given_up}
+use Rattle.rp_base.specs.Ranges.{Range, is_covered}
+use Rattle.rp_base.specs.Records.{started_of}
+use Rattle.rp_base.specs.Promises.{Promise, same_promise, offer_of}
+use Rattle.rp_base.specs.Proposals.{Proposal, new_proposal, proposal_at, with_proposal, is_in, is_preparing, with_promise, is_promised, takes_range_promise, range_proposal, with_range, once_promised, own_unless, is_given_up}
 use Rattle.rp_base.proofs.Members.{has_right, has_passing, mapped_has}
 use Rattle.rp_codec.specs.Message.{Message}
 use Rattle.rp_codec.specs.declared.packet.Body.TheVariants as bodies
-use Rattle.rp_machine.specs.Replay.{kept_of, one_to}
+use Rattle.rp_machine.specs.Replay.{one_to}
 use Rattle.rp_agreement.specs.Asked.{IsAsked}
 use Rattle.rp_agreement.specs.Sound.{IsSo, IsProposal, IsRunning, IsSound}
 use Rattle.rp_base.specs.Proposals.{after_promise}
@@ -33,24 +29,15 @@ use Rattle.rp_base.specs.Promises.{action_or}
 use Rattle.std.specs.Prelude.{unwrap_or}
 use Rattle.rp_agreement.proofs.Lists.{some_same, found_has}
 use Rattle.rp_agreement.proofs.RecordGrowth.{started_below}
-use Rattle.rp_agreement.proofs.Turns.{IsSoundTurn, said_plain, plain, quiet, either, runs_written}
+use Rattle.rp_agreement.proofs.Turns.{IsSoundTurn}
 use Rattle.rp_agreement.proofs.Proposing.{member_or_new, proposal_or_new}
 use Rattle.rp_base.proofs.Apart.{with_apart, passing_apart, positions_stay, promised_there}
 use Rattle.rp_agreement.proofs.Offering.{noop_asked, own_or_noop, offer_is_asked, founds}
-use Rattle.rp_model.specs.Effect.{Setting, NodeInput, Receive, Lead, LeadRange, Interrupt, Tick, Report, plan_of, turn_if, running_effect}
-use Rattle.rp_model.specs.Leader.{is_out_of_reach, is_beyond, unlearned_in, refused_running}
-use Rattle.rp_model.specs.Learner.{missing_position, asks_for, learns}
-use Rattle.rp_model.specs.Node.{RunningNode, running_node, nodes_of, kept_by, given_by, own_for}
-use Rattle.rp_model.specs.Facts.{HasPromised, HasVoted, IsOffered, IsDecided}
-use Rattle.rp_model.specs.Parts.{NodePart, Running, Turn, with_record}
-use Rattle.rp_model.specs.Pending.{most_pending, is_same_call, is_answered_by, replies_to, is_free_item, own_action, stays}
-use Rattle.rp_model.specs.Plans.{started_running, heard_running, offered_running, promised_running, once_counted, once_learned, report_of, turn_of}
-use Rattle.rp_model.specs.Receiving.{party_number}
-use Rattle.rp_model.specs.Says.{says, says_to_all, says_to_others, says_to_task, sends, notes, writes}
-use Rattle.rp_model.specs.declared.plan.CountedPromise.{CountedPromise}
-use Rattle.rp_model.specs.declared.plan.Plan.{Plan}
-use Rattle.rp_model.specs.declared.plan.Plan.TheVariants as plans
-use Rattle.rp_model.proofs.EveryPlan.{Came, Brings, ByCall, ByInterrupt, ByTick, Saw, SawPromise, SawPrepared, SawPlace, came_allowed, promised_is, offered_is, by_plan}
+use Rattle.rp_model.specs.Leader.{refused_running}
+use Rattle.rp_model.specs.Facts.{HasPromised, IsOffered}
+use Rattle.rp_model.specs.Parts.{NodePart, Running}
+use Rattle.rp_model.specs.Pending.{is_free_item, own_action}
+use Rattle.rp_model.specs.Says.{says, says_to_all, sends}
 
 -- a node that puts a proposal in its place knows what it knew
 pub runs_with : (sent : List Message) (records : List Rec) (running : Running) (q : Proposal) → IsRunning sent records running → IsProposal sent records q

@@ -8,33 +8,23 @@ use Rattle.rp_base.specs.declared.record.Vote.{Vote}
 use Rattle.rp_base.specs.declared.record.Rec.{Rec}
 use Rattle.rp_base.specs.declared.record.Rec.TheVariants.{Learned}
 use Rattle.rp_base.specs.Sets.{Has, with_member}
-use Rattle.rp_base.specs.Records.{learned_at, applied_of}
+use Rattle.rp_base.specs.Records.{applied_of}
 use Rattle.rp_base.specs.Promises.{HeardVote, same_heard, makes_majority, heard_elsewhere}
 use Rattle.rp_base.specs.Proposals.{without_proposal}
-use Rattle.rp_base.proofs.Members.{has_right, has_passing}
+use Rattle.rp_base.proofs.Members.{has_passing}
 use Rattle.rp_codec.specs.Message.{Message}
 use Rattle.rp_codec.specs.declared.packet.Body.TheVariants as bodies
-use Rattle.rp_machine.specs.Replay.{kept_of, replay_answers, one_to}
+use Rattle.rp_machine.specs.Replay.{kept_of, replay_answers}
 use Rattle.rp_agreement.specs.Sound.{IsRunning}
-use Rattle.rp_agreement.proofs.RecordGrowth.{learned_has}
-use Rattle.rp_agreement.proofs.Turns.{IsSoundTurn, ArePlain, none_plain, one_plain, both_plain, mapped_plain, said_plain, plain, quiet, sending, either, runs_written}
+use Rattle.rp_agreement.proofs.Turns.{IsSoundTurn, ArePlain, none_plain, one_plain, both_plain, mapped_plain, plain, runs_written}
 use Rattle.rp_agreement.proofs.Counting.{majority_decides}
 use Rattle.rp_agreement.proofs.Proposing.{member_or_new, stays_there}
 use Rattle.rp_base.proofs.Apart.{without_apart}
-use Rattle.rp_model.specs.Effect.{Setting, NodeInput, Receive, Lead, LeadRange, Interrupt, Tick, Report, plan_of, turn_if, running_effect}
-use Rattle.rp_model.specs.Leader.{is_out_of_reach, is_beyond, unlearned_in, refused_running}
-use Rattle.rp_model.specs.Learner.{missing_position, asks_for, learns}
-use Rattle.rp_model.specs.Node.{RunningNode, running_node, nodes_of, kept_by, given_by, own_for}
-use Rattle.rp_model.specs.Facts.{HasPromised, HasVoted, IsOffered, IsDecided}
-use Rattle.rp_model.specs.Parts.{NodePart, Running, Turn, with_record}
-use Rattle.rp_model.specs.Pending.{most_pending, is_same_call, is_answered_by, replies_to, is_free_item, own_action, stays}
-use Rattle.rp_model.specs.Plans.{started_running, heard_running, offered_running, promised_running, once_counted, once_learned, report_of, turn_of}
-use Rattle.rp_model.specs.Receiving.{party_number}
-use Rattle.rp_model.specs.Says.{says, says_to_all, says_to_others, says_to_task, sends, notes, writes}
-use Rattle.rp_model.specs.declared.plan.CountedPromise.{CountedPromise}
-use Rattle.rp_model.specs.declared.plan.Plan.{Plan}
-use Rattle.rp_model.specs.declared.plan.Plan.TheVariants as plans
-use Rattle.rp_model.proofs.EveryPlan.{Came, Brings, ByCall, ByInterrupt, ByTick, Saw, SawPromise, SawPrepared, SawPlace, came_allowed, promised_is, offered_is, by_plan}
+use Rattle.rp_model.specs.Learner.{asks_for, learns}
+use Rattle.rp_model.specs.Facts.{HasVoted, IsDecided}
+use Rattle.rp_model.specs.Parts.{Running}
+use Rattle.rp_model.specs.Pending.{is_answered_by, replies_to, stays}
+use Rattle.rp_model.specs.Says.{says, says_to_task}
 
 -- each vote of the list was sent
 abbrev pub AreCast : List Message → List HeardVote → Type 0

@@ -1,54 +1,43 @@
 -- A node offers near its first unlearned position, and votes for offers alone.
-use Rattle.std.proofs.Common.{◌≡◌, ℕ, ◌+◌, ◌<◌, Bool, true, false, if◌then◌else◌, is_some, nat_lt, nat_le, Option, Some, None, Result, Ok, Err, List, [], ◌∷◌, ◌++◌, map, length, filter, inl, inr, refl, sym, subst, ap, ◌∙◌}
-use Rattle.std.specs.Prelude.{◌^◌, ◌||◌, nat_eq, not}
+use Rattle.std.proofs.Common.{◌≡◌, ℕ, ◌+◌, ◌<◌, Bool, true, false, if◌then◌else◌, nat_lt, Option, Some, None, Result, Ok, Err, List, [], ◌∷◌, ◌++◌, map, filter, inl, inr, refl, sym, subst, ap, ◌∙◌}
+use Rattle.std.specs.Prelude.{◌||◌, nat_eq, not}
 use Rattle.std.specs.List.{list_any}
 use Rattle.std.proofs.lemmas.Bool.{both_ways, leb-false}
 use Rattle.rp_base.specs.declared.action.Action.{Action}
-use Rattle.rp_base.specs.declared.action.Action.TheVariants as actions
 use Rattle.rp_base.specs.declared.reply.Answer.{Answer}
-use Rattle.rp_base.specs.declared.reply.Reply.{Reply}
 use Rattle.rp_base.specs.declared.fault.Fault.{Fault}
-use Rattle.rp_base.specs.declared.record.Vote.{Vote}
 use Rattle.rp_base.specs.declared.record.Rec.{Rec}
 use Rattle.rp_base.specs.declared.record.Rec.TheVariants.{Learned}
 use Rattle.rp_base.specs.declared.proposal.Phase.TheVariants.{Offering}
-use Rattle.rp_base.specs.declared.voting.PrepareAnswer.{PrepareAnswer}
-use Rattle.rp_base.specs.declared.voting.PrepareAnswer.TheVariants as prepares
-use Rattle.rp_base.specs.declared.voting.AcceptAnswer.{AcceptAnswer}
-use Rattle.rp_base.specs.declared.voting.AcceptAnswer.TheVariants as accepts
-use Rattle.rp_base.specs.Ballot.{next_ballot, round_of}
-use Rattle.rp_base.specs.Promises.{Promise, same_heard, makes_majority, offer_of}
-use Rattle.rp_base.specs.Proposals.{Proposal, proposal_at, without_proposal, with_proposal, is_in, takes_promise, with_promise, is_promised, after_promise, is_prepared, as_offered, once_promised, with_range, range_proposal, is_given_up}
-use Rattle.rp_base.specs.Records.{learned_at, applied_of, first_unlearned}
-use Rattle.rp_base.specs.Sets.{Has, with_member}
+use Rattle.rp_base.specs.Promises.{Promise}
+use Rattle.rp_base.specs.Proposals.{Proposal, proposal_at, without_proposal, with_proposal, is_in, with_promise, is_promised, after_promise, once_promised, with_range, range_proposal, is_given_up}
+use Rattle.rp_base.specs.Records.{applied_of, first_unlearned}
+use Rattle.rp_base.specs.Sets.{Has}
 use Rattle.rp_base.proofs.Members.{has_split, has_passing, mapped_has}
 use Rattle.rp_codec.specs.Message.{Message}
 use Rattle.rp_codec.specs.declared.packet.Party.{Party}
 use Rattle.rp_codec.specs.declared.packet.Party.TheVariants.{Node}
 use Rattle.rp_codec.specs.declared.packet.Body.{Body}
 use Rattle.rp_codec.specs.declared.packet.Body.TheVariants as bodies
-use Rattle.rp_machine.specs.Asked.{last_number, last_occurrence, kept_reply}
-use Rattle.rp_machine.specs.Replay.{one_to, kept_of, replay_answers}
-use Rattle.rp_base.specs.declared.voting.RangeAnswer.{RangeAnswer}
-use Rattle.rp_base.specs.declared.voting.RangeAnswer.TheVariants as range_prepares
-use Rattle.rp_base.specs.Ranges.{Range, positions_of, range_of}
+use Rattle.rp_machine.specs.Replay.{one_to}
+use Rattle.rp_base.specs.Ranges.{positions_of}
 use Rattle.rp_base.specs.Number.{window}
 use Rattle.rp_agreement.proofs.Lists.{found_has}
 use Rattle.rp_agreement.proofs.RangedParts.{with_or_old}
 use Rattle.rp_base.proofs.Apart.{promised_there}
-use Rattle.rp_model.specs.Effect.{Setting, NodeInput, Receive, Lead, LeadRange, Interrupt, Tick, Report, plan_of, turn_if, running_effect}
+use Rattle.rp_model.specs.Effect.{Setting, NodeInput, Receive, Lead, LeadRange, Interrupt, Tick, Report, running_effect}
 use Rattle.rp_model.specs.Leader.{is_out_of_reach, is_beyond, unlearned_in, refused_running}
-use Rattle.rp_model.specs.Learner.{missing_position, asks_for, learns}
-use Rattle.rp_model.specs.Node.{RunningNode, running_node, nodes_of, kept_by, given_by, own_for}
-use Rattle.rp_model.specs.Parts.{Running, Turn, with_record}
-use Rattle.rp_model.specs.Pending.{most_pending, is_same_call, is_answered_by, replies_to, own_action, stays}
-use Rattle.rp_model.specs.Plans.{started_running, heard_running, offered_running, promised_running, once_counted, once_learned, report_of, turn_of}
+use Rattle.rp_model.specs.Learner.{missing_position, asks_for}
+use Rattle.rp_model.specs.Node.{RunningNode, running_node}
+use Rattle.rp_model.specs.Parts.{Running, Turn}
+use Rattle.rp_model.specs.Pending.{is_answered_by, replies_to}
+use Rattle.rp_model.specs.Plans.{once_counted, once_learned, report_of, turn_of}
 use Rattle.rp_model.specs.Receiving.{party_number}
 use Rattle.rp_model.specs.Says.{says, says_to_all, says_to_others, says_to_task, sends, notes, writes}
 use Rattle.rp_model.specs.declared.plan.CountedPromise.{CountedPromise}
 use Rattle.rp_model.specs.declared.plan.Plan.{Plan}
 use Rattle.rp_model.specs.declared.plan.Plan.TheVariants as plans
-use Rattle.rp_model.proofs.EveryPlan.{Came, Brings, ByCall, ByInterrupt, ByTick, Saw, SawPromise, SawPrepared, SawPlace, came_allowed, promised_is, offered_is, by_plan}
+use Rattle.rp_model.proofs.EveryPlan.{Came, Saw, SawPromise, promised_is, offered_is, by_plan}
 use Rattle.rp_base.specs.PlacedVotes.{last_votes}
 use Rattle.rp_base.specs.Ballot.{greatest_with}
 use Rattle.std.proofs.lemmas.Bool.{eqb-true}

@@ -1,29 +1,22 @@
 -- The result of a node's input, whole or cut, and what a stop or a restart leaves, keeps the invariant.
-use Rattle.std.proofs.Common.{◌≡◌, ℕ, ◌<◌, ◌≤◌, true, false, if◌then◌else◌, Result, Ok, Err, Option, Some, None, List, [], ◌∷◌, ◌++◌, length, take, drop, ◌-◌, refl, sym, ap, subst, ◌∙◌, arith}
+use Rattle.std.proofs.Common.{◌≡◌, ℕ, ◌<◌, ◌≤◌, true, false, if◌then◌else◌, Result, Ok, Err, Option, Some, None, List, [], ◌∷◌, ◌++◌, length, refl, ap, subst, ◌∙◌, arith}
 use Rattle.std.specs.Prelude.{nat_le}
-use Rattle.std.proofs.lemmas.List.{take_all}
-use Rattle.rp_base.specs.declared.action.Action.{Action}
 use Rattle.rp_base.specs.declared.config.Config.{Config}
 use Rattle.rp_base.specs.declared.fault.Fault.{Fault}
 use Rattle.rp_base.specs.declared.record.Rec.{Rec}
 use Rattle.rp_base.specs.Config.{IsRightConfig}
-use Rattle.rp_base.specs.Ranges.{range_of}
-use Rattle.rp_base.specs.Records.{applied_of}
-use Rattle.rp_codec.specs.Message.{Message, report_len}
-use Rattle.rp_machine.specs.Replay.{kept_of}
+use Rattle.rp_codec.specs.Message.{Message}
 use Rattle.rp_model.specs.Parts.{Running}
 use Rattle.rp_model.specs.Parts.{NodePart}
 use Rattle.rp_model.specs.Parts.{Turn}
 use Rattle.rp_model.specs.Parts.{fresh_running, with_record}
-use Rattle.rp_model.specs.Says.{sends}
 use Rattle.rp_model.specs.Texts.{written_for}
-use Rattle.rp_model.specs.Effect.{Setting, Done, goes_on_as, NodeInput, Receive, Lead, LeadRange, Interrupt, Tick, Report, running_effect, turn_done_if, effect_while, node_effect, stop_part, cut_part, untorn_part, stops_while, stop_effect, cut_if, cut_effect, restart_while, restart_part}
-use Rattle.rp_agreement.specs.Sound.{IsMember, IsReported, IsRunning, IsSound}
+use Rattle.rp_model.specs.Effect.{Setting, Done, goes_on_as, NodeInput, running_effect, turn_done_if, effect_while, node_effect, stop_part, cut_part, untorn_part, stops_while, stop_effect, cut_if, cut_effect, restart_while, restart_part}
+use Rattle.rp_agreement.specs.Sound.{IsMember, IsRunning, IsSound}
 use Rattle.rp_agreement.specs.Steps.{MayWrite, IsSoundStep}
 use Rattle.rp_agreement.specs.Inputs.{IsInput, NodeMoves}
 use Rattle.rp_agreement.proofs.Lists.{some_same}
 use Rattle.rp_agreement.proofs.Keeps.{keeps}
-use Rattle.rp_agreement.proofs.Turns.{IsSoundTurn, one_plain, sending}
 use Rattle.rp_agreement.proofs.SoundPlans.{IsSoundIf, running_sound}
 
 -- ---- a part after a sound step

@@ -1,7 +1,6 @@
 -- What a node offers, proposes and holds pending satisfies a fact of actions, if what comes does.
 use Rattle.std.proofs.Common.{◌≡◌, ℕ, ℤ, Bool, true, false, if◌then◌else◌, Result, Ok, Err, Option, Some, None, List, [], ◌∷◌, ◌++◌, length, map, drop, inl, inr, refl, sym, subst, ◌∙◌}
-use Rattle.std.specs.Prelude.{nat_eq, nat_lt, nat_le, is_some, not, ◌&&◌, ◌^◌, IfSome, filter}
-use Rattle.std.specs.List.{list_any}
+use Rattle.std.specs.Prelude.{nat_eq, not, ◌&&◌, IfSome, filter}
 use Rattle.std.proofs.lemmas.Bool.{and_parts, eqb-true}
 use Rattle.rp_base.specs.declared.action.Action.{Action}
 use Rattle.rp_base.specs.declared.action.Action.TheVariants as actions
@@ -9,32 +8,20 @@ use Rattle.rp_base.specs.declared.action.Operation.{Operation}
 use Rattle.rp_base.specs.declared.fault.Fault.{Fault}
 use Rattle.rp_base.specs.declared.placed.PlacedVote.{PlacedVote}
 use Rattle.rp_base.specs.declared.proposal.Phase.TheVariants.{Offering}
-use Rattle.rp_base.specs.declared.record.Vote.{Vote}
 use Rattle.rp_base.specs.declared.record.Rec.{Rec}
-use Rattle.rp_base.specs.declared.record.Rec.TheVariants.{Started, Learned}
-use Rattle.rp_base.specs.declared.reply.Answer.{Answer}
-use Rattle.rp_base.specs.declared.reply.Reply.{Reply}
-use Rattle.rp_base.specs.declared.voting.PrepareAnswer.{PrepareAnswer}
-use Rattle.rp_base.specs.declared.voting.PrepareAnswer.TheVariants as prepares
-use Rattle.rp_base.specs.declared.voting.RangeAnswer.{RangeAnswer}
-use Rattle.rp_base.specs.declared.voting.RangeAnswer.TheVariants as range_prepares
-use Rattle.rp_base.specs.declared.voting.AcceptAnswer.{AcceptAnswer}
-use Rattle.rp_base.specs.declared.voting.AcceptAnswer.TheVariants as accepts
-use Rattle.rp_base.specs.Ballot.{next_ballot, round_of}
-use Rattle.rp_base.specs.Promises.{Promise, same_heard, makes_majority, highest_vote, offer_of}
-use Rattle.rp_base.specs.Proposals.{Proposal, new_proposal, range_proposal, proposal_at, with_proposal, with_range, is_in, takes_promise, with_promise, is_promised, after_promise, is_prepared, as_offered, takes_range_promise, once_promised, is_given_up, without_proposal}
-use Rattle.rp_base.specs.Ranges.{Range, is_covered, positions_of, range_of}
+use Rattle.rp_base.specs.declared.record.Rec.TheVariants.{Learned}
+use Rattle.rp_base.specs.Promises.{Promise, highest_vote, offer_of}
+use Rattle.rp_base.specs.Proposals.{Proposal, new_proposal, range_proposal, proposal_at, with_proposal, with_range, is_in, with_promise, is_promised, after_promise, as_offered, takes_range_promise, once_promised, is_given_up, without_proposal}
+use Rattle.rp_base.specs.Ranges.{Range, is_covered}
 use Rattle.rp_base.specs.PlacedVotes.{placed_at}
-use Rattle.rp_base.specs.Records.{applied_of, learned_at}
-use Rattle.rp_base.specs.Sets.{Has, with_member}
+use Rattle.rp_base.specs.Records.{applied_of}
+use Rattle.rp_base.specs.Sets.{Has}
 use Rattle.rp_base.proofs.Members.{has_split, has_passing, mapped_has}
 use Rattle.rp_codec.specs.Message.{Message}
-use Rattle.rp_codec.specs.declared.packet.Party.{Party}
-use Rattle.rp_codec.specs.declared.packet.Party.TheVariants.{Node, Task, Audit}
+use Rattle.rp_codec.specs.declared.packet.Party.TheVariants.{Node}
 use Rattle.rp_codec.specs.declared.packet.Body.{Body}
 use Rattle.rp_codec.specs.declared.packet.Body.TheVariants as bodies
-use Rattle.rp_machine.specs.Asked.{last_number, last_occurrence, kept_reply}
-use Rattle.rp_machine.specs.Replay.{kept_of, replay_answers, one_to}
+use Rattle.rp_machine.specs.Replay.{replay_answers, one_to}
 use Rattle.rp_agreement.specs.Inputs.{IsInput}
 use Rattle.rp_agreement.specs.Sound.{IsRunning, IsSound}
 use Rattle.rp_agreement.proofs.Leaders.{more_promised, offer_is, own_is_so, unless_is_so}
@@ -42,19 +29,18 @@ use Rattle.rp_agreement.proofs.Lists.{found_has}
 use Rattle.rp_agreement.proofs.Offering.{offer_is_so}
 use Rattle.rp_agreement.proofs.RangedParts.{with_or_old}
 use Rattle.rp_agreement.proofs.Turns.{IsOffer}
-use Rattle.rp_model.specs.Effect.{Setting, NodeInput, Receive, Lead, LeadRange, Interrupt, Tick, Report, plan_of, turn_if, running_effect}
-use Rattle.rp_model.specs.Leader.{is_out_of_reach, is_beyond, unlearned_in, refused_running}
-use Rattle.rp_model.specs.Learner.{missing_position, asks_for, learns}
-use Rattle.rp_model.specs.Node.{RunningNode, running_node, nodes_of, kept_by, given_by, own_for}
-use Rattle.rp_model.specs.Parts.{Running, Turn, with_record}
-use Rattle.rp_model.specs.Pending.{most_pending, is_same_call, is_answered_by, replies_to, own_action, stays}
-use Rattle.rp_model.specs.Plans.{started_running, heard_running, offered_running, promised_running, once_counted, once_learned, report_of, turn_of}
-use Rattle.rp_model.specs.Receiving.{party_number}
-use Rattle.rp_model.specs.Says.{says, says_to_all, says_to_others, says_to_task, sends, notes, writes}
+use Rattle.rp_model.specs.Effect.{Setting, NodeInput, Receive, Lead, LeadRange, Interrupt, Tick, Report, running_effect}
+use Rattle.rp_model.specs.Leader.{unlearned_in, refused_running}
+use Rattle.rp_model.specs.Learner.{missing_position, asks_for}
+use Rattle.rp_model.specs.Node.{RunningNode, running_node, kept_by, own_for}
+use Rattle.rp_model.specs.Parts.{Running, Turn}
+use Rattle.rp_model.specs.Pending.{replies_to}
+use Rattle.rp_model.specs.Plans.{once_counted, once_learned, report_of, turn_of}
+use Rattle.rp_model.specs.Says.{says, says_to_all, says_to_others, says_to_task}
 use Rattle.rp_model.specs.declared.plan.CountedPromise.{CountedPromise}
 use Rattle.rp_model.specs.declared.plan.Plan.{Plan}
 use Rattle.rp_model.specs.declared.plan.Plan.TheVariants as plans
-use Rattle.rp_model.proofs.EveryPlan.{Came, Brings, ByCall, ByInterrupt, ByTick, Saw, SawPromise, SawPrepared, SawPlace, came_allowed, promised_is, offered_is, by_plan}
+use Rattle.rp_model.proofs.EveryPlan.{Brings, ByCall, ByInterrupt, ByTick, Saw, SawPromise, SawPrepared, promised_is, offered_is, by_plan}
 use Rattle.rp_base.specs.PlacedVotes.{last_votes}
 use Rattle.rp_base.specs.Ballot.{greatest_with}
 use Rattle.rp_model.specs.Facts.{HasPromised, IsOffered}

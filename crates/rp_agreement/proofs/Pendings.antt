@@ -1,11 +1,8 @@
 -- A node's steps with calls, interrupts and ticks are sound.
-use Rattle.std.proofs.Common.{◌≡◌, ℕ, ◌<◌, if◌then◌else◌, Option, Some, None, List, [], ◌∷◌, ◌++◌, length, inl, inr, refl, sym, ap, subst, ◌∙◌}
-use Rattle.std.specs.Prelude.{nat_lt, ◌^◌}
-use Rattle.std.specs.List.{list_any}
+use Rattle.std.proofs.Common.{◌≡◌, ℕ, ◌<◌, List, [], ◌∷◌, ◌++◌, inl, inr, sym, ap, subst, ◌∙◌}
+use Rattle.std.specs.Prelude.{◌^◌}
 use Rattle.rp_base.specs.declared.action.Action.{Action}
 use Rattle.rp_base.specs.declared.action.Action.TheVariants.{Noop, Call, Interrupt, Tick}
-use Rattle.rp_base.specs.declared.reply.Answer.{Answer}
-use Rattle.rp_base.specs.declared.reply.Reply.{Reply}
 use Rattle.rp_base.specs.declared.record.Rec.{Rec}
 use Rattle.rp_base.specs.Action.{IsRight, IsIndex, IsCount}
 use Rattle.rp_base.specs.Sets.{Has}
@@ -14,23 +11,10 @@ use Rattle.rp_codec.specs.Message.{Message, IsCallBy}
 use Rattle.rp_codec.specs.declared.packet.Party.TheVariants.{Node, Task}
 use Rattle.rp_codec.specs.declared.packet.Body.TheVariants as bodies
 use Rattle.rp_machine.specs.Calls.{CallName}
-use Rattle.rp_machine.specs.Asked.{last_number, last_occurrence, kept_reply}
 use Rattle.rp_agreement.specs.Asked.{Asks, IsAsked}
 use Rattle.rp_agreement.specs.Sound.{IsRunning}
-use Rattle.rp_agreement.proofs.Turns.{IsSoundTurn, one_plain, quiet, full, sending, either}
-use Rattle.rp_model.specs.Effect.{Setting, NodeInput, Receive, Lead, LeadRange, Interrupt, Tick, Report, plan_of, turn_if, running_effect}
-use Rattle.rp_model.specs.Leader.{is_out_of_reach, is_beyond, unlearned_in, refused_running}
-use Rattle.rp_model.specs.Learner.{missing_position, asks_for, learns}
-use Rattle.rp_model.specs.Node.{RunningNode, running_node, nodes_of, kept_by, given_by, own_for}
-use Rattle.rp_model.specs.Parts.{Running, Turn, with_record}
-use Rattle.rp_model.specs.Pending.{most_pending, is_same_call, is_answered_by, replies_to, own_action, stays}
-use Rattle.rp_model.specs.Plans.{started_running, heard_running, offered_running, promised_running, once_counted, once_learned, report_of, turn_of}
-use Rattle.rp_model.specs.Receiving.{party_number}
-use Rattle.rp_model.specs.Says.{says, says_to_all, says_to_others, says_to_task, sends, notes, writes}
-use Rattle.rp_model.specs.declared.plan.CountedPromise.{CountedPromise}
-use Rattle.rp_model.specs.declared.plan.Plan.{Plan}
-use Rattle.rp_model.specs.declared.plan.Plan.TheVariants as plans
-use Rattle.rp_model.proofs.EveryPlan.{Came, Brings, ByCall, ByInterrupt, ByTick, Saw, SawPromise, SawPrepared, SawPlace, came_allowed, promised_is, offered_is, by_plan}
+use Rattle.rp_model.specs.Effect.{Interrupt, Tick}
+use Rattle.rp_model.specs.Parts.{Running}
 
 -- a node where one more asked item is pending knows what it knew
 pub runs_pending : (sent : List Message) (records : List Rec) (running : Running) (item : Action) → IsRunning sent records running → IsAsked sent item

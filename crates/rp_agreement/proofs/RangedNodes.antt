@@ -1,15 +1,13 @@
 -- The result of any input at a node is in range.
 use Rattle.std.proofs.Common.{◌≡◌, ℕ, zero, suc, ◌+◌, ◌-◌, ◌<◌, ◌≤◌, min, Bool, true, false, if◌then◌else◌, Result, Ok, Err, Option, Some, None, List, [], ◌∷◌, ◌++◌, length, take, drop, inl, inr, refl, sym, subst, arith}
-use Rattle.std.specs.Prelude.{nat_lt, nat_le, is_some, IfSome, ◌^◌, ◌||◌, not, nat_eq}
+use Rattle.std.specs.Prelude.{nat_lt, nat_le, IfSome, ◌^◌, ◌||◌, not, nat_eq}
 use Rattle.std.specs.List.{AllByRecursion, list_any}
 use Rattle.std.proofs.lemmas.Bool.{or_cases, and_parts, leb-true, ltb-true, ltb-false, le-leb, both_ways}
 use Rattle.std.proofs.lemmas.List.{length-take, length-drop}
 use Rattle.std.proofs.lemmas.List.Elements.{All-from_recursion}
 use Rattle.rp_base.specs.declared.action.Action.{Action}
 use Rattle.rp_base.specs.declared.action.Action.TheVariants as actions
-use Rattle.rp_base.specs.declared.reply.Answer.{Answer}
 use Rattle.rp_base.specs.declared.fault.Fault.{Fault}
-use Rattle.rp_base.specs.declared.config.Config.{Config}
 use Rattle.rp_base.specs.declared.record.Vote.{Vote}
 use Rattle.rp_base.specs.declared.record.Rec.{Rec}
 use Rattle.rp_base.specs.declared.record.Rec.TheVariants.{Started, Promised, Voted, Learned, PromisedRange}
@@ -17,11 +15,11 @@ use Rattle.rp_base.specs.Action.{IsRight}
 use Rattle.rp_base.specs.Ballot.{IsBallot, round_of, next_ballot}
 use Rattle.rp_base.specs.Config.{IsRightConfig}
 use Rattle.rp_base.specs.Number.{IsNode, IsPosition, in_range}
-use Rattle.rp_base.specs.Promises.{same_heard, makes_majority, highest_vote, offer_of}
-use Rattle.rp_base.specs.Proposals.{Proposal, new_proposal, without_proposal, proposal_at, with_proposal, is_prepared, as_offered, range_proposal, with_range}
+use Rattle.rp_base.specs.Promises.{highest_vote}
+use Rattle.rp_base.specs.Proposals.{Proposal, new_proposal, without_proposal, proposal_at, with_proposal, as_offered, range_proposal, with_range}
 use Rattle.rp_base.specs.Records.{learned_at, learned_run, unless_missing, applied_of, first_unlearned}
 use Rattle.rp_base.specs.Right.{IsRightVote}
-use Rattle.rp_base.specs.Sets.{Has, with_member}
+use Rattle.rp_base.specs.Sets.{Has}
 use Rattle.rp_base.proofs.Members.{has_passing}
 use Rattle.rp_base.specs.Ranges.{Range, IsRange, positions_of, range_of}
 use Rattle.rp_base.specs.declared.fault.Fault.TheVariants.{BadConfig, LogFull}
@@ -31,8 +29,7 @@ use Rattle.rp_codec.specs.declared.packet.Party.{Party}
 use Rattle.rp_codec.specs.declared.packet.Party.TheVariants.{Node, Task, Audit}
 use Rattle.rp_codec.specs.declared.packet.Body.{Body}
 use Rattle.rp_codec.specs.declared.packet.Body.TheVariants as bodies
-use Rattle.rp_machine.specs.Asked.{last_occurrence}
-use Rattle.rp_machine.specs.Replay.{kept_of, replay_answers}
+use Rattle.rp_machine.specs.Replay.{replay_answers}
 use Rattle.rp_agreement.specs.Answered.{answers_of}
 use Rattle.rp_agreement.specs.Inputs.{IsInput}
 use Rattle.rp_agreement.specs.Ranges.{IsRangedProposal, IsRangedRunning}
@@ -43,19 +40,19 @@ use Rattle.rp_agreement.proofs.LogKeeping.{applied_in_log}
 use Rattle.rp_agreement.proofs.TaskEffects.{leb_not}
 use Rattle.rp_agreement.proofs.RangedParts.{AreRecords, learned_ranged, with_ranged, without_ranged, written_ranged, AreProposals, offer_ranged}
 use Rattle.rp_agreement.proofs.RangedTurns.{ArePackets, AreReplies, IsRangedTurn, no_packets, one_packet, both_packets, noted, sending, writing, said, said_to_all, said_to_others, replies_ranged, range_position}
-use Rattle.rp_model.specs.Effect.{Setting, NodeInput, Receive, Lead, LeadRange, Interrupt, Tick, Report, plan_of, turn_if, running_effect}
-use Rattle.rp_model.specs.Leader.{is_out_of_reach, is_beyond, unlearned_in, refused_running}
-use Rattle.rp_model.specs.Learner.{missing_position, asks_for, learns}
-use Rattle.rp_model.specs.Node.{RunningNode, running_node, nodes_of, kept_by, given_by, own_for}
-use Rattle.rp_model.specs.Parts.{Running, Turn, with_record}
-use Rattle.rp_model.specs.Pending.{most_pending, is_same_call, is_answered_by, replies_to, own_action, stays}
-use Rattle.rp_model.specs.Plans.{started_running, heard_running, offered_running, promised_running, once_counted, once_learned, report_of, turn_of}
+use Rattle.rp_model.specs.Effect.{Setting, NodeInput, running_effect}
+use Rattle.rp_model.specs.Leader.{is_out_of_reach, unlearned_in}
+use Rattle.rp_model.specs.Learner.{missing_position, asks_for}
+use Rattle.rp_model.specs.Node.{RunningNode, running_node, kept_by, given_by, own_for}
+use Rattle.rp_model.specs.Parts.{Running, Turn}
+use Rattle.rp_model.specs.Pending.{own_action}
+use Rattle.rp_model.specs.Plans.{offered_running, once_counted, once_learned, report_of, turn_of}
 use Rattle.rp_model.specs.Receiving.{party_number}
-use Rattle.rp_model.specs.Says.{says, says_to_all, says_to_others, says_to_task, sends, notes, writes}
+use Rattle.rp_model.specs.Says.{says, says_to_all, says_to_others, says_to_task, sends, writes}
 use Rattle.rp_model.specs.declared.plan.CountedPromise.{CountedPromise}
 use Rattle.rp_model.specs.declared.plan.Plan.{Plan}
 use Rattle.rp_model.specs.declared.plan.Plan.TheVariants as plans
-use Rattle.rp_model.proofs.EveryPlan.{Came, Brings, ByCall, ByInterrupt, ByTick, Saw, SawPromise, SawPrepared, SawPlace, came_allowed, promised_is, offered_is, by_plan}
+use Rattle.rp_model.proofs.EveryPlan.{Came, Brings, ByCall, ByInterrupt, ByTick, Saw, SawPromise, SawPrepared, SawPlace, promised_is, offered_is, by_plan}
 use Rattle.rp_model.specs.Leader.{chosen_position, free_from, is_free_position, starts_above, ballot_of, is_exhausted}
 use Rattle.rp_model.specs.Learner.{learns_above}
 use Rattle.rp_model.specs.Parts.{is_in_log}
@@ -349,8 +346,7 @@ module _ {S : Type 0} (s : Setting S) (fits : (actions : List Action) → AllRig
       let is = said_by promise.from body saw.came (λ t may. absurd may.0.0) in
       let p = saw.proposal in
       let one : Promise = (promise.from, promise.last) in
-      let taken = promise_ranged p promise.from promise.last (proposal_ranged promise.position p saw.found) (vote_right promise.ballot promise.last is.may.1) in
-      (
+      let taken = promise_ranged p promise.from promise.last (proposal_ranged promise.position p saw.found) (vote_right promise.ballot promise.last is.may.1) in (
         subst IsRangedRunning (sym (promised_is here input promise majority saw)) (knows_with running (after_promise s.config.nodes p one) runs (after_ranged s.config.nodes p one taken)),
         taken,
         is.ranges.0,

@@ -1,63 +1,41 @@
 -- What a node's turn writes, knows and sends is in range.
-use Rattle.std.proofs.Common.{◌≡◌, ℕ, zero, suc, ◌<◌, ◌≤◌, Bool, true, false, if◌then◌else◌, Option, Some, None, List, [], ◌∷◌, ◌++◌, map, length, inl, inr, refl, sym, subst, arith, ◌+◌}
-use Rattle.std.specs.Prelude.{nat_eq, nat_lt, IfSome, filter, filter_map, option_map, find, not, ◌&&◌, All}
+use Rattle.std.proofs.Common.{◌≡◌, ℕ, zero, suc, ◌<◌, ◌≤◌, Bool, true, false, if◌then◌else◌, Option, Some, None, List, [], ◌∷◌, ◌++◌, map, inl, inr, refl, sym, subst, arith, ◌+◌}
+use Rattle.std.specs.Prelude.{nat_eq, IfSome, filter, filter_map, option_map, find, not, ◌&&◌}
 use Rattle.std.specs.List.{list_any}
-use Rattle.std.proofs.lemmas.Bool.{and_parts, or_cases, ltb-true, eqb-true}
+use Rattle.std.proofs.lemmas.Bool.{and_parts, or_cases, eqb-true}
 use Rattle.rp_base.specs.declared.action.Action.{Action}
 use Rattle.rp_base.specs.declared.action.Action.TheVariants as actions
 use Rattle.rp_base.specs.declared.reply.Answer.{Answer}
 use Rattle.rp_base.specs.declared.reply.Reply.{Reply}
 use Rattle.rp_base.specs.declared.record.Vote.{Vote}
 use Rattle.rp_base.specs.declared.record.Rec.{Rec}
-use Rattle.rp_base.specs.declared.record.Rec.TheVariants.{Promised, Voted, PromisedRange}
-use Rattle.rp_base.specs.declared.voting.PrepareAnswer.{PrepareAnswer}
-use Rattle.rp_base.specs.declared.voting.PrepareAnswer.TheVariants as prepares
-use Rattle.rp_base.specs.declared.voting.AcceptAnswer.{AcceptAnswer}
-use Rattle.rp_base.specs.declared.voting.AcceptAnswer.TheVariants as accepts
-use Rattle.rp_base.specs.Action.{IsRight, IsCount, same_action}
+use Rattle.rp_base.specs.Action.{IsRight, IsCount}
 use Rattle.rp_base.specs.Ballot.{IsBallot}
 use Rattle.rp_base.specs.Number.{IsNode, IsTask, IsPosition}
-use Rattle.rp_base.specs.Promises.{Promise, offer_of}
-use Rattle.rp_base.specs.Proposals.{Proposal, proposal_at, with_proposal, is_in, takes_promise, with_promise, is_promised, after_promise, once_promised, takes_range_promise, is_given_up}
+use Rattle.rp_base.specs.Proposals.{Proposal, proposal_at, with_proposal, is_in, with_promise, once_promised, takes_range_promise, is_given_up}
 use Rattle.rp_base.specs.Records.{bound_at, last_vote_at}
 use Rattle.rp_base.specs.Right.{IsReply, IsRightVote, IsRightRecord}
 use Rattle.rp_base.specs.Sets.{Has}
 use Rattle.rp_base.proofs.Members.{has_split, has_passing, mapped_has}
 use Rattle.rp_base.proofs.MoreRecords.{last_below}
 use Rattle.rp_base.specs.Ranges.{Range, IsRange, positions_of, is_covered}
-use Rattle.rp_base.specs.PlacedVotes.{placed_at, placed_last, last_votes, AreReported}
+use Rattle.rp_base.specs.PlacedVotes.{placed_at, placed_last, AreReported}
 use Rattle.rp_base.specs.declared.placed.PlacedVote.{PlacedVote}
-use Rattle.rp_base.specs.declared.voting.RangeAnswer.{RangeAnswer}
-use Rattle.rp_base.specs.declared.voting.RangeAnswer.TheVariants as range_prepares
-use Rattle.rp_base.proofs.ReportedVotes.{votes_are_reported}
 use Rattle.std.specs.List.{range_with_len, AllByRecursion, cons_option}
-use Rattle.std.proofs.lemmas.List.Elements.{All-from_recursion, recursion_from_All}
+use Rattle.std.proofs.lemmas.List.Elements.{recursion_from_All}
 use Rattle.rp_codec.specs.Message.{Message, IsBody, IsPacket, IsVoteBelow, MaySay}
 use Rattle.rp_codec.specs.declared.packet.Party.TheVariants.{Node}
 use Rattle.rp_codec.specs.declared.packet.Body.{Body}
 use Rattle.rp_codec.specs.declared.packet.Body.TheVariants as bodies
 use Rattle.rp_codec.specs.Record.{IsRecord}
 use Rattle.rp_machine.specs.Replay.{one_to}
-use Rattle.rp_machine.specs.Asked.{last_number, kept_reply}
 use Rattle.rp_agreement.specs.Ranges.{IsRangedProposal, IsRangedRunning}
-use Rattle.rp_agreement.proofs.AnswerTurns.{kept_is_given}
-use Rattle.rp_agreement.proofs.Lists.{found_has}
-use Rattle.rp_agreement.proofs.RangedParts.{AreRecords, bound_ballot, last_ranged, with_ranged, promise_ranged, after_ranged, offer_ranged, passing_ranged}
-use Rattle.rp_model.specs.Effect.{Setting, NodeInput, Receive, Lead, LeadRange, Interrupt, Tick, Report, plan_of, turn_if, running_effect}
-use Rattle.rp_model.specs.Leader.{is_out_of_reach, is_beyond, unlearned_in, refused_running}
-use Rattle.rp_model.specs.Learner.{missing_position, asks_for, learns}
-use Rattle.rp_model.specs.Node.{RunningNode, running_node, nodes_of, kept_by, given_by, own_for}
-use Rattle.rp_model.specs.Parts.{Running, Turn, with_record}
-use Rattle.rp_model.specs.Pending.{most_pending, is_same_call, is_answered_by, replies_to, own_action, stays}
-use Rattle.rp_model.specs.Plans.{started_running, heard_running, offered_running, promised_running, once_counted, once_learned, report_of, turn_of}
-use Rattle.rp_model.specs.Receiving.{party_number}
+use Rattle.rp_agreement.proofs.RangedParts.{AreRecords, last_ranged, with_ranged, promise_ranged, passing_ranged}
+use Rattle.rp_model.specs.Leader.{refused_running}
+use Rattle.rp_model.specs.Parts.{Running, Turn}
+use Rattle.rp_model.specs.Pending.{is_answered_by, replies_to}
 use Rattle.rp_model.specs.Says.{says, says_to_all, says_to_others, says_to_task, sends, notes, writes}
-use Rattle.rp_model.specs.declared.plan.CountedPromise.{CountedPromise}
-use Rattle.rp_model.specs.declared.plan.Plan.{Plan}
-use Rattle.rp_model.specs.declared.plan.Plan.TheVariants as plans
-use Rattle.rp_model.proofs.EveryPlan.{Came, Brings, ByCall, ByInterrupt, ByTick, Saw, SawPromise, SawPrepared, SawPlace, came_allowed, promised_is, offered_is, by_plan}
 use Rattle.rp_base.specs.Ballot.{greatest_with}
-use Rattle.rp_base.specs.Voting.{is_above_bounds}
 
 -- each packet is one
 abbrev pub ArePackets : List Message → Type 0

@@ -1,10 +1,9 @@
 -- A node that does what it plans makes a sound step.
-use Rattle.std.proofs.Common.{◌≡◌, ℕ, ◌<◌, ◌≤◌, ◌-◌, Bool, true, false, if◌then◌else◌, Result, Ok, Err, Option, Some, None, List, [], ◌∷◌, ◌++◌, length, take, drop, map, inl, inr, refl, sym, ap, subst, ◌∙◌, arith}
-use Rattle.std.specs.Prelude.{◌&&◌, nat_eq, not, filter, unwrap_or}
+use Rattle.std.proofs.Common.{◌≡◌, ℕ, ◌<◌, ◌-◌, Bool, true, false, Result, Ok, Err, Option, Some, None, List, [], ◌∷◌, ◌++◌, length, take, drop, inl, refl, sym, ap, subst, ◌∙◌, arith}
+use Rattle.std.specs.Prelude.{nat_eq, not, filter}
 use Rattle.std.proofs.lemmas.Bool.{and_parts, eqb-true}
 use Rattle.std.proofs.lemmas.List.{take_all}
 use Rattle.rp_base.specs.declared.action.Action.{Action}
-use Rattle.rp_base.specs.declared.action.Action.TheVariants.{Noop}
 use Rattle.rp_base.specs.declared.fault.Fault.{Fault}
 use Rattle.rp_base.specs.declared.proposal.Phase.TheVariants.{Preparing}
 use Rattle.rp_base.specs.declared.record.Rec.{Rec}
@@ -12,26 +11,24 @@ use Rattle.rp_base.specs.declared.record.Rec.TheVariants.{Started, Promised, Vot
 use Rattle.rp_base.specs.declared.record.Vote.{Vote}
 use Rattle.rp_base.specs.Ballot.{owner_of}
 use Rattle.rp_base.specs.PlacedVotes.{last_votes}
-use Rattle.rp_base.specs.Promises.{Promise, same_heard, offer_of, action_or, highest_vote}
-use Rattle.rp_base.specs.Proposals.{Proposal, proposal_at, with_proposal, without_proposal, new_proposal, is_preparing, is_promised, with_promise, after_promise, own_unless}
+use Rattle.rp_base.specs.Promises.{Promise, same_heard, offer_of, highest_vote}
+use Rattle.rp_base.specs.Proposals.{Proposal, proposal_at, with_proposal, without_proposal, new_proposal, is_preparing, is_promised, with_promise, own_unless}
 use Rattle.rp_base.specs.Ranges.{Range}
-use Rattle.rp_base.specs.Records.{started_of, applied_of, learned_at}
+use Rattle.rp_base.specs.Records.{started_of, applied_of}
 use Rattle.rp_base.specs.Sets.{Has, with_member}
 use Rattle.rp_base.proofs.Members.{has_right}
 use Rattle.rp_machine.specs.Replay.{one_to}
 use Rattle.rp_codec.specs.Message.{Message, report_len}
-use Rattle.rp_codec.specs.declared.packet.Party.{Party}
-use Rattle.rp_codec.specs.declared.packet.Party.TheVariants.{Node, Task, Audit}
+use Rattle.rp_codec.specs.declared.packet.Party.TheVariants.{Node}
 use Rattle.rp_codec.specs.declared.packet.Body.{Body}
 use Rattle.rp_codec.specs.declared.packet.Body.TheVariants as bodies
 use Rattle.rp_model.specs.Facts.{HasPromised, HasVoted}
 use Rattle.rp_model.specs.Parts.{NodePart}
 use Rattle.rp_model.specs.Leader.{ballot_of, starts_above}
-use Rattle.rp_model.specs.Receiving.{is_node, is_no_node_above, is_allowed}
 use Rattle.rp_model.proofs.EveryPlan.{SawLead, SawLeadRange, SawMajority, SawVote, SawLast, SawDecision}
 use Rattle.rp_agreement.specs.Asked.{IsAsked}
 use Rattle.rp_agreement.specs.Inputs.{IsInput}
-use Rattle.rp_agreement.specs.Sound.{IsReported, IsSo, IsCall, IsProposal, IsRunning, IsSound}
+use Rattle.rp_agreement.specs.Sound.{IsReported, IsSo, IsProposal, IsRunning, IsSound}
 use Rattle.rp_agreement.specs.Steps.{MayWrite}
 use Rattle.rp_agreement.proofs.Lists.{found_has}
 use Rattle.rp_agreement.proofs.RecordGrowth.{learned_has}
@@ -41,19 +38,17 @@ use Rattle.rp_agreement.proofs.Leaders.{runs_with, more_promised, offering, offe
 use Rattle.rp_agreement.proofs.Learners.{decides, heard_more, runs_heard, asking_plain, learned_sound}
 use Rattle.rp_agreement.proofs.Pendings.{runs_pending, interrupt_asked, tick_asked}
 use Rattle.rp_agreement.proofs.Arriving.{came_said, call_asked}
-use Rattle.rp_model.specs.Effect.{Setting, NodeInput, Receive, Lead, LeadRange, Interrupt, Tick, Report, plan_of, turn_if, running_effect}
-use Rattle.rp_model.specs.Leader.{is_out_of_reach, is_beyond, unlearned_in, refused_running}
-use Rattle.rp_model.specs.Learner.{missing_position, asks_for, learns}
-use Rattle.rp_model.specs.Node.{RunningNode, running_node, nodes_of, kept_by, given_by, own_for}
+use Rattle.rp_model.specs.Effect.{Setting, NodeInput, running_effect}
+use Rattle.rp_model.specs.Leader.{unlearned_in}
+use Rattle.rp_model.specs.Learner.{missing_position, asks_for}
+use Rattle.rp_model.specs.Node.{RunningNode, running_node, kept_by, own_for}
 use Rattle.rp_model.specs.Parts.{Running, Turn, with_record}
-use Rattle.rp_model.specs.Pending.{most_pending, is_same_call, is_answered_by, replies_to, own_action, stays}
-use Rattle.rp_model.specs.Plans.{started_running, heard_running, offered_running, promised_running, once_counted, once_learned, report_of, turn_of}
-use Rattle.rp_model.specs.Receiving.{party_number}
+use Rattle.rp_model.specs.Plans.{once_counted, report_of, turn_of}
 use Rattle.rp_model.specs.Says.{says, says_to_all, says_to_others, says_to_task, sends, notes, writes}
 use Rattle.rp_model.specs.declared.plan.CountedPromise.{CountedPromise}
 use Rattle.rp_model.specs.declared.plan.Plan.{Plan}
 use Rattle.rp_model.specs.declared.plan.Plan.TheVariants as plans
-use Rattle.rp_model.proofs.EveryPlan.{Came, Brings, ByCall, ByInterrupt, ByTick, Saw, SawPromise, SawPrepared, SawPlace, came_allowed, promised_is, offered_is, by_plan}
+use Rattle.rp_model.proofs.EveryPlan.{Brings, ByCall, ByInterrupt, ByTick, Saw, SawPromise, SawPrepared, promised_is, offered_is, by_plan}
 
 -- the result of a turn, if it is not refused, is a sound step
 abbrev pub IsSoundIf : ℕ → ℕ → List Rec → List Message → Result Turn Fault → Type 0

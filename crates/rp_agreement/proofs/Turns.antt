@@ -1,6 +1,5 @@
 -- Which turns are sound steps.
-use Rattle.std.proofs.Common.{◌≡◌, ℕ, Bool, true, false, if◌then◌else◌, Option, Some, List, [], ◌∷◌, ◌++◌, map, inl, inr, refl, sym, subst}
-use Rattle.std.proofs.lemmas.Bool.{cases_Bool, cond-true, cond-false}
+use Rattle.std.proofs.Common.{◌≡◌, ℕ, Option, Some, List, [], ◌∷◌, ◌++◌, map, inl, inr, refl, sym, subst}
 use Rattle.rp_base.specs.declared.action.Action.{Action}
 use Rattle.rp_base.specs.declared.record.Rec.{Rec}
 use Rattle.rp_base.specs.declared.record.Rec.TheVariants.{Started}
@@ -13,7 +12,7 @@ use Rattle.rp_codec.specs.declared.packet.Body.TheVariants as bodies
 use Rattle.rp_model.specs.Parts.{Running}
 use Rattle.rp_model.specs.Parts.{Turn}
 use Rattle.rp_model.specs.Parts.{with_record}
-use Rattle.rp_model.specs.Says.{says, sends, notes, drops_foreign, drops_full}
+use Rattle.rp_model.specs.Says.{says, sends, notes}
 use Rattle.rp_model.specs.Facts.{IsOffered}
 use Rattle.rp_agreement.specs.Sound.{IsSo, IsRunning}
 use Rattle.rp_agreement.specs.Steps.{MayWrite, IsSoundStep}
@@ -99,25 +98,6 @@ quiet nodes x records sent running runs = plain nodes x records sent (notes runn
 pub sending : (nodes x : ℕ) (records : List Rec) (sent : List Message) (running : Running) (packets : List Message)
     → ArePlain nodes x sent records packets → IsRunning sent records running → IsSoundTurn nodes x records sent (sends running packets)
 sending nodes x records sent running packets are runs = plain nodes x records sent (sends running packets) tt are runs
-
--- what is dropped changes nothing
-pub foreign : (nodes x : ℕ) (records : List Rec) (sent : List Message) (running : Running) → IsRunning sent records running
-    → IsSoundTurn nodes x records sent (drops_foreign running)
-foreign nodes x records sent running runs = plain nodes x records sent (drops_foreign running) tt (none_plain nodes x sent records) runs
-
-pub full : (nodes x : ℕ) (records : List Rec) (sent : List Message) (running : Running) → IsRunning sent records running
-    → IsSoundTurn nodes x records sent (drops_full running)
-full nodes x records sent running runs = plain nodes x records sent (drops_full running) tt (none_plain nodes x sent records) runs
-
--- one turn or the other
-pub either : (nodes x : ℕ) (records : List Rec) (sent : List Message) (b : Bool) (one other : Turn)
-    → (b ≡ true → IsSoundTurn nodes x records sent one) → (b ≡ false → IsSoundTurn nodes x records sent other)
-    → IsSoundTurn nodes x records sent (if b then one else other)
-either nodes x records sent b one other holds fails =
-    elim (cases_Bool b) [
-      | inl hit ↦ subst (IsSoundTurn nodes x records sent) (sym (cond-true b one other hit)) (holds hit)
-      | inr miss ↦ subst (IsSoundTurn nodes x records sent) (sym (cond-false b one other miss)) (fails miss)
-    ]
 
 -- what a node knows stays so as it writes
 pub runs_written : (sent : List Message) (records : List Rec) (written : Option Rec) (running : Running) → IsRunning sent records running

@@ -1,14 +1,12 @@
 -- No effect is a fault of a device.
 use Rattle.std.proofs.Common.{ℕ, Bool, true, false, if◌then◌else◌, Option, Some, None, Result, Ok, Err, List}
-use Rattle.std.specs.Prelude.{◌^◌, ◌+◌, IfErr, is_some, nat_eq, nat_le, nat_lt, not, ◌||◌, length}
-use Rattle.std.specs.List.{list_any}
+use Rattle.std.specs.Prelude.{◌^◌, ◌+◌, IfErr, nat_lt, not, ◌||◌}
 use Rattle.rp_base.specs.Action.{is_right}
 use Rattle.rp_base.specs.Calls.{are_exhausted}
-use Rattle.rp_base.specs.Records.{learned_at}
 use Rattle.rp_base.specs.declared.action.Action.{Action}
 use Rattle.rp_base.specs.declared.config.Config.{Config}
 use Rattle.rp_base.specs.declared.fault.Fault.{Fault}
-use Rattle.rp_base.specs.declared.fault.Fault.TheVariants.{Device, LogFull, BallotsSpent, NumbersSpent, BadConfig}
+use Rattle.rp_base.specs.declared.fault.Fault.TheVariants.{Device, LogFull, NumbersSpent, BadConfig}
 use Rattle.rp_base.specs.declared.record.Rec.{Rec}
 use Rattle.rp_codec.specs.Message.{Message}
 use Rattle.rp_codec.specs.declared.packet.Party.{Party}
@@ -20,8 +18,7 @@ use Rattle.rp_model.specs.Node.{RunningNode, running_node}
 use Rattle.rp_model.proofs.EveryPlan.{plan_refused}
 use Rattle.rp_model.specs.declared.plan.Plan.{Plan}
 use Rattle.rp_base.specs.Number.{in_range}
-use Rattle.rp_base.specs.Proposals.{Proposal, proposal_at, is_prepared}
-use Rattle.rp_base.specs.Ranges.{Range, positions_of, range_of}
+use Rattle.rp_base.specs.Ranges.{Range, range_of}
 use Rattle.rp_model.specs.Parts.{NodePart, TaskPart, Running, Turn}
 use Rattle.rp_model.specs.Tasks as tasks
 use Rattle.rp_model.specs.Tasks.{TaskInput, may_call, calls_if, task_effect}

@@ -21,27 +21,25 @@ use Rattle.rp_base.specs.Promises.{offer_of, action_or, highest_vote, makes_majo
 use Rattle.rp_base.specs.Proposals.{Proposal, proposal_at, with_proposal, takes_promise, with_promise, is_promised, after_promise, is_prepared, as_offered, own_unless}
 use Rattle.rp_base.specs.Ranges.{Range, positions_of, range_of}
 use Rattle.rp_base.specs.Records.{learned_at, bound_at, last_vote_at}
-use Rattle.rp_base.specs.Voting.{prepare_answer, is_above_bounds, refusing_position, range_refusal, accept_answer, vote_answer}
+use Rattle.rp_base.specs.Voting.{is_above_bounds, refusing_position, range_refusal, accept_answer, vote_answer}
 use Rattle.rp_base.specs.Action.{same_action}
 use Rattle.rp_codec.specs.Message.{Message}
 use Rattle.rp_codec.specs.declared.packet.Body.{Body}
 use Rattle.rp_codec.specs.declared.packet.Body.TheVariants as bodies
 use Rattle.rp_codec.specs.declared.usual_texts.Header.{Header}
 use Rattle.rp_machine.specs.Asked.{last_number, last_occurrence, kept_reply}
-use Rattle.rp_model.specs.Acceptor.{answer_to, prepare_plan, range_plan, accept_plan, on_accept}
+use Rattle.rp_model.specs.Acceptor.{answer_to, prepare_plan, range_plan, accept_plan}
 use Rattle.rp_model.specs.Arrivals.{adds_pending, on_numbered, on_call}
-use Rattle.rp_model.specs.Effect.{Setting, NodeInput, Receive, Lead, LeadRange, Interrupt, Tick, Report, plan_of, turn_if, running_effect}
+use Rattle.rp_model.specs.Effect.{NodeInput, Receive, Lead, LeadRange, Interrupt, Tick, Report, plan_of, turn_if}
 use Rattle.rp_model.specs.Leader.{chosen_position, is_beyond, is_out_of_reach, unlearned_in, ballot_of, is_exhausted, begins_if, leads_at, on_lead, on_lead_range, counts_promise, on_promise_to}
 use Rattle.rp_model.specs.Learner.{ask_plan, decision_plan, on_vote}
-use Rattle.rp_model.specs.Node.{RunningNode, running_node, nodes_of, kept_by, given_by, own_for}
+use Rattle.rp_model.specs.Node.{RunningNode, nodes_of, kept_by, given_by, own_for}
 use Rattle.rp_model.specs.Parts.{Running, Turn}
-use Rattle.rp_base.specs.declared.record.Rec.{Rec}
 use Rattle.rp_model.specs.Pending.{most_pending, is_same_call}
 use Rattle.rp_model.specs.Plans.{turn_of, promised_running, offered_running, once_counted, heard_running}
 use Rattle.rp_model.specs.Receiving.{is_node, is_no_node_above, is_allowed, is_for_node, party_number, on_body}
 use Rattle.rp_model.specs.declared.effect.Dropped.TheVariants.{No, Full, Foreign}
 use Rattle.rp_model.specs.declared.plan.CountedPromise.{CountedPromise}
-use Rattle.rp_model.specs.declared.plan.CountedRange.{CountedRange}
 use Rattle.rp_model.specs.declared.plan.RangePromise.{RangePromise}
 use Rattle.rp_model.specs.declared.plan.Plan.{Plan}
 use Rattle.rp_model.specs.declared.plan.Plan.TheVariants as plans

@@ -17,7 +17,7 @@ use Rattle.rp_base.specs.Sets.{with_member, with_members}
 use Rattle.rp_codec.specs.Message.{Message}
 use Rattle.rp_codec.specs.declared.packet.Body.{Body}
 use Rattle.rp_codec.specs.declared.packet.Body.TheVariants as bodies
-use Rattle.rp_model.specs.Parts.{Running, Turn, with_record}
+use Rattle.rp_model.specs.Parts.{Running, with_record}
 use Rattle.rp_model.specs.declared.effect.Dropped.{Dropped}
 use Rattle.rp_model.specs.declared.effect.Dropped.TheVariants.{No, Foreign}
 use Rattle.rp_model.specs.declared.plan.CountedPromise.{CountedPromise}

@@ -14,10 +14,10 @@ use Rattle.rp_base.specs.Records.{started_of, learned_at, first_unlearned}
 use Rattle.rp_base.specs.Promises.{offer_of}
 use Rattle.rp_base.specs.declared.placed.PlacedVote.{PlacedVote}
 use Rattle.rp_base.specs.Ranges.{Range, positions_of}
-use Rattle.rp_base.specs.Proposals.{Proposal, new_proposal, proposal_at, without_proposal}
-use Rattle.rp_base.specs.Proposals.{with_proposal, is_in, takes_promise, with_promise, is_promised}
-use Rattle.rp_base.specs.Proposals.{after_promise, is_prepared, with_range, once_promised}
-use Rattle.rp_base.specs.Proposals.{as_offered, is_given_up}
+use Rattle.rp_base.specs.Proposals.{Proposal, proposal_at}
+use Rattle.rp_base.specs.Proposals.{is_in, takes_promise, with_promise, is_promised}
+use Rattle.rp_base.specs.Proposals.{is_prepared, with_range, once_promised}
+use Rattle.rp_base.specs.Proposals.{is_given_up}
 use Rattle.rp_codec.specs.declared.packet.Body.TheVariants as bodies
 use Rattle.rp_model.specs.Parts.{Running}
 use Rattle.rp_model.specs.Parts.{Turn}

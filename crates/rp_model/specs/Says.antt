@@ -7,7 +7,7 @@ use Rattle.rp_codec.specs.declared.packet.Body.{Body}
 use Rattle.rp_machine.specs.Replay.{one_to}
 use Rattle.rp_model.specs.Parts.{Running}
 use Rattle.rp_model.specs.Parts.{Turn}
-use Rattle.rp_model.specs.declared.effect.Dropped.TheVariants.{No, Full, Foreign}
+use Rattle.rp_model.specs.declared.effect.Dropped.TheVariants.{No}
 
 -- a packet from node to node
 abbrev pub says : ℕ → Body → ℕ → Message
@@ -37,11 +37,3 @@ notes running = sends running []
 abbrev pub writes : Rec → Running → List Message → Turn
 writes rec running packets =
     record { written = Some rec; sent = packets; running = running; dropped = No }
-
--- nothing happens, for a packet that is not for this node or breaks the configuration
-abbrev pub drops_foreign : Running → Turn
-drops_foreign running = record { written = None; sent = []; running = running; dropped = Foreign }
-
--- nothing happens, since no pending place is left
-abbrev pub drops_full : Running → Turn
-drops_full running = record { written = None; sent = []; running = running; dropped = Full }

@@ -3,10 +3,10 @@
 ghost use Rattle.std.specs.Prelude.{◌≡◌, IfSome};
 ghost use Rattle.rp_model.specs.Plans.{dropped_by, written_by};
 
-use rp_base::{Action, Ballot, NodeId, Position, PositionRange, Rec, Reply, TaskId, Vote};
-use rp_codec::{Header, Votes};
 use crate::effect::Dropped;
 use crate::right::RightAction;
+use rp_base::{Action, Ballot, NodeId, Position, PositionRange, Rec, Reply, TaskId, Vote};
+use rp_codec::{Header, Votes};
 
 /// A promise that came from a node, in a ballot at a position, with the vote that it reports.
 #[derive(Clone, Copy, Debug)]

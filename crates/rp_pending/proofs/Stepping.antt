@@ -14,7 +14,11 @@ use Rattle.rp_model.specs.Effect.{Setting, Done, NodeInput, node_effect, effect_
 use Rattle.rp_model.specs.Events.{Event, Step, Deliver, Lead, LeadRange, Interrupt, Tick, Report, Makes, IsRightEvent, IsRightStep}
 use Rattle.rp_model.specs.Parts.{NodePart, Running, Turn}
 use Rattle.rp_model.specs.Receiving.{is_node, is_for_node, receives}
-use Rattle.rp_model.specs.Says.{drops_foreign}
+use Rattle.rp_model.specs.Node.{running_node}
+use Rattle.rp_model.specs.Plans.{turn_of}
+use Rattle.rp_model.specs.declared.effect.Dropped.TheVariants.{Foreign}
+use Rattle.rp_model.specs.declared.plan.Plan.{Plan}
+use Rattle.rp_model.specs.declared.plan.Plan.TheVariants as plans
 use Rattle.rp_model.specs.World.{World, Transition, part_at, opening_world, event_effect, node_done, node_done_if, node_takes, node_hears, node_receives, arrives, delivers}
 use Rattle.rp_agreement.specs.History.{IsHistory}
 use Rattle.rp_agreement.specs.Order.{AllSent}
@@ -193,16 +197,18 @@ pub record IsLost (part : NodePart) (turn : Turn) : Type 0 where
   pub sent : turn.sent ≡ []
 
 not_for : {S : Type 0} (s : Setting S) (me : ℕ) (part : NodePart) (known : Running) (message : Message) → is_node me message.to ≡ false
-    → receives s.next s.answers s.begin s.config me part.records known message ≡ drops_foreign known
+    → receives (running_node s me part.records known) message ≡ plans.Pass Foreign
 not_for s me part known message e = let h : is_for_node s.config me message ≡ false = rw e in rw h
 
 pub lost : {S : Type 0} (s : Setting S) (me : ℕ) (part : NodePart) (turn : Turn) (message : Message) → is_node me message.to ≡ false → node_effect s me part (nodes.Receive message) ≡ Ok (turn_done part turn) → IsLost part turn
 lost s me part turn message e effect =
     let runs = runs_if s me part (nodes.Receive message) (turn_done part turn) part.running refl effect in
     let known = runs.0 in
+    let node = running_node s me part.records known in
     let done : effect_while s me part (nodes.Receive message) (Some known) ≡ Ok (turn_done part turn) = sym (ap (effect_while s me part (nodes.Receive message)) runs.1) ∙ effect in
-    let dropped : turn_done_if part (Ok (drops_foreign known)) ≡ Ok (turn_done part turn) = sym (ap (λ (t : Turn). turn_done_if part (Ok t)) (not_for s me part known message e)) ∙ done in
-    let same : turn_done part (drops_foreign known) ≡ turn_done part turn = cc in
+    let foreign : Turn = turn_of node (plans.Pass Foreign) in
+    let dropped : turn_done_if part (Ok foreign) ≡ Ok (turn_done part turn) = sym (ap (λ (p : Plan). turn_done_if part (Ok (turn_of node p))) (not_for s me part known message e)) ∙ done in
+    let same : turn_done part foreign ≡ turn_done part turn = cc in
     record {
       part_is = sym (ap (λ (d : Done NodePart). d.part) same) ∙ ap (λ (o : Option Running). let p : NodePart = record { records = part.records; torn = part.torn; running = o } in p) (sym runs.1);
       written = sym (ap (λ (d : Done NodePart). d.written) same);

@@ -1,5 +1,5 @@
 -- Turns that take no memory, and plans that are committed for certain.
-use Rattle.std.proofs.Common.{◌≡◌, ℕ, Bool, true, false, cond, List, [], ◌∷◌, ◌++◌, length, Result, Ok, Err, refl, sym, ap, subst, ◌∙◌, inr}
+use Rattle.std.proofs.Common.{◌≡◌, ℕ, Bool, true, false, cond, List, length, Result, Ok, Err, refl, sym, ap, subst, ◌∙◌, inr}
 use Rattle.std.specs.Prelude.{IfErr, IsOk, OnErr, nat_lt}
 use Rattle.std.specs.List.{list_any}
 use Rattle.rp_base.specs.declared.action.Action.{Action}
@@ -17,14 +17,13 @@ use Rattle.rp_codec.specs.Reading.{all_of}
 use Rattle.rp_codec.specs.Text.{text_of}
 use Rattle.rp_codec.proofs.Decoded.{whole_read, whole_again}
 use Rattle.rp_machine.specs.Asked.{last_occurrence}
-use Rattle.rp_model.specs.Parts.{Running, Turn}
+use Rattle.rp_model.specs.Parts.{Turn}
 use Rattle.rp_model.specs.Arrivals.{adds_pending, on_interrupt}
 use Rattle.rp_model.specs.Node.{RunningNode, kept_by}
 use Rattle.rp_model.specs.Pending.{is_same_call, most_pending}
 use Rattle.rp_model.specs.Plans.{turn_of as plan_turn}
 use Rattle.rp_model.specs.declared.effect.Dropped.TheVariants.{No, Full}
 use Rattle.rp_model.specs.declared.plan.Plan.TheVariants as plans
-use Rattle.rp_model.specs.Says.{notes, drops_full}
 use Rattle.rp_model.specs.declared.plan.Plan.{Plan}
 use Rattle.rp_rules.specs.Inputs.{Refuses}
 use Rattle.rp_rules.specs.Plans.{turn_of, TakesNoMemory}

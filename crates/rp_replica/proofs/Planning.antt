@@ -1,6 +1,6 @@
 -- What a plan writes, and what is left where it is not committed.
-use Rattle.std.proofs.Common.{◌≡◌, Bool, true, false, cond, Option, None, List, refl, sym, subst, inl, ◌∙◌}
-use Rattle.std.specs.Prelude.{Result, Ok, Err, IfErr, filter, not}
+use Rattle.std.proofs.Common.{◌≡◌, false, Option, List, refl, sym, subst, inl, ◌∙◌}
+use Rattle.std.specs.Prelude.{Result, Ok, Err, IfErr}
 use Rattle.std.specs.Result.{IsErrAnd}
 use Rattle.rp_base.specs.declared.action.Action.{Action}
 use Rattle.rp_base.specs.declared.fault.Fault.{Fault}
@@ -8,10 +8,7 @@ use Rattle.rp_base.specs.declared.fault.WriteFault.{WriteFault}
 use Rattle.rp_base.specs.WriteFaults.{fault_of}
 use Rattle.rp_base.specs.declared.record.Rec.{Rec}
 use Rattle.rp_base.specs.declared.reply.Answer.{Answer}
-use Rattle.rp_base.specs.Ballot.{greatest_with}
-use Rattle.rp_base.specs.Proposals.{proposal_at, is_in, is_given_up}
 use Rattle.rp_model.specs.Parts.{Turn}
-use Rattle.rp_model.specs.Says.{notes}
 use Rattle.rp_model.specs.declared.plan.Plan.{Plan}
 use Rattle.rp_model.specs.declared.plan.Plan.TheVariants.{Pass, Promise, PromiseRange, Vote, Repeat, Refuse, Inform, Answer as Reply, Await, Lead, LeadRange, OfferPrepared, CountPromise, CountRangePromise, Offer, Yield, CountVote, Learn, Follow, Report}
 use Rattle.rp_replica.specs.State.{ReplicaState, server_of}
@@ -20,7 +17,6 @@ use Rattle.rp_model.specs.Plans.{written_by, dropped_by}
 use Rattle.rp_rules.specs.Plans.{turn_of}
 use Rattle.rp_codec.specs.Message.{Message}
 use Rattle.rp_model.specs.declared.effect.Dropped.{Dropped}
-use Rattle.rp_model.specs.declared.effect.Dropped.TheVariants.{No}
 use Rattle.rp_replica.specs.Committing.{Commits}
 use Rattle.rp_replica.specs.Turning.{Stops, StopsIf, TurnsOnto, AnswersOnto}
 

@@ -1,6 +1,6 @@
 -- The result of a plan, and when it may be committed.
 use Rattle.std.specs.Prelude.{◌≡◌, ℕ, ◌+◌, ◌<◌, ◌≤◌, Bool, true, false, Ok}
-use Rattle.std.specs.Prelude.{Option, Some, None, IfSome, List, [], ◌∷◌, ◌++◌, length}
+use Rattle.std.specs.Prelude.{None, IfSome, List, [], length}
 use Rattle.std.specs.List.{AllByRecursion}
 use Rattle.rp_base.specs.Action.{IsRight, IsCount}
 use Rattle.rp_base.specs.Ballot.{IsAbove}
@@ -25,11 +25,11 @@ use Rattle.rp_model.specs.declared.plan.CountedPromise.{CountedPromise}
 use Rattle.rp_model.specs.declared.plan.CountedRange.{CountedRange}
 use Rattle.rp_model.specs.declared.plan.RangePromise.{RangePromise}
 use Rattle.rp_model.specs.declared.plan.Plan.{Plan}
-use Rattle.rp_model.specs.declared.plan.Plan.TheVariants.{Pass, Promise, PromiseRange, Vote, Repeat}
+use Rattle.rp_model.specs.declared.plan.Plan.TheVariants.{Promise, PromiseRange, Vote, Repeat}
 use Rattle.rp_model.specs.declared.plan.Plan.TheVariants.{Refuse, Inform, Answer as Reply, Await}
 use Rattle.rp_model.specs.declared.plan.Plan.TheVariants.{Lead, LeadRange, OfferPrepared}
 use Rattle.rp_model.specs.declared.plan.Plan.TheVariants.{CountPromise, CountRangePromise, Offer}
-use Rattle.rp_model.specs.declared.plan.Plan.TheVariants.{Yield, CountVote, Learn, Follow, Report}
+use Rattle.rp_model.specs.declared.plan.Plan.TheVariants.{CountVote, Learn, Follow, Report}
 use Rattle.rp_server.specs.State.{ServerState}
 use Rattle.rp_server.specs.Status.{status_of}
 

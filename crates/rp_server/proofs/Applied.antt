@@ -5,11 +5,8 @@ use Rattle.std.specs.List.{AllByRecursion}
 use Rattle.std.specs.Prelude.{IfSome}
 use Rattle.rp_base.specs.declared.reply.Reply.{Reply}
 use Rattle.rp_base.specs.declared.reply.Answer.{Answer}
-use Rattle.rp_codec.specs.declared.packet.Body.TheVariants as bodies
 use Rattle.rp_machine.specs.Asked.{last_number}
 use Rattle.rp_machine.specs.Replay.{replay_of}
-use Rattle.rp_model.specs.Parts.{Running}
-use Rattle.rp_model.specs.Says.{says_to_task, sends, notes}
 use Rattle.rp_model.specs.Arrivals.{adds_pending, on_numbered}
 use Rattle.rp_model.specs.Node.{RunningNode, kept_by}
 use Rattle.rp_model.specs.declared.effect.Dropped.TheVariants.{No}

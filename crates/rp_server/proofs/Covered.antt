@@ -12,7 +12,7 @@ use Rattle.rp_base.specs.declared.record.Rec.{Rec}
 use Rattle.rp_base.specs.declared.record.Rec.TheVariants.{Started}
 use Rattle.rp_base.specs.declared.fault.Fault.{Fault}
 use Rattle.rp_base.specs.declared.fault.Fault.TheVariants.{BadConfig, BallotsSpent, LogFull}
-use Rattle.rp_base.specs.Ballot.{next_ballot, round_of}
+use Rattle.rp_base.specs.Ballot.{round_of}
 use Rattle.rp_base.specs.Number.{in_range}
 use Rattle.rp_base.specs.Ranges.{Range, IsRange, end_of, positions_of, range_of}
 use Rattle.rp_base.specs.Records.{learned_at, first_unlearned}

@@ -3,28 +3,17 @@ use Rattle.std.proofs.Common.{◌≡◌, ℕ, Bool, true, false, cond, Option, S
 use Rattle.std.specs.Prelude.{Ok, IfSome, option_map, unwrap_or}
 use Rattle.std.specs.List.{AllByRecursion}
 use Rattle.rp_base.specs.declared.action.Action.{Action}
-use Rattle.rp_base.specs.declared.reply.Answer.{Answer}
-use Rattle.rp_base.specs.declared.record.Rec.{Rec}
 use Rattle.rp_base.specs.declared.record.Vote.{Vote}
 use Rattle.rp_base.specs.Action.{IsRight}
 use Rattle.rp_base.specs.Right.{IsRightVote}
-use Rattle.rp_base.specs.Records.{applied_of}
-use Rattle.rp_base.specs.declared.action.Action.TheVariants.{Noop}
-use Rattle.rp_base.specs.declared.proposal.Phase.TheVariants.{Offering}
 use Rattle.rp_base.specs.Promises.{action_or, highest_vote, offer_of}
-use Rattle.rp_base.specs.Proposals.{Proposal, proposal_at, without_proposal, with_proposal, is_prepared, own_unless, as_offered}
-use Rattle.rp_codec.specs.declared.packet.Body.TheVariants as bodies
-use Rattle.rp_machine.specs.Replay.{kept_of}
-use Rattle.rp_model.specs.Parts.{Running, Turn}
-use Rattle.rp_model.specs.Says.{says_to_all, sends}
+use Rattle.rp_base.specs.Proposals.{Proposal, proposal_at, is_prepared}
 use Rattle.rp_model.specs.Leader.{begins_if, leads_at}
 use Rattle.rp_model.specs.Node.{RunningNode, nodes_of, own_for}
-use Rattle.rp_model.specs.declared.plan.Plan.{Plan}
 use Rattle.rp_model.specs.declared.plan.Plan.TheVariants as plans
-use Rattle.rp_model.specs.Pending.{own_action}
-use Rattle.rp_proposer.specs.Proposing.{prepared_by, once_offered}
+use Rattle.rp_proposer.specs.Proposing.{prepared_by}
 use Rattle.rp_server.specs.Invariant.{IsRightProposal}
-use Rattle.rp_server.proofs.Promising.{at_position, highest_right, all_found}
+use Rattle.rp_server.proofs.Promising.{highest_right, all_found}
 
 -- the action of a vote, if there is one
 abbrev pub reported_of : Option Vote → Option Action

@@ -19,17 +19,12 @@ use Rattle.rp_base.specs.Promises.{Promise, HeardVote, same_promise, action_or, 
 use Rattle.rp_base.specs.Ballot.{greatest_with}
 use Rattle.rp_base.specs.Proposals.{Proposal, proposal_at, with_proposal, is_in, is_preparing, takes_promise, with_promise, is_promised, is_prepared, takes_range_promise, once_promised, own_unless, as_offered, is_given_up}
 use Rattle.rp_base.proofs.Members.{has_passing, has_mapped, mapped_has}
-use Rattle.rp_codec.specs.declared.packet.Body.TheVariants as bodies
 use Rattle.rp_proposer.proofs.Places.{noted_there}
 use Rattle.rp_proposer.specs.Proposing.{ProposerPart, progress_in, once_noted, notes_promise, notes_range, notes_refusal, once_offered, offers}
 use Rattle.rp_proposer.specs.declared.proposal.Progress.{Progress}
 use Rattle.rp_proposer.specs.declared.proposal.Progress.TheVariants.{Waiting, Offer, Stale}
-use Rattle.rp_model.specs.Parts.{Running}
-use Rattle.rp_model.specs.Parts.{Turn}
-use Rattle.rp_model.specs.Says.{says_to_all, sends, notes}
 use Rattle.rp_model.specs.Leader.{on_promise_to, on_promise}
 use Rattle.rp_model.specs.Node.{RunningNode, nodes_of}
-use Rattle.rp_model.specs.Plans.{promised_running}
 use Rattle.rp_model.specs.declared.effect.Dropped.TheVariants.{No}
 use Rattle.rp_model.specs.declared.plan.CountedPromise.{CountedPromise}
 use Rattle.rp_model.specs.declared.plan.Plan.{Plan}

@@ -1,17 +1,16 @@
 -- The proposal that runs there is the one whose promises were counted.
-use Rattle.std.proofs.Common.{◌≡◌, Result, Ok, Err, Option, Some, ap, ◌∙◌}
+use Rattle.std.proofs.Common.{Result, Ok, Err, Some, ap, ◌∙◌}
 use Rattle.std.specs.Prelude.{is_some}
 use Rattle.std.proofs.lemmas.Bool.{cond-true, cond-false}
 use Rattle.rp_base.specs.declared.fault.Fault.{Fault}
 use Rattle.rp_base.specs.declared.fault.Fault.TheVariants.{LogFull}
 use Rattle.rp_base.specs.Records.{learned_at}
 use Rattle.rp_base.specs.Promises.{offer_of}
-use Rattle.rp_base.specs.Proposals.{Proposal, with_promise, takes_promise, is_promised, is_prepared, proposal_at}
+use Rattle.rp_base.specs.Proposals.{with_promise, takes_promise, is_promised, is_prepared, proposal_at}
 use Rattle.rp_codec.specs.declared.packet.Body.TheVariants.{Accept}
 use Rattle.rp_model.specs.Effect.{turn_if}
 use Rattle.rp_model.specs.Leader.{counts_promise, on_promise_to, leads_at, begins_if, is_out_of_reach}
 use Rattle.rp_model.specs.Node.{nodes_of, running_node, own_for}
-use Rattle.rp_model.specs.Parts.{Turn}
 use Rattle.rp_model.specs.Plans.{turn_of}
 use Rattle.rp_model.specs.Says.{says_to_all}
 use Rattle.rp_model.specs.declared.effect.Dropped.TheVariants.{No}

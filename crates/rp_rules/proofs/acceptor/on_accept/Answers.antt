@@ -1,4 +1,4 @@
-use Rattle.std.proofs.Common.{◌≡◌, sym, ap, ◌∙◌}
+use Rattle.std.proofs.Common.{ap, ◌∙◌}
 use Rattle.rp_codec.specs.declared.usual_texts.Header.{Header}
 use Rattle.rp_model.specs.Acceptor.{answer_to, accept_plan}
 use Rattle.rp_model.specs.declared.plan.Plan.TheVariants.{Vote}

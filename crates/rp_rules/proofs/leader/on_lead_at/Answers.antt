@@ -1,4 +1,4 @@
-use Rattle.std.proofs.Common.{refl, sym, ◌∙◌}
+use Rattle.std.proofs.Common.{sym, ◌∙◌}
 use Rattle.rp_base.specs.Proposals.{proposal_at}
 use Rattle.rp_rules.specs.Inputs.{node_of}
 use Rattle.rp_rules.proofs.Leading.{lead_within}

@@ -1,4 +1,4 @@
-use Rattle.std.proofs.Common.{◌≡◌, sym, ap, ◌∙◌}
+use Rattle.std.proofs.Common.{sym, ap, ◌∙◌}
 use Rattle.rp_learner.specs.Status.{vote_for}
 use Rattle.rp_rules.specs.Inputs.{node_of}
 use Rattle.rp_rules.proofs.Accepted.{status_plan, accepted_plan}

@@ -36,7 +36,7 @@ answer_same a =
     ∙ reply_same a.reply
 
 -- what a test of equality finds is there
-found : (x : Answer) (xs : List Answer) → list_any (same_answer x) xs ≡ true → Has x xs
+pub found : (x : Answer) (xs : List Answer) → list_any (same_answer x) xs ≡ true → Has x xs
 found x [] e = absurd (true≢false (sym e))
 found x (y ∷ ys) e = by (same_answer x y) refl e (found x ys)
   where
@@ -44,37 +44,16 @@ found x (y ∷ ys) e = by (same_answer x y) refl e (found x ys)
     by true is e rest = inl (equal_answers x y is)
     by false is e rest = inr (rest e)
 
--- an insertion adds one answer, and no more
-pub inserted : (keys new : List Answer) (x y : Answer) → new ≡ (if list_any (same_answer x) keys then keys else keys ++ x ∷ []) → Has y new ↔ (Has y keys ⊎ (y ≡ x))
-inserted keys new x y is = by (list_any (same_answer x) keys) refl is
-  where
-    by : (b : Bool) → list_any (same_answer x) keys ≡ b → new ≡ (if b then keys else keys ++ x ∷ []) → Has y new ↔ (Has y keys ⊎ (y ≡ x))
-    by true there same = (
-      λ h. inl (subst (λ (zs : List Answer). Has y zs) same h),
-      λ h. subst (λ (zs : List Answer). Has y zs) (sym same) (elim h [ inl old ↦ old | inr one ↦ subst (λ (z : Answer). Has z keys) (sym one) (found x keys there) ]),
-    )
-    by false there same = (
-      λ h. has_last y x keys (subst (λ (zs : List Answer). Has y zs) same h),
-      λ h. subst (λ (zs : List Answer). Has y zs) (sym same) (elim h [ inl old ↦ has_left y keys (x ∷ []) old | inr one ↦ subst (λ (z : Answer). Has z (keys ++ x ∷ [])) (sym one) (has_end x keys) ]),
-    )
-
--- the answers up to one more
-pub one_more : (xs : List Answer) (i : ℕ) (x y : Answer) → i < length xs → x ≡ get_or xs i x → Has y (take (i + 1) xs) ↔ (Has y (take i xs) ⊎ (y ≡ x))
-one_more xs i x y lt is =
-    let same : take (i + 1) xs ≡ take i xs ++ x ∷ [] = take_more xs i x lt ∙ ap (λ (z : Answer). take i xs ++ z ∷ []) (sym is) in (
-      λ h. has_last y x (take i xs) (subst (λ (zs : List Answer). Has y zs) same h),
-      λ h. subst (λ (zs : List Answer). Has y zs) (sym same) (elim h [ inl old ↦ has_left y (take i xs) (x ∷ []) old | inr one ↦ subst (λ (z : Answer). Has z (take i xs ++ x ∷ [])) (sym one) (has_end x (take i xs)) ]),
-    )
-
--- keys of which no two are equal are a set
-all_apart : (x : Answer) (xs : List Answer) → AllByRecursion (λ (y : Answer). same_answer x y ≡ false) xs → ¬ Has x xs
-all_apart x [] all h = h
-all_apart x (y ∷ ys) all h = elim h [
-  | inl same ↦ true≢false (sym (answer_same x) ∙ ap (λ (z : Answer). same_answer x z) same ∙ all.0)
-  | inr rest ↦ all_apart x ys all.1 rest
+-- and what is there it finds
+pub has_found : (x : Answer) (xs : List Answer) → Has x xs → list_any (same_answer x) xs ≡ true
+has_found x [] h = absurd h
+has_found x (y ∷ ys) h = elim h [
+  | inl same ↦
+      let first : same_answer x y ≡ true = ap (same_answer x) (sym same) ∙ answer_same x in
+      ap (λ (b : Bool). b || list_any (same_answer x) ys) first
+  | inr rest ↦ later (same_answer x y) (list_any (same_answer x) ys) (has_found x ys rest)
 ]
-
-pub is_set : (xs : List Answer) → IsDistinct same_answer xs → IsSet xs
-unfolding IsDistinct
-is_set [] distinct = tt
-is_set (x ∷ xs) distinct = (all_apart x xs distinct.0, is_set xs distinct.1)
+  where
+    later : (a b : Bool) → b ≡ true → (a || b) ≡ true
+    later true b e = refl
+    later false b e = e

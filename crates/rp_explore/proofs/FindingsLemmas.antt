@@ -1,17 +1,22 @@
 -- What the first orders give, and one order more.
-use Rattle.std.proofs.Common.{◌≡◌, ◌↔◌, ℕ, ◌+◌, ◌<◌, ◌⊎◌, Bool, true, false, ◌&&◌, IsTrue, List, [], ◌∷◌, ◌++◌, length, get_or, Option, Some, None, is_none, if◌then◌else◌, MatchBool, inl, inr, sym, ap, subst, refl, arith, true≢false}
+use Rattle.std.proofs.Common.{◌≡◌, ◌↔◌, ℕ, ◌+◌, ◌-◌, ◌<◌, ◌⊎◌, Bool, true, false, ◌&&◌, IsTrue, List, [], ◌∷◌, ◌++◌, length, length-append, get_or, map, max, take, Option, Some, None, is_none, if◌then◌else◌, MatchBool, inl, inr, sym, ap, subst, refl, arith, ◌∙◌, true≢false}
 use Rattle.std.proofs.lemmas.Bool.{cases_lt}
+use Rattle.std.proofs.lemmas.List.{get_or_append_left, get_or-append_right, map-append, take_more, take-append-le}
+use Rattle.rp_base.specs.Number.{greatest}
+use Rattle.rp_machine.proofs.Numbering.{greatest-push}
 use Rattle.rp_base.specs.Sets.{Has}
 use Rattle.rp_base.specs.declared.action.Action.{Action}
 use Rattle.rp_base.specs.declared.action.Action.TheVariants.{Noop}
 use Rattle.rp_base.specs.declared.reply.Answer.{Answer}
 use Rattle.rp_machine.specs.Asked.{waits}
 use Rattle.rp_machine.specs.Numbered.{Applied, outcome}
-use Rattle.rp_orders.specs.Orders.{LeadAlike, IsStuck}
+use Rattle.rp_orders.specs.Orders.{LeadAlike, IsStuck, IsFinal, MayFollow}
+use Rattle.rp_orders.specs.declared.guard.Guard.{Guard}
+use Rattle.rp_explore.specs.Explored.{greatest_length}
 use Rattle.rp_explore.specs.Listed.{order_at}
-use Rattle.rp_explore.specs.Searched.{Searched, Extends, AllReached, SomeMissing, AreQuiet, IsGivenAt, IsStuckAt, WaitsFirst, LeadsBeyond}
+use Rattle.rp_explore.specs.Searched.{Searched, Extends, AllReached, SomeMissing, AreQuiet, AreMarked, IsStuckAt, WaitsFirst, LeadsBeyond}
 use Rattle.rp_explore.proofs.Lists.{has_at, place_in}
-use Rattle.rp_explore.proofs.VisitLemmas.{order_stays, longer, full_stays, all_reached_on, given_on, given_back}
+use Rattle.rp_explore.proofs.VisitLemmas.{longer, full_stays, all_reached_on, quiet_on, quiet_back, moved, back}
 
 module _ {S : Type 0} (next : S → Action → S) (answers : S → Action → List Answer) where
   beyond_on : (old new : Searched S) → Extends old new → LeadsBeyond next answers old → LeadsBeyond next answers new
@@ -44,41 +49,53 @@ module _ {S : Type 0} (next : S → Action → S) (answers : S → Action → Li
       whole_step old new place a b e lt (subst (λ (n : ℕ). Whole old place n a) size was)
       (subst (λ (n : ℕ). MatchBool b (AllReached next answers new place n) (SomeMissing next answers new place n)) size now)
 
-  -- the replies, with one order more
-  abbrev Given : Searched S → ℕ → ℕ → Answer → Type 0
-  Given s count n answer = (p : ℕ) × (p < count) × IsGivenAt next answers s p n answer
+  -- ---- the orders after which nothing changes anything, and the longest
 
-  pub replies_after : (old new : Searched S) (place : ℕ) (before after : List Answer) → Extends old new → place < length old.listed.orders
-      → ((answer : Answer) → Has answer before ↔ Given old place (length old.listed.may) answer)
-      → ((answer : Answer) → Has answer after ↔ (Has answer before ⊎ IsGivenAt next answers new place (length old.listed.may) answer))
-      → (answer : Answer) → Has answer after ↔ Given new (place + 1) (length new.listed.may) answer
-  replies_after old new place before after e lt was noted answer =
-      let n = length old.listed.may in
-      let size : n ≡ length new.listed.may = ap length (sym e.may) in
-      subst (λ (k : ℕ). Has answer after ↔ Given new (place + 1) k answer) size (
-        λ h. elim ((noted answer).0 h) [
-          | inl old_one ↦ let gave = (was answer).0 old_one in (gave.0, omega (arith, gave.1), given_on next answers old new gave.0 n answer e (omega (arith, gave.1)) gave.2)
-          | inr new_one ↦ (place, omega arith, new_one)
-        ],
-        λ gave. elim (cases_lt gave.0 place) [
-          | inl less ↦ (noted answer).1 (inl ((was answer).1 (gave.0, less, given_back next answers old new gave.0 n answer e (omega arith) gave.2)))
-          | inr rest ↦ let same : gave.0 ≡ place = omega (arith, gave.1) in (noted answer).1 (inr (subst (λ (p : ℕ). IsGivenAt next answers new p n answer) same gave.2))
-        ],
-      )
+  pub marked_more : (old new : Searched S) (place : ℕ) (finals more : List Bool) (is_quiet : Bool) → Extends old new → place < length old.listed.orders
+      → more ≡ finals ++ is_quiet ∷ [] → IsTrue is_quiet ↔ AreQuiet next answers new place (length old.listed.may)
+      → AreMarked next answers old place finals → AreMarked next answers new (place + 1) more
+  marked_more old new place finals more is_quiet e lt is quiet before =
+      let size : length new.listed.may ≡ length old.listed.may = ap length e.may in record {
+        size = ap length is ∙ length-append finals (is_quiet ∷ []) ∙ (let mine = before.size in omega arith);
+        marked = λ p below. elim (cases_lt p place) [
+          | inl less ↦
+              let same : get_or more p false ≡ get_or finals p false = ap (λ (xs : List Bool). get_or xs p false) is ∙ get_or_append_left finals (is_quiet ∷ []) false p (omega (arith, before.size)) in
+              let was = before.marked p less in
+              let n = length new.listed.may in (
+                λ yes. quiet_on next answers old new p n e (omega arith) (subst (λ (k : ℕ). AreQuiet next answers old p k) (sym size) (was.0 (sym same ∙ yes))),
+                λ all. same ∙ was.1 (subst (λ (k : ℕ). AreQuiet next answers old p k) size (quiet_back next answers old new p n e (omega arith) all)),
+              )
+          | inr rest ↦
+              let here : p ≡ place = omega arith in
+              let none : p - place ≡ 0 = omega arith in
+              let same : get_or more p false ≡ is_quiet = ap (λ (xs : List Bool). get_or xs p false) is ∙ get_or-append_right finals (is_quiet ∷ []) place p false before.size (omega arith) ∙ ap (λ (k : ℕ). get_or (is_quiet ∷ []) k false) none in (
+                λ yes. subst (λ (q : ℕ). AreQuiet next answers new q (length new.listed.may)) (sym here) (subst (λ (k : ℕ). AreQuiet next answers new place k) (sym size) (quiet.0 (sym same ∙ yes))),
+                λ all. same ∙ quiet.1 (subst (λ (k : ℕ). AreQuiet next answers new place k) size (subst (λ (q : ℕ). AreQuiet next answers new q (length new.listed.may)) here all)),
+              )
+        ];
+      }
+
+  pub deeper : (old new : Searched S) (place depth more : ℕ) (order : List Action) → Extends old new → place < length old.listed.orders
+      → order ≡ order_at old.listed.orders place → more ≡ max depth (length order) → depth ≡ greatest_length (take place old.listed.orders)
+      → more ≡ greatest_length (take (place + 1) new.listed.orders)
+  deeper old new place depth more order e lt is grows was =
+      let orders = old.listed.orders in
+      let one : take (place + 1) new.listed.orders ≡ take place orders ++ order ∷ [] =
+      ap (take (place + 1)) e.orders ∙ take-append-le (place + 1) orders e.more (omega arith) ∙ take_more orders place [] lt ∙ ap (λ (o : List Action). take place orders ++ o ∷ []) (sym is) in
+      grows ∙ ap (λ (d : ℕ). max d (length order)) was
+      ∙ sym (ap greatest_length one ∙ ap greatest (map-append (λ (o : List Action). length o) (take place orders) (order ∷ [])) ∙ greatest-push (map length (take place orders)) (length order))
 
   -- ---- tasks that wait for ever
 
+  -- what is said of an order
+  abbrev stuck_after : ℕ → S → List Guard → List Action → List Action → Type 0
+  stuck_after task begin guards may order = IsStuck next answers begin guards may task order
+
   stuck_on : (old new : Searched S) (task place : ℕ) → Extends old new → place < length old.listed.orders → IsStuckAt next answers old task place → IsStuckAt next answers new task place
-  stuck_on old new task place e lt stuck =
-      subst (λ (o : List Action). IsStuck next answers new.begin new.listed.may task o) (sym (order_stays old new place e lt))
-      (subst (λ (may : List Action). IsStuck next answers new.begin may task (order_at old.listed.orders place)) (sym e.may)
-      (subst (λ (b : S). IsStuck next answers b old.listed.may task (order_at old.listed.orders place)) (sym e.begin) stuck))
+  stuck_on old new task place e lt stuck = moved (stuck_after task) old new place e lt stuck
 
   stuck_back : (old new : Searched S) (task place : ℕ) → Extends old new → place < length old.listed.orders → IsStuckAt next answers new task place → IsStuckAt next answers old task place
-  stuck_back old new task place e lt stuck =
-      subst (λ (b : S). IsStuck next answers b old.listed.may task (order_at old.listed.orders place)) e.begin
-      (subst (λ (may : List Action). IsStuck next answers new.begin may task (order_at old.listed.orders place)) e.may
-      (subst (λ (o : List Action). IsStuck next answers new.begin new.listed.may task o) (order_stays old new place e lt) stuck))
+  stuck_back old new task place e lt stuck = back (stuck_after task) old new place e lt stuck
 
   pub waits_after : (old new : Searched S) (task place : ℕ) (w : Bool) (was now : Option ℕ) → Extends old new → place < length old.listed.orders
       → WaitsFirst next answers old task place was → IsTrue w ↔ IsStuckAt next answers new task place
@@ -108,15 +125,20 @@ module _ {S : Type 0} (next : S → Action → S) (answers : S → Action → Li
   noted_none None place = refl
   noted_none (Some at) place = refl
 
+  -- an order is final where no action by its index changes anything
+  pub final_quiet : (s : Searched S) (place : ℕ) → IsFinal next answers s.begin s.guards s.listed.may (order_at s.listed.orders place) → AreQuiet next answers s place (length s.listed.may)
+  final_quiet s place final index within may_be = final (get_or s.listed.may index Noop) (has_at s.listed.may index Noop within) may_be
+
+  pub quiet_final : (s : Searched S) (place : ℕ) → AreQuiet next answers s place (length s.listed.may) → IsFinal next answers s.begin s.guards s.listed.may (order_at s.listed.orders place)
+  quiet_final s place quiet action h may_be =
+      let at = place_in s.listed.may action Noop h in
+      let order = order_at s.listed.orders place in
+      subst (λ (a : Action). LeadAlike next answers s.begin s.guards (order ++ a ∷ []) order) at.2
+      (quiet at.0 at.1 (subst (λ (a : Action). MayFollow next answers s.begin s.guards order a) (sym at.2) may_be))
+
   -- a task waits for ever only where nothing changes
   pub stuck_quiet : (s : Searched S) (task place : ℕ) → IsStuckAt next answers s task place → AreQuiet next answers s place (length s.listed.may)
-  stuck_quiet s task place stuck index within = stuck.quiet (get_or s.listed.may index Noop) (has_at s.listed.may index Noop within)
-
-  quiet_all : (s : Searched S) (place : ℕ) → AreQuiet next answers s place (length s.listed.may) → (action : Action) → Has action s.listed.may
-      → LeadAlike next answers s.begin (order_at s.listed.orders place ++ action ∷ []) (order_at s.listed.orders place)
-  quiet_all s place quiet action h =
-      let at = place_in s.listed.may action Noop h in
-      subst (λ (a : Action). LeadAlike next answers s.begin (order_at s.listed.orders place ++ a ∷ []) (order_at s.listed.orders place)) at.2 (quiet at.0 at.1)
+  stuck_quiet s task place stuck = final_quiet s place stuck.quiet
 
   -- and there it does if it waits
   pub waits_stuck : (s : Searched S) (applied : Applied S) (task place : ℕ) → applied.begin ≡ s.begin → applied.actions ≡ order_at s.listed.orders place
@@ -127,7 +149,7 @@ module _ {S : Type 0} (next : S → Action → S) (answers : S → Action → Li
       let same : applied ≡ record { begin = s.begin; actions = order } = λ i. record { begin = starts i; actions = acts i } in (
         λ yes. record {
           waits = subst (λ (a : Applied S). IsTrue (waits task (outcome next answers a).kept (outcome next answers a).given)) same yes;
-          quiet = quiet_all s place quiet;
+          quiet = quiet_final s place quiet;
         },
         λ stuck. subst (λ (a : Applied S). IsTrue (waits task (outcome next answers a).kept (outcome next answers a).given)) (sym same) stuck.waits,
       )

@@ -6,5 +6,6 @@ pub mod SearchLemmas
 pub mod AnswerLemmas
 pub mod WaitLemmas
 pub mod VisitLemmas
+pub mod GivenLemmas
 pub mod FindingsLemmas
 pub mod ExploredLemmas

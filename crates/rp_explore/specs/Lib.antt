@@ -1,4 +1,5 @@
 pub mod Keys
 pub mod Listed
-pub mod Searched
 pub mod Explored
+pub mod Searched
+pub mod Findings

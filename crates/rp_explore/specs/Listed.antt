@@ -4,7 +4,8 @@ use Rattle.rp_base.specs.Sets.{Has}
 use Rattle.rp_base.specs.declared.action.Action.{Action}
 use Rattle.rp_base.specs.declared.action.Action.TheVariants.{Noop}
 use Rattle.rp_base.specs.declared.reply.Answer.{Answer}
-use Rattle.rp_orders.specs.Orders.{AreRight, AreAmong, LeadAlike}
+use Rattle.rp_orders.specs.Orders.{AreRight, AreAmong, LeadAlike, IsGuarded}
+use Rattle.rp_orders.specs.declared.guard.Guard.{Guard}
 use Rattle.rp_explore.specs.declared.branch.Branch.{Branch}
 
 -- some orders of the actions that may happen
@@ -25,11 +26,17 @@ further listed place index =
 abbrev pub AreOrdersOf : Listed → Type 0
 AreOrdersOf listed = (order : List Action) → Has order listed.orders → AreAmong listed.may order
 
-module _ {S : Type 0} (next : S → Action → S) (answers : S → Action → List Answer) (begin : S) where
+module _ {S : Type 0} (next : S → Action → S) (answers : S → Action → List Answer) (begin : S)
+    (guards : List Guard) where
+  -- the guards let each action of each of the orders be decided
+  abbrev pub AreGuarded : List (List Action) → Type 0
+  AreGuarded orders = (order : List Action) → Has order orders
+      → IsGuarded next answers begin guards order
+
   -- no two of the orders, by their places, have the same effect
   abbrev pub AreDistinct : List (List Action) → Type 0
   AreDistinct orders = (one other : ℕ) → one < length orders → other < length orders
-      → LeadAlike next answers begin (order_at orders one) (order_at orders other) → one ≡ other
+      → LeadAlike next answers begin guards (order_at orders one) (order_at orders other) → one ≡ other
 
 -- ---- how memory holds them (no public clause names what follows)
 

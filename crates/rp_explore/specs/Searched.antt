@@ -1,24 +1,32 @@
 -- What a search has found so far.
-use Rattle.std.specs.Prelude.{◌≡◌, ◌⊎◌, ◌<◌, ◌≤◌, ◌↔◌, ◌-◌, ℕ, Bool, Option, None, List, []}
-use Rattle.std.specs.Prelude.{◌∷◌, ◌++◌, length, slice_index_or, MatchOption, MatchBool}
+use Rattle.std.specs.Prelude.{◌≡◌, ◌⊎◌, ◌<◌, ◌≤◌, ◌↔◌, ◌-◌, ℕ, Bool, false, Option, None, List, []}
+use Rattle.std.specs.Prelude.{◌∷◌, ◌++◌, length, slice_index_or, MatchOption, MatchBool, IsTrue}
+use Rattle.std.specs.Prelude.{map, take, if◌then◌else◌}
 use Rattle.rp_base.specs.Number.{IsTask}
-use Rattle.rp_base.specs.Sets.{Has}
+use Rattle.rp_base.specs.Sets.{Has, IsSet}
 use Rattle.rp_base.specs.declared.action.Action.{Action}
 use Rattle.rp_base.specs.declared.action.Action.TheVariants.{Noop}
 use Rattle.rp_base.specs.declared.reply.Answer.{Answer}
-use Rattle.rp_machine.specs.Replay.{replay_of, answers_after}
-use Rattle.rp_orders.specs.Orders.{LeadAlike, IsReached, IsStuck}
+use Rattle.rp_machine.specs.Replay.{Replayed, replay_of, answers_after}
+use Rattle.rp_orders.specs.Guards.{is_allowed}
+use Rattle.rp_orders.specs.Orders.{LeadAlike, IsReached, IsStuck, MayFollow}
+use Rattle.rp_orders.specs.declared.guard.Guard.{Guard}
+use Rattle.rp_explore.specs.Explored.{greatest_length}
 use Rattle.rp_explore.specs.Listed.{Listed, order_at, further}
+use Rattle.rp_explore.specs.declared.giver.Giver.{Giver}
 
--- the start of a program, the orders that were found, and how many there may be at most
+-- the start of a program, the guards of its calls, the orders that were found, and how many there
+-- may be at most
 pub record Searched (S : Type 0) : Type 0 where
   pub begin : S
+  pub guards : List Guard
   pub listed : Listed
   pub most : ℕ
 
 -- The search goes on: at most one order more was found, this one, if there was room for it.
 pub record Grows {S : Type 0} (old new : Searched S) (order : List Action) : Type 0 where
   pub begin : new.begin ≡ old.begin
+  pub guards : new.guards ≡ old.guards
   pub most : new.most ≡ old.most
   pub may : new.listed.may ≡ old.listed.may
   pub orders : (new.listed.orders ≡ old.listed.orders)
@@ -28,53 +36,111 @@ pub record Grows {S : Type 0} (old new : Searched S) (order : List Action) : Typ
 -- The search goes on: more orders were found, and no more than there is room for.
 pub record Extends {S : Type 0} (old new : Searched S) : Type 0 where
   pub begin : new.begin ≡ old.begin
+  pub guards : new.guards ≡ old.guards
   pub most : new.most ≡ old.most
   pub may : new.listed.may ≡ old.listed.may
   pub more : List (List Action)
   pub orders : new.listed.orders ≡ old.listed.orders ++ more
   pub room : length new.listed.orders ≤ new.most
 
+-- an action was tried earlier: after an earlier order, or after the same as an earlier action
+abbrev pub IsEarlier : {S : Type 0} → Searched S → ℕ → ℕ → ℕ → ℕ → Type 0
+IsEarlier s place count at index =
+    ((at < place) × (index < length s.listed.may)) ⊎ ((at ≡ place) × (index < count))
+
+-- Of these answers those that were not given before are noted, each once, with what gave them.
+pub record IsNoted (answers : List Answer) (giver : Giver) (old : List Answer)
+    (givers : List Giver) (new : List Answer) (more_givers : List Giver) : Type 0 where
+  pub more : List Answer
+  pub replies : new ≡ old ++ more
+  pub givers_too : more_givers ≡ givers ++ map (λ answer. giver) more
+  pub fresh : (answer : Answer) → Has answer more → Has answer answers × (¬ Has answer old)
+  pub all : (answer : Answer) → Has answer answers → Has answer new
+  pub once : IsSet old → IsSet new
+
+-- what is found so far
+pub record Found : Type 0 where
+  pub is_whole : Bool
+  pub replies : List Answer
+  pub givers : List Giver
+  pub finals : List Bool
+  pub stuck : List (Option ℕ)
+  pub depth : ℕ
+
 module _ {S : Type 0} (next : S → Action → S) (answers : S → Action → List Answer) where
   -- the order at the place leads to the same state
   pub record IsAt (s : Searched S) (order : List Action) (place : ℕ) : Type 0 where
     pub within : place < length s.listed.orders
-    pub alike : LeadAlike next answers s.begin order (order_at s.listed.orders place)
+    pub alike : LeadAlike next answers s.begin s.guards order (order_at s.listed.orders place)
 
   -- there is no room for more, and no order leads to the same state
   pub record IsMissing (s : Searched S) (order : List Action) : Type 0 where
     pub full : s.most ≤ length s.listed.orders
-    pub missing : ¬ IsReached next answers s.begin s.listed.orders order
+    pub missing : ¬ IsReached next answers s.begin s.guards s.listed.orders order
+
+  -- the guards let one of the actions be decided after the order at the place
+  abbrev pub MayFollowAt : Searched S → ℕ → ℕ → Type 0
+  MayFollowAt s place index = MayFollow next answers s.begin s.guards
+      (order_at s.listed.orders place) (slice_index_or s.listed.may index Noop)
 
   -- each of the first actions that may happen, after the order at the place, leads to a state to
   -- which an order that was found leads
   abbrev pub AllReached : Searched S → ℕ → ℕ → Type 0
-  AllReached s place count = (index : ℕ) → index < count
-      → IsReached next answers s.begin s.listed.orders (further s.listed place index)
+  AllReached s place count = (index : ℕ) → index < count → MayFollowAt s place index
+      → IsReached next answers s.begin s.guards s.listed.orders (further s.listed place index)
 
   -- one of them leads to another, for which there is no room
   pub record SomeMissing (s : Searched S) (place count : ℕ) : Type 0 where
     pub index : ℕ
     pub within : index < count
+    pub may_follow : MayFollowAt s place index
     pub missing : IsMissing s (further s.listed place index)
 
   -- none of them changes anything
   abbrev pub AreQuiet : Searched S → ℕ → ℕ → Type 0
-  AreQuiet s place count = (index : ℕ) → index < count
-      → LeadAlike next answers s.begin (further s.listed place index)
+  AreQuiet s place count = (index : ℕ) → index < count → MayFollowAt s place index
+      → LeadAlike next answers s.begin s.guards (further s.listed place index)
       (order_at s.listed.orders place)
 
   -- the task waits for ever after the order at the place
   abbrev pub IsStuckAt : Searched S → ℕ → ℕ → Type 0
   IsStuckAt s task place =
-      IsStuck next answers s.begin s.listed.may task (order_at s.listed.orders place)
+      IsStuck next answers s.begin s.guards s.listed.may task (order_at s.listed.orders place)
 
-  -- one of them gives the answer
-  pub record IsGivenAt (s : Searched S) (place count : ℕ) (answer : Answer) : Type 0 where
+  -- the answers to one action more, none where the guards do not let it be decided
+  abbrev pub given_next : List Guard → Replayed S → Action → List Answer
+  given_next guards r action =
+      if is_allowed guards r.kept r.given action then answers_after next answers r action else []
+
+  -- one of the actions after the order at the place gives the answer
+  abbrev pub Gives : Searched S → ℕ → ℕ → Answer → Type 0
+  Gives s place index answer = Has answer (given_next s.guards
+      (replay_of next answers s.begin (order_at s.listed.orders place))
+      (slice_index_or s.listed.may index Noop))
+
+  -- it was given before the action with this index was tried after the order at the place
+  pub record IsGivenBefore (s : Searched S) (place count : ℕ) (answer : Answer) : Type 0 where
+    pub at : ℕ
     pub index : ℕ
-    pub within : index < count
-    pub gives : Has answer (answers_after next answers
-        (replay_of next answers s.begin (order_at s.listed.orders place))
-        (slice_index_or s.listed.may index Noop))
+    pub earlier : IsEarlier s place count at index
+    pub gives : Gives s at index answer
+
+  -- the order and the action are the first that give the answer, and they were tried earlier
+  pub record IsFirstOfAll (s : Searched S) (place count : ℕ) (answer : Answer) (giver : Giver)
+      : Type 0 where
+    pub earlier : IsEarlier s place count giver.place giver.action
+    pub gives : Gives s giver.place giver.action answer
+    pub first : ¬ IsGivenBefore s giver.place giver.action answer
+
+  -- what was given until then, and what gave each answer first
+  pub record AreGiven (s : Searched S) (place count : ℕ) (given : List Answer)
+      (givers : List Giver) : Type 0 where
+    pub replies : (answer : Answer) → Has answer given ↔ IsGivenBefore s place count answer
+    pub set : IsSet given
+    pub size : length givers ≡ length given
+    pub first : (k : ℕ) (answer : Answer) (giver : Giver) → k < length given
+        → IsFirstOfAll s place count (slice_index_or given k answer)
+        (slice_index_or givers k giver)
 
   -- the first of some orders after which the task waits for ever
   pub record IsFirstOf (s : Searched S) (task count place : ℕ) : Type 0 where
@@ -94,12 +160,19 @@ module _ {S : Type 0} (next : S → Action → S) (answers : S → Action → Li
     pub within : place < length s.listed.orders
     pub missing : SomeMissing s place (length s.listed.may)
 
+  -- none of the actions changes anything after the first orders at which this is marked, and after
+  -- no others
+  pub record AreMarked (s : Searched S) (count : ℕ) (finals : List Bool) : Type 0 where
+    pub size : length finals ≡ count
+    pub marked : (place : ℕ) → place < count
+        → IsTrue (slice_index_or finals place false) ↔ AreQuiet s place (length s.listed.may)
+
   -- what is found of the first orders and the actions after them
-  pub record AreFindings (s : Searched S) (count : ℕ) (is_whole : Bool) (given : List Answer)
-      (waiting : List (Option ℕ)) : Type 0 where
-    pub whole : MatchBool is_whole
+  pub record AreFindings (s : Searched S) (count : ℕ) (found : Found) : Type 0 where
+    pub whole : MatchBool found.is_whole
         ((place : ℕ) → place < count → AllReached s place (length s.listed.may)) (LeadsBeyond s)
-    pub replies : (answer : Answer) → Has answer given
-        ↔ ((place : ℕ) × (place < count) × IsGivenAt s place (length s.listed.may) answer)
+    pub given : AreGiven s count 0 found.replies found.givers
+    pub finals : AreMarked s count found.finals
     pub stuck : (task : ℕ) → IsTask task
-        → WaitsFirst s task count (slice_index_or waiting (task - 1) None)
+        → WaitsFirst s task count (slice_index_or found.stuck (task - 1) None)
+    pub depth : found.depth ≡ greatest_length (take count s.listed.orders)

@@ -1,25 +1,34 @@
 //! What tells the states of a program apart.
 
-ghost use Rattle.std.specs.Prelude.{◌≡◌, IfOk};
+ghost use Rattle.std.specs.Prelude.{◌≡◌, IfOk, if◌then◌else◌};
 ghost use Rattle.rp_machine.specs.Numbered.{outcome};
-ghost use Rattle.rp_explore.specs.Keys.{IsKeyOf, last_numbers, last_occurrences};
+ghost use Rattle.rp_explore.specs.Keys.{IsKeyOf, last_numbers, last_occurrences, all_may_go_on};
 
+use crate::guarded::may_go_on;
 use rp_base::{MOST_SOURCES, MOST_TASKS, TaskId};
 use rp_machine::{Machine, Numbered};
+use rp_orders::Guard;
 use std::alloc::{AllocError, Global};
 
-/// The image of a state, the number of each task's last call, and each source's last occurrence.
-/// States with equal keys are one state, since a machine's image shows its state whole.
+/// The image of a state, the number of each task's last call, each source's last occurrence, and
+/// whether each task's next call may be made, by its guards. States with equal keys are one state,
+/// since a machine's image shows its state whole.
 #[derive(Drop, PartialEq, Eq, Hash)]
 pub struct Key {
     image: Vec<u8>,
     numbers: [u32; 8],
     occurrences: [u32; 8],
+    allowed: [u8; 8],
 }
 
 /// The key of the state that a log has led to.
-pub fn key_of<M: Machine>(alloc: Global, state: &Numbered<M>) -> Result<Key, AllocError>
-    ensures { IfOk result (λ key. IsKeyOf M.image (outcome M.next M.answers state.now) key) }
+pub fn key_of<M: Machine>(
+    alloc: Global,
+    state: &Numbered<M>,
+    guards: &[Guard],
+) -> Result<Key, AllocError>
+    ensures { IfOk result (λ key.
+        IsKeyOf M.image guards.now (outcome M.next M.answers state.now) key) }
 {
     let text = state.machine().image(alloc)?;
     let mut image = Vec::with_capacity(alloc, text.len())?;
@@ -28,6 +37,7 @@ pub fn key_of<M: Machine>(alloc: Global, state: &Numbered<M>) -> Result<Key, All
         image,
         numbers: numbers_in(state),
         occurrences: occurrences_in(state),
+        allowed: allowed_in(state, guards),
     })
 }
 
@@ -53,4 +63,25 @@ fn occurrences_in<M: Machine>(state: &Numbered<M>) -> [u32; 8]
         occurrences[usize::from(place)] = state.last_occurrence(place + 1);
     }
     occurrences
+}
+
+/// 1 for each task whose next call may be made, else 0.
+fn allowed_in<M: Machine>(state: &Numbered<M>, guards: &[Guard]) -> [u8; 8]
+    ensures { let r = outcome M.next M.answers state.now in result
+        ≡ all_may_go_on guards.now r.kept r.given }
+{
+    let mut allowed = [0; 8];
+    for place in 0..MOST_TASKS {
+        if let Some(task) = TaskId::new(place + 1) {
+            allowed[usize::from(place)] = one_if(may_go_on(state, guards, task));
+        }
+    }
+    allowed
+}
+
+/// 1 for true and 0 for false.
+fn one_if(truth: bool) -> u8
+    ensures { result ≡ (if truth then 1 else 0) }
+{
+    u8::from(truth)
 }

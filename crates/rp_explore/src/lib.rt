@@ -4,17 +4,23 @@
 //! - `explored`: the search over every order, and what it found
 //! - `search`: the orders that were found, and whether one more of them leads to a new state
 //! - `findings`: what the orders that were found give
+//! - `giver`: what gives a reply
 //! - `key`: what tells the states of a program apart
 //! - `replays`: the machine after an order, and whether one action more counts
+//! - `guarded`: what the guards of a program's calls let be decided next
 //! - `branch`, `tree`: the orders that were found, as memory holds them
 #![tactic(auto)]
 
 mod branch;
 mod explored;
 mod findings;
+mod giver;
+mod guarded;
 mod key;
 mod replays;
 mod search;
 mod tree;
 
 pub use explored::{Explored, explore};
+pub use giver::Giver;
+pub use rp_orders::Guard;

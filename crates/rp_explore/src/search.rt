@@ -1,22 +1,23 @@
 //! The orders that were found, and whether one more of them leads to a new state.
 
-ghost use Rattle.std.specs.Prelude.{◌≡◌, ◌+◌, ◌<◌, ◌≤◌, ◌↔◌, ◌⊎◌, ◌&&◌, ◌++◌, [], ◌∷◌, length, slice_index_or, Some, is_some, IsTrue, IfOk, OnOk, MatchOption, MatchBool};
-ghost use Rattle.rp_base.specs.Sets.{Has};
+ghost use Rattle.std.specs.Prelude.{◌≡◌, ◌+◌, ◌<◌, ◌≤◌, ◌↔◌, ◌⊎◌, ◌++◌, [], ◌∷◌, length, slice_index_or, Some, IsTrue, IfOk, OnOk, MatchOption, MatchBool};
 ghost use Rattle.rp_base.specs.declared.action.Action.TheVariants.{Noop};
-ghost use Rattle.rp_base.specs.declared.reply.Answer.{Answer};
 ghost use Rattle.rp_machine.specs.Numbered.{outcome};
-ghost use Rattle.rp_machine.specs.Replay.{answers_after};
 ghost use Rattle.rp_orders.specs.Orders.{AreRight, AreAmong, LeadAlike};
-ghost use Rattle.rp_explore.specs.Listed.{order_at, further, AreOrdersOf, AreDistinct};
-ghost use Rattle.rp_explore.specs.Searched.{Grows, Extends, IsAt, IsMissing, AllReached, SomeMissing, AreQuiet, IsGivenAt, AreFindings};
+ghost use Rattle.rp_explore.specs.Listed.{order_at, further, AreOrdersOf, AreGuarded, AreDistinct};
+ghost use Rattle.rp_explore.specs.Findings.{found_of};
+ghost use Rattle.rp_explore.specs.Searched.{Grows, Extends, IsAt, IsMissing, MayFollowAt, AllReached, SomeMissing, AreQuiet, AreGiven, AreFindings, given_next};
 
-use crate::findings::{Findings, note_answers, note_waits};
+use crate::findings::{Findings, Given, Tried, note_waits};
+use crate::giver::Giver;
+use crate::guarded::is_taken;
 use crate::key::{Key, key_of};
-use crate::replays::{counts, replayed};
+use crate::replays::replayed;
 use crate::tree::OrderTree;
 use indexmap::IndexSet;
-use rp_base::{Action, Answer, Answers};
+use rp_base::{Action, Answers};
 use rp_machine::{Machine, Numbered, replay_may_go_on};
+use rp_orders::Guard;
 use std::alloc::{AllocError, Global};
 use std::marker::Model;
 
@@ -26,21 +27,37 @@ use std::marker::Model;
 pub struct Search<'a, M: Machine> {
     alloc: Global,
     program: &'a M::Program,
+    guards: &'a [Guard],
     tree: OrderTree,
     keys: IndexSet<Key>,
     most: usize,
 }
 
+/// What one more action gives, and how many were taken so far.
+#[derive(Drop)]
+struct Trial {
+    answers: Answers,
+    taken: u64,
+}
+
 impl<'a, M: Machine> Model for Search<'a, M> {
     ghost use Rattle.rp_explore.specs.Searched.{Searched};
     ghost use Rattle.rp_explore.specs.Keys.{AreKeys};
+    ghost use Rattle.rp_explore.specs.Listed.{AreGuarded};
 
     ghost Value = { Searched M };
 
-    ghost view = { λ s. record { begin = M.begin s.program.now; listed = s.tree; most = s.most } };
+    ghost view = { λ s. record {
+      begin = M.begin s.program.now;
+      guards = s.guards.now;
+      listed = s.tree;
+      most = s.most;
+    } };
 
-    ghost invariant = { λ s. AreKeys M.next M.answers (M.begin s.program.now) M.image
-        s.keys.keys s.tree.orders };
+    ghost invariant = { λ s.
+        AreKeys M.next M.answers (M.begin s.program.now) s.guards.now M.image
+        s.keys.keys s.tree.orders
+        × AreGuarded M.next M.answers (M.begin s.program.now) s.guards.now s.tree.orders };
 }
 
 impl<'a, M: Machine> Search<'a, M> {
@@ -49,11 +66,13 @@ impl<'a, M: Machine> Search<'a, M> {
         alloc: Global,
         program: &'a M::Program,
         may: &[Action],
+        guards: &'a [Guard],
         most: usize,
     ) -> Result<Self, AllocError>
         requires { AreRight may.now }
         ensures { IfOk result (λ search. search ≡ record {
           begin = M.begin program.now;
+          guards = guards.now;
           listed = record { may = may.now; orders = [] ∷ [] };
           most = most;
         }) }
@@ -61,10 +80,11 @@ impl<'a, M: Machine> Search<'a, M> {
         let tree = OrderTree::new(alloc, may)?;
         let start = Numbered::<M>::new(alloc, program)?;
         let mut keys = IndexSet::new(alloc);
-        keys.insert(key_of(alloc, &start)?)?;
+        keys.insert(key_of(alloc, &start, guards)?)?;
         Ok(Search {
             alloc,
             program,
+            guards,
             tree,
             keys,
             most,
@@ -77,7 +97,10 @@ impl<'a, M: Machine> Search<'a, M> {
         ensures starts { 0 < result }
         ensures empty { order_at self.now.listed.orders 0 ≡ [] }
         ensures among { AreOrdersOf self.now.listed }
-        ensures distinct { AreDistinct M.next M.answers self.now.begin self.now.listed.orders }
+        ensures guarded { AreGuarded M.next M.answers self.now.begin self.now.guards
+            self.now.listed.orders }
+        ensures distinct { AreDistinct M.next M.answers self.now.begin self.now.guards
+            self.now.listed.orders }
     {
         let _count = self.keys.len();
         self.tree.len()
@@ -95,6 +118,7 @@ impl<'a, M: Machine> Search<'a, M> {
         requires index { index < length self.old.listed.may }
         requires begin { next.now.begin ≡ self.old.begin }
         requires actions { next.now.actions ≡ further self.old.listed before index }
+        requires may_follow { MayFollowAt M.next M.answers self.old before index }
         ensures grows { OnOk result
             (Grows self.old self.new (further self.old.listed before index)) }
         ensures there { IfOk result (λ place. MatchOption place
@@ -104,7 +128,7 @@ impl<'a, M: Machine> Search<'a, M> {
         M::laws();
         replay_may_go_on::<M>();
         let place = self.tree.len();
-        let key = key_of(self.alloc, next)?;
+        let key = key_of(self.alloc, next, self.guards)?;
         if let Some(known) = self.keys.get_index_of(&key) {
             return Ok(Some(known));
         }
@@ -119,12 +143,12 @@ impl<'a, M: Machine> Search<'a, M> {
 
     /// Tries one action more after the order at a place, which led to this state: whether that
     /// leads to a new state, and which answers it gives.
-    pub fn step(
+    fn step(
         &mut self,
         state: &Numbered<M>,
         place: usize,
         index: usize,
-        answers: &mut Answers,
+        trial: &mut Trial,
     ) -> Result<Option<usize>, AllocError>
         requires place { place < length self.old.listed.orders }
         requires index { index < length self.old.listed.may }
@@ -132,23 +156,28 @@ impl<'a, M: Machine> Search<'a, M> {
         requires actions { state.now.actions ≡ order_at self.old.listed.orders place }
         ensures grows { OnOk result
             (Grows self.old self.new (further self.old.listed place index)) }
-        ensures there { IfOk result (λ at. MatchOption at
+        ensures there { IfOk result (λ at. MayFollowAt M.next M.answers self.old place index
+            → MatchOption at
             (IsMissing M.next M.answers self.new (further self.old.listed place index))
             (IsAt M.next M.answers self.new (further self.old.listed place index))) }
-        ensures stays { IfOk result (λ at. (at ≡ Some place)
-            ↔ LeadAlike M.next M.answers self.old.begin (further self.old.listed place index)
-            (order_at self.old.listed.orders place)) }
-        ensures answers { OnOk result (answers.new ≡ answers_after M.next M.answers
+        ensures stays { IfOk result (λ at. MayFollowAt M.next M.answers self.old place index
+            → (at ≡ Some place)
+            ↔ LeadAlike M.next M.answers self.old.begin self.old.guards
+            (further self.old.listed place index) (order_at self.old.listed.orders place)) }
+        ensures skips { IfOk result (λ at.
+            MayFollowAt M.next M.answers self.old place index ⊎ (at ≡ Some place)) }
+        ensures answers { OnOk result (trial.new.answers ≡ given_next M.next M.answers self.old.guards
             (outcome M.next M.answers state.now) (slice_index_or self.old.listed.may index Noop)) }
     {
-        answers.clear();
+        trial.answers.clear();
         let action = self.tree.may()[index];
-        if !counts(state, &action) {
+        if !is_taken(state, self.guards, &action) {
             return Ok(Some(place));
         }
+        trial.taken = trial.taken.saturating_add(1);
         let order = self.tree.order(self.alloc, place)?;
         let mut next = replayed::<M>(self.alloc, self.program, order.as_slice())?;
-        next.apply(&action, answers);
+        next.apply(&action, &mut trial.answers);
         let at = self.place_of(&next, place, index)?;
         let _count = self.len();
         Ok(at)
@@ -160,33 +189,37 @@ impl<'a, M: Machine> Search<'a, M> {
         &mut self,
         state: &Numbered<M>,
         place: usize,
-        replies: &mut IndexSet<Answer>,
+        given: &mut Given,
     ) -> Result<Tried, AllocError>
         requires place { place < length self.old.listed.orders }
         requires room { length self.old.listed.orders ≤ self.old.most }
         requires begin { state.now.begin ≡ self.old.begin }
         requires actions { state.now.actions ≡ order_at self.old.listed.orders place }
+        requires before { AreGiven M.next M.answers self.old place 0
+            given.old.replies.keys given.old.givers.items }
         ensures extends { OnOk result (Extends self.old self.new) }
         ensures whole { IfOk result (λ tried. MatchBool tried.is_whole
             (AllReached M.next M.answers self.new place (length self.old.listed.may))
             (SomeMissing M.next M.answers self.new place (length self.old.listed.may))) }
         ensures quiet { IfOk result (λ tried. IsTrue tried.is_quiet
             ↔ AreQuiet M.next M.answers self.new place (length self.old.listed.may)) }
-        ensures replies { OnOk result ((answer : Answer) → Has answer replies.new.keys
-            ↔ (Has answer replies.old.keys
-            ⊎ IsGivenAt M.next M.answers self.new place (length self.old.listed.may) answer)) }
+        ensures given { OnOk result (AreGiven M.next M.answers self.new place
+            (length self.old.listed.may) given.new.replies.keys given.new.givers.items) }
     {
-        let mut answers = Answers::new();
-        let mut tried = Tried {
-            is_whole: true,
-            is_quiet: true,
+        let mut trial = Trial {
+            answers: Answers::new(),
+            taken: 0,
         };
-        for index in 0..self.tree.may().len() {
-            let at = self.step(state, place, index, &mut answers)?;
-            note_answers(replies, answers.as_slice())?;
+        let mut tried = Tried::new();
+        for action in 0..self.tree.may().len() {
+            let at = self.step(state, place, action, &mut trial)?;
+            given.note(trial.answers.as_slice(), Giver { place, action })?;
             tried = tried.with(at, place);
         }
-        Ok(tried)
+        Ok(Tried {
+            steps: trial.taken,
+            ..tried
+        })
     }
 
     /// Tries each action after the order at a place, and adds what that gives to what the orders
@@ -194,16 +227,15 @@ impl<'a, M: Machine> Search<'a, M> {
     pub fn visit(&mut self, place: usize, findings: &mut Findings) -> Result<(), AllocError>
         requires place { place < length self.old.listed.orders }
         requires room { length self.old.listed.orders ≤ self.old.most }
-        requires before { AreFindings M.next M.answers self.old place
-            findings.old.is_whole findings.old.replies.keys findings.old.stuck }
+        requires before { AreFindings M.next M.answers self.old place (found_of findings.old) }
         ensures extends { OnOk result (Extends self.old self.new) }
         ensures after { OnOk result (AreFindings M.next M.answers self.new (place + 1)
-            findings.new.is_whole findings.new.replies.keys findings.new.stuck) }
+            (found_of findings.new)) }
     {
         let order = self.tree.order(self.alloc, place)?;
         let state = replayed::<M>(self.alloc, self.program, order.as_slice())?;
-        let tried = self.try_all(&state, place, &mut findings.replies)?;
-        findings.is_whole = findings.is_whole && tried.is_whole;
+        let tried = self.try_all(&state, place, &mut findings.given)?;
+        findings.note_order(tried, order.len())?;
         if !tried.is_quiet {
             return Ok(());
         }
@@ -216,25 +248,5 @@ impl<'a, M: Machine> Search<'a, M> {
         ensures { result ≡ self.entry.listed }
     {
         self.tree
-    }
-}
-
-/// What the actions after an order lead to: only states that were found, only its own state.
-#[derive(Clone, Copy, Debug, PartialEq, Eq)]
-struct Tried {
-    is_whole: bool,
-    is_quiet: bool,
-}
-
-impl Tried {
-    /// One action more, which leads to the state of the order at this place, or to none of them.
-    fn with(self, at: Option<usize>, place: usize) -> Self
-        ensures whole { result.is_whole ≡ (self.is_whole && is_some at) }
-        ensures quiet { IsTrue result.is_quiet ↔ (IsTrue self.is_quiet × (at ≡ Some place)) }
-    {
-        Tried {
-            is_whole: self.is_whole && at.is_some(),
-            is_quiet: self.is_quiet && at == Some(place),
-        }
     }
 }

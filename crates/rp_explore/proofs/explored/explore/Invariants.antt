@@ -1,4 +1,5 @@
 use Rattle.std.proofs.Common.{◌≡◌, ◌≤◌, ◌-◌, length}
+use Rattle.rp_explore.specs.Findings.{found_of}
 use Rattle.rp_explore.specs.Searched.{AreFindings}
 use Rattle.rp_explore.proofs.explored.explore.Given as goal
 
@@ -7,11 +8,12 @@ abbrev pub invariant-loop-place : goal.invariant-loop-place
 invariant-loop-place g l =
     let m = g.M.Machine in record {
       begin : l.search.begin ≡ m.begin l.fn.program;
+      guards : l.search.guards ≡ l.fn.guards;
       may : l.search.listed.may ≡ l.fn.may;
       most : l.search.most ≡ l.fn.most;
       within : l.place ≤ length l.search.listed.orders;
       room : length l.search.listed.orders ≤ l.search.most;
-      found : AreFindings m.next m.answers l.search l.place l.findings.is_whole l.findings.replies.keys l.findings.stuck;
+      found : AreFindings m.next m.answers l.search l.place (found_of l.findings);
     }
 
 abbrev pub decreases-loop-place : goal.decreases-loop-place

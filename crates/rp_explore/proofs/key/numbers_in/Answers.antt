@@ -18,7 +18,7 @@ loop-place-preserved g c =
           record {
             size = ap length w.numbers-is ∙ length-set c.loop-place.numbers w.from.result w.last.result ∙ before.size;
             each = λ k lt. ap (λ (xs : List ℕ). get_or xs k 0) w.numbers-is
-                ∙ eight_more f c.loop-place.numbers c.loop-place.place w.from.result w.last.result w.from.ensures (omega (arith, before.size, c.loop-place-test.true)) number before.each k lt;
+                ∙ eight_more 0 f c.loop-place.numbers c.loop-place.place w.from.result w.last.result w.from.ensures (omega (arith, before.size, c.loop-place-test.true)) number before.each k lt;
           }
       | in_default w ↦ absurd (true≢false (sym (w.in_default.ensures.valid.1 (omega arith, omega (arith, c.loop-place-test.true)))))
     ]
@@ -26,5 +26,5 @@ loop-place-preserved g c =
 pub returns : goal.returns
 returns g c =
     let m = g.M.Machine in
-    eight (λ task. last_number task (outcome m.next m.answers c.args.state.now).kept) c.loop-place.numbers c.loop-place.invariant.size
+    eight 0 (λ task. last_number task (outcome m.next m.answers c.args.state.now).kept) c.loop-place.numbers c.loop-place.invariant.size
     (λ k lt. c.loop-place.invariant.each k (omega (arith, c.loop-place-test.false)))

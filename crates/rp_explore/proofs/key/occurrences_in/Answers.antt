@@ -13,11 +13,11 @@ loop-place-preserved g c =
     let f : ℕ → ℕ = λ source. last_occurrence source kept in
     record {
       size = length-set c.loop-place.occurrences c.from.result c.last_occurrence.result ∙ before.size;
-      each = eight_more f c.loop-place.occurrences c.loop-place.place c.from.result c.last_occurrence.result c.from.ensures (omega (arith, before.size, c.loop-place-test.true)) c.last_occurrence.ensures before.each;
+      each = eight_more 0 f c.loop-place.occurrences c.loop-place.place c.from.result c.last_occurrence.result c.from.ensures (omega (arith, before.size, c.loop-place-test.true)) c.last_occurrence.ensures before.each;
     }
 
 pub returns : goal.returns
 returns g c =
     let m = g.M.Machine in
-    eight (λ source. last_occurrence source (outcome m.next m.answers c.args.state.now).kept) c.loop-place.occurrences c.loop-place.invariant.size
+    eight 0 (λ source. last_occurrence source (outcome m.next m.answers c.args.state.now).kept) c.loop-place.occurrences c.loop-place.invariant.size
     (λ k lt. c.loop-place.invariant.each k (omega (arith, c.loop-place-test.false)))

@@ -1,19 +1,20 @@
 -- One action more.
-use Rattle.std.proofs.Common.{◌≡◌, ◌≤◌, ◌<◌, ◌+◌, ℕ, Bool, List, length, MatchBool, sym, ◌∙◌, ap, subst, arith, refl, inl, inr, ◌⊎◌, ◌↔◌}
+use Rattle.std.proofs.Common.{◌≡◌, ◌≤◌, ◌<◌, ◌+◌, ℕ, Bool, List, length, MatchBool, sym, ◌∙◌, ap, subst, arith, refl}
 use Rattle.rp_base.specs.declared.action.Action.{Action}
 use Rattle.rp_base.specs.declared.reply.Answer.{Answer}
-use Rattle.rp_base.specs.Sets.{Has}
+use Rattle.rp_explore.specs.declared.giver.Giver.{Giver}
 use Rattle.rp_explore.specs.Listed.{further}
-use Rattle.rp_explore.specs.Searched.{Searched, Extends, AllReached, SomeMissing, IsGivenAt}
-use Rattle.rp_explore.proofs.VisitLemmas.{extends_self, extends_join, grows_extends, longer, order_stays, whole_more, quiet_more, given_more}
+use Rattle.rp_explore.specs.Searched.{Searched, Extends, AllReached, SomeMissing, AreGiven, IsNoted}
+use Rattle.rp_explore.proofs.GivenLemmas.{given_more}
+use Rattle.rp_explore.proofs.VisitLemmas.{extends_self, extends_join, grows_extends, longer, order_stays, whole_more, quiet_more}
 use Rattle.rp_explore.proofs.search.Search.try_all.Goals as goal
 
-pub loop-index-init : goal.loop-index-init
-loop-index-init g c = record {
+pub loop-action-init : goal.loop-action-init
+loop-action-init g c = record {
   extends = extends_self c.args.self.now c.requires.room;
-  whole = λ index below. absurd (omega arith);
-  quiet = (λ _ index below. absurd (omega arith), λ _. refl);
-  replies = λ answer. (λ h. inl h, λ h. elim h [ inl there ↦ there | inr gave ↦ absurd (omega (arith, gave.within)) ]);
+  whole = subst (λ (b : Bool). MatchBool b (AllReached g.M.Machine.next g.M.Machine.answers c.args.self.now c.args.place 0) (SomeMissing g.M.Machine.next g.M.Machine.answers c.args.self.now c.args.place 0)) (sym c.new-tried.ensures.whole) (λ index below. absurd (omega arith));
+  quiet = (λ _ index below. absurd (omega arith), λ _. c.new-tried.ensures.quiet);
+  given = c.requires.before;
 }
 
 -- the order stays at its place
@@ -23,42 +24,45 @@ here old new place e lt = omega (arith, longer old new e)
 pub step-requires : goal.step-requires
 step-requires g c =
     let old : Searched _ = c.args.self.now in
-    let now : Searched _ = c.loop-index.self in
-    let e = c.loop-index.invariant.extends in
-    let may : c.may-index-end.result.now ≡ now.listed.may = c.may-index-end.ensures.value ∙ ap (λ (v : Searched _). v.listed.may) c.self.view_is ∙ sym e.may in
+    let now : Searched _ = c.loop-action.self in
+    let e = c.loop-action.invariant.extends in
+    let may : c.may-action-end.result.now ≡ now.listed.may = c.may-action-end.ensures.value ∙ ap (λ (v : Searched _). v.listed.may) c.self.view_is ∙ sym e.may in
     record {
       place = here old now c.args.place e c.requires.place;
-      index = subst (λ (xs : List Action). c.loop-index.index < length xs) may c.loop-index-test.true;
+      index = subst (λ (xs : List Action). c.loop-action.action < length xs) may c.loop-action-test.true;
       begin = c.requires.begin ∙ sym e.begin;
       actions = c.requires.actions ∙ sym (order_stays old now c.args.place e c.requires.place);
     }
 
-pub loop-index-preserved : goal.loop-index-preserved
-loop-index-preserved g c =
+pub loop-action-preserved : goal.loop-action-preserved
+loop-action-preserved g c =
     let m = g.M.Machine in
     let first : Searched _ = c.args.self.now in
-    let old : Searched _ = c.loop-index.self in
+    let old : Searched _ = c.loop-action.self in
     let new : Searched _ = c.step.new.self in
-    let before = c.loop-index.invariant in
+    let before = c.loop-action.invariant in
+    let k = c.loop-action.action in
     let lt = here first old c.args.place before.extends c.requires.place in
     let room : length old.listed.orders ≤ old.most = before.extends.room in
-    let e = grows_extends old new (further old.listed c.args.place c.loop-index.index) room c.in_ok-at.ensures.grows in
+    let e = grows_extends old new (further old.listed c.args.place k) room c.in_ok-at.ensures.grows in
+    let giver : Giver = record { place = c.args.place; action = k } in
+    let noted : IsNoted c.as_slice.result.now giver c.loop-action.given.replies.keys c.loop-action.given.givers.items c.note.new.self.replies.keys c.note.new.self.givers.items = c.in_ok-note.ensures in
     record {
       extends = extends_join first old new before.extends e;
-      whole = subst (λ (b : Bool). MatchBool b (AllReached m.next m.answers new c.args.place (c.loop-index.index + 1)) (SomeMissing m.next m.answers new c.args.place (c.loop-index.index + 1))) (sym c.with-tried.ensures.whole)
-          (whole_more m.next m.answers old new c.args.place c.loop-index.index c.in_ok-at.at c.loop-index.tried.is_whole e lt c.in_ok-at.ensures.there before.whole);
-      quiet = quiet_more m.next m.answers old new c.args.place c.loop-index.index c.in_ok-at.at c.loop-index.tried.is_quiet c.with-tried.result.is_quiet e lt c.in_ok-at.ensures.stays before.quiet c.with-tried.ensures.quiet;
-      replies = given_more m.next m.answers old new c.args.place c.loop-index.index c.args.replies.now.keys c.loop-index.replies.keys c.note_answers.new.replies.keys c.as_slice.result.now c.args.state.now e lt
+      whole = subst (λ (b : Bool). MatchBool b (AllReached m.next m.answers new c.args.place (k + 1)) (SomeMissing m.next m.answers new c.args.place (k + 1))) (sym c.with-tried.ensures.whole)
+          (whole_more m.next m.answers old new c.args.place k c.in_ok-at.at c.loop-action.tried.is_whole e lt c.in_ok-at.ensures.there c.in_ok-at.ensures.skips before.whole);
+      quiet = quiet_more m.next m.answers old new c.args.place k c.in_ok-at.at c.loop-action.tried.is_quiet c.with-tried.result.is_quiet e lt c.in_ok-at.ensures.stays c.in_ok-at.ensures.skips before.quiet c.with-tried.ensures.quiet;
+      given = given_more m.next m.answers old new e c.args.place k c.loop-action.given.replies.keys c.note.new.self.replies.keys c.loop-action.given.givers.items c.note.new.self.givers.items c.as_slice.result.now c.args.state.now lt
           (c.requires.begin ∙ sym before.extends.begin)
           (c.requires.actions ∙ sym (order_stays first old c.args.place before.extends c.requires.place))
           (c.as_slice.ensures ∙ c.in_ok-at.ensures.answers)
-          c.in_ok-note_answers.ensures before.replies;
+          noted before.given;
     }
 
-pub returns-clause-replies : goal.returns-clause-replies
-returns-clause-replies g c =
+pub returns-clause-given : goal.returns-clause-given
+returns-clause-given g c =
     let m = g.M.Machine in
     let old : Searched _ = c.args.self.now in
-    let may : c.may-index-end.result.now ≡ old.listed.may = c.may-index-end.ensures.value ∙ ap (λ (v : Searched _). v.listed.may) c.self.view_is in
-    let all : c.loop-index.index ≡ length old.listed.may = omega (arith, c.loop-index-test.false, c.loop-index.auto.index-end, ap length may) in
-    subst (λ (n : ℕ). (answer : Answer) → Has answer c.loop-index.replies.keys ↔ (Has answer c.args.replies.now.keys ⊎ IsGivenAt m.next m.answers c.loop-index.self c.args.place n answer)) all c.loop-index.invariant.replies
+    let may : c.may-action-end.result.now ≡ old.listed.may = c.may-action-end.ensures.value ∙ ap (λ (v : Searched _). v.listed.may) c.self.view_is in
+    let all : c.loop-action.action ≡ length old.listed.may = omega (arith, c.loop-action-test.false, c.loop-action.auto.action-end, ap length may) in
+    subst (λ (n : ℕ). AreGiven m.next m.answers c.loop-action.self c.args.place n c.loop-action.given.replies.keys c.loop-action.given.givers.items) all c.loop-action.invariant.given

@@ -3,3 +3,4 @@ pub mod Listed
 pub mod Explored
 pub mod Searched
 pub mod Findings
+pub mod Broken

@@ -2,6 +2,7 @@
 //!
 //! In reading order:
 //! - `explored`: the search over every order, and what it found
+//! - `property`: properties of states, and the first order after which one does not hold
 //! - `search`: the orders that were found, and whether one more of them leads to a new state
 //! - `findings`: what the orders that were found give
 //! - `giver`: what gives a reply
@@ -17,10 +18,12 @@ mod findings;
 mod giver;
 mod guarded;
 mod key;
+mod property;
 mod replays;
 mod search;
 mod tree;
 
 pub use explored::{Explored, explore};
 pub use giver::Giver;
+pub use property::{Property, first_broken};
 pub use rp_orders::Guard;

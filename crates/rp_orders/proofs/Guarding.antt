@@ -25,7 +25,7 @@ reply_at zero answer = None
 reply_at (suc k) answer = option_map (λ a. a.reply) answer
 
 -- what is kept of the last call
-kept_at : (task : ℕ) (kept : List Action) (given : List Answer) (n : ℕ) → last_number task kept ≡ n → kept_reply task n kept given ≡ reply_at n (answer_to task n given)
+pub kept_at : (task : ℕ) (kept : List Action) (given : List Answer) (n : ℕ) → last_number task kept ≡ n → kept_reply task n kept given ≡ reply_at n (answer_to task n given)
 kept_at task kept given zero last = refl
 kept_at task kept given (suc k) last =
     ap (λ (b : Bool). if b && nat_eq (suc k) (last_number task kept) then option_map (λ answer. answer.reply) (answer_to task (suc k) given) else None) (lt-ltb 0 (suc k) (omega arith))
@@ -54,7 +54,7 @@ module _ (guards : List Guard) (task : ℕ) where
   map_none (Some x) = refl
 
   -- a task that has made a call waits where there is no answer to it
-  none_waits : (kept : List Action) (given : List Answer) → IsCounted kept given → (k : ℕ) → last_number task kept ≡ suc k → is_none (answer_to task (suc k) given) ≡ waits task kept given
+  pub none_waits : (kept : List Action) (given : List Answer) → IsCounted kept given → (k : ℕ) → last_number task kept ≡ suc k → is_none (answer_to task (suc k) given) ≡ waits task kept given
   none_waits kept given fine k last =
       sym (map_none (answer_to task (suc k) given))
       ∙ ap is_none (sym (kept_at task kept given (suc k) last))

@@ -1,5 +1,6 @@
 pub mod Lists
 pub mod TreeLemmas
+pub mod PieceLemmas
 pub mod KeyLemmas
 pub mod TableLemmas
 pub mod SearchLemmas

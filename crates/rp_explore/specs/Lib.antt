@@ -1,3 +1,4 @@
+pub mod Pieces
 pub mod Keys
 pub mod Listed
 pub mod Explored

@@ -7,6 +7,7 @@
 //! - `findings`: what the orders that were found give
 //! - `giver`: what gives a reply
 //! - `key`: what tells the states of a program apart
+//! - `pieces`: the lines of the states' images, each kept once
 //! - `replays`: the machine after an order, and whether one action more counts
 //! - `guarded`: what the guards of a program's calls let be decided next
 //! - `branch`, `tree`: the orders that were found, as memory holds them
@@ -18,6 +19,7 @@ mod findings;
 mod giver;
 mod guarded;
 mod key;
+mod pieces;
 mod property;
 mod replays;
 mod search;

@@ -1,0 +1,80 @@
+//! The lines of the states' images, each kept once.
+
+ghost use Rattle.std.specs.Prelude.{◌≡◌, [], Some, slice_get, IfOk};
+ghost use Rattle.rp_base.specs.Sets.{IsSet};
+ghost use Rattle.rp_explore.specs.Pieces.{AreMore, AreNumbers, lines_of};
+
+use indexmap::IndexSet;
+use std::alloc::{AllocError, Global};
+use std::marker::Model;
+
+/// Lines, each once, numbered from 0 in the order in which they came.
+#[derive(Drop)]
+pub struct Pieces {
+    lines: IndexSet<Vec<u8>>,
+}
+
+impl Model for Pieces {
+    ghost use Rattle.std.specs.Prelude.{ℕ, List, map};
+
+    ghost Value = { List (List ℕ) };
+
+    ghost view = { λ p. map (λ line. line.items) p.lines.keys };
+}
+
+impl Pieces {
+    /// No line yet.
+    pub fn new(alloc: Global) -> Self
+        ensures { result ≡ [] }
+    {
+        Pieces {
+            lines: IndexSet::new(alloc),
+        }
+    }
+
+    /// How many lines there are.
+    pub fn len(&self) -> usize
+        ensures { IsSet self.now }
+    {
+        self.lines.len()
+    }
+
+    /// The numbers of the lines of a text, which are added where they are new.
+    pub fn numbers(&mut self, alloc: Global, text: &[u8]) -> Result<Vec<usize>, AllocError>
+        ensures more { AreMore self.old self.new }
+        ensures value { IfOk result (λ numbers.
+            AreNumbers self.new numbers.items (lines_of text.now)) }
+    {
+        let mut numbers = Vec::with_capacity(alloc, lines_in(text))?;
+        let mut line = Vec::new(alloc);
+        for byte in text {
+            line.push(*byte)?;
+            if *byte == b'\n' {
+                numbers.push(self.number(alloc, line.as_slice())?)?;
+                line.clear();
+            }
+        }
+        numbers.push(self.number(alloc, line.as_slice())?)?;
+        Ok(numbers)
+    }
+
+    /// The number of a line, which is added where it is new.
+    fn number(&mut self, alloc: Global, line: &[u8]) -> Result<usize, AllocError>
+        ensures more { AreMore self.old self.new }
+        ensures value { IfOk result (λ number. slice_get self.new number ≡ Some line.now) }
+    {
+        if let Some(known) = self.lines.get_index_of(line) {
+            return Ok(known);
+        }
+        let number = self.lines.len();
+        let mut own = Vec::with_capacity(alloc, line.len())?;
+        own.extend_from_slice(line)?;
+        self.lines.insert(own)?;
+        Ok(number)
+    }
+}
+
+/// How many lines the text has.
+fn lines_in(text: &[u8]) -> usize {
+    text.iter().filter(|byte| **byte == b'\n').count() + 1
+}

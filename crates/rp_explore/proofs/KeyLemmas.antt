@@ -12,11 +12,11 @@ use Rattle.rp_explore.specs.contracts.key.KeyPartialEq.TheImpl.{eq-value}
 -- the derived test is true exactly at equal keys
 pub equal_keys : (one other : Key) → eq-value.it one other ≡ true → AreEqual one other
 equal_keys one other e =
-    let first = both_true (pointwise nat_eq one.image.items other.image.items) (pointwise nat_eq one.numbers other.numbers && (pointwise nat_eq one.occurrences other.occurrences && pointwise nat_eq one.allowed other.allowed)) e in
+    let first = both_true (pointwise nat_eq one.lines.items other.lines.items) (pointwise nat_eq one.numbers other.numbers && (pointwise nat_eq one.occurrences other.occurrences && pointwise nat_eq one.allowed other.allowed)) e in
     let rest = both_true (pointwise nat_eq one.numbers other.numbers) (pointwise nat_eq one.occurrences other.occurrences && pointwise nat_eq one.allowed other.allowed) first.1 in
     let last = both_true (pointwise nat_eq one.occurrences other.occurrences) (pointwise nat_eq one.allowed other.allowed) rest.1 in
     record {
-      image = (bytes_decides one.image.items other.image.items).0 first.0;
+      lines = (bytes_decides one.lines.items other.lines.items).0 first.0;
       numbers = (bytes_decides one.numbers other.numbers).0 rest.0;
       occurrences = (bytes_decides one.occurrences other.occurrences).0 last.0;
       allowed = (bytes_decides one.allowed other.allowed).0 last.1;
@@ -24,11 +24,11 @@ equal_keys one other e =
 
 pub keys_equal : (one other : Key) → AreEqual one other → eq-value.it one other ≡ true
 keys_equal one other same =
-    let images : pointwise nat_eq one.image.items other.image.items ≡ true = (bytes_decides one.image.items other.image.items).1 same.image in
+    let lines : pointwise nat_eq one.lines.items other.lines.items ≡ true = (bytes_decides one.lines.items other.lines.items).1 same.lines in
     let numbers : pointwise nat_eq one.numbers other.numbers ≡ true = (bytes_decides one.numbers other.numbers).1 same.numbers in
     let occurrences : pointwise nat_eq one.occurrences other.occurrences ≡ true = (bytes_decides one.occurrences other.occurrences).1 same.occurrences in
     let allowed : pointwise nat_eq one.allowed other.allowed ≡ true = (bytes_decides one.allowed other.allowed).1 same.allowed in
-    ap (λ (b : Bool). b && (pointwise nat_eq one.numbers other.numbers && (pointwise nat_eq one.occurrences other.occurrences && pointwise nat_eq one.allowed other.allowed))) images
+    ap (λ (b : Bool). b && (pointwise nat_eq one.numbers other.numbers && (pointwise nat_eq one.occurrences other.occurrences && pointwise nat_eq one.allowed other.allowed))) lines
     ∙ ap (λ (b : Bool). b && (pointwise nat_eq one.occurrences other.occurrences && pointwise nat_eq one.allowed other.allowed)) numbers
     ∙ ap (λ (b : Bool). b && pointwise nat_eq one.allowed other.allowed) occurrences
     ∙ allowed

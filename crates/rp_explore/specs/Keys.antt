@@ -6,6 +6,7 @@ use Rattle.rp_machine.specs.Asked.{last_number, last_occurrence}
 use Rattle.rp_machine.specs.Replay.{Replayed, one_to, replay_of}
 use Rattle.rp_orders.specs.Guards.{may_go_on}
 use Rattle.rp_orders.specs.declared.guard.Guard.{Guard}
+use Rattle.rp_explore.specs.Pieces.{AreNumbers, lines_of}
 use Rattle.rp_explore.specs.declared.key.Key.{Key}
 
 -- the number of each task's last call, the tasks in order
@@ -21,27 +22,27 @@ abbrev pub all_may_go_on : List Guard → List Action → List Answer → List �
 all_may_go_on guards kept given =
     map (λ task. if may_go_on guards kept given task then 1 else 0) (one_to 8)
 
--- the key is that of this state: its image, its last numbers, its last occurrences, and the tasks
--- whose next call may be made
-pub record IsKeyOf {S : Type 0} (shown : S → List ℕ) (guards : List Guard) (r : Replayed S)
-    (key : Key) : Type 0 where
-  pub image : key.image.items ≡ shown r.state
+-- the key is that of this state: the lines of its image, by their numbers among these, its last
+-- numbers, its last occurrences, and the tasks whose next call may be made
+pub record IsKeyOf {S : Type 0} (shown : S → List ℕ) (guards : List Guard)
+    (known : List (List ℕ)) (r : Replayed S) (key : Key) : Type 0 where
+  pub lines : AreNumbers known key.lines.items (lines_of (shown r.state))
   pub numbers : key.numbers ≡ last_numbers r.kept
   pub occurrences : key.occurrences ≡ last_occurrences r.kept
   pub allowed : key.allowed ≡ all_may_go_on guards r.kept r.given
 
 -- the two keys are equal
 pub record AreEqual (one other : Key) : Type 0 where
-  pub image : one.image.items ≡ other.image.items
+  pub lines : one.lines.items ≡ other.lines.items
   pub numbers : one.numbers ≡ other.numbers
   pub occurrences : one.occurrences ≡ other.occurrences
   pub allowed : one.allowed ≡ other.allowed
 
 module _ {S : Type 0} (next : S → Action → S) (answers : S → Action → List Answer) (begin : S)
-    (guards : List Guard) (shown : S → List ℕ) where
+    (guards : List Guard) (shown : S → List ℕ) (known : List (List ℕ)) where
   -- there is one key for each order, that of the state that it leads to
   abbrev pub AreKeys : List Key → List (List Action) → Type 0
   AreKeys [] [] = Unit {0}
   AreKeys (key ∷ keys) (order ∷ orders) =
-      IsKeyOf shown guards (replay_of next answers begin order) key × AreKeys keys orders
+      IsKeyOf shown guards known (replay_of next answers begin order) key × AreKeys keys orders
   AreKeys _ _ = ⊥

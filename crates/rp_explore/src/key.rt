@@ -2,39 +2,41 @@
 
 ghost use Rattle.std.specs.Prelude.{◌≡◌, IfOk, if◌then◌else◌};
 ghost use Rattle.rp_machine.specs.Numbered.{outcome};
+ghost use Rattle.rp_explore.specs.Pieces.{AreMore};
 ghost use Rattle.rp_explore.specs.Keys.{IsKeyOf, last_numbers, last_occurrences, all_may_go_on};
 
 use crate::guarded::may_go_on;
+use crate::pieces::Pieces;
 use rp_base::{MOST_SOURCES, MOST_TASKS, TaskId};
 use rp_machine::{Machine, Numbered};
 use rp_orders::Guard;
 use std::alloc::{AllocError, Global};
 
-/// The image of a state, the number of each task's last call, each source's last occurrence, and
+/// The lines of a state's image, by their numbers, the number of each task's last call, each source's last occurrence, and
 /// whether each task's next call may be made, by its guards. States with equal keys are one state,
 /// since a machine's image shows its state whole.
 #[derive(Drop, PartialEq, Eq, Hash)]
 pub struct Key {
-    image: Vec<u8>,
+    lines: Vec<usize>,
     numbers: [u32; 8],
     occurrences: [u32; 8],
     allowed: [u8; 8],
 }
 
-/// The key of the state that a log has led to.
+/// The key of the state that a log has led to; the lines of its image that are new are added.
 pub fn key_of<M: Machine>(
     alloc: Global,
     state: &Numbered<M>,
     guards: &[Guard],
+    pieces: &mut Pieces,
 ) -> Result<Key, AllocError>
-    ensures { IfOk result (λ key.
-        IsKeyOf M.image guards.now (outcome M.next M.answers state.now) key) }
+    ensures more { AreMore pieces.old pieces.new }
+    ensures value { IfOk result (λ key. IsKeyOf M.image guards.now pieces.new
+        (outcome M.next M.answers state.now) key) }
 {
-    let text = state.machine().image(alloc)?;
-    let mut image = Vec::with_capacity(alloc, text.len())?;
-    image.extend_from_slice(text.as_slice())?;
+    let image = state.machine().image(alloc)?;
     Ok(Key {
-        image,
+        lines: pieces.numbers(alloc, image.as_slice())?,
         numbers: numbers_in(state),
         occurrences: occurrences_in(state),
         allowed: allowed_in(state, guards),

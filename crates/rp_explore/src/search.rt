@@ -12,6 +12,7 @@ use crate::findings::{Findings, Given, Tried, note_waits};
 use crate::giver::Giver;
 use crate::guarded::is_taken;
 use crate::key::{Key, key_of};
+use crate::pieces::Pieces;
 use crate::replays::replayed;
 use crate::tree::OrderTree;
 use indexmap::IndexSet;
@@ -29,6 +30,7 @@ pub struct Search<'a, M: Machine> {
     program: &'a M::Program,
     guards: &'a [Guard],
     tree: OrderTree,
+    pieces: Pieces,
     keys: IndexSet<Key>,
     most: usize,
 }
@@ -56,7 +58,7 @@ impl<'a, M: Machine> Model for Search<'a, M> {
 
     ghost invariant = { λ s.
         AreKeys M.next M.answers (M.begin s.program.now) s.guards.now M.image
-        s.keys.keys s.tree.orders
+        s.pieces s.keys.keys s.tree.orders
         × AreGuarded M.next M.answers (M.begin s.program.now) s.guards.now s.tree.orders };
 }
 
@@ -79,13 +81,15 @@ impl<'a, M: Machine> Search<'a, M> {
     {
         let tree = OrderTree::new(alloc, may)?;
         let start = Numbered::<M>::new(alloc, program)?;
+        let mut pieces = Pieces::new(alloc);
         let mut keys = IndexSet::new(alloc);
-        keys.insert(key_of(alloc, &start, guards)?)?;
+        keys.insert(key_of(alloc, &start, guards, &mut pieces)?)?;
         Ok(Search {
             alloc,
             program,
             guards,
             tree,
+            pieces,
             keys,
             most,
         })
@@ -102,6 +106,7 @@ impl<'a, M: Machine> Search<'a, M> {
         ensures distinct { AreDistinct M.next M.answers self.now.begin self.now.guards
             self.now.listed.orders }
     {
+        let _lines = self.pieces.len();
         let _count = self.keys.len();
         self.tree.len()
     }
@@ -128,7 +133,8 @@ impl<'a, M: Machine> Search<'a, M> {
         M::laws();
         replay_may_go_on::<M>();
         let place = self.tree.len();
-        let key = key_of(self.alloc, next, self.guards)?;
+        let key = key_of(self.alloc, next, self.guards, &mut self.pieces)?;
+        let _lines = self.pieces.len();
         if let Some(known) = self.keys.get_index_of(&key) {
             return Ok(Some(known));
         }

@@ -18,14 +18,14 @@ alone : (old new : List Key) (key : Key) → old ≡ [] → new ≡ (if list_any
 alone old new key empty is = is ∙ ap (λ (xs : List Key). if list_any (same_key key) xs then xs else xs ++ key ∷ []) empty
 
 -- the start is that of the empty order
-first_key : {S : Type 0} (next : S → Action → S) (answers : S → Action → List Answer) (begin : S) (guards : List Guard) (shown : S → List ℕ) (start : Applied S) (keys : List Key) (key : Key) (orders : List (List Action))
-    → start ≡ record { begin = begin; actions = [] } → IsKeyOf shown guards (outcome next answers start) key → keys ≡ key ∷ [] → orders ≡ [] ∷ []
-    → AreKeys next answers begin guards shown keys orders × AreGuarded next answers begin guards orders
-first_key {S} next answers begin guards shown start keys key orders is own alone only =
+first_key : {S : Type 0} (next : S → Action → S) (answers : S → Action → List Answer) (begin : S) (guards : List Guard) (shown : S → List ℕ) (known : List (List ℕ)) (start : Applied S) (keys : List Key) (key : Key) (orders : List (List Action))
+    → start ≡ record { begin = begin; actions = [] } → IsKeyOf shown guards known (outcome next answers start) key → keys ≡ key ∷ [] → orders ≡ [] ∷ []
+    → AreKeys next answers begin guards shown known keys orders × AreGuarded next answers begin guards orders
+first_key {S} next answers begin guards shown known start keys key orders is own alone only =
     let here : Applied S = record { begin = begin; actions = [] } in
-    let there : IsKeyOf shown guards (outcome next answers here) key = subst (λ (a : Applied S). IsKeyOf shown guards (outcome next answers a) key) is own in (
-      subst (λ (ks : List Key). AreKeys next answers begin guards shown ks orders) (sym alone)
-          (subst (λ (os : List (List Action)). AreKeys next answers begin guards shown (key ∷ []) os) (sym only) (there, tt)),
+    let there : IsKeyOf shown guards known (outcome next answers here) key = subst (λ (a : Applied S). IsKeyOf shown guards known (outcome next answers a) key) is own in (
+      subst (λ (ks : List Key). AreKeys next answers begin guards shown known ks orders) (sym alone)
+          (subst (λ (os : List (List Action)). AreKeys next answers begin guards shown known (key ∷ []) os) (sym only) (there, tt)),
       subst (λ (os : List (List Action)). AreGuarded next answers begin guards os) (sym only) (λ order h. elim h [
         | inl same ↦ subst (λ (o : List Action). IsGuarded next answers begin guards o) (sym same) (guarded_none next answers begin guards)
         | inr none ↦ absurd none
@@ -36,6 +36,6 @@ pub invariant_of-result : goal.invariant_of-result
 invariant_of-result g c =
     let m = g.M.Machine in
     let key = c.in_ok-key_of.field-0 in
-    first_key m.next m.answers (m.begin c.args.program.now) c.args.guards.now m.image c.in_ok-start.start c.insert.new.self.keys key c.in_ok-tree.tree.orders c.in_ok-start.ensures c.in_ok-key_of.ensures
+    first_key m.next m.answers (m.begin c.args.program.now) c.args.guards.now m.image c.key_of.new.pieces c.in_ok-start.start c.insert.new.self.keys key c.in_ok-tree.tree.orders c.in_ok-start.ensures c.in_ok-key_of.ensures.value
     (alone c.new-keys.result.keys c.insert.new.self.keys key c.new-keys.ensures.empty c.in_ok-insert.ensures.keys)
     (ap (λ (l : Listed). l.orders) c.in_ok-tree.ensures)

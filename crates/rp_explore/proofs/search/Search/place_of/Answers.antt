@@ -18,15 +18,15 @@ use Rattle.rp_explore.specs.Searched.{Searched, IsAt, IsMissing}
 use Rattle.rp_explore.proofs.Lists.{has_at, has_last}
 use Rattle.rp_explore.proofs.TreeLemmas.{among_push, right_if_among}
 use Rattle.rp_explore.proofs.SearchLemmas.{alike_self}
-use Rattle.rp_explore.proofs.TableLemmas.{same_key, keys_push, not_reached, there_at}
+use Rattle.rp_explore.proofs.TableLemmas.{same_key, keys_push, keys_later, not_reached, there_at}
 use Rattle.rp_explore.proofs.search.Search.place_of.Goals as goal
 
 -- the key of the machine is that of the order
-of_order : {S : Type 0} (next : S → Action → S) (answers : S → Action → List Answer) (guards : List Guard) (shown : S → List ℕ) (applied : Applied S) (begin : S) (order : List Action) (key : Key)
-    → applied.begin ≡ begin → applied.actions ≡ order → IsKeyOf shown guards (outcome next answers applied) key → IsKeyOf shown guards (replay_of next answers begin order) key
-of_order {S} next answers guards shown applied begin order key starts acts is =
+of_order : {S : Type 0} (next : S → Action → S) (answers : S → Action → List Answer) (guards : List Guard) (shown : S → List ℕ) (known : List (List ℕ)) (applied : Applied S) (begin : S) (order : List Action) (key : Key)
+    → applied.begin ≡ begin → applied.actions ≡ order → IsKeyOf shown guards known (outcome next answers applied) key → IsKeyOf shown guards known (replay_of next answers begin order) key
+of_order {S} next answers guards shown known applied begin order key starts acts is =
     let same : applied ≡ record { begin = begin; actions = order } = λ i. record { begin = starts i; actions = acts i } in
-    subst (λ (a : Applied S). IsKeyOf shown guards (outcome next answers a) key) same is
+    subst (λ (a : Applied S). IsKeyOf shown guards known (outcome next answers a) key) same is
 
 -- one more action that may happen
 further_right : (listed : Listed) (place index : ℕ) → AreRight listed.may → AreOrdersOf listed → place < length listed.orders → index < length listed.may → AreRight (further listed place index)
@@ -49,16 +49,17 @@ returns-in-Some-clause-there g c =
     let order = further inside.tree c.args.before c.args.index in
     let seen : Searched _ = record { begin = m.begin program; guards = inside.guards.now; listed = inside.tree; most = inside.most } in
     let is : seen ≡ c.args.self.now = c.self.view_is in
-    let own = of_order m.next m.answers inside.guards.now m.image c.args.next.now (m.begin program) order c.in_ok-key.key
-    (c.requires.begin ∙ ap (λ (v : Searched _). v.begin) (sym is)) (c.requires.actions ∙ ap (λ (v : Searched _). further v.listed c.args.before c.args.index) (sym is)) c.in_ok-key.ensures in
+    let each = (keys_later m.next m.answers (m.begin program) inside.guards.now m.image inside.pieces c.key_of.new.pieces inside.keys.keys inside.tree.orders c.in_ok-key.ensures.more c.self.invariant.0) in
+    let own = of_order m.next m.answers inside.guards.now m.image c.key_of.new.pieces c.args.next.now (m.begin program) order c.in_ok-key.key
+    (c.requires.begin ∙ ap (λ (v : Searched _). v.begin) (sym is)) (c.requires.actions ∙ ap (λ (v : Searched _). further v.listed c.args.before c.args.index) (sym is)) c.in_ok-key.ensures.value in
     let before : c.args.before < length inside.tree.orders = subst (λ (v : Searched _). c.args.before < length v.listed.orders) (sym is) c.requires.before in
     let index : c.args.index < length inside.tree.may = subst (λ (v : Searched _). c.args.index < length v.listed.may) (sym is) c.requires.index in
     let right = further_right inside.tree c.args.before c.args.index c.len-place.ensures.right c.len-place.ensures.among before index in
-    subst (λ (v : Searched _). IsAt m.next m.answers v (further v.listed c.args.before c.args.index) c.in-Some.known) is
-    (there_at m.next m.answers (m.begin program) inside.guards.now m.image seen inside.keys.keys c.in_ok-key.key order c.in-Some.known (λ i. m.begin program) (λ i. inside.guards.now)
+    subst (λ (v : Searched _). IsAt m.next m.answers seen (further v.listed c.args.before c.args.index) c.in-Some.known) is
+    (there_at m.next m.answers (m.begin program) inside.guards.now m.image c.key_of.new.pieces seen inside.keys.keys c.in_ok-key.key order c.in-Some.known (λ i. m.begin program) (λ i. inside.guards.now)
     (λ other has same. laws.shows program (replay_state m.next m.answers (m.begin program) order) (replay_state m.next m.answers (m.begin program) other)
     (runs program order right) (runs program other (right_if_among inside.tree.may other c.len-place.ensures.right (c.len-place.ensures.among other has))) same)
-    c.self.invariant.0 own (sym c.in-Some.ensures.index))
+    each own (sym c.in-Some.ensures.index))
 
 pub returns-then-place-self-clause-there : goal.returns-then-place-self-clause-there
 returns-then-place-self-clause-there g c =
@@ -68,12 +69,13 @@ returns-then-place-self-clause-there g c =
     let order = further inside.tree c.args.before c.args.index in
     let seen : Searched _ = record { begin = m.begin program; guards = inside.guards.now; listed = inside.tree; most = inside.most } in
     let is : seen ≡ c.args.self.now = c.self.view_is in
-    let own = of_order m.next m.answers inside.guards.now m.image c.args.next.now (m.begin program) order c.in_ok-key.key
-    (c.requires.begin ∙ ap (λ (v : Searched _). v.begin) (sym is)) (c.requires.actions ∙ ap (λ (v : Searched _). further v.listed c.args.before c.args.index) (sym is)) c.in_ok-key.ensures in
-    subst (λ (v : Searched _). IsMissing m.next m.answers v (further v.listed c.args.before c.args.index)) is
+    let each = (keys_later m.next m.answers (m.begin program) inside.guards.now m.image inside.pieces c.key_of.new.pieces inside.keys.keys inside.tree.orders c.in_ok-key.ensures.more c.self.invariant.0) in
+    let own = of_order m.next m.answers inside.guards.now m.image c.key_of.new.pieces c.args.next.now (m.begin program) order c.in_ok-key.key
+    (c.requires.begin ∙ ap (λ (v : Searched _). v.begin) (sym is)) (c.requires.actions ∙ ap (λ (v : Searched _). further v.listed c.args.before c.args.index) (sym is)) c.in_ok-key.ensures.value in
+    subst (λ (v : Searched _). IsMissing m.next m.answers seen (further v.listed c.args.before c.args.index)) is
     (record {
       full = omega (arith, c.if-place-self.true, c.len-place.ensures.value);
-      missing = not_reached m.next m.answers (m.begin program) inside.guards.now m.image inside.keys.keys inside.tree.orders c.in_ok-key.key order c.self.invariant.0 own (sym c.in_default.ensures.found);
+      missing = not_reached m.next m.answers (m.begin program) inside.guards.now m.image c.key_of.new.pieces inside.keys.keys inside.tree.orders c.in_ok-key.key order c.len-lines.ensures each own (sym c.in_default.ensures.found);
     })
 
 -- the orders, and one more, are let by the guards
@@ -92,14 +94,15 @@ invariant_of-self-2 g c =
     let order = further inside.tree c.args.before c.args.index in
     let seen : Searched _ = record { begin = m.begin program; guards = inside.guards.now; listed = inside.tree; most = inside.most } in
     let is : seen ≡ c.args.self.now = c.self.view_is in
-    let own = of_order m.next m.answers inside.guards.now m.image c.args.next.now (m.begin program) order c.in_ok-key.key
-    (c.requires.begin ∙ ap (λ (v : Searched _). v.begin) (sym is)) (c.requires.actions ∙ ap (λ (v : Searched _). further v.listed c.args.before c.args.index) (sym is)) c.in_ok-key.ensures in
-    let pushed = keys_push m.next m.answers (m.begin program) inside.guards.now m.image inside.keys.keys inside.tree.orders c.in_ok-key.key order c.self.invariant.0 own in
+    let each = (keys_later m.next m.answers (m.begin program) inside.guards.now m.image inside.pieces c.key_of.new.pieces inside.keys.keys inside.tree.orders c.in_ok-key.ensures.more c.self.invariant.0) in
+    let own = of_order m.next m.answers inside.guards.now m.image c.key_of.new.pieces c.args.next.now (m.begin program) order c.in_ok-key.key
+    (c.requires.begin ∙ ap (λ (v : Searched _). v.begin) (sym is)) (c.requires.actions ∙ ap (λ (v : Searched _). further v.listed c.args.before c.args.index) (sym is)) c.in_ok-key.ensures.value in
+    let pushed = keys_push m.next m.answers (m.begin program) inside.guards.now m.image c.key_of.new.pieces inside.keys.keys inside.tree.orders c.in_ok-key.key order each own in
     let keys : c.insert.new.self.keys ≡ inside.keys.keys ++ c.in_ok-key.key ∷ [] = inserted inside.keys.keys c.reserve.new.self.keys c.insert.new.self.keys c.in_ok-key.key c.in_ok-reserve.ensures.keys c.in_ok-insert.ensures.keys c.in_default.ensures.found in
     let orders : c.push.new.self.orders ≡ inside.tree.orders ++ order ∷ [] = ap (λ (v : Listed). v.orders) c.in_ok-push.ensures.ok in
-    let all : AreKeys m.next m.answers (m.begin program) inside.guards.now m.image c.insert.new.self.keys c.push.new.self.orders =
-    subst (λ (xs : List Key). AreKeys m.next m.answers (m.begin program) inside.guards.now m.image xs c.push.new.self.orders) (sym keys)
-    (subst (λ (os : List (List Action)). AreKeys m.next m.answers (m.begin program) inside.guards.now m.image (inside.keys.keys ++ c.in_ok-key.key ∷ []) os) (sym orders) pushed) in
+    let all : AreKeys m.next m.answers (m.begin program) inside.guards.now m.image c.key_of.new.pieces c.insert.new.self.keys c.push.new.self.orders =
+    subst (λ (xs : List Key). AreKeys m.next m.answers (m.begin program) inside.guards.now m.image c.key_of.new.pieces xs c.push.new.self.orders) (sym keys)
+    (subst (λ (os : List (List Action)). AreKeys m.next m.answers (m.begin program) inside.guards.now m.image c.key_of.new.pieces (inside.keys.keys ++ c.in_ok-key.key ∷ []) os) (sym orders) pushed) in
     let before = order_at inside.tree.orders c.args.before in
     let lt : c.args.before < length inside.tree.orders = subst (λ (v : Searched _). c.args.before < length v.listed.orders) (sym is) c.requires.before in
     let follows : MayFollow m.next m.answers (m.begin program) inside.guards.now before (get_or inside.tree.may c.args.index Noop) =
@@ -107,17 +110,19 @@ invariant_of-self-2 g c =
     (all, more_guarded m.next m.answers (m.begin program) inside.guards.now inside.tree.orders c.push.new.self.orders before order (get_or inside.tree.may c.args.index Noop) (λ i. order) orders (has_at inside.tree.orders c.args.before [] lt) follows c.self.invariant.1)
 
 -- where nothing was found more, all stays
-stays_so : {S : Type 0} (next : S → Action → S) (answers : S → Action → List Answer) (begin : S) (guards : List Guard) (shown : S → List ℕ) (keys more : List Key) (tree left : Listed) → more ≡ keys → left ≡ tree
-    → AreKeys next answers begin guards shown keys tree.orders × AreGuarded next answers begin guards tree.orders → AreKeys next answers begin guards shown more left.orders × AreGuarded next answers begin guards left.orders
-stays_so next answers begin guards shown keys more tree left is same all =
-    subst (λ (ks : List Key). AreKeys next answers begin guards shown ks left.orders × AreGuarded next answers begin guards left.orders) (sym is)
-    (subst (λ (t : Listed). AreKeys next answers begin guards shown keys t.orders × AreGuarded next answers begin guards t.orders) (sym same) all)
+stays_so : {S : Type 0} (next : S → Action → S) (answers : S → Action → List Answer) (begin : S) (guards : List Guard) (shown : S → List ℕ) (known : List (List ℕ)) (keys more : List Key) (tree left : Listed) → more ≡ keys → left ≡ tree
+    → AreKeys next answers begin guards shown known keys tree.orders × AreGuarded next answers begin guards tree.orders → AreKeys next answers begin guards shown known more left.orders × AreGuarded next answers begin guards left.orders
+stays_so next answers begin guards shown known keys more tree left is same all =
+    subst (λ (ks : List Key). AreKeys next answers begin guards shown known ks left.orders × AreGuarded next answers begin guards left.orders) (sym is)
+    (subst (λ (t : Listed). AreKeys next answers begin guards shown known keys t.orders × AreGuarded next answers begin guards t.orders) (sym same) all)
 
 pub invariant_of-self-in_err-push : goal.invariant_of-self-in_err-push
 invariant_of-self-in_err-push g c =
     let m = g.M.Machine in
     let inside = c.self.inside in
-    stays_so m.next m.answers (m.begin inside.program.now) inside.guards.now m.image inside.keys.keys c.reserve.new.self.keys inside.tree c.push.new.self c.in_ok-reserve.ensures.keys c.in_err-push.ensures.err c.self.invariant
+    let program = inside.program.now in
+    let each = (keys_later m.next m.answers (m.begin program) inside.guards.now m.image inside.pieces c.key_of.new.pieces inside.keys.keys inside.tree.orders c.in_ok-key.ensures.more c.self.invariant.0) in
+    stays_so m.next m.answers (m.begin program) inside.guards.now m.image c.key_of.new.pieces inside.keys.keys c.reserve.new.self.keys inside.tree c.push.new.self c.in_ok-reserve.ensures.keys c.in_err-push.ensures.err (each, c.self.invariant.1)
 
 -- the order that was found last is at the end
 at_end : {S : Type 0} (next : S → Action → S) (answers : S → Action → List Answer) (s : Searched S) (olds : List (List Action)) (order : List Action) (place : ℕ) → s.listed.orders ≡ olds ++ order ∷ [] → place ≡ length olds → IsAt next answers s order place
@@ -141,3 +146,35 @@ returns-clause-there g c =
     let new : Searched _ = record { begin = m.begin program; guards = inside.guards.now; listed = c.push.new.self; most = inside.most } in
     subst (λ (v : Searched _). IsAt m.next m.answers new (further v.listed c.args.before c.args.index) c.len-place.result) is
     (at_end m.next m.answers new inside.tree.orders order c.len-place.result (ap (λ (v : Listed). v.orders) c.in_ok-push.ensures.ok) c.len-place.ensures.value)
+
+pub invariant_of-self : goal.invariant_of-self
+invariant_of-self g c =
+    let m = g.M.Machine in
+    let inside = c.self.inside in
+    let program = inside.program.now in
+    let each = keys_later m.next m.answers (m.begin program) inside.guards.now m.image inside.pieces c.key_of.new.pieces inside.keys.keys inside.tree.orders c.key_of.ensures.more c.self.invariant.0 in
+    (each, c.self.invariant.1)
+
+pub invariant_of-self-in-Some : goal.invariant_of-self-in-Some
+invariant_of-self-in-Some g c =
+    let m = g.M.Machine in
+    let inside = c.self.inside in
+    let program = inside.program.now in
+    let each = keys_later m.next m.answers (m.begin program) inside.guards.now m.image inside.pieces c.key_of.new.pieces inside.keys.keys inside.tree.orders c.in_ok-key.ensures.more c.self.invariant.0 in
+    (each, c.self.invariant.1)
+
+pub invariant_of-self-then-place-self : goal.invariant_of-self-then-place-self
+invariant_of-self-then-place-self g c =
+    let m = g.M.Machine in
+    let inside = c.self.inside in
+    let program = inside.program.now in
+    let each = keys_later m.next m.answers (m.begin program) inside.guards.now m.image inside.pieces c.key_of.new.pieces inside.keys.keys inside.tree.orders c.in_ok-key.ensures.more c.self.invariant.0 in
+    (each, c.self.invariant.1)
+
+pub invariant_of-self-in_err-reserve : goal.invariant_of-self-in_err-reserve
+invariant_of-self-in_err-reserve g c =
+    let m = g.M.Machine in
+    let inside = c.self.inside in
+    let program = inside.program.now in
+    let each = keys_later m.next m.answers (m.begin program) inside.guards.now m.image inside.pieces c.key_of.new.pieces inside.keys.keys inside.tree.orders c.in_ok-key.ensures.more c.self.invariant.0 in
+    stays_so m.next m.answers (m.begin program) inside.guards.now m.image c.key_of.new.pieces inside.keys.keys c.reserve.new.self.keys inside.tree inside.tree c.in_err-reserve.ensures.keys (λ i. inside.tree) (each, c.self.invariant.1)

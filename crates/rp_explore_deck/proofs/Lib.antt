@@ -1,0 +1,3 @@
+mod PlanLemmas
+mod RuleLemmas
+mod ShortLemmas

@@ -1,0 +1,27 @@
+//! Decks for a search over every order: a deck for live mode, with rules and guards.
+//!
+//! In reading order:
+//! - `reader`: reads a deck for a search
+//! - `plan`: what such a deck asks for
+//! - `added`: which lines are rules and guards, and the deck without them
+//! - `rules`: reads the rules
+//! - `actions`: the actions that the script asks for
+//! - `guard_lines`: reads the guards, and finds the calls that they are for
+//! - `replies`: reads a reply, as a run prints it
+//! - `guard`: when a call is made
+#![tactic(auto)]
+
+mod actions;
+mod added;
+mod guard;
+mod guard_lines;
+mod plan;
+mod reader;
+mod replies;
+mod rules;
+
+pub use actions::PlannedAction;
+pub use guard::Guard;
+pub use plan::Plan;
+pub use reader::read_plan;
+pub use rules::{PlacedRule, Rule, Truth};

@@ -1,0 +1,16 @@
+//! What a deck for a search asks for.
+
+use crate::actions::PlannedAction;
+use crate::guard::Guard;
+use crate::rules::PlacedRule;
+use rp_deck::Deck;
+
+/// A deck for live mode, the actions that its script asks for, each once, in the order of the
+/// lines, the guards of its calls, and its rules.
+#[derive(Drop)]
+pub struct Plan {
+    pub deck: Deck,
+    pub actions: Vec<PlannedAction>,
+    pub guards: Vec<Guard>,
+    pub rules: Vec<PlacedRule>,
+}

@@ -1,3 +1,4 @@
+mod ActionLemmas
 mod PlanLemmas
 mod RuleLemmas
 mod ShortLemmas

@@ -1,5 +1,5 @@
 -- The plan of a deck and of what its added lines say.
-use Rattle.std.proofs.Common.{◌≡◌, ℕ, ◌+◌, Bool, true, false, List, [], length, Result, Ok, Err, refl, ap, arith, subst, sym, ◌∙◌}
+use Rattle.std.proofs.Common.{◌≡◌, ℕ, ◌+◌, Bool, true, false, List, length, Result, Ok, Err, refl, ap, arith, subst, sym, ◌∙◌}
 use Rattle.std.specs.Prelude.{nat_lt, if◌then◌else◌, IfOk, IfErr}
 use Rattle.rp_base.specs.declared.fault.DeckReason.{DeckReason}
 use Rattle.rp_base.specs.declared.fault.Fault.{Fault}
@@ -7,7 +7,7 @@ use Rattle.rp_base.specs.declared.fault.Fault.TheVariants as faults
 use Rattle.rp_deck.specs.Meaning.{DeckText, texts_of, line_after, meaning_of}
 use Rattle.rp_deck.specs.declared.deck.Deck.{Deck}
 use Rattle.rp_deck.specs.declared.deck.Mode.TheVariants.{Live}
-use Rattle.rp_deck_declarations.specs.DeclaredTexts.{DeclaredText, ProgramText, known}
+use Rattle.rp_deck_declarations.specs.DeclaredTexts.{DeclaredText, known}
 use Rattle.rp_deck_declarations.specs.Declaring.{declarations_of}
 use Rattle.rp_deck_declarations.specs.ScriptNames.{DeclaredNames}
 use Rattle.rp_explore_deck.specs.AddedLines.{Added, added_lines, plain_text}
@@ -91,9 +91,9 @@ above_is_fault faults.OutOfMemory other one two = tt
 above_is_fault (faults.BadDeck line reason) faults.OutOfMemory one two = tt
 above_is_fault (faults.BadDeck line reason) (faults.BadDeck other why) one two = lower_is_fault (nat_lt line other)
   where
-  lower_is_fault : (test : Bool) → IsDeckFault (if test then faults.BadDeck line reason else faults.BadDeck other why)
-  lower_is_fault true = tt
-  lower_is_fault false = tt
+    lower_is_fault : (test : Bool) → IsDeckFault (if test then faults.BadDeck line reason else faults.BadDeck other why)
+    lower_is_fault true = tt
+    lower_is_fault false = tt
 above_is_fault (faults.BadDeck line reason) _ one two = absurd two
 above_is_fault _ other one two = absurd one
 

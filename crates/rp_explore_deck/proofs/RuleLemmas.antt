@@ -1,5 +1,5 @@
 -- The functions of a rule, one after another.
-use Rattle.std.proofs.Common.{◌≡◌, ℕ, zero, suc, ◌-◌, ◌+◌, ◌<◌, true, false, List, [], ◌∷◌, ◌++◌, Result, Ok, Err, refl, ap, arith, subst, sym}
+use Rattle.std.proofs.Common.{◌≡◌, ℕ, zero, suc, true, false, List, [], ◌∷◌, ◌++◌, Result, Ok, Err, refl, subst, sym}
 use Rattle.rp_base.specs.declared.fault.DeckReason.{DeckReason}
 use Rattle.rp_base.specs.declared.fault.DeckReason.TheVariants.{TooMany}
 use Rattle.rp_deck_declarations.specs.DeclaredTexts.{ProgramText}

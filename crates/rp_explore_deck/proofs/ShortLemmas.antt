@@ -1,10 +1,9 @@
 -- A script has no more lines than its text has bytes.
-use Rattle.std.proofs.Common.{◌≡◌, ℕ, suc, ◌+◌, ◌≤◌, Bool, true, false, List, [], ◌∷◌, ◌++◌, length, Result, Ok, Err, refl, ap, arith, sym, subst, ◌∙◌, length-append, Option, Some, None}
+use Rattle.std.proofs.Common.{◌≡◌, ℕ, suc, ◌+◌, ◌≤◌, Bool, true, false, List, [], ◌∷◌, length, Result, Ok, Err, refl, ap, arith, length-append, Option, Some, None}
 use Rattle.std.specs.Prelude.{option_to_list, if◌then◌else◌, ◌==◌, ◌&&◌}
-use Rattle.std.proofs.lemmas.Grind.{common_steps}
 use Rattle.rp_base.specs.declared.fault.DeckReason.{DeckReason}
 use Rattle.rp_deck.specs.Meaning.{DeckText, deck_of, texts_of, line_after, meaning_of}
-use Rattle.rp_deck.specs.ScriptLines.{LineCommand, CommandText, command_line, script_of}
+use Rattle.rp_deck.specs.ScriptLines.{LineCommand, command_line, script_of}
 use Rattle.rp_deck.specs.declared.deck.Mode.{Mode}
 use Rattle.rp_deck_declarations.specs.Declaring.{on_line, declarations_from, declarations_of, declaring_line, ends_declarations}
 use Rattle.rp_deck_declarations.specs.Drafts.{DraftText, empty_draft, nodes_line, script_line}
@@ -70,10 +69,10 @@ declared_few last d [] read is = absurd (cc)
 declared_few last d (line ∷ lines) read is =
     chosen_ok (ends_declarations d line) _ _ read (λ r. length r.1 ≤ suc (length lines))
     (λ ended. let e = on_line_ok line.number (script_line d line.rest) _ read ended in
-        let same : (d, lines) ≡ read = cc (e.1) in
-        let rest : lines ≡ read.1 = ap (λ (r : DraftText × List LineText). r.1) same in omega (arith, ap length rest))
+    let same : (d, lines) ≡ read = cc (e.1) in
+    let rest : lines ≡ read.1 = ap (λ (r : DraftText × List LineText). r.1) same in omega (arith, ap length rest))
     (λ more. let e = on_line_ok line.number (declaring_line d line) _ read more in
-        omega (arith, declared_few last e.0 lines read e.1))
+    omega (arith, declared_few last e.0 lines read e.1))
     is
 
 declarations_few : (last : ℕ) (lines : List LineText) (read : DraftText × List LineText) → declarations_of last lines ≡ Ok read → length read.1 ≤ length lines

@@ -1,6 +1,6 @@
 -- The guards of a deck: a call is made only if its task's last reply is this one, or is not.
 use Rattle.std.specs.Prelude.{ℕ, ◌+◌, ◌||◌, ◌&&◌, Bool, nat_eq, nat_lt, List, [], ◌∷◌, ◌++◌, codes, filter, length}
-use Rattle.std.specs.Prelude.{Option, Some, None, Result, Ok, Err, if◌then◌else◌}
+use Rattle.std.specs.Prelude.{Option, Some, None, Result, Ok, if◌then◌else◌}
 use Rattle.std.specs.Str.{bytes_eq}
 use Rattle.rp_base.specs.declared.fault.DeckReason.{DeckReason}
 use Rattle.rp_base.specs.declared.fault.DeckReason.TheVariants.{UnknownWord}
@@ -12,7 +12,7 @@ use Rattle.rp_deck_declarations.specs.ScriptNames.{DeclaredNames}
 use Rattle.rp_explore_deck.specs.AddedLines.{guard_named}
 use Rattle.rp_explore_deck.specs.PlannedActions.{is_call_of, calls_among}
 use Rattle.rp_explore_deck.specs.declared.actions.PlannedAction.{PlannedAction}
-use Rattle.rp_explore_deck.specs.declared.guard.Guard.{Guard}
+use Rattle.rp_orders.specs.declared.guard.Guard.{Guard}
 use Rattle.rp_explore_deck.specs.declared.guard_lines.GuardLine.{GuardLine}
 use Rattle.rp_explore_deck.specs.declared.replies.ReplyWord.{ReplyWord}
 use Rattle.rp_explore_deck.specs.declared.replies.ReplyWord.TheVariants.{Value, Truth, Exception}

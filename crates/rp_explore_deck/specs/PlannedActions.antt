@@ -2,7 +2,7 @@
 use Rattle.std.specs.Prelude.{ℕ, ◌+◌, Bool, false, nat_eq, List, [], ◌∷◌, ◌++◌, length, filter, map}
 use Rattle.std.specs.Prelude.{Option, Some, None, if◌then◌else◌}
 use Rattle.std.specs.List.{list_any}
-use Rattle.rp_base.specs.Action.{same_action}
+use Rattle.rp_base.specs.Action.{IsIndex, IsRightOperation, same_action}
 use Rattle.rp_base.specs.declared.action.Action.{Action}
 use Rattle.rp_base.specs.declared.action.Action.TheVariants as actions
 use Rattle.rp_deck.specs.ScriptLines.{LineCommand, CommandText, Take}
@@ -30,6 +30,12 @@ action_asked planned (Take (Makes (Interrupt node source occurrence))) =
     Some (actions.Interrupt source occurrence, node)
 action_asked planned (Take (Makes (Tick node now))) = Some (actions.Tick now, node)
 action_asked planned _ = None
+
+-- what a call asks for has numbers within their ranges
+abbrev pub AsksRight : CommandText → Type 0
+AsksRight (Take (Submit task node object operation arg)) =
+    IsIndex object × IsRightOperation operation
+AsksRight _ = Unit {0}
 
 -- an action that is there already is not added again
 abbrev pub with_action : List PlannedAction → ℕ → Option (Action × ℕ) → List PlannedAction

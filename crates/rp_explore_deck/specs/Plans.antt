@@ -5,16 +5,16 @@ use Rattle.rp_base.specs.declared.fault.Fault.TheVariants as faults
 use Rattle.rp_deck.specs.DeckViews.{deck_text}
 use Rattle.rp_deck.specs.Meaning.{DeckText, texts_of, line_after, meaning_of}
 use Rattle.rp_deck.specs.declared.deck.Mode.TheVariants.{Live}
-use Rattle.rp_deck_declarations.specs.DeclaredTexts.{DeclaredText, ProgramText, known}
+use Rattle.rp_deck_declarations.specs.DeclaredTexts.{ProgramText, known}
 use Rattle.rp_deck_declarations.specs.Declaring.{declarations_of}
 use Rattle.rp_deck_declarations.specs.ScriptNames.{DeclaredNames}
 use Rattle.rp_explore_deck.specs.AddedLines.{Added, added_lines, plain_text, read_lines}
 use Rattle.rp_explore_deck.specs.GuardLines.{guard_line, guards_of}
 use Rattle.rp_explore_deck.specs.PlannedActions.{planned_after}
-use Rattle.rp_explore_deck.specs.RuleLines.{RuleText, PlacedRuleText, rule_line}
+use Rattle.rp_explore_deck.specs.RuleLines.{PlacedRuleText, rule_line}
 use Rattle.rp_explore_deck.specs.RuleViews.{placed_rule_text}
 use Rattle.rp_explore_deck.specs.declared.actions.PlannedAction.{PlannedAction}
-use Rattle.rp_explore_deck.specs.declared.guard.Guard.{Guard}
+use Rattle.rp_orders.specs.declared.guard.Guard.{Guard}
 use Rattle.rp_explore_deck.specs.declared.guard_lines.GuardLine.{GuardLine}
 use Rattle.rp_explore_deck.specs.declared.plan.Plan.{Plan}
 use Rattle.rp_words.specs.LineFaults.{BadLine}

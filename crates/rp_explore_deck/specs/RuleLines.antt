@@ -1,5 +1,5 @@
 -- The rules of a deck: what has to hold in each state that its actions lead to.
-use Rattle.std.specs.Prelude.{ℕ, zero, suc, ◌+◌, ◌&&◌, Bool, true, false, not, List, [], ◌∷◌, ◌++◌, codes}
+use Rattle.std.specs.Prelude.{ℕ, zero, suc, ◌+◌, Bool, true, false, not, List, [], ◌∷◌, ◌++◌, codes}
 use Rattle.std.specs.Prelude.{slice_get, Result, Ok, Err, if◌then◌else◌}
 use Rattle.std.specs.Str.{bytes_eq}
 use Rattle.rp_base.specs.declared.action.Operation.{Operation}

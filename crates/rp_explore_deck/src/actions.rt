@@ -1,10 +1,11 @@
 //! The actions that the script of a deck asks for.
 
-ghost use Rattle.std.specs.Prelude.{◌≡◌, ◌+◌, ◌^◌, ◌<◌, ◌≤◌, Some, [], length, map, IfOk, OnOk};
+ghost use Rattle.std.specs.Prelude.{◌≡◌, ◌+◌, ◌^◌, ◌<◌, ◌≤◌, Some, [], All, length, map, IfOk, IfSome, OnOk};
 ghost use Rattle.std.specs.List.{list_any};
-ghost use Rattle.rp_base.specs.Action.{same_action};
+ghost use Rattle.rp_base.specs.Action.{IsRight, same_action};
 ghost use Rattle.rp_deck.specs.DeckViews.{line_command, command_text};
-ghost use Rattle.rp_explore_deck.specs.PlannedActions.{is_call_of, calls_among, action_asked, with_action, planned_after};
+ghost use Rattle.rp_orders.specs.Orders.{AreRight};
+ghost use Rattle.rp_explore_deck.specs.PlannedActions.{is_call_of, calls_among, action_asked, AsksRight, with_action, planned_after, actions_of};
 
 use rp_base::{Action, NodeId, TaskId};
 use rp_deck::{Command, Line};
@@ -22,10 +23,12 @@ pub struct PlannedAction {
 
 /// The actions that the lines of a script ask for, each once: a call is the next of its task.
 pub fn plan_actions(alloc: Global, script: &[Line]) -> Result<Vec<PlannedAction>, AllocError>
-    requires { length script.now + 1 < 2 ^ 32 }
+    requires size { length script.now + 1 < 2 ^ 32 }
+    requires right { All (λ line. AsksRight (command_text line.command)) script.now }
     ensures planned { IfOk result (λ planned. planned.items
         ≡ planned_after [] (map line_command script.now)) }
     ensures few { IfOk result (λ planned. length planned.items ≤ length script.now) }
+    ensures right { IfOk result (λ planned. AreRight (actions_of planned.items)) }
 {
     let mut planned = Vec::new(alloc);
     for line in script {
@@ -45,17 +48,23 @@ pub fn plan_actions(alloc: Global, script: &[Line]) -> Result<Vec<PlannedAction>
 
 /// What a command asks for after these actions, and of which node.
 fn action_asked(planned: &[PlannedAction], command: &Command) -> Option<(Action, NodeId)>
-    requires { length planned.now + 1 < 2 ^ 32 }
-    ensures { result ≡ action_asked planned.now (command_text command.now) }
+    requires size { length planned.now + 1 < 2 ^ 32 }
+    requires right { AsksRight (command_text command.now) }
+    ensures value { result ≡ action_asked planned.now (command_text command.now) }
+    ensures right { IfSome result (λ asked. IsRight asked.0) }
 {
-    match *command {
-        Command::Take(Event::Submit {
+    let Command::Take(event) = command else {
+        return None;
+    };
+    event.keeps_ranges();
+    match *event {
+        Event::Submit {
             task,
             node,
             object,
             operation,
             arg,
-        }) => {
+        } => {
             let number = calls_among(task, planned) + 1;
             let action = Action::Call {
                 task,
@@ -66,22 +75,25 @@ fn action_asked(planned: &[PlannedAction], command: &Command) -> Option<(Action,
             };
             Some((action, node))
         }
-        Command::Take(Event::Node(Step::Interrupt { node, interrupt })) => {
+        Event::Node(Step::Interrupt { node, interrupt }) => {
             let action = Action::Interrupt {
                 source: interrupt.source,
                 occurrence: interrupt.occurrence,
             };
             Some((action, node))
         }
-        Command::Take(Event::Node(Step::Tick { node, now })) => Some((Action::Tick { now }, node)),
+        Event::Node(Step::Tick { node, now }) => Some((Action::Tick { now }, node)),
         _ => None,
     }
 }
 
 /// Adds an action that is not there yet.
 fn add_action(planned: &mut Vec<PlannedAction>, more: PlannedAction) -> Result<(), AllocError>
-    ensures { OnOk result (planned.new.items
+    ensures added { OnOk result (planned.new.items
         ≡ with_action planned.old.items more.line (Some (more.action, more.node))) }
+    ensures few { OnOk result (length planned.new.items ≤ length planned.old.items + 1) }
+    ensures right { OnOk result (AreRight (actions_of planned.old.items) → IsRight more.action
+        → AreRight (actions_of planned.new.items)) }
 {
     if !has_action(planned, &more.action) {
         planned.push(more)?;

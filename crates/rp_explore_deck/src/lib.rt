@@ -8,12 +8,10 @@
 //! - `actions`: the actions that the script asks for
 //! - `guard_lines`: reads the guards, and finds the calls that they are for
 //! - `replies`: reads a reply, as a run prints it
-//! - `guard`: when a call is made
 #![tactic(auto)]
 
 mod actions;
 mod added;
-mod guard;
 mod guard_lines;
 mod plan;
 mod reader;
@@ -21,7 +19,7 @@ mod replies;
 mod rules;
 
 pub use actions::PlannedAction;
-pub use guard::Guard;
 pub use plan::Plan;
 pub use reader::read_plan;
+pub use rp_orders::Guard;
 pub use rules::{PlacedRule, Rule, Truth};

@@ -1,15 +1,17 @@
 //! Reads a deck for a search.
 
-ghost use Rattle.std.specs.Prelude.{◌≡◌, ◌+◌, ◌^◌, ◌<◌, length, map, IfOk, IfErr};
+ghost use Rattle.std.specs.Prelude.{◌≡◌, ◌+◌, ◌^◌, ◌<◌, All, length, map, IfOk, IfErr};
 ghost use Rattle.rp_deck.specs.Deck.{IsRightDeck};
-ghost use Rattle.rp_deck.specs.DeckViews.{deck_text};
+ghost use Rattle.rp_deck.specs.DeckViews.{deck_text, command_text};
 ghost use Rattle.rp_deck.specs.Live.{IsDeckFor};
 ghost use Rattle.rp_deck.specs.Meaning.{texts_of};
 ghost use Rattle.rp_deck.specs.declared.deck.Mode.TheVariants.{Live};
 ghost use Rattle.rp_deck_declarations.specs.Declarations.{IsComplete};
 ghost use Rattle.rp_deck_declarations.specs.DeclaredViews.{names_of, program_text};
+ghost use Rattle.rp_explore_deck.specs.PlannedActions.{AsksRight, actions_of};
 ghost use Rattle.rp_explore_deck.specs.Plans.{plan_text, additions_of, plan_with, plan_of, first_fault};
 ghost use Rattle.rp_explore_deck.specs.RuleViews.{placed_rule_text};
+ghost use Rattle.rp_orders.specs.Orders.{AreRight};
 ghost use Rattle.rp_words.specs.LineFaults.{IsDeckFault, Reads};
 
 use crate::actions::plan_actions;
@@ -35,9 +37,14 @@ struct Additions {
 /// and then of a guard that has no call, which is an `UnknownWord`.
 pub fn read_plan(alloc: Global, text: &[u8]) -> Result<Plan, Fault>
     requires { length text.now + 1 < 2 ^ 32 }
+    // claim: A deck for a search that is read is what its text means: a deck for live mode, the
+    //   actions that its script asks for, the guards of its calls and its rules. Otherwise the
+    //   fault is the first bad line and the first reason on it, or `OutOfMemory`
     ensures meaning { Reads plan_text result (plan_of text.now) }
     ensures deck { IfOk result (λ plan. IsRightDeck plan.deck) }
     ensures taken { IfOk result (λ plan. IsDeckFor Live plan.deck) }
+    // claim: The actions of a plan are right, so a search over them may begin
+    ensures right { IfOk result (λ plan. AreRight (map (λ p. p.action) plan.actions.items)) }
     ensures fault { IfErr result IsDeckFault }
 {
     let added = AddedLines::of(alloc, text)?;
@@ -74,11 +81,13 @@ fn read_additions(
 /// The plan of a deck with these rules and guards.
 #[tactic(auto, unfolding(crate::specs::Plans::plan_with))]
 fn plan_with(alloc: Global, deck: Deck, additions: Additions) -> Result<Plan, Fault>
-    requires { length deck.script.items + 1 < 2 ^ 32 }
+    requires size { length deck.script.items + 1 < 2 ^ 32 }
+    requires right { All (λ line. AsksRight (command_text line.command)) deck.script.items }
     ensures read { Reads plan_text result
         (plan_with (deck_text deck) (map placed_rule_text additions.rules.items)
         additions.guards.items) }
     ensures deck { IfOk result (λ plan. plan.deck ≡ deck) }
+    ensures actions { IfOk result (λ plan. AreRight (actions_of plan.actions.items)) }
     ensures fault { IfErr result IsDeckFault }
 {
     let actions = plan_actions(alloc, &deck.script)?;

@@ -140,11 +140,7 @@ pub fn read_rules(
 
 /// Reads `never F ..`, `always F ..`, `finally F ..` or `finally free TASK`.
 #[tactic(auto, unfolding(crate::specs::RuleLines::rule_line))]
-fn read_rule(
-    alloc: Global,
-    line: &mut TextLine<'_>,
-    declared: &Declared,
-) -> Result<Rule, LineError>
+fn read_rule(alloc: Global, line: &mut TextLine<'_>, declared: &Declared) -> Result<Rule, LineError>
     requires { IsComplete declared.now }
     ensures read { Makes (λ rule. record { line = line.old.number; rule = rule_text rule }) result
         (rule_line (names_of declared.now) (program_text declared.now.program)

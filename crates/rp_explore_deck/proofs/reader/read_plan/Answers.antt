@@ -1,4 +1,4 @@
-use Rattle.std.proofs.Common.{◌≡◌, ◌+◌, ◌≤◌, List, map, Result, Ok, Err, ap, sym, subst, ◌∙◌, length, arith}
+use Rattle.std.proofs.Common.{◌≡◌, ◌≤◌, map, Result, Err, ap, sym, subst, ◌∙◌, length, arith}
 use Rattle.std.specs.Prelude.{IfErr}
 use Rattle.std.proofs.lemmas.List.{length-map}
 use Rattle.std.proofs.lemmas.Result.{err_from_is_err_and}
@@ -6,16 +6,17 @@ use Rattle.rp_base.specs.declared.fault.Fault.{Fault}
 use Rattle.rp_deck.specs.Deck.{IsRightDeck}
 use Rattle.rp_deck.specs.DeckViews.{deck_text, line_command}
 use Rattle.rp_deck.specs.Live.{IsDeckFor}
-use Rattle.rp_deck.specs.Meaning.{DeckText, texts_of, meaning_of}
+use Rattle.rp_deck.specs.Meaning.{texts_of, meaning_of}
 use Rattle.rp_deck.specs.declared.deck.Mode.TheVariants.{Live}
 use Rattle.rp_deck_declarations.specs.DeclaredTexts.{known}
-use Rattle.rp_deck_declarations.specs.DeclaredViews.{declared_text, names_of, program_text}
+use Rattle.rp_deck_declarations.specs.DeclaredViews.{names_of, program_text}
 use Rattle.rp_deck_declarations.specs.Declaring.{declarations_of}
-use Rattle.rp_explore_deck.specs.Plans.{PlanText, plan_text, additions_of, plan_of, first_fault}
+use Rattle.rp_explore_deck.specs.Plans.{PlanText, plan_text, additions_of, plan_of}
 use Rattle.rp_explore_deck.specs.RuleViews.{placed_rule_text}
 use Rattle.rp_explore_deck.specs.declared.plan.Plan.{Plan}
 use Rattle.rp_words.specs.Ahead.{ahead, after_last}
 use Rattle.rp_words.specs.LineFaults.{BadLine, IsDeckFault, Reads, Refuses}
+use Rattle.rp_explore_deck.proofs.ActionLemmas.{script_right}
 use Rattle.rp_explore_deck.proofs.PlanLemmas.{declared_plan, planned, plan_from, refused_before, refused_deck, refused_added, both_right, first_is_fault, of_deck}
 use Rattle.rp_explore_deck.proofs.ShortLemmas.{deck_is_short}
 use Rattle.rp_explore_deck.proofs.reader.read_plan.Goals as goal
@@ -31,8 +32,11 @@ returns-in_err-declared-clause-meaning c =
     let p = err_from_is_err_and c.from_residual-in_err-declared.result c.from_residual-in_err-declared.ensures.1 in
     subst (λ (r : Result Plan Fault). Reads plan_text r (plan_of text)) (sym (p.1 ∙ ap Err p.2)) refused
 
-pub plan_with-requires : goal.plan_with-requires
-plan_with-requires c =
+pub plan_with-requires-clause-right : goal.plan_with-requires-clause-right
+plan_with-requires-clause-right c = script_right c.in_ok-deck.field-0 c.in_ok-deck.ensures.deck
+
+pub plan_with-requires-clause-size : goal.plan_with-requires-clause-size
+plan_with-requires-clause-size c =
     let deck = c.in_ok-deck.field-0 in
     let plain = c.deref-2.result.now in
     let short : length (map line_command deck.script.items) ≤ length plain = deck_is_short Live plain (deck_text deck) c.in_ok-deck.ensures.meaning in

@@ -1,4 +1,4 @@
-use Rattle.std.proofs.Common.{◌≡◌, ℕ, ◌-◌, ◌+◌, suc, zero, true, false, List, Result, Ok, Err, ap, sym, subst, arith, ◌∙◌, rules}
+use Rattle.std.proofs.Common.{◌≡◌, ◌-◌, ◌+◌, suc, zero, false, List, Err, ap, sym, arith, ◌∙◌}
 use Rattle.std.proofs.lemmas.Result.{err_from_is_err_and}
 use Rattle.rp_deck_declarations.specs.DeclaredViews.{names_of, program_text}
 use Rattle.rp_explore_deck.specs.RuleLines.{truths_at, most_truths}

@@ -1,4 +1,5 @@
 mod ActionLemmas
+mod PlainLemmas
 mod PlanLemmas
 mod RuleLemmas
 mod ShortLemmas

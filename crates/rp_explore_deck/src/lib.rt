@@ -8,17 +8,20 @@
 //! - `actions`: the actions that the script asks for
 //! - `guard_lines`: reads the guards, and finds the calls that they are for
 //! - `replies`: reads a reply, as a run prints it
+//! - `laws`: what follows from the definitions alone
 #![tactic(auto)]
 
 mod actions;
 mod added;
 mod guard_lines;
+mod laws;
 mod plan;
 mod reader;
 mod replies;
 mod rules;
 
 pub use actions::PlannedAction;
+pub use laws::the_other_lines_keep_their_numbers;
 pub use plan::Plan;
 pub use reader::read_plan;
 pub use rp_orders::Guard;

@@ -3,6 +3,7 @@ pub mod OneProof
 pub mod State
 pub mod InMemory
 pub mod Timers
+pub mod Truths
 pub mod Step
 pub mod Ticks
 pub mod Image

@@ -11,6 +11,7 @@ ghost use Rattle.std.specs.List.{All};
 ghost use Rattle.rp_object.specs.Program.{is_declared, interrupt_handler, DeclarationFits};
 ghost use Rattle.rp_object.specs.Step.{Result, asks, is_set, with_timer, called, allowed, handled, fires, ticked, own_answer, objects_next, objects_answers, objects_waiting, tasks_waiting};
 ghost use Rattle.rp_object.specs.Timers.{due_events};
+ghost use Rattle.rp_object.specs.Truths.{is_true};
 ghost use Rattle.rp_object.specs.Image.{objects_image};
 ghost use Rattle.rp_object.specs.InMemory.{waiting_count};
 
@@ -113,6 +114,20 @@ impl Objects {
         writeln!(text, "clock {}", self.clock)?;
         write_timers(&mut text, &self.declarations.timers, &self.timers)?;
         Ok(text.into_bytes())
+    }
+
+    /// Whether a call of this function of an object with the argument 0 gets the reply True. Not where
+    /// there is no such function, it returns a number or it raises an exception. The ceiling is not
+    /// checked, and nothing changes.
+    pub fn is_true(&self, object: u8, index: u8) -> bool
+        // claim: Whether a function is true in a state is what a call of it there would be replied
+        ensures { result ≡ is_true self.now.state object index }
+    {
+        if object == 0 || usize::from(object) > self.objects.len() {
+            return false;
+        }
+        let called = self.function(object, index, 0);
+        matches!(called.outcome, CallOutcome::Reply(Reply::Truth(true)))
     }
 
     /// Calls a function of the object.

@@ -1,6 +1,6 @@
 -- The lines of a text whose added lines are blank.
-use Rattle.std.proofs.Common.{◌≡◌, ℕ, zero, suc, ◌+◌, Bool, true, false, List, [], ◌∷◌, ◌++◌, length, filter, not, refl, ap, sym, subst, ◌∙◌, arith, drop}
-use Rattle.std.specs.Prelude.{Option, Some, None, option_to_list, if◌then◌else◌, ◌==◌, ◌&&◌, ◌||◌}
+use Rattle.std.proofs.Common.{◌≡◌, ℕ, suc, ◌+◌, Bool, true, false, List, [], ◌∷◌, ◌++◌, length, filter, not, refl, ap, sym, subst, ◌∙◌, arith, drop}
+use Rattle.std.specs.Prelude.{Some, None, option_to_list, if◌then◌else◌, ◌==◌, ◌&&◌}
 use Rattle.std.specs.List.{prefix_len}
 use Rattle.std.proofs.lemmas.List.Elements.{filter-append}
 use Rattle.rp_deck.specs.Meaning.{texts_of, line_after}

@@ -45,8 +45,8 @@ is_among numbers number = list_any (nat_eq number) numbers
 abbrev pub with_line : List ℕ → LineText → List ℕ
 with_line numbers line = with_member nat_eq numbers line.number
 
--- the rules: the lines right before the first `script` that begin so, by their numbers; the lines
--- right before these ones are among them
+-- the rules, by their numbers: the lines right before the first `script` that begin so, where those
+-- right before these lines are known
 abbrev pub rules_after : List ℕ → List LineText → List ℕ
 rules_after before [] = []
 rules_after before (line ∷ lines) =

@@ -1,6 +1,6 @@
 //! What a rule asks of each state.
 
-ghost use Rattle.std.specs.Prelude.{◌≡◌};
+ghost use Rattle.std.specs.Prelude.{◌≡◌, ◌↔◌, IsTrue};
 ghost use Rattle.rp_explore_rules.specs.Rules.{AreTrueIn, AreNotAllTrueIn, are_true, is_true_at};
 
 use rp_base::Operation;
@@ -23,7 +23,10 @@ pub struct AreNotAllTrue<'a> {
 impl<'a> Property<Objects> for AreTrue<'a> {
     ghost meaning = { λ demand running. AreTrueIn demand.truths.now running };
 
-    fn holds(&self, machine: &Objects) -> bool {
+    fn holds(&self, machine: &Objects) -> bool
+        // claim: The functions of a rule are judged by what calls of them would be replied
+        ensures { IsTrue result ↔ AreTrueIn self.now.truths.now machine.now }
+    {
         are_true(self.truths, machine)
     }
 }
@@ -31,7 +34,10 @@ impl<'a> Property<Objects> for AreTrue<'a> {
 impl<'a> Property<Objects> for AreNotAllTrue<'a> {
     ghost meaning = { λ demand running. AreNotAllTrueIn demand.truths.now running };
 
-    fn holds(&self, machine: &Objects) -> bool {
+    fn holds(&self, machine: &Objects) -> bool
+        // claim as AreTrue::holds
+        ensures { IsTrue result ↔ AreNotAllTrueIn self.now.truths.now machine.now }
+    {
         !are_true(self.truths, machine)
     }
 }

@@ -1,4 +1,5 @@
 mod ActionLemmas
+mod GuardLemmas
 mod PlainLemmas
 mod PlanLemmas
 mod RuleLemmas

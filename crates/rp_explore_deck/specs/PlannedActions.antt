@@ -1,12 +1,14 @@
 -- The actions that the script of a deck asks for.
-use Rattle.std.specs.Prelude.{ℕ, ◌+◌, Bool, false, nat_eq, List, [], ◌∷◌, ◌++◌, length, filter, map}
+use Rattle.std.specs.Prelude.{◌≡◌, ℕ, ◌+◌, Bool, false, nat_eq, List, [], ◌∷◌, ◌++◌, length, filter, map}
 use Rattle.std.specs.Prelude.{Option, Some, None, if◌then◌else◌}
 use Rattle.std.specs.List.{list_any}
 use Rattle.rp_base.specs.Action.{IsIndex, IsRightOperation, same_action}
+use Rattle.rp_base.specs.Sets.{Has}
 use Rattle.rp_base.specs.declared.action.Action.{Action}
 use Rattle.rp_base.specs.declared.action.Action.TheVariants as actions
 use Rattle.rp_deck.specs.ScriptLines.{LineCommand, CommandText, Take}
 use Rattle.rp_explore_deck.specs.declared.actions.PlannedAction.{PlannedAction}
+use Rattle.rp_machine.specs.Replay.{number_for}
 use Rattle.rp_model.specs.Events.{Submit, Makes, Interrupt, Tick}
 
 -- the action is a call of the task
@@ -51,3 +53,8 @@ with_line planned line = with_action planned line.number (action_asked planned l
 abbrev pub planned_after : List PlannedAction → List LineCommand → List PlannedAction
 planned_after planned [] = planned
 planned_after planned (line ∷ lines) = planned_after (with_line planned line) lines
+
+-- the call of this number of the task is among the actions
+abbrev pub HasCall : List PlannedAction → ℕ → ℕ → Type 0
+HasCall planned task number =
+    (action : Action) × Has action (actions_of planned) × (number_for task action ≡ Some number)

@@ -21,7 +21,7 @@ mod replies;
 mod rules;
 
 pub use actions::PlannedAction;
-pub use laws::the_other_lines_keep_their_numbers;
+pub use laws::{guards_are_for_calls, the_other_lines_keep_their_numbers};
 pub use plan::Plan;
 pub use reader::read_plan;
 pub use rp_orders::Guard;

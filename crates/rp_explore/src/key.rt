@@ -23,12 +23,23 @@ pub struct Key {
     allowed: [u8; 8],
 }
 
-/// The key of the state that a log has led to; the lines of its image that are new are added.
+impl Key {
+    /// The numbers of the lines of the state's image.
+    pub fn lines(&self) -> &[usize]
+        ensures { result.now ≡ self.now.lines.items }
+    {
+        self.lines.as_slice()
+    }
+}
+
+/// The key of the state that a log has led to; the lines of its image that are new are added. Many
+/// of them may be the lines of a state near it.
 pub fn key_of<M: Machine>(
     alloc: Global,
     state: &Numbered<M>,
     guards: &[Guard],
     pieces: &mut Pieces,
+    near: &[usize],
 ) -> Result<Key, AllocError>
     ensures more { AreMore pieces.old pieces.new }
     ensures value { IfOk result (λ key. IsKeyOf M.image guards.now pieces.new
@@ -36,7 +47,7 @@ pub fn key_of<M: Machine>(
 {
     let image = state.machine().image(alloc)?;
     Ok(Key {
-        lines: pieces.numbers(alloc, image.as_slice())?,
+        lines: pieces.numbers(alloc, image.as_slice(), near)?,
         numbers: numbers_in(state),
         occurrences: occurrences_in(state),
         allowed: allowed_in(state, guards),

@@ -1,6 +1,6 @@
 //! The lines of the states' images, each kept once.
 
-ghost use Rattle.std.specs.Prelude.{◌≡◌, [], Some, slice_get, IfOk};
+ghost use Rattle.std.specs.Prelude.{◌≡◌, [], Some, slice_get, IfOk, IsTrue};
 ghost use Rattle.rp_base.specs.Sets.{IsSet};
 ghost use Rattle.rp_explore.specs.Pieces.{AreMore, AreNumbers, lines_of};
 
@@ -39,8 +39,14 @@ impl Pieces {
         self.lines.len()
     }
 
-    /// The numbers of the lines of a text, which are added where they are new.
-    pub fn numbers(&mut self, alloc: Global, text: &[u8]) -> Result<Vec<usize>, AllocError>
+    /// The numbers of the lines of a text, which are added where they are new. Many of them may be
+    /// the numbers of the lines of a text near it, which are tried first.
+    pub fn numbers(
+        &mut self,
+        alloc: Global,
+        text: &[u8],
+        near: &[usize],
+    ) -> Result<Vec<usize>, AllocError>
         ensures more { AreMore self.old self.new }
         ensures value { IfOk result (λ numbers.
             AreNumbers self.new numbers.items (lines_of text.now)) }
@@ -50,16 +56,36 @@ impl Pieces {
         for byte in text {
             line.push(*byte)?;
             if *byte == b'\n' {
-                numbers.push(self.number(alloc, line.as_slice())?)?;
+                let number = self.number(alloc, line.as_slice(), near.get(numbers.len()))?;
+                numbers.push(number)?;
                 line.clear();
             }
         }
-        numbers.push(self.number(alloc, line.as_slice())?)?;
+        let number = self.number(alloc, line.as_slice(), near.get(numbers.len()))?;
+        numbers.push(number)?;
         Ok(numbers)
     }
 
+    /// The number of a line, which is added where it is new. It may be this one.
+    fn number(
+        &mut self,
+        alloc: Global,
+        line: &[u8],
+        near: Option<&usize>,
+    ) -> Result<usize, AllocError>
+        ensures more { AreMore self.old self.new }
+        ensures value { IfOk result (λ number. slice_get self.new number ≡ Some line.now) }
+    {
+        if let Some(near) = near
+            && self.is_at(*near, line)
+        {
+            return Ok(*near);
+        }
+        self.found(alloc, line)
+    }
+
     /// The number of a line, which is added where it is new.
-    fn number(&mut self, alloc: Global, line: &[u8]) -> Result<usize, AllocError>
+    fn found(&mut self, alloc: Global, line: &[u8]) -> Result<usize, AllocError>
         ensures more { AreMore self.old self.new }
         ensures value { IfOk result (λ number. slice_get self.new number ≡ Some line.now) }
     {
@@ -71,6 +97,16 @@ impl Pieces {
         own.extend_from_slice(line)?;
         self.lines.insert(own)?;
         Ok(number)
+    }
+
+    /// Whether the line has this number.
+    fn is_at(&self, number: usize, line: &[u8]) -> bool
+        ensures { IsTrue result → slice_get self.now number ≡ Some line.now }
+    {
+        match self.lines.get_index(number) {
+            Some(known) => known.as_slice() == line,
+            None => false,
+        }
     }
 }
 

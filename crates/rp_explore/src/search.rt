@@ -83,7 +83,7 @@ impl<'a, M: Machine> Search<'a, M> {
         let start = Numbered::<M>::new(alloc, program)?;
         let mut pieces = Pieces::new(alloc);
         let mut keys = IndexSet::new(alloc);
-        keys.insert(key_of(alloc, &start, guards, &mut pieces)?)?;
+        keys.insert(key_of(alloc, &start, guards, &mut pieces, &[])?)?;
         Ok(Search {
             alloc,
             program,
@@ -133,7 +133,8 @@ impl<'a, M: Machine> Search<'a, M> {
         M::laws();
         replay_may_go_on::<M>();
         let place = self.tree.len();
-        let key = key_of(self.alloc, next, self.guards, &mut self.pieces)?;
+        let near = lines_at(&self.keys, before);
+        let key = key_of(self.alloc, next, self.guards, &mut self.pieces, near)?;
         let _lines = self.pieces.len();
         if let Some(known) = self.keys.get_index_of(&key) {
             return Ok(Some(known));
@@ -254,5 +255,13 @@ impl<'a, M: Machine> Search<'a, M> {
         ensures { result ≡ self.entry.listed }
     {
         self.tree
+    }
+}
+
+/// The numbers of the lines of the image whose key is at the place, none where there is none.
+fn lines_at(keys: &IndexSet<Key>, place: usize) -> &[usize] {
+    match keys.get_index(place) {
+        Some(key) => key.lines(),
+        None => &[],
     }
 }

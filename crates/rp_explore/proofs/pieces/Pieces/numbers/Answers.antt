@@ -26,7 +26,7 @@ loop-byte-preserved c =
     elim c.if-byte-eq10.branch [
       | then-byte-eq10+in_ok-number+in_ok-push-2 w ↦
           joined first w.number.new.self c.if-byte-eq10.self w.push-then-byte-eq10.new.self c.if-byte-eq10.numbers w.clear.new.self c.if-byte-eq10.line (i + 1) text w.self-is w.numbers-is w.line-is
-          (next_line first old.self w.number.new.self old.numbers.items w.push-then-byte-eq10.new.self.items old.line.items c.push.new.self.items w.clear.new.self.items i w.in_ok-number.field-0 text old.invariant c.loop-byte-test.true w.if-byte-eq10.true
+          (next_line first old.self w.number.new.self old.numbers.items w.push-then-byte-eq10.new.self.items old.line.items c.push.new.self.items w.clear.new.self.items i w.in_ok-number.number text old.invariant c.loop-byte-test.true w.if-byte-eq10.true
           c.in_ok-push.ensures.items w.in_ok-number.ensures.more (w.in_ok-number.ensures.value ∙ ap Some w.as_slice.ensures.value) w.in_ok-push-2.ensures.items w.clear.ensures.items)
       | else-byte-eq10 w ↦
           joined first old.self c.if-byte-eq10.self old.numbers c.if-byte-eq10.numbers c.push.new.self c.if-byte-eq10.line (i + 1) text w.self-is w.numbers-is w.line-is
@@ -36,5 +36,5 @@ loop-byte-preserved c =
 pub returns-clause-value : goal.returns-clause-value
 returns-clause-value c =
     let old = c.loop-byte in
-    last_line c.args.self.now old.self c.number-2.new.self old.numbers.items c.push-2.new.self.items old.line.items old.byte-index c.in_ok-number-2.field-0 c.args.text.now old.invariant c.loop-byte-test.false
+    last_line c.args.self.now old.self c.number-2.new.self old.numbers.items c.push-2.new.self.items old.line.items old.byte-index c.in_ok-number-2.number c.args.text.now old.invariant c.loop-byte-test.false
     c.in_ok-number-2.ensures.more (c.in_ok-number-2.ensures.value ∙ ap Some c.as_slice-2.ensures.value) c.in_ok-push-3.ensures.items

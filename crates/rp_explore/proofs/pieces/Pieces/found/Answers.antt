@@ -7,7 +7,7 @@ use Rattle.std.specs.Cmp.Lexicographic.{pointwise}
 use Rattle.std.proofs.lemmas.List.{length-map}
 use Rattle.rp_explore.specs.Pieces.{AreMore}
 use Rattle.rp_explore.proofs.PieceLemmas.{items, known_at, more_one, added_at}
-use Rattle.rp_explore.proofs.pieces.Pieces.number.Goals as goal
+use Rattle.rp_explore.proofs.pieces.Pieces.found.Goals as goal
 
 pub returns-in-Some-clause-value : goal.returns-in-Some-clause-value
 returns-in-Some-clause-value c =

@@ -1,20 +1,40 @@
 -- What a search has found once each order was visited.
-use Rattle.std.proofs.Common.{◌≡◌, ◌↔◌, ℕ, ◌-◌, ◌<◌, ◌≤◌, Bool, true, false, IsTrue, List, [], ◌∷◌, ◌++◌, length, get_or, Option, Some, None, MatchOption, MatchBool, inl, inr, ap, ◌∙◌, sym, subst, refl, arith}
+use Rattle.std.proofs.Common.{◌≡◌, ◌↔◌, ℕ, ◌-◌, ◌<◌, ◌≤◌, ◌⊎◌, Bool, true, false, IsTrue, List, [], ◌∷◌, ◌++◌, length, get_or, Option, Some, None, MatchOption, MatchBool, inl, inr, ap, ◌∙◌, sym, subst, refl, arith}
 use Rattle.std.proofs.lemmas.List.{take_all}
 use Rattle.rp_base.specs.Sets.{Has}
 use Rattle.rp_base.specs.Number.{IsTask}
 use Rattle.rp_base.specs.declared.action.Action.{Action}
 use Rattle.rp_base.specs.declared.action.Action.TheVariants.{Noop}
 use Rattle.rp_base.specs.declared.reply.Answer.{Answer}
-use Rattle.rp_machine.specs.Replay.{replay_of, answers_after}
-use Rattle.rp_orders.specs.Orders.{IsReached, IsGiven, IsStuck, IsFinal, MayFollow, AreClosed}
+use Rattle.rp_machine.specs.Replay.{Replayed, replay_of, answers_after}
+use Rattle.rp_orders.specs.Orders.{IsReached, IsGiven, IsStuck, IsFinal, LeadAlike, MayFollow, AreClosed}
+use Rattle.rp_orders.specs.declared.guard.Guard.{Guard}
 use Rattle.rp_explore.specs.declared.giver.Giver.{Giver}
-use Rattle.rp_explore.specs.Listed.{order_at, AreOrdersOf, AreGuarded}
+use Rattle.rp_explore.specs.Listed.{order_at, AreOrdersOf, AreGuarded, AreDistinct}
 use Rattle.rp_explore.specs.Searched.{Searched, Found, MayFollowAt, Gives, IsEarlier, IsGivenBefore, AllReached, WaitsFirst, LeadsBeyond, AreFindings}
 use Rattle.rp_explore.specs.Explored.{greatest_length, IsNeverStuck, IsFirstStuck, GivesAt, IsFirstGiver}
 use Rattle.rp_explore.proofs.Lists.{has_at, place_in}
+use Rattle.rp_explore.proofs.SearchLemmas.{alike_flip, alike_join}
 use Rattle.rp_explore.proofs.GivenLemmas.{gives_parts}
 use Rattle.rp_explore.proofs.FindingsLemmas.{final_quiet, quiet_final}
+
+-- one of the orders leads to the same state and is no longer, or none of them is longer
+abbrev pub NearTo : {S : Type 0} → (S → Action → S) → (S → Action → List Answer) → S → List Guard → List (List Action) → List Action → Type 0
+NearTo next answers begin guards orders order =
+    ((other : List Action) × Has other orders × LeadAlike next answers begin guards order other × (length other ≤ length order))
+    ⊎ ((other : List Action) → Has other orders → length other ≤ length order)
+
+-- so none is longer than an order that leads to the same state, where no two of them lead to one
+pub shortest : {S : Type 0} (next : S → Action → S) (answers : S → Action → List Answer) (begin : S) (guards : List Guard) (orders : List (List Action)) (place : ℕ) (order : List Action) → place < length orders
+    → AreDistinct next answers begin guards orders → LeadAlike next answers begin guards order (order_at orders place) → NearTo next answers begin guards orders order → length (order_at orders place) ≤ length order
+shortest next answers begin guards orders place order lt distinct alike (inr none) = none (order_at orders place) (has_at orders place [] lt)
+shortest {S} next answers begin guards orders place order lt distinct alike (inl soon) =
+    let whole : List Action → Replayed S = replay_of next answers begin in
+    let q = place_in orders soon.0 [] soon.1 in
+    let other : LeadAlike next answers begin guards order (order_at orders q.0) = subst (λ (o : List Action). LeadAlike next answers begin guards order o) (sym q.2) soon.2 in
+    let same : q.0 ≡ place = distinct q.0 place q.1 lt
+    (alike_join guards (whole (order_at orders q.0)) (whole order) (whole (order_at orders place)) (alike_flip guards (whole order) (whole (order_at orders q.0)) other) alike) in
+    subst (λ (k : ℕ). length (order_at orders k) ≤ length order) same (subst (λ (o : List Action). length o ≤ length order) (sym q.2) soon.3)
 
 module _ {S : Type 0} (next : S → Action → S) (answers : S → Action → List Answer) (s : Searched S) where
   abbrev orders : List (List Action)
@@ -122,6 +142,22 @@ module _ {S : Type 0} (next : S → Action → S) (answers : S → Action → Li
 
     pub deepest : found.depth ≡ greatest_length orders
     deepest = all_found.depth ∙ ap greatest_length (take_all (length orders) orders (omega arith))
+
+    -- an order that was found, and then an action, lead to the state of one that is no longer, or none is longer
+    pub near_found : (order : List Action) (action : Action) → Has order orders → Has action may → MayFollow next answers s.begin s.guards order action → NearTo next answers s.begin s.guards orders (order ++ action ∷ [])
+    near_found order action ho ha may_be =
+        let p = place_in orders order [] ho in
+        let k = place_in may action Noop ha in
+        let there : MayFollowAt next answers s p.0 k.0 =
+        subst (λ (a : Action). MayFollow next answers s.begin s.guards (order_at orders p.0) a) (sym k.2) (subst (λ (o : List Action). MayFollow next answers s.begin s.guards o action) (sym p.2) may_be) in
+        let near : NearTo next answers s.begin s.guards orders (order_at orders p.0 ++ get_or may k.0 Noop ∷ []) = elim (all_found.near p.0 p.1 k.0 k.1 there) [
+          | inl soon ↦ inl soon
+          | inr beyond ↦ inr (λ other h.
+              let q = place_in orders other [] h in
+              subst (λ (o : List Action). length o ≤ length (order_at orders p.0 ++ get_or may k.0 Noop ∷ [])) q.2 (beyond.1 q.0 q.1))
+        ] in
+        subst (λ (a : Action). NearTo next answers s.begin s.guards orders (order ++ a ∷ [])) k.2
+        (subst (λ (o : List Action). NearTo next answers s.begin s.guards orders (o ++ get_or may k.0 Noop ∷ [])) p.2 near)
 
     waits_by : (task : ℕ) (o : Option ℕ) → WaitsFirst next answers s task (length orders) o
         → MatchOption o (IsNeverStuck next answers s.begin s.guards may orders task) (IsFirstStuck next answers s.begin s.guards may orders task)

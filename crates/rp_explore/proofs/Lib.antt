@@ -7,6 +7,7 @@ pub mod SearchLemmas
 pub mod AnswerLemmas
 pub mod WaitLemmas
 pub mod VisitLemmas
+pub mod LayerLemmas
 pub mod GivenLemmas
 pub mod FindingsLemmas
 pub mod ExploredLemmas

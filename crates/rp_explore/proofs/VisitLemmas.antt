@@ -56,10 +56,10 @@ module _ {S : Type 0} where
     }
   ]
 
-  abbrev grown : Searched S → List (List Action) → Searched S
+  abbrev pub grown : Searched S → List (List Action) → Searched S
   grown s more = record { begin = s.begin; guards = s.guards; listed = record { may = s.listed.may; orders = s.listed.orders ++ more }; most = s.most }
 
-  is_grown : (old new : Searched S) (e : Extends old new) → grown old e.more ≡ new
+  pub is_grown : (old new : Searched S) (e : Extends old new) → grown old e.more ≡ new
   is_grown old new e =
       let begins = sym e.begin in
       let guarded = sym e.guards in
@@ -75,7 +75,7 @@ module _ {S : Type 0} where
   pub order_stays : (old new : Searched S) (place : ℕ) → Extends old new → place < length old.listed.orders → order_at new.listed.orders place ≡ order_at old.listed.orders place
   order_stays old new place e lt = ap (λ (os : List (List Action)). order_at os place) e.orders ∙ get_or_append_left old.listed.orders e.more [] place lt
 
-  further_stays : (old new : Searched S) (place index : ℕ) → Extends old new → place < length old.listed.orders → further new.listed place index ≡ further old.listed place index
+  pub further_stays : (old new : Searched S) (place index : ℕ) → Extends old new → place < length old.listed.orders → further new.listed place index ≡ further old.listed place index
   further_stays old new place index e lt =
       ap (λ (o : List Action). o ++ get_or new.listed.may index Noop ∷ []) (order_stays old new place e lt)
       ∙ ap (λ (may : List Action). order_at old.listed.orders place ++ get_or may index Noop ∷ []) e.may
@@ -103,7 +103,7 @@ module _ {S : Type 0} where
 
 module _ {S : Type 0} (next : S → Action → S) (answers : S → Action → List Answer) where
   -- what is said of an order
-  abbrev follows : ℕ → S → List Guard → List Action → List Action → Type 0
+  abbrev pub follows : ℕ → S → List Guard → List Action → List Action → Type 0
   follows index begin guards may order = MayFollow next answers begin guards order (get_or may index Noop)
 
   abbrev stays_after : ℕ → S → List Guard → List Action → List Action → Type 0

@@ -1,12 +1,12 @@
 -- What a search has found in the end.
-use Rattle.std.specs.Prelude.{◌≡◌, ◌⊎◌, ℕ, ◌<◌, Bool, Option, List, length, map, slice_index_or}
+use Rattle.std.specs.Prelude.{◌≡◌, ◌⊎◌, ℕ, ◌<◌, ◌≤◌, Bool, Option, List, length, map, slice_index_or}
 use Rattle.rp_base.specs.Number.{greatest}
 use Rattle.rp_base.specs.Sets.{Has}
 use Rattle.rp_base.specs.declared.action.Action.{Action}
 use Rattle.rp_base.specs.declared.action.Action.TheVariants.{Noop}
 use Rattle.rp_base.specs.declared.reply.Answer.{Answer}
 use Rattle.rp_machine.specs.Replay.{replay_of, answers_after}
-use Rattle.rp_orders.specs.Orders.{IsStuck, MayFollow}
+use Rattle.rp_orders.specs.Orders.{IsStuck, IsOrderOf, LeadAlike, MayFollow}
 use Rattle.rp_orders.specs.declared.guard.Guard.{Guard}
 use Rattle.rp_explore.specs.Listed.{order_at}
 use Rattle.rp_explore.specs.declared.giver.Giver.{Giver}
@@ -42,6 +42,13 @@ module _ {S : Type 0} (next : S → Action → S) (answers : S → Action → Li
     pub stuck : IsStuck next answers begin guards may task (order_at orders place)
     pub first : (earlier : ℕ) → earlier < place
         → ¬ IsStuck next answers begin guards may task (order_at orders earlier)
+
+  -- no order of the actions that may happen leads to the same state as the order at the place and
+  -- is shorter
+  abbrev pub IsShortest : ℕ → Type 0
+  IsShortest place = (order : List Action) → IsOrderOf next answers begin guards may order
+      → LeadAlike next answers begin guards order (order_at orders place)
+      → length (order_at orders place) ≤ length order
 
   -- the order at the place, and then the action with this index, which the guards let be decided,
   -- give the answer

@@ -1,5 +1,5 @@
 -- Lists of orders, and how memory holds them.
-use Rattle.std.specs.Prelude.{◌≡◌, ◌<◌, ◌+◌, ℕ, List, [], ◌∷◌, ◌++◌, length, slice_index_or}
+use Rattle.std.specs.Prelude.{◌≡◌, ◌<◌, ◌≤◌, ◌+◌, ℕ, List, [], ◌∷◌, ◌++◌, length, slice_index_or}
 use Rattle.rp_base.specs.Sets.{Has}
 use Rattle.rp_base.specs.declared.action.Action.{Action}
 use Rattle.rp_base.specs.declared.action.Action.TheVariants.{Noop}
@@ -25,6 +25,11 @@ further listed place index =
 -- each of the orders is of actions that may happen
 abbrev pub AreOrdersOf : Listed → Type 0
 AreOrdersOf listed = (order : List Action) → Has order listed.orders → AreAmong listed.may order
+
+-- none of the orders is longer than a later one
+abbrev pub AreSorted : List (List Action) → Type 0
+AreSorted orders = (one other : ℕ) → one ≤ other → other < length orders
+    → length (order_at orders one) ≤ length (order_at orders other)
 
 module _ {S : Type 0} (next : S → Action → S) (answers : S → Action → List Answer) (begin : S)
     (guards : List Guard) where

@@ -1,5 +1,5 @@
 -- What a search has found so far.
-use Rattle.std.specs.Prelude.{◌≡◌, ◌⊎◌, ◌<◌, ◌≤◌, ◌↔◌, ◌-◌, ℕ, Bool, false, Option, None, List, []}
+use Rattle.std.specs.Prelude.{◌≡◌, ◌⊎◌, ◌<◌, ◌≤◌, ◌+◌, ◌↔◌, ◌-◌, ℕ, Bool, false, Option, None, List, []}
 use Rattle.std.specs.Prelude.{◌∷◌, ◌++◌, length, slice_index_or, MatchOption, MatchBool, IsTrue}
 use Rattle.std.specs.Prelude.{map, take, if◌then◌else◌}
 use Rattle.rp_base.specs.Number.{IsTask}
@@ -12,7 +12,7 @@ use Rattle.rp_orders.specs.Guards.{is_allowed}
 use Rattle.rp_orders.specs.Orders.{LeadAlike, IsReached, IsStuck, MayFollow}
 use Rattle.rp_orders.specs.declared.guard.Guard.{Guard}
 use Rattle.rp_explore.specs.Explored.{greatest_length}
-use Rattle.rp_explore.specs.Listed.{Listed, order_at, further}
+use Rattle.rp_explore.specs.Listed.{Listed, order_at, further, AreSorted}
 use Rattle.rp_explore.specs.declared.giver.Giver.{Giver}
 
 -- the start of a program, the guards of its calls, the orders that were found, and how many there
@@ -47,6 +47,13 @@ pub record Extends {S : Type 0} (old new : Searched S) : Type 0 where
 abbrev pub IsEarlier : {S : Type 0} → Searched S → ℕ → ℕ → ℕ → ℕ → Type 0
 IsEarlier s place count at index =
     ((at < place) × (index < length s.listed.may)) ⊎ ((at ≡ place) × (index < count))
+
+-- The orders are sorted by their lengths, and each is longer by one action at most than the one at
+-- the place.
+pub record IsLayered {S : Type 0} (s : Searched S) (place : ℕ) : Type 0 where
+  pub sorted : AreSorted s.listed.orders
+  pub layer : (other : ℕ) → other < length s.listed.orders
+      → length (order_at s.listed.orders other) ≤ length (order_at s.listed.orders place) + 1
 
 -- Of these answers those that were not given before are noted, each once, with what gave them.
 pub record IsNoted (answers : List Answer) (giver : Giver) (old : List Answer)
@@ -88,6 +95,20 @@ module _ {S : Type 0} (next : S → Action → S) (answers : S → Action → Li
   abbrev pub AllReached : Searched S → ℕ → ℕ → Type 0
   AllReached s place count = (index : ℕ) → index < count → MayFollowAt s place index
       → IsReached next answers s.begin s.guards s.listed.orders (further s.listed place index)
+
+  -- an order that was found leads to the same state and is no longer; or there is no room for more,
+  -- and none that was found is longer
+  abbrev pub IsNear : Searched S → List Action → Type 0
+  IsNear s order =
+      ((other : List Action) × Has other s.listed.orders
+      × LeadAlike next answers s.begin s.guards order other × (length other ≤ length order))
+      ⊎ ((s.most ≤ length s.listed.orders) × ((other : ℕ) → other < length s.listed.orders
+      → length (order_at s.listed.orders other) ≤ length order))
+
+  -- so is each of the first actions after the order at the place
+  abbrev pub AreNear : Searched S → ℕ → ℕ → Type 0
+  AreNear s place count = (index : ℕ) → index < count → MayFollowAt s place index
+      → IsNear s (further s.listed place index)
 
   -- one of them leads to another, for which there is no room
   pub record SomeMissing (s : Searched S) (place count : ℕ) : Type 0 where
@@ -175,4 +196,7 @@ module _ {S : Type 0} (next : S → Action → S) (answers : S → Action → Li
     pub finals : AreMarked s count found.finals
     pub stuck : (task : ℕ) → IsTask task
         → WaitsFirst s task count (slice_index_or found.stuck (task - 1) None)
+    pub layered : count < length s.listed.orders → IsLayered s count
+    pub sorted : AreSorted s.listed.orders
+    pub near : (place : ℕ) → place < count → AreNear s place (length s.listed.may)
     pub depth : found.depth ≡ greatest_length (take count s.listed.orders)

@@ -5,9 +5,9 @@ ghost use Rattle.rp_base.specs.Number.{IsTask};
 ghost use Rattle.rp_base.specs.Sets.{Has, IsSet};
 ghost use Rattle.rp_base.specs.declared.reply.Answer.{Answer};
 ghost use Rattle.rp_orders.specs.Orders.{AreRight, AreClosed, IsGiven, IsFinal};
-ghost use Rattle.rp_explore.specs.Listed.{order_at, AreOrdersOf, AreGuarded, AreDistinct};
+ghost use Rattle.rp_explore.specs.Listed.{order_at, AreOrdersOf, AreGuarded, AreSorted, AreDistinct};
 ghost use Rattle.rp_explore.specs.declared.giver.Giver.{Giver};
-ghost use Rattle.rp_explore.specs.Explored.{greatest_length, IsFirstStuck, IsNeverStuck, IsFirstGiver};
+ghost use Rattle.rp_explore.specs.Explored.{greatest_length, IsShortest, IsFirstStuck, IsNeverStuck, IsFirstGiver};
 
 use crate::findings::Findings;
 use crate::giver::Giver;
@@ -65,6 +65,11 @@ pub fn explore<M: Machine>(
     ensures distinct { IfOk result (λ e.
         AreDistinct M.next M.answers (M.begin program.now) guards.now e.orders) }
     ensures most { IfOk result (λ e. length e.orders ≤ most) }
+    // claim: A search lists the shorter orders first, and no shorter order leads to the same state
+    //   as one that it lists
+    ensures sorted { IfOk result (λ e. AreSorted e.orders) }
+    ensures shortest { IfOk result (λ e. (place : ℕ) → place < length e.orders
+        → IsShortest M.next M.answers (M.begin program.now) guards.now may.now e.orders place) }
     // claim: A search is whole exactly if the orders that it lists lead to every state that their
     //   actions lead to, and where it is not, it lists as many as was asked
     ensures whole { IfOk result (λ e. IsTrue e.is_whole
@@ -95,6 +100,7 @@ pub fn explore<M: Machine>(
     // claim: The depth of a search is the length of the longest order that it lists
     ensures depth { IfOk result (λ e. e.depth ≡ greatest_length e.orders) }
 {
+    M::laws();
     let mut search = Search::<M>::new(alloc, program, may, guards, most)?;
     let mut findings = Findings::new(alloc);
     let mut place = 0;

@@ -6,7 +6,7 @@ ghost use Rattle.rp_machine.specs.Numbered.{outcome};
 ghost use Rattle.rp_orders.specs.Orders.{AreRight, AreAmong, LeadAlike};
 ghost use Rattle.rp_explore.specs.Listed.{order_at, further, AreOrdersOf, AreGuarded, AreDistinct};
 ghost use Rattle.rp_explore.specs.Findings.{found_of};
-ghost use Rattle.rp_explore.specs.Searched.{Grows, Extends, IsAt, IsMissing, MayFollowAt, AllReached, SomeMissing, AreQuiet, AreGiven, AreFindings, given_next};
+ghost use Rattle.rp_explore.specs.Searched.{Grows, Extends, IsAt, IsMissing, MayFollowAt, AllReached, SomeMissing, AreQuiet, IsLayered, AreNear, AreGiven, AreFindings, given_next};
 
 use crate::findings::{Findings, Given, Tried, note_waits};
 use crate::giver::Giver;
@@ -202,6 +202,7 @@ impl<'a, M: Machine> Search<'a, M> {
         requires room { length self.old.listed.orders ≤ self.old.most }
         requires begin { state.now.begin ≡ self.old.begin }
         requires actions { state.now.actions ≡ order_at self.old.listed.orders place }
+        requires layered { IsLayered self.old place }
         requires before { AreGiven M.next M.answers self.old place 0
             given.old.replies.keys given.old.givers.items }
         ensures extends { OnOk result (Extends self.old self.new) }
@@ -212,6 +213,9 @@ impl<'a, M: Machine> Search<'a, M> {
             ↔ AreQuiet M.next M.answers self.new place (length self.old.listed.may)) }
         ensures given { OnOk result (AreGiven M.next M.answers self.new place
             (length self.old.listed.may) given.new.replies.keys given.new.givers.items) }
+        ensures layered { OnOk result (IsLayered self.new place) }
+        ensures near { OnOk result
+            (AreNear M.next M.answers self.new place (length self.old.listed.may)) }
     {
         let mut trial = Trial {
             answers: Answers::new(),

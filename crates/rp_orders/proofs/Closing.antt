@@ -1,5 +1,5 @@
 -- Orders that are closed under what may happen lead to every state.
-use Rattle.std.proofs.Common.{◌≡◌, ◌≢◌, ℕ, ◌≤◌, max, Bool, true, false, not, IsTrue, ◌&&◌, ◌||◌, nat_eq, nat_lt, ◌⊎◌, Some, None, List, [], ◌∷◌, ◌++◌, map, filter_map, if◌then◌else◌, refl, sym, ap, subst, ◌∙◌, inl, inr, arith, append_assoc, append-nil, eq-eqb, eqb-true}
+use Rattle.std.proofs.Common.{◌≡◌, ◌≢◌, ℕ, ◌≤◌, max, Bool, true, false, not, IsTrue, ◌&&◌, ◌||◌, nat_eq, nat_lt, ◌⊎◌, Some, None, List, [], ◌∷◌, ◌++◌, map, filter_map, if◌then◌else◌, refl, sym, ap, subst, ◌∙◌, inl, inr, arith, append_assoc, append-nil, length, length-append, ◌+◌, eq-eqb, eqb-true}
 use Rattle.std.specs.List.{list_any, list_all, cons_option}
 use Rattle.std.specs.Cmp.Lexicographic.{pointwise}
 use Rattle.std.proofs.lemmas.List.Elements.{filter_map-append}
@@ -230,6 +230,34 @@ module _ {S P : Type 0} (next : S → Action → S) (answers : S → Action → 
       | inr last ↦ elim last [ inl same ↦ subst (λ (a : Action). IsRight a) (sym same) own | inr none ↦ absurd none ]
     ]
 
+    module _ (may : List Action) where
+      -- what counts of the whole is there after more
+      kept_stays : (done rest : List Action) (action : Action) → Has action (whole done).kept → Has action (whole (done ++ rest)).kept
+      kept_stays done rest action h =
+          let on = goes_on_from next answers (whole done) rest in
+          let joined = replay_from-append next answers (unmoved (begin program)) done rest in
+          subst (λ (r : Replayed S). Has action r.kept) (sym joined) (subst (λ (xs : List Action). Has action xs) (sym on.kept) (has_left action (whole done).kept on.further h))
+
+      -- an order of what may happen
+      abbrev Order : List Action → Type 0
+      Order order = IsOrderOf next answers (begin program) guards may order
+
+      -- an action that counts next may happen, since it is kept
+      counts_may : (done : List Action) (action : Action) (rest : List Action) → Order ((done ++ action ∷ []) ++ rest) → counts (whole done).kept (whole done).given action ≡ true → Has action may
+      counts_may done action rest is e =
+          let now : Has action (whole (done ++ action ∷ [])).kept =
+          subst (λ (r : Replayed S). Has action r.kept) (sym (pushed done action ∙ step_counts (whole done) action e)) (has_right action (whole done).kept (action ∷ []) (inl refl)) in
+          is.among action (kept_stays (done ++ action ∷ []) rest action now)
+
+      -- and the guards let it be decided
+      counts_follows : (done : List Action) (action : Action) (rest : List Action) → Order ((done ++ action ∷ []) ++ rest) → counts (whole done).kept (whole done).given action ≡ true
+          → MayFollow next answers (begin program) guards done action
+      counts_follows done action rest is e = is.guarded done action rest (append_assoc done (action ∷ []) rest) e
+
+      -- what is done of an order is right
+      right_done : (done : List Action) (action : Action) (rest : List Action) → Order ((done ++ action ∷ []) ++ rest) → AreRight done
+      right_done done action rest is a h = is.right a (has_left a (done ++ action ∷ []) rest (has_left a done (action ∷ []) h))
+
     module _ (may : List Action) (found : List (List Action)) (all_right : AreRight may) (closed : AreClosed next answers (begin program) guards may found) where
       found_right : (order : List Action) → Has order found → AreRight order
       found_right order h action a = all_right action (closed.among order h action a)
@@ -262,50 +290,23 @@ module _ {S P : Type 0} (next : S → Action → S) (answers : S → Action → 
       no_more done action reached e =
           (reached.0, reached.1, subst (λ (r : Replayed S). AreAlike guards r (whole reached.0)) (sym (pushed done action ∙ step_not (whole done) action e)) reached.2)
 
-      -- what counts of the whole is there after more
-      kept_stays : (done rest : List Action) (action : Action) → Has action (whole done).kept → Has action (whole (done ++ rest)).kept
-      kept_stays done rest action h =
-          let on = goes_on_from next answers (whole done) rest in
-          let joined = replay_from-append next answers (unmoved (begin program)) done rest in
-          subst (λ (r : Replayed S). Has action r.kept) (sym joined) (subst (λ (xs : List Action). Has action xs) (sym on.kept) (has_left action (whole done).kept on.further h))
-
-      -- an order of what may happen
-      abbrev Order : List Action → Type 0
-      Order order = IsOrderOf next answers (begin program) guards may order
-
-      -- an action that counts next may happen, since it is kept
-      counts_may : (done : List Action) (action : Action) (rest : List Action) → Order ((done ++ action ∷ []) ++ rest) → counts (whole done).kept (whole done).given action ≡ true → Has action may
-      counts_may done action rest is e =
-          let now : Has action (whole (done ++ action ∷ [])).kept =
-          subst (λ (r : Replayed S). Has action r.kept) (sym (pushed done action ∙ step_counts (whole done) action e)) (has_right action (whole done).kept (action ∷ []) (inl refl)) in
-          is.among action (kept_stays (done ++ action ∷ []) rest action now)
-
-      -- and the guards let it be decided
-      counts_follows : (done : List Action) (action : Action) (rest : List Action) → Order ((done ++ action ∷ []) ++ rest) → counts (whole done).kept (whole done).given action ≡ true
-          → MayFollow next answers (begin program) guards done action
-      counts_follows done action rest is e = is.guarded done action rest (append_assoc done (action ∷ []) rest) e
-
-      -- what is done of an order is right
-      right_done : (done : List Action) (action : Action) (rest : List Action) → Order ((done ++ action ∷ []) ++ rest) → AreRight done
-      right_done done action rest is a h = is.right a (has_left a (done ++ action ∷ []) rest (has_left a done (action ∷ []) h))
-
       -- one action more of an order
-      further_on : (done : List Action) (action : Action) (rest : List Action) → Order ((done ++ action ∷ []) ++ rest) → Reached done → Reached (done ++ action ∷ [])
+      further_on : (done : List Action) (action : Action) (rest : List Action) → Order may ((done ++ action ∷ []) ++ rest) → Reached done → Reached (done ++ action ∷ [])
       further_on done action rest is reached = by (counts (whole done).kept (whole done).given action) refl
         where
           by : (b : Bool) → counts (whole done).kept (whole done).given action ≡ b → Reached (done ++ action ∷ [])
-          by true e = one_more done action (right_done done action rest is) reached (counts_may done action rest is e) (counts_follows done action rest is e) e
+          by true e = one_more done action (right_done may done action rest is) reached (counts_may may done action rest is e) (counts_follows may done action rest is e) e
           by false e = no_more done action reached e
 
-      go : (done rest : List Action) → Order (done ++ rest) → Reached done → Reached (done ++ rest)
+      go : (done rest : List Action) → Order may (done ++ rest) → Reached done → Reached (done ++ rest)
       go done [] is reached = subst (λ (xs : List Action). Reached xs) (sym (append-nil done)) reached
       go done (action ∷ rest) is reached =
           let shift : (done ++ action ∷ []) ++ rest ≡ done ++ action ∷ rest = append_assoc done (action ∷ []) rest in
-          let is_now : Order ((done ++ action ∷ []) ++ rest) = subst (λ (xs : List Action). Order xs) (sym shift) is in
+          let is_now : Order may ((done ++ action ∷ []) ++ rest) = subst (λ (xs : List Action). Order may xs) (sym shift) is in
           subst (λ (xs : List Action). Reached xs) shift (go (done ++ action ∷ []) rest is_now (further_on done action rest is_now reached))
 
       -- every order of what may happen leads to a state to which a found one leads
-      pub all_reached : (order : List Action) → Order order → Reached order
+      pub all_reached : (order : List Action) → Order may order → Reached order
       all_reached order is = go [] order is ([], closed.starts, alike_start (whole []))
 
       abbrev Given : Answer → Type 0
@@ -337,27 +338,27 @@ module _ {S P : Type 0} (next : S → Action → S) (answers : S → Action → 
       given_step done action answer true e h = elim (has_either answer (whole done).given (answers (whole done).state action) h) [ inl before ↦ inl before | inr now ↦ inr (refl, now) ]
       given_step done action answer false e h = inl h
 
-      go_given : (done rest : List Action) (answer : Answer) → Order (done ++ rest) → Reached done
+      go_given : (done rest : List Action) (answer : Answer) → Order may (done ++ rest) → Reached done
           → (Has answer (whole done).given → Given answer) → Has answer (whole (done ++ rest)).given → Given answer
       go_given done [] answer is reached old h = old (subst (λ (xs : List Action). Has answer (whole xs).given) (append-nil done) h)
       go_given done (action ∷ rest) answer is reached old h =
           let shift : (done ++ action ∷ []) ++ rest ≡ done ++ action ∷ rest = append_assoc done (action ∷ []) rest in
-          let is_now : Order ((done ++ action ∷ []) ++ rest) = subst (λ (xs : List Action). Order xs) (sym shift) is in
+          let is_now : Order may ((done ++ action ∷ []) ++ rest) = subst (λ (xs : List Action). Order may xs) (sym shift) is in
           let h_now : Has answer (whole ((done ++ action ∷ []) ++ rest)).given = subst (λ (xs : List Action). Has answer (whole xs).given) (sym shift) h in
           go_given (done ++ action ∷ []) rest answer is_now
           (further_on done action rest is_now reached)
           (λ g. elim (given_step done action answer (counts (whole done).kept (whole done).given action) refl (subst (λ (r : Replayed S). Has answer r.given) (pushed done action) g)) [
             | inl earlier ↦ old earlier
-            | inr now ↦ given_now done action answer (right_done done action rest is_now) reached (counts_may done action rest is_now now.0) (counts_follows done action rest is_now now.0) now.0 now.1
+            | inr now ↦ given_now done action answer (right_done may done action rest is_now) reached (counts_may may done action rest is_now now.0) (counts_follows may done action rest is_now now.0) now.0 now.1
           ])
           h_now
 
       -- and each of its answers is given by a found one and one action more
-      pub all_given : (order : List Action) (answer : Answer) → Order order → Has answer (whole order).given → Given answer
+      pub all_given : (order : List Action) (answer : Answer) → Order may order → Has answer (whole order).given → Given answer
       all_given order answer is h = go_given [] order answer is ([], closed.starts, alike_start (whole [])) (λ none. absurd none) h
 
       -- where a task waits for ever, it does so after the found one too
-      pub all_stuck : (task : ℕ) (order : List Action) → Order order → IsStuck next answers (begin program) guards may task order
+      pub all_stuck : (task : ℕ) (order : List Action) → Order may order → IsStuck next answers (begin program) guards may task order
           → (other : List Action) × Has other found × IsStuck next answers (begin program) guards may task other
       all_stuck task order is stuck =
           let reached = all_reached order is in
@@ -388,6 +389,57 @@ module _ {S P : Type 0} (next : S → Action → S) (answers : S → Action → 
                   let here = subst (λ (r : Replayed S). AreAlike guards r (whole order)) (pushed order action) (quiet allowed) in
                   trans (whole (other ++ action ∷ [])) (replay_step next answers (whole order) action) (whole other) on
                   (trans (replay_step next answers (whole order) action) (whole order) (whole other) here alike)
+
+    -- an order that was found is no longer than this one and leads to the same state, or none is longer
+    abbrev pub Near : List (List Action) → List Action → Type 0
+    Near found order =
+        ((other : List Action) × Has other found × AreAlike guards (whole order) (whole other) × (length other ≤ length order))
+        ⊎ ((other : List Action) → Has other found → length other ≤ length order)
+
+    module _ (may : List Action) (found : List (List Action)) (all_right : AreRight may) (starts_there : Has [] found) (among : (order : List Action) → Has order found → AreAmong may order)
+        (near : (order : List Action) (action : Action) → Has order found → Has action may → MayFollow next answers (begin program) guards order action → Near found (order ++ action ∷ []))
+      where
+        longer : (order : List Action) (action : Action) → length (order ++ action ∷ []) ≡ length order + 1
+        longer order action = length-append order (action ∷ [])
+
+        near_step : (done : List Action) (action : Action) (rest : List Action) → Order may ((done ++ action ∷ []) ++ rest) → Near found done → Near found (done ++ action ∷ [])
+        near_step done action rest is (inr none) = inr (λ other h. let le = none other h in omega (arith, le, longer done action))
+        near_step done action rest is (inl soon) = by (counts (whole done).kept (whole done).given action) refl
+          where
+            by : (b : Bool) → counts (whole done).kept (whole done).given action ≡ b → Near found (done ++ action ∷ [])
+            by false e =
+                inl (soon.0, soon.1, subst (λ (r : Replayed S). AreAlike guards r (whole soon.0)) (sym (pushed done action ∙ step_not (whole done) action e)) soon.2, omega (arith, soon.3, longer done action))
+            by true e =
+                let one = fine done (right_done may done action rest is) in
+                let two = fine soon.0 (λ a h. all_right a (among soon.0 soon.1 a h)) in
+                let h = counts_may may done action rest is e in
+                let right = all_right action h in
+                let there : counts (whole soon.0).kept (whole soon.0).given action ≡ true = sym (same_counts (whole done) (whole soon.0) action one two soon.2 right) ∙ e in
+                let follows = sym (same_allowed (whole done) (whole soon.0) action one two soon.2 right e there) ∙ counts_follows may done action rest is e in
+                let steps = alike_step (whole done) (whole soon.0) action one two soon.2 right in
+                let joined : AreAlike guards (whole (done ++ action ∷ [])) (whole (soon.0 ++ action ∷ [])) =
+                subst (λ (r : Replayed S). AreAlike guards r (whole (soon.0 ++ action ∷ []))) (sym (pushed done action))
+                (subst (λ (r : Replayed S). AreAlike guards (replay_step next answers (whole done) action) r) (sym (pushed soon.0 action)) steps) in
+                elim (near soon.0 action soon.1 h follows) [
+                  | inl found_soon ↦ inl (
+                    found_soon.0,
+                    found_soon.1,
+                    trans (whole (done ++ action ∷ [])) (whole (soon.0 ++ action ∷ [])) (whole found_soon.0) joined found_soon.2,
+                    omega (arith, found_soon.3, soon.3, longer done action, longer soon.0 action),
+                  )
+                  | inr none ↦ inr (λ a g. let le = none a g in omega (arith, le, soon.3, longer done action, longer soon.0 action))
+                ]
+
+        near_from : (done rest : List Action) → Order may (done ++ rest) → Near found done → Near found (done ++ rest)
+        near_from done [] is reached = subst (λ (xs : List Action). Near found xs) (sym (append-nil done)) reached
+        near_from done (action ∷ rest) is reached =
+            let shift : (done ++ action ∷ []) ++ rest ≡ done ++ action ∷ rest = append_assoc done (action ∷ []) rest in
+            let is_now : Order may ((done ++ action ∷ []) ++ rest) = subst (λ (xs : List Action). Order may xs) (sym shift) is in
+            subst (λ (xs : List Action). Near found xs) shift (near_from (done ++ action ∷ []) rest is_now (near_step done action rest is_now reached))
+
+        -- each order is as long as one that was found and leads to the same state, or as any
+        pub all_near : (order : List Action) → Order may order → Near found order
+        all_near order is = near_from [] order is (inl ([], starts_there, alike_start (whole []), omega arith))
 
     -- what counts is among the actions
     kept_if : (r : Replayed S) (action other : Action) (b : Bool) → Has other (if b then after r action else r).kept → Has other r.kept ⊎ (other ≡ action)

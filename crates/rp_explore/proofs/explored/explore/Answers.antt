@@ -1,23 +1,30 @@
 -- Once each order was visited, the search has found all.
-use Rattle.std.proofs.Common.{◌≡◌, ◌↔◌, ◌-◌, ◌<◌, ◌≤◌, ℕ, Bool, true, false, List, [], ◌∷◌, length, map, get_or, Option, None, IsTrue, MatchOption, MatchBool, inl, inr, sym, ◌∙◌, ap, subst, arith}
+use Rattle.std.proofs.Common.{◌≡◌, ◌↔◌, ◌-◌, ◌<◌, ◌≤◌, ◌+◌, ℕ, Bool, true, false, List, [], ◌∷◌, ◌++◌, length, map, get_or, Option, None, IsTrue, MatchOption, MatchBool, inl, inr, sym, ◌∙◌, ap, subst, arith}
 use Rattle.rp_base.specs.Sets.{Has, IsSet}
 use Rattle.rp_base.specs.declared.action.Action.{Action}
 use Rattle.rp_base.specs.declared.reply.Answer.{Answer}
-use Rattle.rp_orders.specs.Orders.{AreClosed, IsGiven, IsFinal}
+use Rattle.rp_orders.specs.Orders.{AreClosed, IsGiven, IsFinal, MayFollow}
+use Rattle.rp_orders.proofs.Closing.{all_near}
 use Rattle.rp_orders.specs.declared.guard.Guard.{Guard}
 use Rattle.rp_explore.specs.declared.giver.Giver.{Giver}
 use Rattle.rp_explore.specs.Findings.{found_of}
-use Rattle.rp_explore.specs.Listed.{Listed, order_at, AreOrdersOf, AreGuarded, AreDistinct}
+use Rattle.rp_explore.specs.Listed.{Listed, order_at, AreOrdersOf, AreGuarded, AreSorted, AreDistinct}
 use Rattle.rp_explore.specs.Searched.{Searched, Found, AllReached, LeadsBeyond, WaitsFirst, AreFindings}
 use Rattle.rp_explore.specs.Explored.{greatest_length, IsFirstStuck, IsNeverStuck, IsFirstGiver}
 use Rattle.rp_explore.proofs.VisitLemmas.{longer}
-use Rattle.rp_explore.proofs.ExploredLemmas.{has_empty, whole_closed, full_if_not, replies_given, giver_found, marked_final, deepest, waits_found}
+use Rattle.rp_explore.proofs.ExploredLemmas.{NearTo, shortest, near_found, has_empty, whole_closed, full_if_not, replies_given, giver_found, marked_final, deepest, waits_found}
 use Rattle.rp_explore.proofs.explored.explore.Goals as goal
+
+-- one order is sorted
+sorted_one : {S : Type 0} (s : Searched S) → length s.listed.orders ≡ 1 → AreSorted s.listed.orders
+sorted_one s alone one other le below =
+    let same : one ≡ other = omega (arith, le, below, alone) in
+    subst (λ (k : ℕ). length (order_at s.listed.orders one) ≤ length (order_at s.listed.orders k)) same (omega arith)
 
 -- nothing was visited yet
 none_yet : {S : Type 0} (next : S → Action → S) (answers : S → Action → List Answer) (s : Searched S) (found : Found)
-    → found.is_whole ≡ true → found.replies ≡ [] → found.givers ≡ [] → found.finals ≡ [] → found.depth ≡ 0 → ((task : ℕ) → get_or found.stuck task None ≡ None) → AreFindings next answers s 0 found
-none_yet next answers s found whole none no_givers no_finals no_depth never =
+    → found.is_whole ≡ true → found.replies ≡ [] → found.givers ≡ [] → found.finals ≡ [] → found.depth ≡ 0 → ((task : ℕ) → get_or found.stuck task None ≡ None) → length s.listed.orders ≡ 1 → AreFindings next answers s 0 found
+none_yet next answers s found whole none no_givers no_finals no_depth never alone =
     let size : length found.replies ≡ 0 = ap length none in
     record {
       whole = subst (λ (b : Bool). MatchBool b ((p : ℕ) → p < 0 → AllReached next answers s p (length s.listed.may)) (LeadsBeyond next answers s)) (sym whole) (λ p below. absurd (omega arith));
@@ -32,6 +39,12 @@ none_yet next answers s found whole none no_givers no_finals no_depth never =
       };
       finals = record { size = ap length no_finals; marked = λ p below. absurd (omega arith) };
       stuck = λ task is. subst (λ (o : Option ℕ). WaitsFirst next answers s task 0 o) (sym (never (task - 1))) (λ earlier below. absurd (omega arith));
+      layered = λ more. record {
+        sorted = sorted_one s alone;
+        layer = λ other below. let first : other ≡ 0 = omega (arith, below, alone) in subst (λ (k : ℕ). length (order_at s.listed.orders k) ≤ length (order_at s.listed.orders 0) + 1) (sym first) (omega arith);
+      };
+      sorted = sorted_one s alone;
+      near = λ p below. absurd (omega (arith, below));
       depth = no_depth;
     }
 
@@ -56,7 +69,7 @@ loop-place-init g c =
       most = ap (λ (v : Searched _). v.most) is;
       within = omega arith;
       room = omega (arith, ap (λ (v : Searched _). length v.listed.orders) is, ap (λ (v : Searched _). v.most) is, c.requires.room);
-      found = none_yet m.next m.answers s (found_of c.new-findings.result) none.whole none.replies none.givers none.finals none.depth none.stuck;
+      found = none_yet m.next m.answers s (found_of c.new-findings.result) none.whole none.replies none.givers none.finals none.depth none.stuck (ap (λ (v : Searched _). length v.listed.orders) is);
     }
 
 pub visit-requires : goal.visit-requires
@@ -192,3 +205,31 @@ returns-clause-depth g c =
     let all = found_all m.next m.answers s c.loop-place.place c.len.result f i.within c.loop-place-test.false c.len.ensures.value i.found in
     moved (λ b gs may orders. f.depth ≡ greatest_length orders) s (m.begin c.args.program.now) c.args.guards.now c.args.may.now c.into_tree.result i.begin i.guards i.may c.into_tree.ensures
     (deepest m.next m.answers s f all)
+
+pub returns-clause-sorted : goal.returns-clause-sorted
+returns-clause-sorted g c =
+    let m = g.M.Machine in
+    let s : Searched _ = c.loop-place.search in
+    let f = found_of c.loop-place.findings in
+    let i = c.loop-place.invariant in
+    moved (λ b gs may orders. AreSorted orders) s (m.begin c.args.program.now) c.args.guards.now c.args.may.now c.into_tree.result i.begin i.guards i.may c.into_tree.ensures
+    i.found.sorted
+
+pub returns-clause-shortest : goal.returns-clause-shortest
+returns-clause-shortest g c = λ place lt order is alike.
+    let m = g.M.Machine in
+    let s : Searched _ = c.loop-place.search in
+    let f = found_of c.loop-place.findings in
+    let i = c.loop-place.invariant in
+    let all = found_all m.next m.answers s c.loop-place.place c.len.result f i.within c.loop-place-test.false c.len.ensures.value i.found in
+    let laws = c.laws.ensures in
+    let program = c.args.program.now in
+    let guards = c.args.guards.now in
+    let may = c.args.may.now in
+    let orders = c.into_tree.result.orders in
+    let starts : Has [] orders = moved (λ b gs acts os. Has [] os) s (m.begin c.args.program.now) c.args.guards.now c.args.may.now c.into_tree.result i.begin i.guards i.may c.into_tree.ensures
+    (has_empty m.next m.answers s (omega (arith, c.len.ensures.value, c.len.ensures.starts)) c.len.ensures.empty) in
+    let near = moved (λ b gs acts os. (before : List Action) (action : Action) → Has before os → Has action acts → MayFollow m.next m.answers b gs before action → NearTo m.next m.answers b gs os (before ++ action ∷ [])) s (m.begin c.args.program.now) c.args.guards.now c.args.may.now c.into_tree.result i.begin i.guards i.may c.into_tree.ensures
+    (near_found m.next m.answers s f all) in
+    shortest m.next m.answers (m.begin program) guards orders place order lt (returns-clause-distinct g c) alike
+    (all_near m.next m.answers m.waiting m.begin m.runs laws.none_waits laws.starts laws.keeps laws.accounts program guards may orders c.requires.right starts (returns-clause-among g c) near order is)

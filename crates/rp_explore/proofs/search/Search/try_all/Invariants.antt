@@ -1,5 +1,5 @@
 use Rattle.std.proofs.Common.{◌↔◌, IsTrue, MatchBool}
-use Rattle.rp_explore.specs.Searched.{Extends, AllReached, SomeMissing, AreQuiet, AreGiven}
+use Rattle.rp_explore.specs.Searched.{Extends, AllReached, SomeMissing, AreQuiet, IsLayered, AreNear, AreGiven}
 use Rattle.rp_explore.proofs.search.Search.try_all.Given as goal
 
 -- the clauses, for the actions so far
@@ -9,5 +9,7 @@ invariant-loop-action g l =
       extends : Extends l.fn.self l.self;
       whole : MatchBool l.tried.is_whole (AllReached m.next m.answers l.self l.place l.action) (SomeMissing m.next m.answers l.self l.place l.action);
       quiet : IsTrue l.tried.is_quiet ↔ AreQuiet m.next m.answers l.self l.place l.action;
+      layered : IsLayered l.self l.place;
+      near : AreNear m.next m.answers l.self l.place l.action;
       given : AreGiven m.next m.answers l.self l.place l.action l.given.replies.keys l.given.givers.items;
     }

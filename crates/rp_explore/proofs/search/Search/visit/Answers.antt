@@ -8,8 +8,9 @@ use Rattle.rp_machine.specs.Numbered.{Applied, outcome}
 use Rattle.rp_explore.specs.declared.findings.Given.{Given}
 use Rattle.rp_explore.specs.Findings.{found_of}
 use Rattle.rp_explore.specs.Listed.{order_at}
-use Rattle.rp_explore.specs.Searched.{Searched, Found, Extends, AllReached, SomeMissing, LeadsBeyond, AreQuiet, AreGiven, WaitsFirst, AreFindings}
+use Rattle.rp_explore.specs.Searched.{Searched, Found, Extends, AllReached, SomeMissing, LeadsBeyond, AreQuiet, IsLayered, AreNear, AreGiven, WaitsFirst, AreFindings}
 use Rattle.rp_explore.proofs.VisitLemmas.{order_stays}
+use Rattle.rp_explore.proofs.LayerLemmas.{layered_next, near_after}
 use Rattle.rp_explore.proofs.GivenLemmas.{given_next_order}
 use Rattle.rp_explore.proofs.FindingsLemmas.{whole_after, marked_more, deeper, waits_after, noted_none, stuck_quiet, waits_stuck}
 use Rattle.rp_explore.proofs.search.Search.visit.Goals as goal
@@ -27,12 +28,13 @@ found_after : {S : Type 0} (next : S → Action → S) (answers : S → Action �
     → Extends old new → place < length old.listed.orders → AreFindings next answers old place before
     → MatchBool is_whole (AllReached next answers new place (length old.listed.may)) (SomeMissing next answers new place (length old.listed.may))
     → IsTrue is_quiet ↔ AreQuiet next answers new place (length old.listed.may)
+    → IsLayered new place → AreNear next answers new place (length old.listed.may)
     → AreGiven next answers new place (length old.listed.may) after.replies after.givers
     → order ≡ order_at old.listed.orders place
     → after.is_whole ≡ (before.is_whole && is_whole) → after.finals ≡ before.finals ++ is_quiet ∷ [] → after.depth ≡ max before.depth (length order)
     → ((task : ℕ) → IsTask task → WaitsFirst next answers new task (place + 1) (get_or after.stuck (task - 1) None))
     → AreFindings next answers new (place + 1) after
-found_after next answers old new place before after is_whole is_quiet order e lt was whole quiet given is wholes marks depths stuck =
+found_after next answers old new place before after is_whole is_quiet order e lt was whole quiet layered near given is wholes marks depths stuck =
     let size : length old.listed.may ≡ length new.listed.may = ap length (sym e.may) in
     record {
       whole = subst (λ (b : Bool). MatchBool b ((p : ℕ) → p < place + 1 → AllReached next answers new p (length new.listed.may)) (LeadsBeyond next answers new)) (sym wholes)
@@ -40,6 +42,9 @@ found_after next answers old new place before after is_whole is_quiet order e lt
       given = given_next_order next answers new place after.replies after.givers (subst (λ (n : ℕ). AreGiven next answers new place n after.replies after.givers) size given);
       finals = marked_more next answers old new place before.finals after.finals is_quiet e lt marks quiet was.finals;
       stuck = stuck;
+      layered = λ more. layered_next new place more layered;
+      sorted = layered.sorted;
+      near = near_after next answers old new place e lt was.near near;
       depth = deeper next answers old new place before.depth after.depth order e lt is depths was.depth;
     }
 
@@ -57,7 +62,7 @@ returns-then-not-tried-clause-after g c =
     λ quiet. true≢false (sym (ensured.quiet.1 (subst (λ (n : ℕ). AreQuiet m.next m.answers new c.args.place n) size quiet)) ∙ not_true tried.is_quiet c.if-not-tried.true) in
     let long : c.in_ok-order.order.len ≡ length c.in_ok-order.order.items = omega (arith, c.in_ok-order.order.ok.0) in
     found_after m.next m.answers old new c.args.place (found_of c.args.findings.now) (found_of c.note_order.new.self) tried.is_whole tried.is_quiet c.in_ok-order.order.items
-    e c.requires.place c.requires.before ensured.whole ensured.quiet
+    e c.requires.place c.requires.before ensured.whole ensured.quiet ensured.layered ensured.near
     (subst (λ (gs : Given). AreGiven m.next m.answers new c.args.place (length old.listed.may) gs.replies.keys gs.givers.items) (sym noted.given) ensured.given)
     (c.in_ok-order.ensures.value ∙ ap (λ (v : Searched _). order_at v.listed.orders c.args.place) c.self.view_is)
     noted.whole noted.finals (noted.depth ∙ ap (max c.args.findings.now.depth) (c.len.ensures ∙ long))
@@ -87,7 +92,7 @@ returns-clause-after g c =
     let last : Found = record (found_of c.note_order.new.self) { stuck = c.note_waits.new.stuck } in
     let long : c.in_ok-order.order.len ≡ length c.in_ok-order.order.items = omega (arith, c.in_ok-order.order.ok.0) in
     found_after m.next m.answers old new c.args.place (found_of c.args.findings.now) last tried.is_whole tried.is_quiet c.in_ok-order.order.items
-    e c.requires.place c.requires.before ensured.whole ensured.quiet
+    e c.requires.place c.requires.before ensured.whole ensured.quiet ensured.layered ensured.near
     (subst (λ (gs : Given). AreGiven m.next m.answers new c.args.place (length old.listed.may) gs.replies.keys gs.givers.items) (sym noted.given) ensured.given)
     (c.in_ok-order.ensures.value ∙ ap (λ (v : Searched _). order_at v.listed.orders c.args.place) c.self.view_is)
     noted.whole noted.finals (noted.depth ∙ ap (max c.args.findings.now.depth) (c.len.ensures ∙ long))

@@ -1,14 +1,12 @@
 -- Equal answers, and sets of answers.
-use Rattle.std.proofs.Common.{◌≡◌, ◌↔◌, ◌⊎◌, ℕ, ◌+◌, ◌<◌, Bool, true, false, ◌&&◌, ◌||◌, nat_eq, List, [], ◌∷◌, ◌++◌, length, get_or, take, if◌then◌else◌, inl, inr, sym, ◌∙◌, ap, subst, refl, rules, eqb-true, eq-eqb, true≢false}
-use Rattle.std.specs.List.{list_any, IsDistinct, AllByRecursion}
-use Rattle.std.proofs.lemmas.List.{take_more}
-use Rattle.rp_base.specs.Sets.{Has, IsSet}
+use Rattle.std.proofs.Common.{◌≡◌, Bool, true, false, ◌&&◌, ◌||◌, nat_eq, List, [], ◌∷◌, inl, inr, sym, ◌∙◌, ap, refl, rules, eqb-true, eq-eqb, true≢false}
+use Rattle.std.specs.List.{list_any}
+use Rattle.rp_base.specs.Sets.{Has}
 use Rattle.rp_base.specs.declared.reply.Answer.{Answer}
 use Rattle.rp_base.specs.declared.reply.Reply.{Reply}
 use Rattle.rp_base.specs.contracts.reply.AnswerPartialEq.TheImpl.{eq-value}
 use Rattle.rp_base.specs.contracts.reply.ReplyPartialEq.TheImpl as reply
-use Rattle.rp_machine.proofs.Calling.{both_true, has_left}
-use Rattle.rp_explore.proofs.Lists.{has_last, has_end}
+use Rattle.rp_machine.proofs.Calling.{both_true}
 
 same_reply : (a b : Reply) → reply.eq-value.it a b ≡ true → a ≡ b
 same_reply a b e = search rules

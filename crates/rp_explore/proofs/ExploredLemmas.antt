@@ -11,7 +11,7 @@ use Rattle.rp_orders.specs.Orders.{IsReached, IsGiven, IsStuck, IsFinal, LeadAli
 use Rattle.rp_orders.specs.declared.guard.Guard.{Guard}
 use Rattle.rp_explore.specs.declared.giver.Giver.{Giver}
 use Rattle.rp_explore.specs.Listed.{order_at, AreOrdersOf, AreGuarded, AreDistinct}
-use Rattle.rp_explore.specs.Searched.{Searched, Found, MayFollowAt, Gives, IsEarlier, IsGivenBefore, AllReached, WaitsFirst, LeadsBeyond, AreFindings}
+use Rattle.rp_explore.specs.Searched.{Searched, Found, MayFollowAt, Gives, IsEarlier, AllReached, WaitsFirst, LeadsBeyond, AreFindings}
 use Rattle.rp_explore.specs.Explored.{greatest_length, IsNeverStuck, IsFirstStuck, GivesAt, IsFirstGiver}
 use Rattle.rp_explore.proofs.Lists.{has_at, place_in}
 use Rattle.rp_explore.proofs.SearchLemmas.{alike_flip, alike_join}

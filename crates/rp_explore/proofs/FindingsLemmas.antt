@@ -1,10 +1,9 @@
 -- What the first orders give, and one order more.
-use Rattle.std.proofs.Common.{◌≡◌, ◌↔◌, ℕ, ◌+◌, ◌-◌, ◌<◌, ◌⊎◌, Bool, true, false, ◌&&◌, IsTrue, List, [], ◌∷◌, ◌++◌, length, length-append, get_or, map, max, take, Option, Some, None, is_none, if◌then◌else◌, MatchBool, inl, inr, sym, ap, subst, refl, arith, ◌∙◌, true≢false}
+use Rattle.std.proofs.Common.{◌≡◌, ◌↔◌, ℕ, ◌+◌, ◌-◌, ◌<◌, Bool, true, false, ◌&&◌, IsTrue, List, [], ◌∷◌, ◌++◌, length, length-append, get_or, map, max, take, Option, Some, None, is_none, if◌then◌else◌, MatchBool, inl, inr, sym, ap, subst, refl, arith, ◌∙◌, true≢false}
 use Rattle.std.proofs.lemmas.Bool.{cases_lt}
 use Rattle.std.proofs.lemmas.List.{get_or_append_left, get_or-append_right, map-append, take_more, take-append-le}
 use Rattle.rp_base.specs.Number.{greatest}
 use Rattle.rp_machine.proofs.Numbering.{greatest-push}
-use Rattle.rp_base.specs.Sets.{Has}
 use Rattle.rp_base.specs.declared.action.Action.{Action}
 use Rattle.rp_base.specs.declared.action.Action.TheVariants.{Noop}
 use Rattle.rp_base.specs.declared.reply.Answer.{Answer}

@@ -1,17 +1,15 @@
 -- The shorter orders are found first.
-use Rattle.std.proofs.Common.{◌≡◌, ℕ, ◌+◌, ◌-◌, ◌<◌, ◌≤◌, ◌⊎◌, List, [], ◌∷◌, ◌++◌, length, get_or, Option, Some, None, MatchOption, inl, inr, sym, ◌∙◌, ap, subst, refl, arith, length-append}
+use Rattle.std.proofs.Common.{◌≡◌, ℕ, ◌+◌, ◌-◌, ◌<◌, ◌≤◌, List, [], ◌∷◌, ◌++◌, length, get_or, Option, Some, None, MatchOption, inl, inr, sym, ◌∙◌, ap, subst, refl, arith, length-append}
 use Rattle.std.proofs.lemmas.List.{get_or_append_left, get_or-append_right}
 use Rattle.std.proofs.lemmas.Bool.{cases_lt}
-use Rattle.rp_base.specs.Sets.{Has}
 use Rattle.rp_base.specs.declared.action.Action.{Action}
 use Rattle.rp_base.specs.declared.action.Action.TheVariants.{Noop}
 use Rattle.rp_base.specs.declared.reply.Answer.{Answer}
 use Rattle.rp_machine.proofs.Calling.{has_left}
-use Rattle.rp_orders.specs.Orders.{LeadAlike}
 use Rattle.rp_explore.specs.Listed.{order_at, further, AreSorted}
 use Rattle.rp_explore.specs.Searched.{Searched, Grows, Extends, IsAt, IsMissing, MayFollowAt, IsLayered, IsNear, AreNear}
 use Rattle.rp_explore.proofs.Lists.{has_at}
-use Rattle.rp_explore.proofs.VisitLemmas.{grown, is_grown, further_stays, full_stays, longer, back, follows}
+use Rattle.rp_explore.proofs.VisitLemmas.{is_grown, further_stays, full_stays, back, follows}
 
 -- the length of an order and one action more
 pub one_longer : {S : Type 0} (s : Searched S) (place index : ℕ) → length (further s.listed place index) ≡ length (order_at s.listed.orders place) + 1

@@ -2,12 +2,9 @@
 use Rattle.std.proofs.Common.{◌≡◌, ◌↔◌, ℕ, ◌+◌, ◌<◌, ◌≤◌, ◌⊎◌, Bool, true, false, ◌&&◌, IsTrue, List, [], ◌∷◌, ◌++◌, length, get_or, Option, Some, None, is_some, MatchOption, MatchBool, inl, inr, sym, ◌∙◌, ap, subst, refl, arith, append_assoc, append-nil, length-append}
 use Rattle.std.proofs.lemmas.List.{get_or_append_left}
 use Rattle.std.proofs.lemmas.Bool.{cases_lt}
-use Rattle.rp_base.specs.Sets.{Has}
 use Rattle.rp_base.specs.declared.action.Action.{Action}
 use Rattle.rp_base.specs.declared.action.Action.TheVariants.{Noop}
 use Rattle.rp_base.specs.declared.reply.Answer.{Answer}
-use Rattle.rp_machine.specs.Replay.{replay_of}
-use Rattle.rp_machine.specs.Numbered.{Applied, outcome}
 use Rattle.rp_machine.proofs.Calling.{has_left}
 use Rattle.rp_orders.specs.Orders.{LeadAlike, IsReached, MayFollow}
 use Rattle.rp_orders.specs.declared.guard.Guard.{Guard}

@@ -19,7 +19,8 @@ IsAsked found is_final_only place =
 module _ (found : Exploration) (is_final_only : Bool) (holds : ℕ → Type 0) where
   -- it holds after each of which it is asked
   abbrev pub IsNeverBroken : Type 0
-  IsNeverBroken = (place : ℕ) → place < length found.orders → IsAsked found is_final_only place → holds place
+  IsNeverBroken = (place : ℕ) → place < length found.orders
+      → IsAsked found is_final_only place → holds place
 
   -- it does not hold after the order at the place, of which it is asked, and holds after each
   -- earlier one of which it is
@@ -27,4 +28,5 @@ module _ (found : Exploration) (is_final_only : Bool) (holds : ℕ → Type 0) w
     pub within : place < length found.orders
     pub asked : IsAsked found is_final_only place
     pub broken : ¬ holds place
-    pub first : (earlier : ℕ) → earlier < place → IsAsked found is_final_only earlier → holds earlier
+    pub first : (earlier : ℕ) → earlier < place
+        → IsAsked found is_final_only earlier → holds earlier

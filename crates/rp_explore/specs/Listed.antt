@@ -41,7 +41,8 @@ module _ {S : Type 0} (next : S → Action → S) (answers : S → Action → Li
   -- no two of the orders, by their places, have the same effect
   abbrev pub AreDistinct : List (List Action) → Type 0
   AreDistinct orders = (one other : ℕ) → one < length orders → other < length orders
-      → LeadAlike next answers begin guards (order_at orders one) (order_at orders other) → one ≡ other
+      → LeadAlike next answers begin guards (order_at orders one) (order_at orders other)
+      → one ≡ other
 
 -- ---- how memory holds them (no public clause names what follows)
 

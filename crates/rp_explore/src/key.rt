@@ -12,9 +12,9 @@ use rp_machine::{Machine, Numbered};
 use rp_orders::Guard;
 use std::alloc::{AllocError, Global};
 
-/// The lines of a state's image, by their numbers, the number of each task's last call, each source's last occurrence, and
-/// whether each task's next call may be made, by its guards. States with equal keys are one state,
-/// since a machine's image shows its state whole.
+/// The lines of a state's image, by their numbers, the number of each task's last call, each
+/// source's last occurrence, and whether each task's next call may be made, by its guards. States
+/// with equal keys are one state, since a machine's image shows its state whole.
 #[derive(Drop, PartialEq, Eq, Hash)]
 pub struct Key {
     lines: Vec<usize>,

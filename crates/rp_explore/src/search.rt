@@ -173,8 +173,9 @@ impl<'a, M: Machine> Search<'a, M> {
             (further self.old.listed place index) (order_at self.old.listed.orders place)) }
         ensures skips { IfOk result (λ at.
             MayFollowAt M.next M.answers self.old place index ⊎ (at ≡ Some place)) }
-        ensures answers { OnOk result (trial.new.answers ≡ given_next M.next M.answers self.old.guards
-            (outcome M.next M.answers state.now) (slice_index_or self.old.listed.may index Noop)) }
+        ensures answers { OnOk result (trial.new.answers
+            ≡ given_next M.next M.answers self.old.guards (outcome M.next M.answers state.now)
+            (slice_index_or self.old.listed.may index Noop)) }
     {
         trial.answers.clear();
         let action = self.tree.may()[index];

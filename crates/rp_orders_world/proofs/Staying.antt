@@ -1,5 +1,5 @@
 -- The order of a history is one of what may happen, and so is each prefix of it.
-use Rattle.std.proofs.Common.{◌≡◌, ◌≢◌, ℕ, zero, suc, ◌+◌, ◌<◌, ◌≤◌, ℤ, Bool, true, false, not, ◌&&◌, nat_eq, ◌⊎◌, Option, Some, None, is_none, is_some, unwrap_or, List, [], ◌∷◌, ◌++◌, length, find, if◌then◌else◌, refl, sym, ap, subst, ◌∙◌, inl, inr, arith, append_assoc, eqb-true}
+use Rattle.std.proofs.Common.{◌≡◌, ◌≢◌, ℕ, zero, suc, ◌+◌, ◌<◌, ◌≤◌, ℤ, Bool, true, false, not, nat_eq, ◌⊎◌, Option, Some, None, is_none, is_some, unwrap_or, List, [], ◌∷◌, ◌++◌, length, find, if◌then◌else◌, refl, sym, ap, subst, ◌∙◌, inl, inr, arith, append_assoc, eqb-true}
 use Rattle.std.specs.Option.{option_map}
 use Rattle.std.specs.Prelude.{slice_get}
 use Rattle.rp_base.specs.Sets.{Has}

@@ -23,8 +23,8 @@ reply_before (suc (suc k)) replies = option_map (λ answer. answer.reply) (slice
 
 -- In a history of these events, which led to this world, each call that a task asked a node for is
 -- among the actions that may happen, and its guards hold of the reply that the task got to its call
--- before; each interrupt and each tick that a node noted may happen too. How often an interrupt or a
--- tick is noted, and at which nodes, does not matter.
+-- before; each interrupt and each tick that a node noted may happen too. How often an interrupt or
+-- a tick is noted, and at which nodes, does not matter.
 pub record IsWithin (guards : List Guard) (may : List Action) (happened : List Event) (w : World)
     : Type 0 where
   pub calls : (task : ℕ) (call : Action) → Asks w.sent task call → Has call may

@@ -22,9 +22,10 @@ use rp_orders::closed_orders_lead_to_all;
 use rp_world::histories_are_ordered;
 
 /// Some orders are closed under some right actions, and a history of a cluster asks for and notes
-/// only these, a task each call only where its guards hold of the reply before. Then what each node has applied leads to a state to which one of the orders leads,
-/// each reply that a task got is given by one of them and one action more, and a task that waits
-/// for ever after what a node has applied does so after one of them. Packets may be lost, delayed,
+/// only these, and a task asks for a call only where its guards hold of the reply to its call
+/// before. Then what each node has applied leads to a state to which one of the orders leads, each
+/// reply that a task got is given by one of them and one action more, and a task that waits for
+/// ever after what a node has applied does so after one of them. Packets may be lost, delayed,
 /// reordered or delivered twice, and nodes may stop, within a step too, and start again.
 pub fn histories_stay_within<M: Machine>()
     // claim: In every history of a cluster each node is in a state to which a closed list of orders

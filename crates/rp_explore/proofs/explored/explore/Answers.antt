@@ -1,12 +1,11 @@
 -- Once each order was visited, the search has found all.
-use Rattle.std.proofs.Common.{◌≡◌, ◌↔◌, ◌-◌, ◌<◌, ◌≤◌, ◌+◌, ℕ, Bool, true, false, List, [], ◌∷◌, ◌++◌, length, map, get_or, Option, None, IsTrue, MatchOption, MatchBool, inl, inr, sym, ◌∙◌, ap, subst, arith}
+use Rattle.std.proofs.Common.{◌≡◌, ◌↔◌, ◌-◌, ◌<◌, ◌≤◌, ◌+◌, ℕ, Bool, true, false, List, [], ◌∷◌, ◌++◌, length, get_or, Option, None, IsTrue, MatchOption, MatchBool, inl, inr, sym, ◌∙◌, ap, subst, arith}
 use Rattle.rp_base.specs.Sets.{Has, IsSet}
 use Rattle.rp_base.specs.declared.action.Action.{Action}
 use Rattle.rp_base.specs.declared.reply.Answer.{Answer}
 use Rattle.rp_orders.specs.Orders.{AreClosed, IsGiven, IsFinal, MayFollow}
 use Rattle.rp_orders.proofs.Closing.{all_near}
 use Rattle.rp_orders.specs.declared.guard.Guard.{Guard}
-use Rattle.rp_explore.specs.declared.giver.Giver.{Giver}
 use Rattle.rp_explore.specs.Findings.{found_of}
 use Rattle.rp_explore.specs.Listed.{Listed, order_at, AreOrdersOf, AreGuarded, AreSorted, AreDistinct}
 use Rattle.rp_explore.specs.Searched.{Searched, Found, AllReached, LeadsBeyond, WaitsFirst, AreFindings}

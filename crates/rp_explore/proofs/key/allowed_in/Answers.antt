@@ -1,5 +1,5 @@
 -- One task more.
-use Rattle.std.proofs.Common.{◌≡◌, ◌+◌, ℕ, Bool, List, if◌then◌else◌, length, get_or, true≢false, ap, sym, ◌∙◌, arith, length-set}
+use Rattle.std.proofs.Common.{◌≡◌, ◌+◌, ℕ, List, if◌then◌else◌, length, get_or, true≢false, ap, sym, ◌∙◌, arith, length-set}
 use Rattle.rp_orders.specs.Guards.{may_go_on}
 use Rattle.rp_machine.specs.Numbered.{outcome}
 use Rattle.rp_explore.proofs.KeyLemmas.{bit, eight, eight_more}

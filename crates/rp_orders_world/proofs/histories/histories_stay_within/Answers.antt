@@ -37,7 +37,7 @@ returns-clause-replies g c = λ config program guards may found happened world r
     (c.closed_orders_lead_to_all.ensures.replies program guards may found right closed answer).0 (
       ordered.order,
       is_order m.next m.answers (m.begin program) config.nodes guards may happened world asked noted within ordered.order ordered.decided
-    ordered.replies ordered.made (λ call one other a b. c.a_call_has_one_answer.ensures program ordered.order call one other (λ v h. all_right v h) a b),
+          ordered.replies ordered.made (λ call one other a b. c.a_call_has_one_answer.ensures program ordered.order call one other (λ v h. all_right v h) a b),
       (ordered.replies task place.0 part answer is place.1).is_answer.1,
     )
 

@@ -1,6 +1,5 @@
 -- An answer is there, or it goes last.
-use Rattle.std.proofs.Common.{◌≡◌, ◌∷◌, ◌++◌, List, [], Bool, true, false, if◌then◌else◌, ap, sym, ◌∙◌, true≢false}
-use Rattle.rp_base.specs.declared.reply.Answer.{Answer}
+use Rattle.std.proofs.Common.{◌∷◌, ◌++◌, [], Bool, if◌then◌else◌, ap, sym, ◌∙◌, true≢false}
 use Rattle.rp_explore.proofs.AnswerLemmas.{found, has_found}
 use Rattle.rp_explore.proofs.GivenLemmas.{noted_old, noted_new}
 use Rattle.rp_explore.proofs.findings.Given.note_one.Goals as goal

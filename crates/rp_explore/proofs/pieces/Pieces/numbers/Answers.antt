@@ -1,9 +1,8 @@
 -- One byte more.
 use Rattle.std.specs.Prelude.{Vec}
 use Rattle.std.specs.declared.alloc.Global.{Global}
-use Rattle.std.proofs.Common.{◌≡◌, ◌+◌, ◌++◌, ◌∷◌, [], ℕ, List, Some, slice_get, sym, ap, subst, ◌∙◌}
-use Rattle.rp_explore.specs.Pieces.{AreMore}
-use Rattle.rp_explore.proofs.PieceLemmas.{IsNumbered, items, none_numbered, more_self, more_join, next_byte, next_line, last_line}
+use Rattle.std.proofs.Common.{◌≡◌, ◌+◌, ℕ, List, Some, sym, ap, subst, ◌∙◌}
+use Rattle.rp_explore.proofs.PieceLemmas.{IsNumbered, items, none_numbered, next_byte, next_line, last_line}
 use Rattle.rp_explore.proofs.pieces.Pieces.numbers.Goals as goal
 use Rattle.rp_explore.proofs.pieces.Pieces.numbers.Goals.{then-byte-eq10+in_ok-number+in_ok-push-2, else-byte-eq10}
 

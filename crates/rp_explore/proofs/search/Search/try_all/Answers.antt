@@ -1,7 +1,6 @@
 -- One action more.
-use Rattle.std.proofs.Common.{◌≡◌, ◌≤◌, ◌<◌, ◌+◌, ℕ, Bool, List, length, MatchBool, sym, ◌∙◌, ap, subst, arith, refl}
+use Rattle.std.proofs.Common.{◌≡◌, ◌≤◌, ◌<◌, ◌+◌, ℕ, Bool, List, length, MatchBool, sym, ◌∙◌, ap, subst, arith}
 use Rattle.rp_base.specs.declared.action.Action.{Action}
-use Rattle.rp_base.specs.declared.reply.Answer.{Answer}
 use Rattle.rp_explore.specs.declared.giver.Giver.{Giver}
 use Rattle.rp_explore.specs.Listed.{further}
 use Rattle.rp_explore.specs.Searched.{Searched, Extends, AllReached, SomeMissing, AreNear, AreGiven, IsNoted}

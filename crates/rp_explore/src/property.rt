@@ -8,16 +8,6 @@ use crate::replays::replayed;
 use rp_machine::Machine;
 use std::alloc::{AllocError, Global};
 
-/// Something that holds or not of a state of a machine.
-pub trait Property<M: Machine> {
-    /// The property holds of the state.
-    ghost meaning: { Self → M → Type 0 };
-
-    /// Whether it holds of the machine in its present state.
-    fn holds(&self, machine: &M) -> bool
-        ensures { IsTrue result ↔ meaning self.now machine.now };
-}
-
 /// The place of the first order of a search after which the property does not hold, among all of
 /// them or among those after which no action changes anything.
 pub fn first_broken<M: Machine, P: Property<M>>(
@@ -52,4 +42,14 @@ fn is_asked(explored: &Explored, is_final_only: bool, place: usize) -> bool
     ensures { IsTrue result ↔ IsAsked explored.now is_final_only place }
 {
     !is_final_only || explored.is_final(place)
+}
+
+/// Something that holds or not of a state of a machine.
+pub trait Property<M: Machine> {
+    /// The property holds of the state.
+    ghost meaning: { Self → M → Type 0 };
+
+    /// Whether it holds of the machine in its present state.
+    fn holds(&self, machine: &M) -> bool
+        ensures { IsTrue result ↔ meaning self.now machine.now };
 }

@@ -1,109 +1,167 @@
 -- A node has the same effects from starts that answer alike.
-use Rattle.std.proofs.Common.{◌≡◌, ℕ, cond, Option, Some, None, Result, Ok, Err, List, [], ◌∷◌, ◌++◌, length, drop, filter, refl, ap}
-use Rattle.std.specs.Prelude.{is_some, nat_le, ◌^◌}
-use Rattle.rp_base.specs.Ballot.{next_ballot, round_of}
-use Rattle.rp_base.specs.Promises.{heard_elsewhere, makes_majority, same_heard, offer_of}
-use Rattle.rp_base.specs.Proposals.{Proposal, new_proposal, proposal_at, without_proposal, with_proposal, is_prepared, as_offered}
+use Rattle.std.proofs.Common.{◌≡◌, ℕ, cond, Option, Some, None, Result, Ok, Err, List, [], ◌∷◌, ◌++◌, length, drop, filter, refl, sym, ap, ◌∙◌}
+use Rattle.std.specs.Prelude.{is_some, nat_lt}
+use Rattle.rp_base.specs.Promises.{heard_elsewhere, offer_of}
+use Rattle.rp_base.specs.Proposals.{Proposal, proposal_at, without_proposal, is_prepared}
 use Rattle.rp_base.specs.Records.{applied_of, learned_at}
-use Rattle.rp_base.specs.Sets.{with_member}
 use Rattle.rp_base.specs.declared.action.Action.{Action}
+use Rattle.rp_base.specs.declared.action.Action.TheVariants as actions
 use Rattle.rp_base.specs.declared.config.Config.{Config}
 use Rattle.rp_base.specs.declared.fault.Fault.{Fault}
 use Rattle.rp_base.specs.declared.fault.Fault.TheVariants.{BallotsSpent, LogFull}
 use Rattle.rp_base.specs.declared.record.Rec.{Rec}
-use Rattle.rp_base.specs.declared.record.Rec.TheVariants.{Started, Learned}
+use Rattle.rp_base.specs.declared.record.Rec.TheVariants.{Learned}
 use Rattle.rp_base.specs.declared.record.Vote.{Vote}
 use Rattle.rp_base.specs.declared.reply.Answer.{Answer}
+use Rattle.rp_base.specs.declared.reply.Reply.{Reply}
 use Rattle.rp_codec.specs.Message.{Message}
 use Rattle.rp_codec.specs.declared.packet.Body.{Body}
 use Rattle.rp_codec.specs.declared.packet.Body.TheVariants as bodies
-use Rattle.rp_model.specs.Effect.{NodeInput, running_effect}
-use Rattle.rp_model.specs.Leader.{starts_above, begins_if, leads_at, on_lead, chosen_position, is_beyond, is_out_of_reach}
-use Rattle.rp_model.specs.Learner.{learns, on_vote, on_decision, missing_position, asks_for}
+use Rattle.rp_machine.specs.Asked.{last_number, last_occurrence, kept_reply}
+use Rattle.rp_machine.specs.Replay.{kept_of, replay_answers}
+use Rattle.rp_model.specs.Arrivals.{adds_pending, on_numbered, on_call}
+use Rattle.rp_model.specs.Effect.{Setting, NodeInput, plan_of, turn_if, running_effect}
+use Rattle.rp_model.specs.Leader.{begins_if, leads_at, on_lead, chosen_position, is_beyond, is_out_of_reach, ballot_of, is_exhausted}
+use Rattle.rp_model.specs.Learner.{on_vote, missing_position, asks_for}
+use Rattle.rp_model.specs.Node.{RunningNode, running_node, own_for}
 use Rattle.rp_model.specs.Parts.{Running, Turn}
-use Rattle.rp_model.specs.Pending.{on_call, on_interrupt, own_action, stays, replies_to}
+use Rattle.rp_model.specs.Pending.{own_action, stays, replies_to}
+use Rattle.rp_model.specs.Plans.{once_learned, turn_of}
 use Rattle.rp_model.specs.Receiving.{is_for_node, on_body, party_number}
-use Rattle.rp_model.specs.Says.{says_to_all, says_to_others, sends, notes, writes, drops_foreign}
+use Rattle.rp_model.specs.Says.{says_to_others, writes}
+use Rattle.rp_model.specs.declared.effect.Dropped.TheVariants.{No, Foreign}
+use Rattle.rp_model.specs.declared.plan.Plan.{Plan}
+use Rattle.rp_model.specs.declared.plan.Plan.TheVariants as plans
 use Rattle.rp_installations.specs.Starts.{AnswerAlike}
 
-module _ {S : Type 0} (next : S → Action → S) (answers : S → Action → List Answer) (one other : S) (alike : AnswerAlike next answers one other) where
-  learns_alike : (me : ℕ) (records : List Rec) (running : Running) (position : ℕ) (action : Action) (packets following : List Message)
-      → learns next answers one me records running position action packets following ≡ learns next answers other me records running position action packets following
-  learns_alike me records running position action packets following =
-      let before = applied_of records in
-      let after = applied_of (records ++ Learned position action ∷ []) in
+module _ {S : Type 0} (config : Config) (next : S → Action → S) (answers : S → Action → List Answer) (one other : S) (alike : AnswerAlike next answers one other) (me : ℕ) (records : List Rec) (running : Running) where
+  abbrev from_start : S → RunningNode S
+  from_start begin = running_node (record { config = config; next = next; answers = answers; begin = begin }) me records running
+
+  abbrev here : RunningNode S
+  here = from_start one
+
+  abbrev there : RunningNode S
+  there = from_start other
+
+  abbrev applied : List Action
+  applied = applied_of records
+
+  -- ---- both decide the same
+
+  own_alike : (i : ℕ) → own_for here i ≡ own_for there i
+  own_alike i = ap (λ (kept : List Action). own_action kept (without_proposal running.proposals i) running.pending) (alike.kept applied)
+
+  -- a call, by what counted
+  abbrev numbered_by : List Action → ℕ → ℕ → Action → Option Reply → Plan
+  numbered_by kept task number call (Some reply) = plans.Answer task number reply
+  numbered_by kept task number call None = cond (nat_lt number (last_number task kept)) (plans.Pass No) (adds_pending running.pending call)
+
+  numbered_is : (begin : S) (task number : ℕ) (call : Action) (reply : Option Reply)
+      → on_numbered (from_start begin) task number call reply ≡ numbered_by (kept_of next answers begin applied) task number call reply
+  numbered_is begin task number call None = refl
+  numbered_is begin task number call (Some reply) = refl
+
+  call_alike : (call : Action) → on_call here call ≡ on_call there call
+  call_alike actions.Noop = refl
+  call_alike (actions.Call task number object operation arg) =
+      let call = actions.Call task number object operation arg in
+      let reply : List Action → List Answer → Option Reply = kept_reply task number in
+      let same : numbered_by (kept_of next answers one applied) task number call (reply (kept_of next answers one applied) (replay_answers next answers one applied))
+      ≡ numbered_by (kept_of next answers other applied) task number call (reply (kept_of next answers other applied) (replay_answers next answers other applied)) =
+      λ i. numbered_by (alike.kept applied i) task number call (reply (alike.kept applied i) (alike.given applied i)) in
+      numbered_is one task number call (reply (kept_of next answers one applied) (replay_answers next answers one applied)) ∙ same
+      ∙ sym (numbered_is other task number call (reply (kept_of next answers other applied) (replay_answers next answers other applied)))
+  call_alike (actions.Interrupt source occurrence) = refl
+  call_alike (actions.Tick now) = refl
+
+  vote_alike : (from i : ℕ) (vote : Vote) (learned : Option Action) → on_vote here from i vote learned ≡ on_vote there from i vote learned
+  vote_alike from i vote None = refl
+  vote_alike from i vote (Some learned) = refl
+
+  body_alike : (from : ℕ) (body : Body) → on_body here from body ≡ on_body there from body
+  body_alike from (bodies.Call action) = call_alike action
+  body_alike from (bodies.Prepare i b) = refl
+  body_alike from (bodies.Promise i b last) = refl
+  body_alike from (bodies.Accept i b v) = refl
+  body_alike from (bodies.Accepted i b v) = ap (λ (plan : Plan). cond {A = Plan} (is_beyond records i) (plans.Pass No) plan) (vote_alike from i (record { ballot = b; action = v }) (learned_at records i))
+  body_alike from (bodies.Decided i v) = refl
+  body_alike from (bodies.Ask i) = refl
+  body_alike from (bodies.Nack i b bound) = refl
+  body_alike from (bodies.Reply number reply) = refl
+  body_alike from (bodies.Report first applied actions) = refl
+  body_alike from (bodies.PrepareRange range b) = refl
+  body_alike from (bodies.PromiseRange range b votes) = refl
+
+  begins_alike : (i : ℕ) → begins_if here i ≡ begins_if there i
+  begins_alike i = ap (λ (own : Action). cond {A = Result Plan Fault} (is_exhausted here) (Err BallotsSpent) (Ok (plans.Lead i (ballot_of here) own))) (own_alike i)
+
+  leads_alike : (i : ℕ) (found : Option Proposal) → leads_at here i found ≡ leads_at there i found
+  leads_alike i None = begins_alike i
+  leads_alike i (Some p) =
+      λ n. cond {A = Result Plan Fault} (is_prepared config.nodes p) (Ok (plans.OfferPrepared i p.ballot (offer_of (Some (own_alike i n)) p.promises))) (begins_alike i n)
+
+  lead_alike : (choice : Option ℕ) → on_lead here choice ≡ on_lead there choice
+  lead_alike choice =
+      let i = chosen_position config.nodes records running choice in
+      ap (λ (r : Result Plan Fault). cond {A = Result Plan Fault} (is_some (learned_at records i)) (Ok (plans.Pass No)) (cond {A = Result Plan Fault} (is_out_of_reach config.max_positions records i) (Err LogFull) r))
+      (leads_alike i (proposal_at running.proposals i))
+
+  plan_alike : (input : NodeInput) → plan_of here input ≡ plan_of there input
+  plan_alike (NodeInput.Receive m) =
+      ap (λ (plan : Plan). (let r : Result Plan Fault = Ok (cond {A = Plan} (is_for_node config me m) plan (plans.Pass Foreign)) in r)) (body_alike (party_number m.from) m.body)
+  plan_alike (NodeInput.Lead choice) = lead_alike choice
+  plan_alike (NodeInput.LeadRange first count) = refl
+  plan_alike (NodeInput.Interrupt source occurrence) =
+      ap (λ (kept : List Action). (let r : Result Plan Fault = Ok (cond {A = Plan} (nat_lt (last_occurrence source kept) occurrence) (adds_pending running.pending (actions.Interrupt source occurrence)) (plans.Pass No)) in r))
+      (alike.kept applied)
+  plan_alike (NodeInput.Tick now) = refl
+  plan_alike (NodeInput.Report first) = refl
+
+  -- ---- and a plan does the same
+
+  learns_alike : (i : ℕ) (v : Action) (packets following : List Message) → once_learned here i v packets following ≡ once_learned there i v packets following
+  learns_alike i v packets following =
+      let after = applied_of (records ++ Learned i v ∷ []) in
       let turn : List Action → List Answer → List Answer → Turn = λ kept earlier given.
-      writes (Learned position action)
+      writes (Learned i v)
       (record running {
-        proposals = without_proposal running.proposals position;
-        heard = heard_elsewhere running.heard position;
-        pending = filter (stays kept given (drop (length before) after)) running.pending;
+        proposals = without_proposal running.proposals i;
+        heard = heard_elsewhere running.heard i;
+        pending = filter (stays kept given (drop (length applied) after)) running.pending;
       })
       (packets ++ replies_to me running.pending (drop (length earlier) given) ++ following) in
-      λ i. turn (alike.kept after i) (alike.given before i) (alike.given after i)
+      λ n. turn (alike.kept after n) (alike.given applied n) (alike.given after n)
 
-  vote_alike : (nodes me : ℕ) (records : List Rec) (running : Running) (from position : ℕ) (vote : Vote) (learned : Option Action)
-      → on_vote next answers one nodes me records running from position vote learned ≡ on_vote next answers other nodes me records running from position vote learned
-  vote_alike nodes me records running from position vote (Some learned) = refl
-  vote_alike nodes me records running from position vote None =
-      let heard = with_member same_heard running.heard (from, position, vote) in
-      ap (λ (t : Turn). cond {A = Turn} (makes_majority nodes position vote heard) t (notes (record running { heard = heard })))
-      (learns_alike me records running position vote.action (says_to_others nodes me (bodies.Decided position vote.action)) [])
+  turn_alike : (plan : Plan) → turn_of here plan ≡ turn_of there plan
+  turn_alike (plans.Pass dropped) = refl
+  turn_alike (plans.Promise header last) = refl
+  turn_alike (plans.PromiseRange p) = refl
+  turn_alike (plans.Vote header v) = refl
+  turn_alike (plans.Repeat to i b v) = refl
+  turn_alike (plans.Refuse to i b bound) = refl
+  turn_alike (plans.Inform to i v) = refl
+  turn_alike (plans.Answer task number reply) = refl
+  turn_alike (plans.Await item) = refl
+  turn_alike (plans.Lead i b own) = refl
+  turn_alike (plans.LeadRange range b) = refl
+  turn_alike (plans.OfferPrepared i b v) = refl
+  turn_alike (plans.CountPromise promise) = refl
+  turn_alike (plans.CountRangePromise p) = refl
+  turn_alike (plans.Offer promise v) = refl
+  turn_alike (plans.Yield i b bound) = refl
+  turn_alike (plans.CountVote from i vote) = refl
+  turn_alike (plans.Learn i v) = learns_alike i v (says_to_others config.nodes me (bodies.Decided i v)) []
+  turn_alike (plans.Follow from i v) = learns_alike i v [] (asks_for me from (missing_position (records ++ Learned i v ∷ [])))
+  turn_alike (plans.Report first) = refl
 
-  decision_alike : (me : ℕ) (records : List Rec) (running : Running) (from position : ℕ) (action : Action) (learned : Option Action)
-      → on_decision next answers one me records running from position action learned ≡ on_decision next answers other me records running from position action learned
-  decision_alike me records running from position action (Some learned) = refl
-  decision_alike me records running from position action None =
-      learns_alike me records running position action [] (asks_for me from (missing_position (records ++ Learned position action ∷ [])))
-
-  body_alike : (nodes me : ℕ) (records : List Rec) (running : Running) (from : ℕ) (body : Body) → on_body next answers one nodes me records running from body ≡ on_body next answers other nodes me records running from body
-  body_alike nodes me records running from (bodies.Call action) = λ i. on_call me (alike.kept (applied_of records) i) (alike.given (applied_of records) i) running action
-  body_alike nodes me records running from (bodies.Prepare position ballot) = refl
-  body_alike nodes me records running from (bodies.Promise position ballot last) = refl
-  body_alike nodes me records running from (bodies.Accept position ballot action) = refl
-  body_alike nodes me records running from (bodies.Accepted position ballot action) =
-      ap (λ (t : Turn). cond {A = Turn} (is_beyond records position) (notes running) t) (vote_alike nodes me records running from position (record { ballot = ballot; action = action }) (learned_at records position))
-  body_alike nodes me records running from (bodies.Decided position action) = decision_alike me records running from position action (learned_at records position)
-  body_alike nodes me records running from (bodies.Ask position) = refl
-  body_alike nodes me records running from (bodies.Nack position ballot bound) = refl
-  body_alike nodes me records running from (bodies.Reply number reply) = refl
-  body_alike nodes me records running from (bodies.Report first applied actions) = refl
-  body_alike nodes me records running from (bodies.PrepareRange range ballot) = refl
-  body_alike nodes me records running from (bodies.PromiseRange range ballot votes) = refl
-
-  begins_alike : (nodes me : ℕ) (records : List Rec) (running : Running) (position : ℕ) → begins_if next answers one nodes me records running position ≡ begins_if next answers other nodes me records running position
-  begins_alike nodes me records running position =
-      let ballot = next_ballot me (starts_above records running) in
-      let others = without_proposal running.proposals position in
-      let turn : List Action → Turn = λ kept.
-      writes (Started ballot)
-      (record running { proposals = with_proposal running.proposals (new_proposal position ballot (Some (own_action kept others running.pending))) })
-      (says_to_all nodes me (bodies.Prepare position ballot)) in
-      ap (λ (kept : List Action). cond {A = Result Turn Fault} (nat_le (2 ^ 32) (round_of ballot)) (Err BallotsSpent) (Ok (turn kept))) (alike.kept (applied_of records))
-
-  leads_alike : (nodes me : ℕ) (records : List Rec) (running : Running) (position : ℕ) (proposal : Option Proposal)
-      → leads_at next answers one nodes me records running position proposal ≡ leads_at next answers other nodes me records running position proposal
-  leads_alike nodes me records running position None = begins_alike nodes me records running position
-  leads_alike nodes me records running position (Some p) =
-      let others = without_proposal running.proposals p.position in
-      let turn : List Action → Turn = λ kept.
-      (let after = as_offered (own_action kept others running.pending) p in
-      sends (record running { proposals = with_proposal running.proposals after }) (says_to_all nodes me (bodies.Accept p.position p.ballot (offer_of after.own p.promises)))) in
-      λ i. cond {A = Result Turn Fault} (is_prepared nodes p) (Ok (turn (alike.kept (applied_of records) i))) (begins_alike nodes me records running position i)
-
-  lead_alike : (config : Config) (me : ℕ) (records : List Rec) (running : Running) (choice : Option ℕ) → on_lead next answers one config me records running choice ≡ on_lead next answers other config me records running choice
-  lead_alike config me records running choice =
-      let position = chosen_position config.nodes records running choice in
-      ap (λ (r : Result Turn Fault). cond {A = Result Turn Fault} (is_some (learned_at records position)) (Ok (notes running)) (cond {A = Result Turn Fault} (is_out_of_reach config.max_positions records position) (Err LogFull) r))
-      (leads_alike config.nodes me records running position (proposal_at running.proposals position))
+  turned_alike : (found : Result Plan Fault) → turn_if here found ≡ turn_if there found
+  turned_alike (Ok plan) = ap (λ (turn : Turn). (let r : Result Turn Fault = Ok turn in r)) (turn_alike plan)
+  turned_alike (Err fault) = refl
 
 pub effect_alike : {S : Type 0} (config : Config) (next : S → Action → S) (answers : S → Action → List Answer) (one other : S) → AnswerAlike next answers one other → (me : ℕ) (records : List Rec) (running : Running) (input : NodeInput)
     → running_effect (record { config = config; next = next; answers = answers; begin = one }) me records running input ≡ running_effect (record { config = config; next = next; answers = answers; begin = other }) me records running input
-effect_alike config next answers one other alike me records running (NodeInput.Receive m) =
-    ap (λ (t : Turn). (let r : Result Turn Fault = Ok (cond {A = Turn} (is_for_node config me m) t (drops_foreign running)) in r)) (body_alike next answers one other alike config.nodes me records running (party_number m.from) m.body)
-effect_alike config next answers one other alike me records running (NodeInput.Lead choice) = lead_alike next answers one other alike config me records running choice
-effect_alike config next answers one other alike me records running (NodeInput.LeadRange first count) = refl
-effect_alike config next answers one other alike me records running (NodeInput.Interrupt source occurrence) =
-    ap (λ (kept : List Action). (let r : Result Turn Fault = Ok (on_interrupt kept running source occurrence) in r)) (alike.kept (applied_of records))
-effect_alike config next answers one other alike me records running (NodeInput.Tick now) = refl
-effect_alike config next answers one other alike me records running (NodeInput.Report first) = refl
+effect_alike {S} config next answers one other alike me records running input =
+    let node : RunningNode S = running_node (record { config = config; next = next; answers = answers; begin = one }) me records running in
+    let known : RunningNode S = running_node (record { config = config; next = next; answers = answers; begin = other }) me records running in
+    turned_alike config next answers one other alike me records running (plan_of node input) ∙ ap (turn_if known) (plan_alike config next answers one other alike me records running input)

@@ -13,7 +13,7 @@ pub struct FiguresLine {
     /// How many states were found.
     pub states: usize,
     /// How often an action that may happen was tried after one of the orders to them.
-    pub steps: usize,
+    pub steps: u64,
     /// The length of the longest of these orders.
     pub depth: usize,
     /// Whether they are all states that there are.

@@ -1,0 +1,183 @@
+//! What a search and its rules have to report.
+
+ghost use Rattle.std.specs.Prelude.{◌≡◌, ◌++◌, [], ◌∷◌, IfOk, map, max};
+ghost use Rattle.rp_explore_report.specs.declared.lines.Outcome.TheVariants.{Reply};
+ghost use Rattle.rp_machine.specs.Asked.{last_number};
+ghost use Rattle.rp_explore.specs.Listed.{order_at};
+ghost use Rattle.rp_explore_run.specs.Findings.{IsReportOf, broken_by, broken_of, held_by, held_of, outcomes_of, waits_of, waits_at};
+
+use rp_base::{Action, Answer, MOST_TASKS, TaskId};
+use rp_explore::Explored;
+use rp_explore_report::{FiguresLine, Outcome, Report};
+use std::alloc::{AllocError, Global};
+
+/// A rule of the deck, by its line, and the place of the first order that breaks it, if one does.
+#[derive(Clone, Copy, Debug, PartialEq, Eq)]
+pub struct Judged {
+    pub line: u32,
+    pub broken: Option<usize>,
+}
+
+/// What is to be reported of a search and its rules: how far it went; each reply that is given, each
+/// task that may wait for ever and each rule that is broken; and each rule that is not.
+pub fn report_on(
+    alloc: Global,
+    explored: &Explored,
+    judged: &[Judged],
+) -> Result<Report, AllocError>
+    ensures { IfOk result (IsReportOf explored.now judged.now) }
+{
+    Ok(Report {
+        figures: FiguresLine {
+            states: explored.len(),
+            steps: 0,
+            depth: 0,
+            is_whole: explored.is_whole(),
+        },
+        outcomes: outcomes_of(alloc, explored, judged)?,
+        held: held_of(alloc, judged)?,
+    })
+}
+
+/// The outcomes, in the order of their numbers.
+pub fn outcomes_of(
+    alloc: Global,
+    explored: &Explored,
+    judged: &[Judged],
+) -> Result<Vec<Outcome>, AllocError>
+    ensures { IfOk result (λ outcomes. outcomes.items ≡ outcomes_of explored.now judged.now) }
+{
+    let mut outcomes = Vec::new(alloc);
+    push_replies(&mut outcomes, explored.replies())?;
+    push_waits(alloc, &mut outcomes, explored)?;
+    push_broken(&mut outcomes, judged)?;
+    Ok(outcomes)
+}
+
+/// Adds the replies.
+fn push_replies(outcomes: &mut Vec<Outcome>, replies: &[Answer]) -> Result<(), AllocError>
+    ensures { IfOk result (λ _. outcomes.new.items ≡ outcomes.old.items ++ map Reply replies.now) }
+{
+    for answer in replies {
+        outcomes.push(Outcome::Reply(*answer))?;
+    }
+    Ok(())
+}
+
+/// Adds the tasks that may wait for ever.
+fn push_waits(
+    alloc: Global,
+    outcomes: &mut Vec<Outcome>,
+    explored: &Explored,
+) -> Result<(), AllocError>
+    ensures { IfOk result (λ _. outcomes.new.items ≡ outcomes.old.items ++ waits_of explored.now) }
+{
+    for index in 0..MOST_TASKS {
+        if let Some(task) = TaskId::new(index + 1) {
+            push_wait(alloc, outcomes, explored, task)?;
+        }
+    }
+    Ok(())
+}
+
+/// Adds a task, if it may wait for ever, with the number of its call that waits.
+fn push_wait(
+    alloc: Global,
+    outcomes: &mut Vec<Outcome>,
+    explored: &Explored,
+    task: TaskId,
+) -> Result<(), AllocError>
+    ensures { IfOk result (λ _. outcomes.new.items
+        ≡ outcomes.old.items ++ waits_at explored.now task) }
+{
+    let Some(place) = explored.waits(task) else {
+        return Ok(());
+    };
+    let order = order_at(alloc, explored, place)?;
+    let number = last_number(&order, task);
+    Ok(outcomes.push(Outcome::Waits { task, number })?)
+}
+
+/// The order at a place, or the empty one if there is none.
+pub fn order_at(alloc: Global, explored: &Explored, place: usize) -> Result<Vec<Action>, AllocError>
+    ensures { IfOk result (λ order. order.items ≡ order_at explored.now.orders place) }
+{
+    if place < explored.len() {
+        explored.order(alloc, place)
+    } else {
+        Ok(Vec::new(alloc))
+    }
+}
+
+/// The number of the last call of the task in an order, 0 if it makes none.
+fn last_number(order: &[Action], task: TaskId) -> u32
+    ensures { result ≡ last_number task order.now }
+{
+    let mut last = 0;
+    for action in order {
+        last = greater(last, number_by(action, task));
+    }
+    last
+}
+
+/// The greater of two numbers.
+fn greater(one: u32, other: u32) -> u32
+    ensures { result ≡ max one other }
+{
+    one.max(other)
+}
+
+/// The number of the call, if it is one of the task, or 0.
+fn number_by(action: &Action, task: TaskId) -> u32
+    ensures { result ≡ last_number task (action.now ∷ []) }
+{
+    match *action {
+        Action::Call {
+            task: caller,
+            number,
+            ..
+        } if caller == task => number,
+        _ => 0,
+    }
+}
+
+/// Adds the rules that are broken.
+fn push_broken(outcomes: &mut Vec<Outcome>, judged: &[Judged]) -> Result<(), AllocError>
+    ensures { IfOk result (λ _. outcomes.new.items ≡ outcomes.old.items ++ broken_of judged.now) }
+{
+    for rule in judged {
+        push_if_broken(outcomes, rule)?;
+    }
+    Ok(())
+}
+
+/// Adds the rule, if it is broken.
+fn push_if_broken(outcomes: &mut Vec<Outcome>, rule: &Judged) -> Result<(), AllocError>
+    ensures { IfOk result (λ _. outcomes.new.items ≡ outcomes.old.items ++ broken_by rule.now) }
+{
+    if rule.broken.is_some() {
+        outcomes.push(Outcome::Broken(rule.line))?;
+    }
+    Ok(())
+}
+
+/// The lines of the rules that are not broken.
+fn held_of(alloc: Global, judged: &[Judged]) -> Result<Vec<u32>, AllocError>
+    ensures { IfOk result (λ lines. lines.items ≡ held_of judged.now) }
+{
+    let mut lines = Vec::new(alloc);
+    for rule in judged {
+        push_if_held(&mut lines, rule)?;
+    }
+    Ok(lines)
+}
+
+/// Adds the line of the rule, if it is not broken.
+fn push_if_held(lines: &mut Vec<u32>, rule: &Judged) -> Result<(), AllocError>
+    ensures { IfOk result (λ _. lines.new.items ≡ lines.old.items ++ held_by rule.now) }
+{
+    if rule.broken.is_none() {
+        lines.push(rule.line)?;
+    }
+    Ok(())
+}

@@ -1,0 +1,2 @@
+pub mod OrderDecks
+pub mod Wanted

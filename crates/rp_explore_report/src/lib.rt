@@ -9,4 +9,4 @@ mod lines;
 mod report;
 
 pub use lines::{FiguresLine, HeldLine, Outcome, OutcomeText};
-pub use report::{Report, report_text};
+pub use report::{Report, report_text, task_name};

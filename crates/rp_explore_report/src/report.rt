@@ -86,7 +86,7 @@ fn name_for<'a, T>(tasks: &'a IndexMap<String, T>, outcome: &Outcome) -> &'a str
 }
 
 /// The name of a task, or an empty text if there is none.
-fn task_name<T>(tasks: &IndexMap<String, T>, task: TaskId) -> &str
+pub fn task_name<T>(tasks: &IndexMap<String, T>, task: TaskId) -> &str
     ensures { result.now ≡ task_name (map string_bytes (keys tasks.now)) task }
 {
     match tasks.get_index(usize::from(task.get()) - 1) {

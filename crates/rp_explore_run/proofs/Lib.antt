@@ -1,1 +1,5 @@
 pub mod Numbers
+pub mod Given
+pub mod Judging
+pub mod Exploring
+pub mod Failing

@@ -7,7 +7,7 @@ use Rattle.rp_base.specs.declared.action.Action.{Action}
 use Rattle.rp_model.specs.World.{part_at}
 use Rattle.rp_output.specs.FaultMessage.{with_line_feed}
 use Rattle.rp_output.specs.Trace.{or_nothing}
-use Rattle.rp_order_deck.specs.declared.actions.PlannedAction.{PlannedAction}
+use Rattle.rp_explore_deck.specs.declared.actions.PlannedAction.{PlannedAction}
 
 -- the line of this number, unless it is a rule
 abbrev pub head_line : List ℕ → ℕ → List ℕ → List ℕ

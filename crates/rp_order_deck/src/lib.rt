@@ -6,12 +6,10 @@
 //! - `lines`: the lines of a text
 #![tactic(auto)]
 
-mod actions;
 mod deck;
 mod lines;
 mod wanted;
 
-pub use actions::PlannedAction;
 pub use deck::{Source, order_deck};
 pub use lines::lines_of;
 pub use wanted::{Wanted, is_shown};

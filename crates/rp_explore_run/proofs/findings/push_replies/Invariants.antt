@@ -1,7 +1,7 @@
-use Rattle.std.proofs.Common.{◌≡◌, ◌++◌, map, take}
-use Rattle.rp_explore_report.specs.declared.lines.Outcome.TheVariants.{Reply}
+use Rattle.std.proofs.Common.{◌≡◌, ◌++◌, take}
+use Rattle.rp_explore_run.specs.Findings.{given_of}
 use Rattle.rp_explore_run.proofs.findings.push_replies.Given as goal
 
 -- the replies before this one are added
-abbrev pub invariant-loop-answer : goal.invariant-loop-answer
-invariant-loop-answer l = l.outcomes.items ≡ l.fn.outcomes.items ++ map Reply (take l.answer-index l.replies)
+abbrev pub invariant-loop-index : goal.invariant-loop-index
+invariant-loop-index l = l.found.items ≡ l.fn.found.items ++ given_of (take l.index l.explored.replies) (take l.index l.explored.givers)

@@ -5,4 +5,4 @@ use Rattle.rp_explore_run.proofs.findings.push_waits.Given as goal
 
 -- the tasks before this one are added
 abbrev pub invariant-loop-index : goal.invariant-loop-index
-invariant-loop-index l = l.outcomes.items ≡ l.fn.outcomes.items ++ flat_map (waits_at l.explored) (one_to l.index)
+invariant-loop-index l = l.found.items ≡ l.fn.found.items ++ flat_map (waits_at l.explored) (one_to l.index)

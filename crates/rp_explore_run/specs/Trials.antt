@@ -1,0 +1,27 @@
+-- The run of the deck of an outcome.
+use Rattle.std.specs.Prelude.{◌≡◌, ℕ, false, IsTrue, List, Ok}
+use Rattle.rp_deck.specs.Deck.{IsRightDeck}
+use Rattle.rp_deck.specs.DeckViews.{deck_text}
+use Rattle.rp_deck.specs.Meaning.{meaning_of}
+use Rattle.rp_deck.specs.declared.deck.Deck.{Deck}
+use Rattle.rp_deck.specs.declared.deck.Mode.TheVariants.{Script}
+use Rattle.rp_order_deck.specs.Wanted.{is_shown}
+use Rattle.rp_order_deck.specs.declared.wanted.Wanted.{Wanted}
+use Rattle.rp_script.specs.Output.{output_of}
+
+-- the text means this deck, which is right
+pub record IsDeckText (text : List ℕ) (deck : Deck) : Type 0 where
+  pub right : IsRightDeck deck
+  pub meaning : meaning_of Script text ≡ Ok (deck_text deck)
+
+-- the text is a deck, and this is what its script prints
+pub record IsOutputOf (text output : List ℕ) : Type 0 where
+  pub deck : Deck
+  pub is_text : IsDeckText text deck
+  pub output_is : output ≡ output_of false deck
+
+-- the text is a deck, and its script prints what is wanted
+pub record ShowsWhenRun (text : List ℕ) (wanted : Wanted) : Type 0 where
+  pub output : List ℕ
+  pub ran : IsOutputOf text output
+  pub shown : IsTrue (is_shown wanted output)

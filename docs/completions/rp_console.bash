@@ -1,13 +1,14 @@
 # Made by tools/words. Completes the words of rp_console: source it, or copy it to the shell's completions.
 _rp_console() {
     local word=${COMP_WORDS[COMP_CWORD]} last=${COMP_WORDS[COMP_CWORD-1]} words used
-    case $last in =|--seed|--turns|--position|--from|--to) return ;; esac
+    case $last in =|--seed|--turns|--position|--from|--to|--states|--deck) return ;; esac
     [[ $word == = ]] && return
     case ${COMP_WORDS[1]} in
         script) words=" --trace -h --help " ;;
         live) words=" --seed --turns -h --help " ;;
         chart) words=" --position --hide-self --from --to -h --help " ;;
-        *) words=" script live chart -h --help -V --version " ;;
+        explore) words=" --states --deck -h --help " ;;
+        *) words=" script live chart explore -h --help -V --version " ;;
     esac
     [[ $COMP_CWORD -gt 1 && $words == *script* ]] && return
     for used in "${COMP_WORDS[@]:1:COMP_CWORD-1}"; do words=${words/ $used / }; done

@@ -13,8 +13,9 @@ use Rattle.clap.proofs.WalkLemmas.{one_text-rows}
 use Rattle.clap.specs.Words.{is_simple, is_simple_and_free, HasKind, subcommand_rows_of, subcommand_name_of}
 use Rattle.clap.specs.declared.parser.matches.ArgMatches.{ArgMatches}
 use Rattle.clap.specs.declared.parser.matches.ArgMatches.TheViews.{out-ArgMatches}
+use Rattle.rp_explore_run.specs.declared.answer.ExploreRequest.{ExploreRequest}
 use Rattle.rp_history.specs.declared.view.View.{View}
-use Rattle.rp_console.specs.CommandLine.{console, option_of, IsView, ReadsAs}
+use Rattle.rp_console.specs.CommandLine.{console, option_of, IsRequest, IsView, ReadsAs}
 
 or_else_second : (first second : Kinds) → or_else first second ≡ [] → second ≡ []
 or_else_second [] second e = e
@@ -41,23 +42,24 @@ level_used s names h words used below expected quiet e =
     (or_else_second (walk_fault s names (walk_from h) words) (or_else below (or_else settle (or_else defaults last))) e))) in
     last_check used s.arg_required_else_help _ s.subcommand_required _ expected quiet none
 
--- it is one of three
-abbrev pub IsOneOfThree : (found : Option Text) (one other third : Text) → Type 0
-IsOneOfThree found one other third = (found ≡ Some one) ⊎ ((found ≡ Some other) ⊎ (found ≡ Some third))
+-- it is one of four
+abbrev pub IsOneOfFour : (found : Option Text) (one other third fourth : Text) → Type 0
+IsOneOfFour found one other third fourth = (found ≡ Some one) ⊎ ((found ≡ Some other) ⊎ ((found ≡ Some third) ⊎ (found ≡ Some fourth)))
 
-one_entered : (first second third : Bool) (s t u : Shape) (words : List Text)
-    → let found : Option (Text × List Row) = option_map (λ x. rows_at x words) (cond first (Some s) (cond second (Some t) (cond third (Some u) None))) in
-    is_some found ≡ true → IsOneOfThree (option_map (λ f. f.0) found) s.name t.name u.name
-one_entered true second third s t u words e = inl refl
-one_entered false true third s t u words e = inr (inl refl)
-one_entered false false true s t u words e = inr (inr refl)
-one_entered false false false s t u words e = cc
+one_entered : (first second third fourth : Bool) (s t u v : Shape) (words : List Text)
+    → let found : Option (Text × List Row) = option_map (λ x. rows_at x words) (cond first (Some s) (cond second (Some t) (cond third (Some u) (cond fourth (Some v) None)))) in
+    is_some found ≡ true → IsOneOfFour (option_map (λ f. f.0) found) s.name t.name u.name v.name
+one_entered true second third fourth s t u v words e = inl refl
+one_entered false true third fourth s t u v words e = inr (inl refl)
+one_entered false false true fourth s t u v words e = inr (inr (inl refl))
+one_entered false false false true s t u v words e = inr (inr (inr refl))
+one_entered false false false false s t u v words e = cc
 
--- where there are three subcommands, it is one of them that was entered
-entered_one : (a : App) (s t u : Shape) (stop : Option (Text × List Text)) → a.subs ≡ s ∷ t ∷ u ∷ [] → is_some (entered a stop) ≡ true
-    → IsOneOfThree (option_map (λ f. f.0) (entered a stop)) s.name t.name u.name
-entered_one a s t u None only e = cc
-entered_one a s t u (Some p) only e = rw only (one_entered _ _ _ s t u p.1 (rw only at e))
+-- where there are four subcommands, it is one of them that was entered
+entered_one : (a : App) (s t u v : Shape) (stop : Option (Text × List Text)) → a.subs ≡ s ∷ t ∷ u ∷ v ∷ [] → is_some (entered a stop) ≡ true
+    → IsOneOfFour (option_map (λ f. f.0) (entered a stop)) s.name t.name u.name v.name
+entered_one a s t u v None only e = cc
+entered_one a s t u v (Some p) only e = rw only (one_entered _ _ _ _ s t u v p.1 (rw only at e))
 
 map_map : {A B C : Type 0} (f : B → C) (g : A → B) (o : Option A) → option_map f (option_map g o) ≡ option_map (λ x. f (g x)) o
 map_map f g None = refl
@@ -67,10 +69,10 @@ map_map f g (Some x) = refl
 pub name_of_rows : (m : ArgMatches) → option_map (λ found. found.0) (subcommand_rows_of m) ≡ subcommand_name_of m
 name_of_rows m = map_map _ _ (out-ArgMatches m).subcommand
 
--- the words that clap takes name one of the three subcommands
+-- the words that clap takes name one of the four subcommands
 pub subcommand_name : (words : List Text) → fault_of console words ≡ []
-    → IsOneOfThree (option_map (λ found. found.0) (subcommand_of console words)) (codes "script") (codes "live") (codes "chart")
-subcommand_name words e = entered_one (built console) _ _ _ (stop_after (built console).top.rules (names_of (built console)) (argument_words console words)) refl (level_used _ _ _ _ _ _ refl refl e)
+    → IsOneOfFour (option_map (λ found. found.0) (subcommand_of console words)) (codes "script") (codes "live") (codes "chart") (codes "explore")
+subcommand_name words e = entered_one (built console) _ _ _ _ (stop_after (built console).top.rules (names_of (built console)) (argument_words console words)) refl (level_used _ _ _ _ _ _ refl refl e)
 
 is_simple_console : is_simple console ≡ true
 unfolding clap_on_literals
@@ -104,9 +106,9 @@ module _ (a : App) (words : List Text) (m : ArgMatches) (rows : Type 0) (same : 
   pub met_name : option_map (λ found. found.0) (subcommand_of console words) ≡ subcommand_name_of m
   met_name = ap (option_map (λ found. found.0)) (sym met_rows) ∙ name_of_rows m
 
-  -- a parse without fault used one of the three
-  pub met_one : fault_of console words ≡ [] → IsOneOfThree (subcommand_name_of m) (codes "script") (codes "live") (codes "chart")
-  met_one none = subst (λ (found : Option Text). IsOneOfThree found (codes "script") (codes "live") (codes "chart")) met_name (subcommand_name words none)
+  -- a parse without fault used one of the four
+  pub met_one : fault_of console words ≡ [] → IsOneOfFour (subcommand_name_of m) (codes "script") (codes "live") (codes "chart") (codes "explore")
+  met_one none = subst (λ (found : Option Text). IsOneOfFour found (codes "script") (codes "live") (codes "chart") (codes "explore")) met_name (subcommand_name words none)
 
   -- what the matches of a subcommand of this name have of an option
   pub option_read : (name option : Text) (inner : ArgMatches) → subcommand_name_of m ≡ Some name → bytes_eq name name ≡ true
@@ -115,18 +117,27 @@ module _ (a : App) (words : List Text) (m : ArgMatches) (rows : Type 0) (same : 
       one_text-rows (found_of inner) option
       ∙ option_at name option (subcommand_of console words) _ (met_name ∙ named) self (ap (option_map (λ p. p.1)) (sym met_rows) ∙ there)
 
--- options of the same values choose the same part of a run
-pub is_view_by : (one other : Text → Option Text) (view : View) → ((option : Text) → one option ≡ other option) → IsView one view → IsView other view
-is_view_by one other view same is = record {
-  hides = λ e. is.hides (same (codes "hide-self") ∙ e);
-  shows = λ e. is.shows (same (codes "hide-self") ∙ e);
-  whole = λ e. is.whole (same (codes "position") ∙ e);
-  position = λ number positive reads. is.position number positive (read_by 16 (codes "position") number reads);
-  from_start = λ e. is.from_start (same (codes "from") ∙ e);
-  from = λ number reads. is.from number (read_by 32 (codes "from") number reads);
-  to_end = λ e. is.to_end (same (codes "to") ∙ e);
-  to = λ number reads. is.to number (read_by 32 (codes "to") number reads);
-}
-  where
-    read_by : (bits : ℕ) (option : Text) (number : ℕ) → ReadsAs bits (other option) number → ReadsAs bits (one option) number
-    read_by bits option number reads = subst (λ (t : Option Text). ReadsAs bits t number) (sym (same option)) reads
+module _ (one other : Text → Option Text) (same : (option : Text) → one option ≡ other option) where
+  read_by : (bits : ℕ) (option : Text) (number : ℕ) → ReadsAs bits (other option) number → ReadsAs bits (one option) number
+  read_by bits option number reads = subst (λ (t : Option Text). ReadsAs bits t number) (sym (same option)) reads
+
+  -- options of the same values choose the same part of a run
+  pub is_view_by : (view : View) → IsView one view → IsView other view
+  is_view_by view is = record {
+    hides = λ e. is.hides (same (codes "hide-self") ∙ e);
+    shows = λ e. is.shows (same (codes "hide-self") ∙ e);
+    whole = λ e. is.whole (same (codes "position") ∙ e);
+    position = λ number positive reads. is.position number positive (read_by 16 (codes "position") number reads);
+    from_start = λ e. is.from_start (same (codes "from") ∙ e);
+    from = λ number reads. is.from number (read_by 32 (codes "from") number reads);
+    to_end = λ e. is.to_end (same (codes "to") ∙ e);
+    to = λ number reads. is.to number (read_by 32 (codes "to") number reads);
+  }
+
+  -- and they ask for the same search
+  pub is_request_by : (request : ExploreRequest) → IsRequest one request → IsRequest other request
+  is_request_by request is = record {
+    states = λ number reads. is.states number (read_by 32 (codes "states") number reads);
+    no_deck = λ e. is.no_deck (same (codes "deck") ∙ e);
+    deck = λ number reads. is.deck number (read_by 32 (codes "deck") number reads);
+  }

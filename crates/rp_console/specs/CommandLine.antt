@@ -8,9 +8,10 @@ use Rattle.clap.specs.Words.{with_rule, with_subcommand}
 use Rattle.clap.specs.Simple.{on_top}
 use Rattle.clap.specs.declared.builder.action.ArgAction.TheVariants.{SetTrue}
 use Rattle.clap.specs.declared.builder.value_parser.ValueParser.TheVariants.{Signed}
+use Rattle.rp_explore_run.specs.declared.answer.ExploreRequest.{ExploreRequest}
 use Rattle.rp_history.specs.declared.view.View.{View}
 use Rattle.rp_console.specs.declared.args.Args.{Args}
-use Rattle.rp_console.specs.declared.args.Args.TheVariants.{Script, Live, Chart}
+use Rattle.rp_console.specs.declared.args.Args.TheVariants.{Script, Live, Chart, Explore}
 
 -- a command that has a version and requires one of its subcommands, not counting `help`
 abbrev pub with_choice : Shape → Shape
@@ -61,9 +62,9 @@ hide_self_option = record (new_rule (codes "hide-self")) {
   action = Some SetTrue;
 }
 
--- an option of this name, which takes the number of a moment
-abbrev pub moment_option : Text → Rule
-moment_option name = record (new_rule name) {
+-- an option of this name, which takes a number from 1 on
+abbrev pub count_option : Text → Rule
+count_option name = record (new_rule name) {
   long = Some name;
   value_names = 1;
   parser = Some (Signed (pos 1) (pos 4294967295));
@@ -76,7 +77,15 @@ chart_of_whole = with_rule (with_rule (new_app (codes "chart")) position_option)
 -- the subcommand `chart`, with its four options
 abbrev pub chart : App
 chart =
-    with_rule (with_rule chart_of_whole (moment_option (codes "from"))) (moment_option (codes "to"))
+    with_rule (with_rule chart_of_whole (count_option (codes "from"))) (count_option (codes "to"))
+
+-- the option `--states`
+abbrev pub states : Rule
+states = number_option (codes "states") 1 10000000 (codes "1000000")
+
+-- the subcommand `explore`, with its two options
+abbrev pub explore : App
+explore = with_rule (with_rule (new_app (codes "explore")) states) (count_option (codes "deck"))
 
 -- the program's command line, with its first two subcommands
 abbrev pub console_of_runs : App
@@ -84,15 +93,16 @@ console_of_runs =
     with_subcommand (with_subcommand (on_top with_choice (new_app (codes "rp_console"))) script.top)
     live.top
 
--- the program's command line: the subcommands `script`, `live` and `chart`
+-- the program's command line: the subcommands `script`, `live`, `chart` and `explore`
 abbrev pub console : App
-console = with_subcommand console_of_runs chart.top
+console = with_subcommand (with_subcommand console_of_runs chart.top) explore.top
 
 -- the subcommand that asks for this
 abbrev pub name_of : Args → Text
 name_of (Script traced) = codes "script"
 name_of (Live request) = codes "live"
 name_of (Chart view) = codes "chart"
+name_of (Explore request) = codes "explore"
 
 -- `live` with this seed and this many turns
 abbrev pub live_args : ℕ → ℕ → Args
@@ -120,6 +130,10 @@ turns_of words = option_of (codes "live") (codes "turns") words
 abbrev pub chart_option : List Text → Text → Option Text
 chart_option words option = option_of (codes "chart") option words
 
+-- the value that the words give to an option of `explore`
+abbrev pub explore_option : List Text → Text → Option Text
+explore_option words option = option_of (codes "explore") option words
+
 -- the text is an optional `+` and the digits of this number of this many bits
 pub record IsNumberText (bits : ℕ) (text : Text) (number : ℕ) : Type 0 where
   pub digits : IsNumeral 10 (without_leading_plus text)
@@ -143,3 +157,10 @@ pub record IsView (value : Text → Option Text) (view : View) : Type 0 where
   pub from : (number : ℕ) → ReadsAs 32 (value (codes "from")) number → view.from ≡ Some number
   pub to_end : value (codes "to") ≡ None → view.to ≡ None
   pub to : (number : ℕ) → ReadsAs 32 (value (codes "to")) number → view.to ≡ Some number
+
+-- The search that the values of these options ask for: at most how many states it finds, and the
+-- outcome of which a deck is printed, if one is.
+pub record IsRequest (value : Text → Option Text) (request : ExploreRequest) : Type 0 where
+  pub states : (number : ℕ) → ReadsAs 32 (value (codes "states")) number → request.states ≡ number
+  pub no_deck : value (codes "deck") ≡ None → request.deck ≡ None
+  pub deck : (number : ℕ) → ReadsAs 32 (value (codes "deck")) number → request.deck ≡ Some number

@@ -1,20 +1,23 @@
 -- What the program does with the words of the command line, and how it ends.
-use Rattle.std.specs.Prelude.{◌≡◌, ◌⊎◌, ℕ, true, false, Option, Some, None, Result, Ok, Err, List}
+use Rattle.std.specs.Prelude.{◌≡◌, ◌⊎◌, ℕ, true, false, Option, Some, Result, Ok, Err, List}
 use Rattle.std.specs.Prelude.{[], codes, option_map, IfOk, IfErr, OnErr}
 use Rattle.clap.specs.Kinds.{IsAmong}
 use Rattle.clap.specs.Words.{Text, fault_of, subcommand_of}
 use Rattle.clap.specs.declared.error.kind.ErrorKind.{ErrorKind}
 use Rattle.clap.specs.declared.error.kind.ErrorKind.TheVariants.{OutOfMemory}
 use Rattle.rp_base.specs.declared.fault.Fault.{Fault}
-use Rattle.rp_deck.specs.declared.deck.Mode.{Mode}
 use Rattle.rp_deck.specs.declared.deck.Mode.TheVariants as modes
 use Rattle.rp_chart.specs.Charts.{DrawingBegins, Draws}
 use Rattle.rp_chart.specs.declared.chart.Outcome.TheVariants.{Drawn}
 use Rattle.rp_chart.specs.declared.chart.Outcome.TheVariants as outcomes
+use Rattle.rp_explore_run.specs.Explores.{ExploreBegins, Explores, FailsExplore}
+use Rattle.rp_explore_run.specs.declared.answer.ExploreRequest.{ExploreRequest}
+use Rattle.rp_explore_run.specs.declared.answer.Verdict.{Verdict}
+use Rattle.rp_explore_run.specs.declared.answer.Verdict.TheVariants as verdicts
 use Rattle.rp_history.specs.declared.view.View.{View}
 use Rattle.rp_script.specs.Agreeing.{ScriptBegins, ScriptPrints}
-use Rattle.rp_console.specs.CommandLine.{chart_option, console, live_args, name_of, seed_of}
-use Rattle.rp_console.specs.CommandLine.{trace_of, turns_of, IsView, ReadsAs}
+use Rattle.rp_console.specs.CommandLine.{chart_option, console, explore_option, live_args, name_of}
+use Rattle.rp_console.specs.CommandLine.{seed_of, trace_of, turns_of, IsRequest, IsView, ReadsAs}
 use Rattle.rp_script.specs.Figures.{figures_line_of}
 use Rattle.rp_script.specs.Given.{FailsRun}
 use Rattle.rp_script.specs.LiveRun.{LiveBegins, LivePrints}
@@ -22,9 +25,9 @@ use Rattle.rp_output.specs.Endings.{RefusesAs, status_of}
 use Rattle.rp_output.specs.FaultMessage.{fault_message_of, with_line_feed}
 use Rattle.rp_output.specs.Stream.{Writes}
 use Rattle.rp_console.specs.declared.args.Args.{Args}
-use Rattle.rp_console.specs.declared.args.Args.TheVariants.{Script, Live, Chart}
+use Rattle.rp_console.specs.declared.args.Args.TheVariants.{Script, Live, Chart, Explore}
 use Rattle.rp_console.specs.declared.console.Report.{Report}
-use Rattle.rp_console.specs.declared.console.Report.TheVariants.{Nothing, Figures, TooLong}
+use Rattle.rp_console.specs.declared.console.Report.TheVariants.{Nothing, Figures, TooLong, Searched}
 use Rattle.rp_output.specs.declared.ending.Ending.{Ending}
 
 -- the bytes that a stream has, if the contract of its type says which they are
@@ -40,16 +43,19 @@ pub record AsksFor (words : List Text) (args : Args) : Type 0 where
   pub live : (seed turns : ℕ) → ReadsAs 32 (seed_of words) seed
       → ReadsAs 32 (turns_of words) turns → args ≡ live_args seed turns
   pub chart : (view : View) → args ≡ Chart view → IsView (chart_option words) view
+  pub explore : (request : ExploreRequest) → args ≡ Explore request
+      → IsRequest (explore_option words) request
 
 -- What a run without a fault prints, of the deck that the bytes given to it mean. A script has
--- nothing to report, a run in threads the figures of the run that it prints, and a drawing that it
--- is too long, if it is: then nothing is printed.
+-- nothing to report, a run in threads the figures of the run that it prints, a drawing that it is too
+-- long, if it is: then nothing is printed; and a search what became of it.
 abbrev pub Prints : Args → Content → Content → Content → Report → Type 0
 Prints (Script traced) given old new Nothing = ScriptPrints traced given old new
 Prints (Live request) given old new (Figures line) =
     LivePrints request.seed request.turns given old new line.figures
 Prints (Chart view) given old new Nothing = Draws Drawn view given old new
 Prints (Chart view) given old new TooLong = Draws outcomes.TooLong view given old new
+Prints (Explore request) given old new (Searched verdict) = Explores request given old new verdict
 Prints args given old new report = ⊥
 
 -- what a run that a fault ends has printed: nothing, or a prefix of that
@@ -57,39 +63,64 @@ abbrev pub HasBegun : Args → Content → Content → Content → Type 0
 HasBegun (Script traced) given old new = ScriptBegins traced given old new
 HasBegun (Live request) given old new = LiveBegins request.seed request.turns given old new
 HasBegun (Chart view) given old new = DrawingBegins view given old new
+HasBegun (Explore request) given old new = ExploreBegins request given old new
 
--- the mode in which a deck is read
-abbrev pub mode_of : Args → Mode
-mode_of (Script traced) = modes.Script
-mode_of (Live request) = modes.Live
-mode_of (Chart view) = modes.Script
+-- the fault of what was asked for, by the deck as it is read for that
+abbrev pub Fails : Args → Content → Content → Content → Fault → Type 0
+Fails (Script traced) given old new fault = FailsRun modes.Script given old new fault
+Fails (Live request) given old new fault = FailsRun modes.Live given old new fault
+Fails (Chart view) given old new fault = FailsRun modes.Script given old new fault
+Fails (Explore request) given old new fault = FailsExplore given old new fault
 
 -- why there is no drawing of a whole run that is too long
 abbrev pub too_long_line : List ℕ
 too_long_line =
     codes "error: the drawing has more than 2000 lines: choose a part of it by --from N or --to N"
 
--- what is reported of a run: the line of its figures, that its drawing is too long, or the line of
--- its fault, if it has any
+-- why there is no deck of an outcome
+abbrev pub search_report : Verdict → List ℕ
+search_report verdicts.NoOutcome =
+    with_line_feed (codes "error: there is no outcome of this number")
+search_report verdicts.TooLong =
+    with_line_feed (codes
+    "error: the order of this outcome is longer than the log: give the deck more positions")
+search_report verdicts.NotShown =
+    with_line_feed (codes "error: the deck of this outcome does not show it")
+search_report _ = []
+
+-- the status after a search
+abbrev pub search_status : Verdict → ℕ
+search_status verdicts.Complete = 0
+search_status verdicts.Broken = 5
+search_status verdicts.Incomplete = 6
+search_status verdicts.Shown = 0
+search_status verdicts.NoOutcome = 2
+search_status verdicts.TooLong = 2
+search_status verdicts.NotShown = 7
+
+-- what is reported of a run: the line of its figures, that its drawing is too long, why there is no
+-- deck of an outcome, or the line of its fault, if it has any
 abbrev pub report_of : Result Report Fault → List ℕ
 report_of (Ok Nothing) = []
 report_of (Ok (Figures figures)) = with_line_feed (figures_line_of figures)
 report_of (Ok TooLong) = with_line_feed too_long_line
+report_of (Ok (Searched verdict)) = search_report verdict
 report_of (Err fault) = with_line_feed (fault_message_of fault)
 
--- the status after a run: 0 if it had no fault, 2 if its drawing is too long, and otherwise that of
--- the fault
+-- the status after a run: 0 if it had no fault, 2 if its drawing is too long, that of a search, and
+-- otherwise that of the fault
 abbrev pub status_of_run : Result Report Fault → ℕ
 status_of_run (Ok Nothing) = 0
 status_of_run (Ok (Figures figures)) = 0
 status_of_run (Ok TooLong) = 2
+status_of_run (Ok (Searched verdict)) = search_status verdict
 status_of_run (Err fault) = status_of fault
 
 -- What the words ask for was run, with the deck that the bytes given to it mean. It printed the
 -- output of such a run, or a fault ended it after a prefix of that. If the bytes mean no deck,
 -- nothing is printed, and the fault has the first bad line and the first reason on it. The status
--- is 0 without a fault, 2 if a drawing is too long, and otherwise that of the fault; the latter two
--- are reported. The figures of a live run are reported as well, and are those of the run that it
+-- is that of the run: 0 without a fault, 2 if a drawing is too long, that of a search, and otherwise
+-- that of the fault. The figures of a live run are reported as well, and are those of the run that it
 -- printed. A report that could not be written whole is a prefix of its line; with nothing to report,
 -- nothing is written on standard error.
 pub record RunsAs (args : Args) (given output output_after errors errors_after : Content)
@@ -97,7 +128,7 @@ pub record RunsAs (args : Args) (given output output_after errors errors_after :
   pub ran : Result Report Fault
   pub printed : IfOk ran (Prints args given output output_after)
   pub begun : OnErr ran (HasBegun args given output output_after)
-  pub fault : IfErr ran (FailsRun (mode_of args) given output output_after)
+  pub fault : IfErr ran (Fails args given output output_after)
   pub status : ending.status ≡ status_of_run ran
   pub reported : Writes errors errors_after (report_of ran) ending.reported
   pub silent : report_of ran ≡ [] → errors_after ≡ errors

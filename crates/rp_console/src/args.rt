@@ -3,10 +3,11 @@
 ghost use Rattle.std.specs.Prelude.{◌≡◌, ℕ, None, Some, true, false, codes, IfOk, map, option_map};
 ghost use Rattle.clap.specs.Words.{app_of, rule_of, subcommand_of, fault_of, found_of, one_text, FailsBy};
 ghost use Rattle.clap.specs.declared.builder.command.Command.TheViews.{out-Command};
-ghost use Rattle.rp_console.specs.CommandLine.{chart, chart_option, console, hide_self_option, live, live_args, moment_option, name_of, position_option, script, seed_of, trace_of, turns_of, IsView, ReadsAs};
+ghost use Rattle.rp_console.specs.CommandLine.{chart, chart_option, console, count_option, explore, explore_option, hide_self_option, live, live_args, name_of, position_option, script, seed_of, states, trace_of, turns_of, IsRequest, IsView, ReadsAs};
 
 use clap::{Arg, ArgAction, ArgMatches, Command, Error, value_parser};
 use rp_base::Position;
+use rp_explore_run::ExploreRequest;
 use rp_history::View;
 use rp_output::VERSION;
 use rp_script::LiveRequest;
@@ -25,6 +26,8 @@ pub enum Args {
     Live(LiveRequest),
     /// Draws this part of the run of the script of the deck on standard input.
     Chart(View),
+    /// Explores every order of the program of the deck on standard input.
+    Explore(ExploreRequest),
 }
 
 /// The program's command line.
@@ -34,6 +37,7 @@ pub fn command<'a>(alloc: Global) -> Result<Command<'a>, AllocError>
     let script = script_command(alloc)?;
     let live = live_command(alloc)?;
     let chart = chart_command(alloc)?;
+    let explore = explore_command(alloc)?;
     Command::new(alloc, "rp_console")
         .about("Runs a program of tasks and objects on a cluster of nodes in memory")
         .after_help("Example: rp_console script < DECK; decks are described in docs/DECK.md")
@@ -42,7 +46,8 @@ pub fn command<'a>(alloc: Global) -> Result<Command<'a>, AllocError>
         .disable_help_subcommand(true)
         .subcommand(script)?
         .subcommand(live)?
-        .subcommand(chart)
+        .subcommand(chart)?
+        .subcommand(explore)
 }
 
 /// The subcommand `script`.
@@ -95,16 +100,46 @@ fn chart_command<'a>(alloc: Global) -> Result<Command<'a>, AllocError>
         )
         .arg(position_option(alloc))?
         .arg(hide_self_option(alloc))?
-        .arg(moment_option(
+        .arg(count_option(
             alloc,
             "from",
             "Draws only the moments from number N on, 1 to 4294967295",
         ))?
-        .arg(moment_option(
+        .arg(count_option(
             alloc,
             "to",
             "Draws only the moments up to number N, 1 to 4294967295",
         ))
+}
+
+/// The subcommand `explore`.
+fn explore_command<'a>(alloc: Global) -> Result<Command<'a>, AllocError>
+    ensures app { IfOk result (λ command. app_of command ≡ explore) }
+    ensures local { IfOk result (λ command. (out-Command command).has_globals ≡ false) }
+{
+    Command::new(alloc, "explore")
+        .about(
+            "Reads a deck from standard input and explores every order of what its script asks for",
+        )
+        .arg(states_option(alloc))?
+        .arg(count_option(
+            alloc,
+            "deck",
+            "Prints a deck for script that shows outcome N, 1 to 4294967295",
+        ))
+}
+
+/// The option `--states`.
+fn states_option<'a>(alloc: Global) -> Arg<'a>
+    ensures rule { rule_of result ≡ states }
+    ensures local { result.global ≡ false }
+{
+    Arg::new(alloc, "states")
+        .long("states")
+        .value_name("S")
+        .help("At most how many states are found, 1 to 10000000")
+        .value_parser(value_parser!(u32).range(1..=10_000_000))
+        .default_value("1000000")
 }
 
 /// The option `--position`.
@@ -130,9 +165,9 @@ fn hide_self_option<'a>(alloc: Global) -> Arg<'a>
         .action(ArgAction::SetTrue)
 }
 
-/// An option that takes the number of a moment.
-fn moment_option<'a>(alloc: Global, name: &'a str, help: &'a str) -> Arg<'a>
-    ensures rule { rule_of result ≡ moment_option name.now }
+/// An option that takes a number from 1 on.
+fn count_option<'a>(alloc: Global, name: &'a str, help: &'a str) -> Arg<'a>
+    ensures rule { rule_of result ≡ count_option name.now }
     ensures local { result.global ≡ false }
 {
     Arg::new(alloc, name)
@@ -147,7 +182,8 @@ fn moment_option<'a>(alloc: Global, name: &'a str, help: &'a str) -> Arg<'a>
 pub fn read_args<S: AsStr>(alloc: Global, words: &[S]) -> Result<Args, Error>
     // claim: The words of the command line name a subcommand and its options, or are refused as
     //   clap's rules say. For a drawing they choose a position, whether packets from a node to
-    //   itself are drawn, and the first and the last moment that is drawn
+    //   itself are drawn, and the first and the last moment that is drawn; for a search how many
+    //   states it may find, and whether it is to print the deck of an outcome, and of which
     ensures named { IfOk result (λ args. option_map (λ found. found.0)
         (subcommand_of console (map S.text words.now)) ≡ Some (name_of args)) }
     ensures traced { IfOk result (λ args. trace_of (map S.text words.now) ≡ Some (codes "true")
@@ -160,6 +196,9 @@ pub fn read_args<S: AsStr>(alloc: Global, words: &[S]) -> Result<Args, Error>
         → args ≡ live_args seed turns) }
     ensures chart { IfOk result (λ args. (view : View) → args ≡ Args.Chart view
         → IsView (chart_option (map S.text words.now)) view) }
+    ensures explore { IfOk result (λ args. (request : ExploreRequest)
+        → args ≡ Args.Explore request
+        → IsRequest (explore_option (map S.text words.now)) request) }
     ensures refused { FailsBy (fault_of console (map S.text words.now)) result }
 {
     let matches = command(alloc)?.try_get_matches_from(words)?;
@@ -173,8 +212,11 @@ pub fn read_args<S: AsStr>(alloc: Global, words: &[S]) -> Result<Args, Error>
             turns: number_of(found, "turns"),
         }));
     }
-    match matches.subcommand_matches("chart") {
-        Some(found) => Ok(Args::Chart(view_of(found))),
+    if let Some(found) = matches.subcommand_matches("chart") {
+        return Ok(Args::Chart(view_of(found)));
+    }
+    match matches.subcommand_matches("explore") {
+        Some(found) => Ok(Args::Explore(request_of(found))),
         None => unreachable!(),
     }
 }
@@ -186,8 +228,18 @@ fn view_of(found: &ArgMatches<'_>) -> View
     View {
         position: Position::new(position_of(found, "position")),
         hides_self: found.get_flag("hide-self"),
-        from: moment_of(found, "from"),
-        to: moment_of(found, "to"),
+        from: count_of(found, "from"),
+        to: count_of(found, "to"),
+    }
+}
+
+/// The search that the options of `explore` ask for.
+fn request_of(found: &ArgMatches<'_>) -> ExploreRequest
+    ensures { IsRequest (one_text (found_of found.now)) result }
+{
+    ExploreRequest {
+        states: number_of(found, "states"),
+        deck: count_of(found, "deck"),
     }
 }
 
@@ -199,8 +251,8 @@ fn number_of(found: &ArgMatches<'_>, id: &str) -> u32
     found.get_one::<u32>(id).unwrap_or(0)
 }
 
-/// The value of an option that takes the number of a moment, if it has one.
-fn moment_of(found: &ArgMatches<'_>, id: &str) -> Option<u32>
+/// The value of an option that takes a number from 1 on, if it has one.
+fn count_of(found: &ArgMatches<'_>, id: &str) -> Option<u32>
     ensures none { one_text (found_of found.now) id.now ≡ None → result ≡ None }
     ensures number { (number : ℕ) → ReadsAs 32 (one_text (found_of found.now) id.now) number
         → result ≡ Some number }

@@ -1,13 +1,14 @@
 //! Does what the words of the command line ask for, and reports its faults.
 
-ghost use Rattle.std.specs.Prelude.{◌≡◌, [], IfErr, IfOk, OnErr, map};
-ghost use Rattle.rp_console.specs.Console.{FollowsWords, HasBegun, Prints, mode_of, report_of, status_of_run};
+ghost use Rattle.std.specs.Prelude.{◌≡◌, [], IfErr, IfOk, Ok, OnErr, map};
+ghost use Rattle.rp_console.specs.Console.{Fails, FollowsWords, HasBegun, Prints, report_of, search_report, search_status, status_of_run};
+ghost use Rattle.rp_output.specs.FaultMessage.{with_line_feed};
 ghost use Rattle.rp_output.specs.Stream.{Writes};
-ghost use Rattle.rp_script.specs.Given.{FailsRun};
 
 use crate::args::{Args, read_args};
 use rp_base::Fault;
 use rp_chart::{Outcome, draw_script};
+use rp_explore_run::{Verdict, explore_deck};
 use rp_output::{Ending, Streams, fail, refuse_words, report};
 use rp_script::{FiguresLine, run_live, run_script};
 use std::alloc::Global;
@@ -26,11 +27,23 @@ pub enum Report {
     Figures(FiguresLine),
     /// That the drawing is too long, so that there is none.
     TooLong,
+    /// What became of a search.
+    Searched(Verdict),
 }
 
 /// Why there is no drawing.
 const TOO_LONG: &str =
     "error: the drawing has more than 2000 lines: choose a part of it by --from N or --to N";
+
+/// Why there is no deck of an outcome: no outcome has the number.
+const NO_OUTCOME: &str = "error: there is no outcome of this number";
+
+/// Why there is none: the order of the outcome is longer than the log.
+const FEW_POSITIONS: &str =
+    "error: the order of this outcome is longer than the log: give the deck more positions";
+
+/// Why there is none: its run does not show the outcome, which is a mistake of this program.
+const NOT_SHOWN: &str = "error: the deck of this outcome does not show it";
 
 /// Runs what the words ask for and reports its fault, or reports why the words are wrong.
 pub fn obey<T: Threads + Wait + Clock, S: AsStr, R: Read + Drop, W: Write + Drop, E: Write + Drop>(
@@ -39,11 +52,14 @@ pub fn obey<T: Threads + Wait + Clock, S: AsStr, R: Read + Drop, W: Write + Drop
     words: &[S],
     streams: &mut Streams<R, W, E>,
 ) -> Ending
-    // claim: The program runs what its words ask for (a script, traced or not, a live run, or a
-    //   drawing of a script's run), and nothing if they are wrong. The status is 0 exactly if the run
-    //   ended without a fault and no drawing was too long, or the words ask for help or the version; 3
-    //   at a bad deck; 2 at wrong words, or if the drawing is too long, which one line reports; and 4
-    //   at every other fault. A fault is reported on standard error by its line, that of a bad deck
+    // claim: The program runs what its words ask for (a script, traced or not, a live run, a drawing
+    //   of a script's run, or a search over every order of a deck), and nothing if they are wrong. The
+    //   status is 0 if the run ended without a fault, no drawing was too long and a search is complete
+    //   with no rule broken or printed the deck of an outcome, or if the words ask for help or the
+    //   version; 5 exactly if a search broke a rule, and 6 exactly if it is not complete and broke
+    //   none; 7 if the deck of an outcome does not show it; 3 at a bad deck; 2 at wrong words, if the
+    //   drawing is too long, or if there is no deck of the outcome, each of which one line reports;
+    //   and 4 at every other fault. A fault is reported on standard error by its line, that of a bad deck
     //   with the first bad line that the deck's bytes mean and the first reason on it. A live run
     //   without a fault leaves there the line of the figures of the run that it printed, with a time
     //   or without one. A line that could not be written whole is left there as a prefix of it. A
@@ -62,8 +78,8 @@ pub fn obey<T: Threads + Wait + Clock, S: AsStr, R: Read + Drop, W: Write + Drop
     }
 }
 
-/// Runs the deck that the reader holds, in its script's order or in threads, or draws its script's
-/// run. Returns what is to be reported of it.
+/// Runs the deck that the reader holds, in its script's order or in threads, draws its script's run,
+/// or explores every order of it. Returns what is to be reported of it.
 fn run_as<T: Threads + Wait + Clock, R: Read, W: Write>(
     rt: &T,
     alloc: Global,
@@ -75,7 +91,7 @@ fn run_as<T: Threads + Wait + Clock, R: Read, W: Write>(
         (W.contents writer.old) (W.contents writer.new)) }
     ensures begun { OnErr result (HasBegun args (R.remaining reader.old)
         (W.contents writer.old) (W.contents writer.new)) }
-    ensures fault { IfErr result (FailsRun (mode_of args) (R.remaining reader.old)
+    ensures fault { IfErr result (Fails args (R.remaining reader.old)
         (W.contents writer.old) (W.contents writer.new)) }
 {
     match args {
@@ -92,10 +108,15 @@ fn run_as<T: Threads + Wait + Clock, R: Read, W: Write>(
             Ok(Outcome::TooLong) => Ok(Report::TooLong),
             Err(fault) => Err(fault),
         },
+        Args::Explore(request) => match explore_deck(alloc, reader, request, writer) {
+            Ok(verdict) => Ok(Report::Searched(verdict)),
+            Err(fault) => Err(fault),
+        },
     }
 }
 
-/// Reports a run's figures, that its drawing is too long, or its fault, if it has any.
+/// Reports a run's figures, that its drawing is too long, why there is no deck of an outcome, or its
+/// fault, if it has any.
 fn end<E: Write>(errors: &mut E, ran: Result<Report, Fault>) -> Ending
     ensures status { result.status ≡ status_of_run ran }
     ensures reported { Writes (E.contents errors.old) (E.contents errors.new) (report_of ran)
@@ -115,6 +136,46 @@ fn end<E: Write>(errors: &mut E, ran: Result<Report, Fault>) -> Ending
             status: 2,
             reported: report(errors, TOO_LONG),
         },
+        Ok(Report::Searched(verdict)) => end_search(errors, verdict),
         Err(fault) => fail(errors, fault),
+    }
+}
+
+/// Reports why there is no deck of an outcome, if it was asked for and there is none.
+fn end_search<E: Write>(errors: &mut E, verdict: Verdict) -> Ending
+    ensures status { result.status ≡ search_status verdict }
+    ensures reported { Writes (E.contents errors.old) (E.contents errors.new)
+        (search_report verdict) result.reported }
+    ensures silent { search_report verdict ≡ [] → E.contents errors.new ≡ E.contents errors.old }
+{
+    match verdict {
+        Verdict::Complete | Verdict::Shown => silent(0),
+        Verdict::Broken => silent(5),
+        Verdict::Incomplete => silent(6),
+        Verdict::NoOutcome => refused(errors, 2, NO_OUTCOME),
+        Verdict::TooLong => refused(errors, 2, FEW_POSITIONS),
+        Verdict::NotShown => refused(errors, 7, NOT_SHOWN),
+    }
+}
+
+/// Nothing is reported.
+fn silent(status: u8) -> Ending
+    ensures { result ≡ record { status = status; reported = Ok tt } }
+{
+    Ending {
+        status,
+        reported: Ok(()),
+    }
+}
+
+/// This line is reported.
+fn refused<E: Write>(errors: &mut E, status: u8, line: &str) -> Ending
+    ensures status { result.status ≡ status }
+    ensures reported { Writes (E.contents errors.old) (E.contents errors.new)
+        (with_line_feed line.now) result.reported }
+{
+    Ending {
+        status,
+        reported: report(errors, line),
     }
 }

@@ -36,6 +36,14 @@ pub fn explore_deck<R: Read, W: Write>(
     request: ExploreRequest,
     writer: &mut W,
 ) -> Result<Verdict, Fault>
+    // claim (printed): What is printed of the search over the orders of a deck is of the deck that all
+    //   bytes of the reader mean: the report, with exactly the replies that the orders that were found
+    //   give, the tasks that wait for ever after one of them and the rules that are broken after one,
+    //   and `complete` exactly if they lead to every state; or the deck of an outcome, whose own run
+    //   prints the reply, or ends with the state in which the task waits or the rule is broken
+    // claim (begun, fault): If the bytes mean no deck for a search, nothing is written, and the fault
+    //   has the first bad line and the first reason on it. After every other fault nothing was
+    //   written, or a prefix of what is to be printed
     ensures printed { IfOk result (Explores request (R.remaining reader.old)
         (W.contents writer.old) (W.contents writer.new)) }
     ensures begun { OnErr result (ExploreBegins request (R.remaining reader.old)

@@ -11,4 +11,5 @@ returns c =
     rw (ap app_of_fields c.disable_help_subcommand.ensures, c.subcommand_required.ensures, c.version.ensures, c.after_help.ensures, c.about.ensures) (ap (on_top with_choice) c.new.ensures.app) in
     let first = c.in_ok-subcommand.ensures.shape (search rules) ∙ ap₂ with_subcommand top (ap (λ (a : App). a.top) c.in_ok-script.ensures.app) in
     let second = c.in_ok-subcommand-2.ensures.shape (search rules) ∙ ap₂ with_subcommand first (ap (λ (a : App). a.top) c.in_ok-live.ensures.app) in
-    IfOk-weaker c.subcommand-3.result _ _ (λ r added. added.shape (search rules) ∙ ap₂ with_subcommand second (ap (λ (a : App). a.top) c.in_ok-chart.ensures.app)) c.subcommand-3.ensures
+    let third = c.in_ok-subcommand-3.ensures.shape (search rules) ∙ ap₂ with_subcommand second (ap (λ (a : App). a.top) c.in_ok-chart.ensures.app) in
+    IfOk-weaker c.subcommand-4.result _ _ (λ r added. added.shape (search rules) ∙ ap₂ with_subcommand third (ap (λ (a : App). a.top) c.in_ok-explore.ensures.app)) c.subcommand-4.ensures

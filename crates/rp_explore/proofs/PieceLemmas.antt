@@ -1,11 +1,11 @@
 -- Texts by the numbers of their lines.
 use Rattle.std.specs.Prelude.{Vec}
 use Rattle.std.specs.declared.alloc.Global.{Global}
-use Rattle.std.proofs.Common.{◌≡◌, ◌≢◌, ℕ, zero, suc, ◌+◌, ◌<◌, ◌≤◌, Bool, true, false, nat_eq, Option, Some, None, List, [], ◌∷◌, ◌++◌, length, get_or, map, position, unwrap_or, slice_get, if◌then◌else◌, inl, inr, refl, sym, ap, subst, ◌∙◌, append-nil, append_assoc, drop, eq-eqb, true≢false}
+use Rattle.std.proofs.Common.{◌≡◌, ◌≢◌, ℕ, zero, suc, ◌+◌, ◌<◌, ◌≤◌, Bool, true, false, nat_eq, Option, Some, None, List, [], ◌∷◌, ◌++◌, length, get_or, arith, map, position, unwrap_or, slice_get, if◌then◌else◌, inl, inr, refl, sym, ap, subst, ◌∙◌, append-nil, append_assoc, take, drop, ◌-◌, eq-eqb, true≢false}
 use Rattle.std.specs.List.{IsDistinct, AllByRecursion}
 use Rattle.std.specs.Option.{option_map}
 use Rattle.std.specs.Cmp.Lexicographic.{pointwise, bytes_decides}
-use Rattle.std.proofs.lemmas.List.{map-append, drop_more, drop_all}
+use Rattle.std.proofs.lemmas.List.{map-append, drop_more, drop_all, take_more, get_or-drop, length-drop}
 use Rattle.std.proofs.lemmas.Bool.{ne_eqb}
 use Rattle.std.proofs.lemmas.List.Quantifiers.{position-Some}
 use Rattle.std.proofs.lemmas.Option.{slice_get-map, slice_get-get_or}
@@ -143,6 +143,16 @@ joined_from start (byte ∷ rest) = by (nat_eq byte 10) (joined_from [] rest) (j
 -- texts with equal lines are equal
 pub texts_same : (one other : List ℕ) → lines_of one ≡ lines_of other → one ≡ other
 texts_same one other same = sym (joined_from [] one) ∙ ap joined same ∙ joined_from [] other
+
+-- a part of a text and the byte after it
+pub piece_more : (text : List ℕ) (start i : ℕ) → start ≤ i → i < length text → take (i + 1 - start) (drop start text) ≡ take (i - start) (drop start text) ++ get_or text i 0 ∷ []
+piece_more text start i began lt =
+    let one : i + 1 - start ≡ i - start + 1 = omega arith in
+    let there : start + (i - start) ≡ i = omega arith in
+    let below : i - start < length text - start = omega arith in
+    ap (λ (k : ℕ). take k (drop start text)) one
+    ∙ take_more (drop start text) (i - start) 0 (subst (λ (k : ℕ). i - start < k) (sym (length-drop start text)) below)
+    ∙ ap (λ (byte : ℕ). take (i - start) (drop start text) ++ byte ∷ []) (get_or-drop start text (i - start) 0 ∙ ap (λ (k : ℕ). get_or text k 0) there)
 
 -- the first bytes of a text were gone over: the lines so far have their numbers, and the text goes on
 pub record IsNumbered (first known : List (List ℕ)) (numbers line : List ℕ) (i : ℕ) (text : List ℕ) : Type 0 where

@@ -52,16 +52,15 @@ impl Pieces {
             AreNumbers self.new numbers.items (lines_of text.now)) }
     {
         let mut numbers = Vec::with_capacity(alloc, lines_in(text))?;
-        let mut line = Vec::new(alloc);
-        for byte in text {
-            line.push(*byte)?;
+        let mut start = 0;
+        for (at, byte) in text.iter().enumerate() {
             if *byte == b'\n' {
-                let number = self.number(alloc, line.as_slice(), near.get(numbers.len()))?;
+                let number = self.number(alloc, &text[start..=at], near.get(numbers.len()))?;
                 numbers.push(number)?;
-                line.clear();
+                start = at + 1;
             }
         }
-        let number = self.number(alloc, line.as_slice(), near.get(numbers.len()))?;
+        let number = self.number(alloc, &text[start..], near.get(numbers.len()))?;
         numbers.push(number)?;
         Ok(numbers)
     }

@@ -9,3 +9,4 @@ pub mod RecordReading
 pub mod Decoding
 pub mod Length
 pub mod Usual
+pub mod Tails

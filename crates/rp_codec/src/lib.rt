@@ -19,6 +19,7 @@
 //! - `content`: what was read of a packet, before memory is taken for a list
 //! - `usual_texts`: packets of the usual kinds, each read by a function of its own
 //! - `usual_encoding`: packets and records of the usual kinds to bytes, each in one piece
+//! - `tails`: how texts of the usual kinds end, and texts that are made of it
 //! - `encoding`: packets to bytes
 //! - `decoding`: bytes to packets
 //! - `lengths`: where a packet's text ends, without reading it
@@ -44,6 +45,7 @@ mod reply_text;
 mod report_text;
 mod rules;
 mod short_text;
+mod tails;
 mod usual_encoding;
 mod usual_texts;
 mod version;
@@ -61,6 +63,10 @@ pub use record_text::{
 };
 pub use rules::report_len;
 pub use short_text::{LONGEST_TEXT, ShortText};
+pub use tails::{
+    DecisionTail, VoteTail, accepted_by, decided_by, decision_of, decision_tail, learned_by,
+    vote_tail, voted_by,
+};
 pub use usual_encoding::{
     accept_text, accepted_text, decided_text, is_call, learned_text, prepare_text, promise_text,
     promised_text, started_text, value_reply_text, voted_text,

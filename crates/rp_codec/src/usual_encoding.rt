@@ -28,7 +28,7 @@ pub fn is_call(action: &Action) -> bool
 
 /// The bytes of one array, and those of the other after them.
 #[inline(always)]
-fn joined<const A: usize, const B: usize, const N: usize>(
+pub(crate) fn joined<const A: usize, const B: usize, const N: usize>(
     front: &[u8; A],
     rest: &[u8; B],
 ) -> [u8; N]

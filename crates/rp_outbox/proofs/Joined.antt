@@ -1,12 +1,12 @@
 -- Texts that are joined, the packets that are read from them, and where each ends.
-use Rattle.std.proofs.Common.{◌≡◌, ℕ, zero, suc, ◌+◌, ◌*◌, ◌≤◌, ◌<◌, Option, Some, option_map, Bor, get_or, List, [], ◌∷◌, ◌++◌, length, take, drop, ◌-◌, refl, sym, ap, subst, ◌∙◌, arith}
+use Rattle.std.proofs.Common.{◌≡◌, ℕ, zero, suc, ◌+◌, ◌≤◌, ◌<◌, Option, Some, option_map, Bor, get_or, List, [], ◌∷◌, ◌++◌, length, take, drop, ◌-◌, refl, sym, ap, subst, ◌∙◌, arith}
 use Rattle.std.specs.List.{AllByRecursion}
-use Rattle.std.specs.Prelude.{slice_get, option_copied}
-use Rattle.std.proofs.lemmas.List.{append_assoc, append-nil, length-append, take-append-drop}
+use Rattle.std.specs.Prelude.{slice_get, slice_set, option_copied}
+use Rattle.std.proofs.lemmas.List.{append_assoc, append-nil, length-append, length-take-le, take-append-drop, set-append_right}
 use Rattle.std.proofs.Math.Seq.{drop-append_seam, drop-nil, take-append_seam}
 use Rattle.rp_codec.specs.Message.{Message, IsPacket}
 use Rattle.rp_codec.specs.Reading.{Read, packet_at}
-use Rattle.rp_codec.specs.Text.{text_of, head_text, body_text_at}
+use Rattle.rp_codec.specs.Text.{text_of}
 use Rattle.rp_codec.specs.declared.version.Version.TheVariants.{V2}
 use Rattle.rp_codec.proofs.VersionLaws.{has_text}
 use Rattle.rp_codec.proofs.PacketLaws.{packet_again}
@@ -113,6 +113,26 @@ module _ (bytes ends : List ℕ) (run : IsRun bytes ends) (text : List ℕ) (m :
             (subst (λ (n : ℕ). AreTexts (bytes ++ text) n) (sym (one_end_more ends ends' (length bytes') added)) (both bytes text (length ends) 1 run.texts (one_text text m is)));
         ends_are = ends_is ∙ ap (ends_of 0) (sym sent_more);
       }
+
+-- where the bytes that are used end
+pub end_of : (n : ℕ) (l : List ℕ) → n ≤ length l → n ≡ length (take n l)
+end_of n l within = sym (length-take-le n l within)
+
+-- a byte that is written below the end is written into what is below it
+take_set : (n : ℕ) (l : List ℕ) (i v : ℕ) → take n (slice_set l i v) ≡ slice_set (take n l) i v
+take_set zero l i v = refl
+take_set (suc n) [] i v = refl
+take_set (suc n) (x ∷ xs) zero v = refl
+take_set (suc n) (x ∷ xs) (suc i) v = ap (λ (rest : List ℕ). x ∷ rest) (take_set n xs i v)
+
+-- a text that was written after the bytes that are used, with another receiver
+pub sent_to : (bytes written text : List ℕ) (used end receiver to node : ℕ) → used ≤ length bytes → take end written ≡ take used bytes ++ text → receiver ≡ used + 3 → node ≡ to
+    → take end (slice_set written receiver node) ≡ take used bytes ++ slice_set text 3 to
+sent_to bytes written text used end receiver to node within is at same =
+    let third : receiver - used ≡ 3 = omega (arith, at) in
+    take_set end written receiver node ∙ ap (λ (l : List ℕ). slice_set l receiver node) is
+    ∙ set-append_right (take used bytes) text used receiver node (length-take-le used bytes within) (omega (arith, at))
+    ∙ ap (λ (k : ℕ). take used bytes ++ slice_set text k node) third ∙ ap (λ (n : ℕ). take used bytes ++ slice_set text 3 n) same
 
 -- no text
 pub no_run : IsRun [] []

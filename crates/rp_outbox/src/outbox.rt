@@ -4,7 +4,8 @@ ghost use Rattle.std.specs.Prelude.{◌≡◌, ◌+◌, ◌*◌, ◌^◌, ◌≤
 ghost use Rattle.rp_base.specs.Action.{IsCount, IsRight};
 ghost use Rattle.rp_codec.specs.Decoding.{IsLongBody};
 ghost use Rattle.rp_codec.specs.Message.{Message, IsPacket, IsVoteBelow, MaySay};
-ghost use Rattle.rp_codec.specs.Text.{text_of};
+ghost use Rattle.rp_codec.specs.Tails.{decision_text};
+ghost use Rattle.rp_codec.specs.Text.{text_of, vote_text};
 ghost use Rattle.rp_codec.specs.Usual.{IsHeader};
 ghost use Rattle.rp_codec.specs.declared.packet.Party.TheVariants.{Node};
 ghost use Rattle.rp_codec.specs.declared.packet.Body.{Body};
@@ -14,36 +15,42 @@ ghost use Rattle.rp_outbox.specs.Packets.{IsTextOf, IsRun, packets_in, ends_of, 
 
 use rp_base::{Action, Answer, NodeId, Reply, Vote};
 use rp_codec::{
-    Body, Header, LONGEST_TEXT, Packet, Party, RECEIVER, SentDecision, SentReply, accept_text,
-    accepted_text, decided_text, encode_onto, is_call, prepare_text, promise_text, text_of_packet,
-    value_reply_text,
+    Body, DecisionTail, Header, LONGEST_TEXT, Packet, Party, RECEIVER, SentDecision, SentReply,
+    VoteTail, accept_text, accepted_by, accepted_text, decided_by, decided_text, encode_onto,
+    is_call, prepare_text, promise_text, text_of_packet, value_reply_text,
 };
 use std::alloc::{AllocError, Global};
 use std::marker::Model;
 
-/// Packets that are sent: their texts in one run of bytes, with the place where each ends. What is
-/// put into the room that was made takes no memory.
+/// How many bytes of room are made at most beyond those that are asked for. Room is cleared when it
+/// is made, and more than this is not cleared faster.
+const ROOM: usize = 1536;
+
+/// Packets that are sent: their texts in one run of bytes, with the place where each ends. After
+/// the texts there is room; what is put into it takes no memory, and moves no more than its bytes.
 #[derive(Debug, Drop)]
 pub struct Outbox {
     bytes: Vec<u8>,
+    used: usize,
     ends: Vec<usize>,
 }
 
 impl Model for Outbox {
-    ghost use Rattle.std.specs.Prelude.{◌-◌, ◌*◌, min, nat_eq, if◌then◌else◌, length, vec_len, vec_capacity};
+    ghost use Rattle.std.specs.Prelude.{◌-◌, ◌*◌, ◌≤◌, min, nat_eq, if◌then◌else◌, length, take, vec_len, vec_capacity};
     ghost use Rattle.rp_outbox.specs.Packets.{Sending, IsRun, packets_in, longest_text};
 
     ghost Value = { Sending };
 
     ghost view = { λ o. record {
-      sent = packets_in (length o.ends.items) o.bytes.items;
-      room = min (vec_capacity o.bytes - vec_len o.bytes)
+      sent = packets_in (length o.ends.items) (take o.used o.bytes.items);
+      room = min (length o.bytes.items - o.used)
           (longest_text * (vec_capacity o.ends - vec_len o.ends));
       room_for_one = if nat_eq (vec_capacity o.ends - vec_len o.ends) 0 then 0
-          else vec_capacity o.bytes - vec_len o.bytes;
+          else length o.bytes.items - o.used;
     } };
 
-    ghost invariant = { λ o. IsRun o.bytes.items o.ends.items };
+    ghost invariant = { λ o. (o.used ≤ length o.bytes.items)
+        × IsRun (take o.used o.bytes.items) o.ends.items };
 }
 
 impl Outbox {
@@ -53,6 +60,7 @@ impl Outbox {
     {
         Outbox {
             bytes: Vec::new(alloc),
+            used: 0,
             ends: Vec::new(alloc),
         }
     }
@@ -61,11 +69,13 @@ impl Outbox {
     pub fn over(bytes: Vec<u8>, ends: Vec<usize>) -> Self
         ensures { result.sent ≡ [] }
     {
-        let mut bytes = bytes;
         let mut ends = ends;
-        bytes.clear();
         ends.clear();
-        Outbox { bytes, ends }
+        Outbox {
+            bytes,
+            used: 0,
+            ends,
+        }
     }
 
     /// The texts, joined in order, and where each ends.
@@ -73,7 +83,9 @@ impl Outbox {
         ensures bytes { result.0.items ≡ texts_of self.sent }
         ensures ends { result.1.items ≡ ends_of 0 self.sent }
     {
-        let Outbox { bytes, ends } = self;
+        let Outbox { bytes, used, ends } = self;
+        let mut bytes = bytes;
+        bytes.truncate(used);
         (bytes, ends)
     }
 
@@ -97,7 +109,7 @@ impl Outbox {
         if place >= self.ends.len() {
             return None;
         }
-        Some(text_between(self.bytes.as_slice(), self.ends.as_slice(), place))
+        Some(text_between(&self.bytes[..self.used], self.ends.as_slice(), place))
     }
 
     /// Makes room for as many packets more, at most 64 of them, if none takes memory.
@@ -107,7 +119,7 @@ impl Outbox {
         ensures sent { self.new.sent ≡ self.old.sent }
         ensures room { OnOk result (longest_text * packets ≤ self.new.room) }
     {
-        self.bytes.reserve(LONGEST_TEXT * packets)?;
+        reserve_bytes(&mut self.bytes, self.used, LONGEST_TEXT * packets)?;
         self.ends.reserve(packets)
     }
 
@@ -116,7 +128,7 @@ impl Outbox {
         ensures sent { self.new.sent ≡ self.old.sent }
         ensures room { OnOk result (bytes ≤ self.new.room_for_one) }
     {
-        self.bytes.reserve(bytes)?;
+        reserve_bytes(&mut self.bytes, self.used, bytes)?;
         self.ends.reserve(1)
     }
 
@@ -129,8 +141,9 @@ impl Outbox {
             → self.new.sent ≡ self.old.sent ++ m ∷ [] }
         ensures room { self.old.room ≤ self.new.room + max longest_text (length text.now) }
     {
-        self.bytes.extend_from_slice(text).unwrap();
-        self.ends.push_reserved(self.bytes.len());
+        let end = write_text(&mut self.bytes, self.used, text);
+        self.used = end;
+        self.ends.push_reserved(end);
     }
 
     /// One packet more. Where memory is refused, the packets stay as they are.
@@ -140,8 +153,11 @@ impl Outbox {
     {
         let _body = packet.body();
         self.ends.reserve(1)?;
+        self.bytes.truncate(self.used);
         encode_onto(packet, &mut self.bytes)?;
-        self.ends.push_reserved(self.bytes.len());
+        let end = self.bytes.len();
+        self.used = end;
+        self.ends.push_reserved(end);
         Ok(())
     }
 
@@ -155,8 +171,9 @@ impl Outbox {
             → self.new.sent ≡ self.old.sent ++ m ∷ [] }
         ensures room { self.old.room ≤ self.new.room + longest_text }
     {
-        self.bytes.extend_from_slice(text).unwrap();
-        self.ends.push_reserved(self.bytes.len());
+        let end = write_text(&mut self.bytes, self.used, text);
+        self.used = end;
+        self.ends.push_reserved(end);
     }
 
     /// A text between nodes, with this node as its receiver, into the room.
@@ -170,10 +187,11 @@ impl Outbox {
             → self.new.sent ≡ self.old.sent ++ m ∷ [] }
         ensures room { self.old.room ≤ self.new.room + longest_text }
     {
-        let receiver = self.bytes.len() + RECEIVER;
-        self.bytes.extend_from_slice(text).unwrap();
+        let receiver = self.used + RECEIVER;
+        let end = write_text(&mut self.bytes, self.used, text);
         self.bytes[receiver] = to.get();
-        self.ends.push_reserved(self.bytes.len());
+        self.used = end;
+        self.ends.push_reserved(end);
     }
 
     /// The text of a packet of a node to itself, with each node as its receiver, into the room.
@@ -327,6 +345,21 @@ impl Outbox {
         );
     }
 
+    /// A vote, into the room, whose text is made of how that of the accept ends.
+    #[inline(always)]
+    pub fn accepted_by(&mut self, header: Header, action: &Action, tail: &VoteTail)
+        requires right { IsRight action.now }
+        requires tail { tail.now ≡ vote_text header.position header.ballot action.now }
+        requires room { longest_text ≤ self.old.room }
+        ensures sent { self.new.sent ≡ self.old.sent
+            ++ says header.from (Accepted header.position header.ballot action.now) header.to ∷ [] }
+        ensures room { self.old.room ≤ self.new.room + longest_text }
+    {
+        let _action = action;
+        header_in_range(&header);
+        self.put_short(&accepted_by(header, tail));
+    }
+
     /// A prepare to each node, from the node of the header, itself too, into the room.
     #[inline(always)]
     pub fn prepare_all(&mut self, header: Header, nodes: u8)
@@ -400,6 +433,24 @@ impl Outbox {
         self.say_to_others(from, nodes, Body::Decided { position, action });
     }
 
+    /// A decision of a node to each other node, into the room, whose text is made of how that of a
+    /// vote or of a decision ends.
+    #[inline(always)]
+    pub fn inform_others_by(&mut self, decision: &SentDecision, tail: &DecisionTail, nodes: u8)
+        requires itself { decision.now.to ≡ decision.now.from }
+        requires nodes { nodes ≤ 7 }
+        requires right { IsRight decision.now.action }
+        requires tail { tail.now ≡ decision_text decision.now.position decision.now.action }
+        requires room { longest_text * nodes ≤ self.old.room }
+        ensures sent { self.new.sent ≡ self.old.sent ++ says_to_others nodes decision.now.from
+            (Decided decision.now.position decision.now.action) }
+        ensures room { self.old.room ≤ self.new.room + longest_text * nodes }
+    {
+        let SentDecision { from, position, .. } = *decision;
+        let _numbers = (from.get(), position.get());
+        self.put_to_others(&decided_by(decision, tail), from, nodes);
+    }
+
     /// A reply more, to the call of an answer, into the room.
     pub fn reply(&mut self, me: NodeId, answer: &Answer)
         requires count { IsCount answer.now.number }
@@ -427,6 +478,50 @@ impl Outbox {
         let body = Body::Reply { number, reply };
         self.put(&Packet::new(Party::Node(me), Party::Task(task), body));
     }
+}
+
+/// Makes room for as many bytes more after those that are used. If it is refused, the bytes stay as
+/// they are.
+#[inline(always)]
+fn reserve_bytes(bytes: &mut Vec<u8>, used: usize, more: usize) -> Result<(), AllocError>
+    requires used { used ≤ length bytes.old.items }
+    ensures used { used ≤ length bytes.new.items }
+    ensures kept { take used bytes.new.items ≡ take used bytes.old.items }
+    ensures room { OnOk result (used + more ≤ length bytes.new.items) }
+{
+    if bytes.len() - used >= more {
+        return Ok(());
+    }
+    make_room(bytes, used, more)
+}
+
+/// Makes room for as many bytes more after those that are used, and for as many again as are used,
+/// but at most `ROOM` of these, so that room is seldom made.
+#[cold]
+#[inline(never)]
+fn make_room(bytes: &mut Vec<u8>, used: usize, more: usize) -> Result<(), AllocError>
+    requires used { used ≤ length bytes.old.items }
+    requires lacking { length bytes.old.items < used + more }
+    ensures used { used ≤ length bytes.new.items }
+    ensures kept { take used bytes.new.items ≡ take used bytes.old.items }
+    ensures room { OnOk result (used + more ≤ length bytes.new.items) }
+{
+    let end = used.saturating_add(more);
+    bytes.resize(end.saturating_add(used.min(ROOM)), 0)
+}
+
+/// Writes a text into the room after the bytes that are used. The result is how many are used then.
+#[inline(always)]
+fn write_text(bytes: &mut Vec<u8>, used: usize, text: &[u8]) -> usize
+    requires room { used + length text.now ≤ length bytes.old.items }
+    ensures used { result ≡ used + length text.now }
+    ensures length { length bytes.new.items ≡ length bytes.old.items }
+    ensures within { result ≤ length bytes.new.items }
+    ensures written { take result bytes.new.items ≡ take used bytes.old.items ++ text.now }
+{
+    let end = used + text.len();
+    bytes[used..end].copy_from_slice(text);
+    end
 }
 
 /// Shows that each number of a header is within its range.

@@ -1,7 +1,8 @@
 //! The store of a node's records.
 
-ghost use Rattle.std.specs.Prelude.{◌≡◌, ◌⊎◌, ◌+◌, ◌<◌, length, IfOk, IfErr, OnOk, OnErr, IsErrOf, false};
+ghost use Rattle.std.specs.Prelude.{◌≡◌, ◌⊎◌, ◌+◌, ◌<◌, length, IfOk, IfErr, OnOk, OnErr, IsErrOf, false, true};
 ghost use Rattle.rp_base.specs.declared.fault.Fault.TheVariants as faults;
+ghost use Rattle.rp_base.specs.declared.record.Rec.{Rec};
 ghost use Rattle.rp_base.specs.Right.{IsRightRecord};
 ghost use Rattle.rp_base.specs.WriteFaults.{fault_of};
 ghost use Rattle.rp_codec.specs.Record.{record_text};
@@ -173,12 +174,41 @@ impl<D: Device> Store<D> {
         }
         match write_record(&mut self.device, rec) {
             Ok(()) => Ok(()),
-            Err(Fault::Device) => {
-                self.failed = true;
-                Err(WriteFault::Device)
-            }
-            Err(_) => Err(WriteFault::OutOfMemory),
+            Err(fault) => Err(self.refused(fault)),
         }
+    }
+
+    /// The same, of the text of a record, where the caller has it.
+    #[inline(always)]
+    pub fn put_text(&mut self, text: &[u8]) -> Result<(), WriteFault>
+        requires { (rec : Rec) × IsRightRecord rec × (text.now ≡ record_text rec) }
+        ensures ok { OnOk result (IsPut D.disk text.now self.old self.new) }
+        ensures err { IfErr result (λ fault.
+            IsNotPut D.disk text.now self.old (fault_of fault) self.new) }
+    {
+        if self.failed {
+            return Err(WriteFault::Failed);
+        }
+        match write(&mut self.device, text) {
+            Ok(()) => Ok(()),
+            Err(fault) => Err(self.refused(fault)),
+        }
+    }
+
+    /// Why a record is refused if its write is: the device failed, which is noted, or memory ran out.
+    #[inline(always)]
+    fn refused(&mut self, fault: Fault) -> WriteFault
+        requires { (fault ≡ faults.OutOfMemory) ⊎ (fault ≡ faults.Device) }
+        ensures device { self.new.device ≡ self.old.device }
+        ensures fault { fault_of result ≡ fault }
+        ensures failed { fault ≡ faults.Device → self.new.failed ≡ true }
+        ensures working { fault ≡ faults.OutOfMemory → self.new.failed ≡ self.old.failed }
+    {
+        if !matches!(fault, Fault::Device) {
+            return WriteFault::OutOfMemory;
+        }
+        self.failed = true;
+        WriteFault::Device
     }
 
     /// Whether the device failed since it was opened: then each `put` is refused with `Failed`.

@@ -9,7 +9,7 @@ use Rattle.rp_acceptor.specs.Noted.{Noted, HasRoom, reserves, reserves_vote, res
 use Rattle.rp_acceptor.specs.Levels.{Level, ballot_at, HasLevel}
 use Rattle.rp_acceptor.specs.Slots.{Kept, bound_of, kept_at, HasEnds, stretch_in, promise_at, single_in, with_record, kept_of, page_at, HasSlot, HasMore, AreBounds, HaveEnds, AreKept}
 use Rattle.rp_acceptor.proofs.Noting.{records_kept, bounds_noted}
-use Rattle.rp_acceptor.proofs.Pages.{pages_still, pages_more, pages_noted}
+use Rattle.rp_acceptor.proofs.Pages.{pages_more, pages_noted}
 
 -- where there is room for a record, a level begins at each end of its promise
 pub ends_there : (levels : List Level) (noted : Noted) (rec : Rec) → HaveEnds levels noted.ranges → HasRoom noted rec → HasEnds levels (stretch_in rec)

@@ -7,3 +7,4 @@ mod Comparing
 mod Placing
 mod Covering
 pub mod Answering
+pub mod Firsts

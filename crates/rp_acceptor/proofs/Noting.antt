@@ -1,8 +1,8 @@
 -- One more record: what is kept for a position, and what the bounds are then.
-use Rattle.std.proofs.Common.{◌≡◌, ℕ, suc, ◌+◌, ◌/◌, ◌%◌, ◌≢◌, max, Bool, true, false, cond, Option, Some, None, List, [], ◌∷◌, ◌++◌, nat_eq, set, refl, sym, ap, ◌∙◌, inl, inr, arith}
+use Rattle.std.proofs.Common.{◌≡◌, ℕ, suc, ◌+◌, ◌≢◌, max, Bool, true, false, cond, Option, Some, None, List, [], ◌∷◌, ◌++◌, nat_eq, refl, sym, ap, ◌∙◌, inl, inr, arith}
 use Rattle.std.specs.Prelude.{option_to_list}
 use Rattle.std.specs.List.{cons_option}
-use Rattle.std.proofs.lemmas.Bool.{cases_eq, ne_eqb, eq-eqb}
+use Rattle.std.proofs.lemmas.Bool.{ne_eqb}
 use Rattle.std.proofs.lemmas.Bool.Decides.{leb_tells}
 use Rattle.rp_base.specs.declared.action.Action.{Action}
 use Rattle.rp_base.specs.declared.record.Vote.{Vote}
@@ -12,8 +12,7 @@ use Rattle.rp_base.specs.Sets.{Has}
 use Rattle.rp_base.specs.Records.{bound_in, bound_at, highest, vote_in, last_vote_at}
 use Rattle.rp_base.proofs.MoreRecords.{bound_push, last_push}
 use Rattle.rp_acceptor.specs.Levels.{Level, ballot_at}
-use Rattle.rp_acceptor.specs.Slots.{Kept, ballot_of_vote, stretch_in, promise_at, promise_in, promised_at, kept_at, with_promise, with_vote, with_record, single_in, page_at, kept_in_page, kept_of, HasSlot, AreBounds, KeepsRecords}
-use Rattle.rp_acceptor.proofs.Pages.{written_slot, other_slot}
+use Rattle.rp_acceptor.specs.Slots.{Kept, ballot_of_vote, stretch_in, promise_at, promise_in, promised_at, kept_at, with_record, single_in, AreBounds, KeepsRecords}
 
 bound_more : (records : List Rec) (rec : Rec) (i : ℕ) → bound_at (records ++ rec ∷ []) i ≡ max (bound_at records i) (bound_in i rec)
 bound_more records rec i = let h = bound_push records rec i in omega (arith, h)

@@ -1,11 +1,11 @@
 -- The places of pages, and what a new page or a written place makes of them.
-use Rattle.std.proofs.Common.{◌≡◌, ◌≢◌, ℕ, zero, suc, ◌+◌, ◌/◌, ◌%◌, ◌<◌, ◌≤◌, Result, Ok, Err, OnErr, List, [], ◌∷◌, ◌++◌, length, set, refl, sym, ap, subst, ◌∙◌, inl, inr, arith}
+use Rattle.std.proofs.Common.{◌≡◌, ◌≢◌, ℕ, zero, suc, ◌+◌, ◌/◌, ◌%◌, ◌<◌, Result, Ok, Err, OnErr, List, [], ◌∷◌, ◌++◌, length, set, refl, sym, ap, subst, ◌∙◌, inl, inr, arith}
 use Rattle.std.proofs.lemmas.Bool.{cases_eq}
 use Rattle.std.proofs.lemmas.List.{get_or-set_same, get_or-set_other, length-set}
 use Rattle.rp_base.specs.declared.record.Rec.{Rec}
 use Rattle.rp_base.specs.Sets.{Has}
 use Rattle.rp_base.proofs.Members.{has_split}
-use Rattle.rp_acceptor.specs.Slots.{Kept, nothing_kept, kept_in_page, page_at, kept_of, HasSlot, HasMore, IsWhole, KeepsRecords, ArePages}
+use Rattle.rp_acceptor.specs.Slots.{Kept, nothing_kept, kept_in_page, page_at, kept_of, HasSlot, HasMore, KeepsRecords, ArePages}
 
 -- a page with places is there
 pub page_there : (pages : List (List Kept)) (n : ℕ) → 0 < length (page_at pages n) → n < length pages

@@ -1,4 +1,5 @@
 pub mod Comparing
 pub mod Noted
+pub mod First
 pub mod Slots
 pub mod Levels

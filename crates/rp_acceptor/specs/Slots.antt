@@ -1,5 +1,5 @@
 -- How an acceptor keeps what its records say (callers see none of it).
-use Rattle.std.specs.Prelude.{◌≡◌, ◌⊎◌, ℕ, ◌+◌, ◌/◌, ◌%◌, ◌<◌, ◌≤◌, max, nat_eq}
+use Rattle.std.specs.Prelude.{◌≡◌, ◌⊎◌, ℕ, ◌+◌, ◌-◌, ◌/◌, ◌%◌, ◌<◌, ◌≤◌, max, nat_eq}
 use Rattle.std.specs.Prelude.{Option, Some, None, option_map, option_to_list}
 use Rattle.std.specs.Prelude.{List, [], ◌∷◌, ◌++◌, length, slice_index_or, if◌then◌else◌}
 use Rattle.std.specs.List.{cons_option}
@@ -126,6 +126,11 @@ kept_of pages index = kept_in_page (page_at pages (index / 64)) (index % 64)
 abbrev pub HasSlot : List (List Kept) → ℕ → Type 0
 HasSlot pages index = index % 64 < length (page_at pages (index / 64))
 
+-- there is a place at the index, where this ballot is promised, or 0, and no vote is kept
+pub record HasNoVote (pages : List (List Kept)) (index ballot : ℕ) : Type 0 where
+  pub there : HasSlot pages index
+  pub kept : kept_of pages index ≡ record { promised = ballot; last = None }
+
 -- a page is absent, or has all its places
 abbrev pub IsWhole : List Kept → Type 0
 IsWhole page = (length page ≡ 0) ⊎ (length page ≡ 64)
@@ -170,6 +175,13 @@ AreBoundsOf bounds records range = (b : ℕ) → 0 < b
     → compared_bounds b bounds ≡ compared (λ i. bound_of (kept_at records i)) b (positions_of range)
 
 -- ---- all
+
+-- a position has a place that keeps no vote, and this is its bound
+pub record HasFirstBound (levels : List Level) (pages : List (List Kept)) (i bound : ℕ)
+    : Type 0 where
+  pub promised : ℕ
+  pub kept : HasNoVote pages (i - 1) promised
+  pub greater : bound ≡ max (ballot_at levels i) promised
 
 -- the bound at each position is the greatest of what the levels promise and of what is kept there
 abbrev pub AreBounds : List Level → List Rec → Type 0

@@ -1,7 +1,11 @@
 //! The acceptor's questions and notes.
 
-ghost use Rattle.std.specs.Prelude.{◌≡◌, ◌≤◌, ◌<◌, [], ◌∷◌, flat_map, option_copied, IfOk, IfSome, IfNone, OnOk, OnErr};
+ghost use Rattle.std.specs.Prelude.{◌≡◌, ◌≤◌, ◌<◌, ◌-◌, ℕ, [], ◌∷◌, flat_map, option_copied, if◌then◌else◌, IsTrue, IfOk, IfSome, IfNone, OnOk, OnErr};
 ghost use Rattle.rp_acceptor.specs.Levels.{IsPromised};
+ghost use Rattle.rp_acceptor.specs.First.{IsFirstPromise, IsFirstVote};
+ghost use Rattle.rp_acceptor.specs.Slots.{HasSlot, HasFirstBound};
+ghost use Rattle.rp_base.specs.declared.action.Action.{Action};
+ghost use Rattle.rp_base.specs.declared.record.Rec.TheVariants.{Promised, Voted};
 ghost use Rattle.rp_base.specs.Records.{bound_at, last_vote_at};
 ghost use Rattle.rp_base.specs.Ranges.{positions_of};
 ghost use Rattle.rp_base.specs.Sets.{Has};
@@ -9,7 +13,7 @@ ghost use Rattle.rp_acceptor.specs.Noted.{nothing_noted, places_in, HasRoom, res
 ghost use Rattle.rp_base.specs.Voting.{prepare_answer, vote_answer, accept_answer};
 
 use crate::levels::{Levels, raise_promised, split_ends};
-use crate::page::{Page, kept_at, make, note};
+use crate::page::{Page, kept_at, make, note, promised_without_vote};
 use crate::slot::{Slot, ballot_of, index_of_position};
 use rp_base::{
     AcceptAnswer, Action, Ballot, History, Position, PositionRange, PrepareAnswer, Rec, Vote,
@@ -140,6 +144,50 @@ impl Acceptor {
         Ok(())
     }
 
+    /// Whether a `Prepare` of the ballot at the position is promised with no vote to report, and
+    /// then room for the promise: `prepare` and `reserve` by one look-up. Where no room for votes
+    /// was made at the position, `false` says nothing, and these two are to be called.
+    #[inline(always)]
+    pub fn reserve_first_promise(&mut self, position: Position, ballot: Ballot) -> bool
+        ensures answer { IsTrue result → IsFirstPromise self.old.records position ballot }
+        ensures room { self.new ≡ (if result then reserves self.old position else self.old) }
+        ensures fits { IsTrue result → HasRoom self.new (Promised position ballot) }
+        ensures usual { Has position self.old.votes
+            → IsFirstPromise self.old.records position ballot → IsTrue result }
+    {
+        let Some(bound) = bound_without_vote(&self.levels, &self.pages, position) else {
+            return false;
+        };
+        if ballot.get() <= bound {
+            return false;
+        }
+        self.reserved.push(&position);
+        self.votes.push(&position);
+        true
+    }
+
+    /// Whether an `Accept` in the ballot at the position gets the first vote there, and then room
+    /// for that vote: `accept` and `reserve_vote` by one look-up. Where no room for votes was made
+    /// at the position, `false` says nothing, and these two are to be called.
+    #[inline(always)]
+    pub fn reserve_first_vote(&mut self, position: Position, ballot: Ballot) -> bool
+        ensures answer { IsTrue result → IsFirstVote self.old.records position ballot }
+        ensures room { self.new ≡ (if result then reserves_vote self.old position else self.old) }
+        ensures fits { IsTrue result
+            → (action : Action) → HasRoom self.new (Voted position ballot action) }
+        ensures usual { Has position self.old.votes
+            → IsFirstVote self.old.records position ballot → IsTrue result }
+    {
+        let Some(bound) = bound_without_vote(&self.levels, &self.pages, position) else {
+            return false;
+        };
+        if ballot.get() < bound {
+            return false;
+        }
+        self.votes.push(&position);
+        true
+    }
+
     /// Makes room, so that promises for this range can be noted, however many: two levels at most.
     /// `OutOfMemory` is returned only if there was no room yet, and then nothing has changed.
     pub fn reserve_range(&mut self, range: PositionRange) -> Result<(), AllocError>
@@ -219,6 +267,19 @@ impl Acceptor {
             None => vote(position, ballot, action, slot.last),
         }
     }
+}
+
+/// The number of the bound at a position that has a place, if no vote is kept there.
+#[inline(always)]
+fn bound_without_vote(levels: &Levels, pages: &[Page], position: Position) -> Option<u64>
+    ensures some { IfSome result (λ bound.
+        HasFirstBound levels.now pages.now position bound) }
+    ensures none { IfNone result (HasSlot pages.now (position - 1)
+        → (bound : ℕ) → ¬ HasFirstBound levels.now pages.now position bound) }
+{
+    let alone = promised_without_vote(pages, index_of_position(position))?;
+    let promised = levels.number(usize::from(position.get()));
+    Some(promised.max(alone))
 }
 
 /// The bound of this number, if the ballot lies below it.

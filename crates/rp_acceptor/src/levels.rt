@@ -131,8 +131,18 @@ fn count_below(levels: &[Level], position: usize) -> usize
 {
     match count_near_end(levels, position) {
         Some(count) => count,
-        None => levels.partition_point(|level| level.from() < position),
+        None => count_among_all(levels, position),
     }
+}
+
+/// How many levels begin below a position, by a search of all. It is not inlined: few questions are
+/// about positions so old.
+#[inline(never)]
+fn count_among_all(levels: &[Level], position: usize) -> usize
+    requires { IsRising levels.now }
+    ensures { IsCountBelow levels.now position result }
+{
+    levels.partition_point(|level| level.from() < position)
 }
 
 /// How many levels begin below a position, if it is all but a few of the last: most questions are

@@ -1,11 +1,11 @@
 //! What an acceptor keeps for single positions, in pages, each made when a position of it is first
 //! reserved.
 
-ghost use Rattle.std.specs.Prelude.{◌≡◌, ◌+◌, ◌<◌, ◌≤◌, [], ℕ, length, slice_set, nat_eq, option_copied, ◌/◌, ◌%◌, OnOk, OnErr, IfOk};
+ghost use Rattle.std.specs.Prelude.{◌≡◌, ◌+◌, ◌<◌, ◌≤◌, [], ℕ, length, slice_set, nat_eq, option_copied, ◌/◌, ◌%◌, OnOk, OnErr, IfOk, IfSome, IfNone};
 ghost use Rattle.rp_base.specs.Ballot.{number_of};
 ghost use Rattle.rp_base.specs.Sets.{Has};
 ghost use Rattle.rp_acceptor.specs.Levels.{IsPromised};
-ghost use Rattle.rp_acceptor.specs.Slots.{nothing_kept, kept_or_nothing, bound_of, with_promise, with_vote, with_record, single_in, kept_in_page, page_at, kept_of, HasSlot, HasMore, IsWhole};
+ghost use Rattle.rp_acceptor.specs.Slots.{nothing_kept, kept_or_nothing, bound_of, with_promise, with_vote, with_record, single_in, kept_in_page, page_at, kept_of, HasSlot, HasMore, HasNoVote, IsWhole};
 
 use crate::slot::{ballot_of, index_of_position};
 use rp_base::{Ballot, Rec, Vote};
@@ -141,7 +141,9 @@ impl Page {
     /// What is kept at an offset, if there is a place.
     #[inline(always)]
     fn kept(&self, offset: usize) -> Option<&Kept>
-        ensures { kept_or_nothing (option_copied result) ≡ kept_in_page self.now offset }
+        ensures kept { kept_or_nothing (option_copied result) ≡ kept_in_page self.now offset }
+        ensures some { IfSome result (λ _. offset < length self.now) }
+        ensures none { IfNone result (length self.now ≤ offset) }
     {
         self.places.get(offset)
     }
@@ -176,6 +178,22 @@ pub fn kept_at(pages: &[Page], index: usize) -> Option<&Kept>
         Some(page) => page.kept(index % PAGE),
         None => None,
     }
+}
+
+/// The number of the ballot that was promised for the position at an index alone, 0 if none was, if
+/// there is a place and no vote is kept there.
+#[inline(always)]
+pub fn promised_without_vote(pages: &[Page], index: usize) -> Option<u64>
+    ensures some { IfSome result (λ number. HasNoVote pages.now index number) }
+    ensures none { IfNone result (HasSlot pages.now index
+        → (number : ℕ) → ¬ HasNoVote pages.now index number) }
+{
+    let page = pages.get(index / PAGE)?;
+    let kept = page.kept(index % PAGE)?;
+    if kept.last.is_some() {
+        return None;
+    }
+    Some(kept.promised)
 }
 
 /// The places at indices of one page, this many from the first on; none in a page that is absent.

@@ -8,25 +8,25 @@ use Rattle.rp_base.specs.Majority.{majority_of, nodes_among}
 use Rattle.rp_base.specs.Sets.{Has, with_member}
 use Rattle.rp_base.specs.Promises.{voters_of, makes_majority}
 use Rattle.rp_learner.specs.Casts.{CastVote, voters_with}
-use Rattle.rp_learner.specs.declared.position_state.PositionState.{PositionState}
-use Rattle.rp_learner.specs.declared.position_state.PositionState.TheVariants.{Settled}
+use Rattle.rp_learner.specs.Place.{Place}
+use Rattle.rp_learner.specs.Place.{Settled}
 use Rattle.rp_learner.specs.declared.learner.VoteStatus.{VoteStatus}
 use Rattle.rp_learner.specs.declared.learner.VoteStatus.TheVariants.{Counting, Learned, Known, Beyond}
 use Rattle.rp_learner.specs.declared.learner.Decision.TheVariants as decisions
 use Rattle.rp_learner.specs.Learning.{Learning}
 use Rattle.rp_learner.specs.Places.{votes_in, is_settled_in, voters_at, NotesCast, heard_from}
-use Rattle.rp_learner.specs.Status.{is_beyond, is_settled, heard_with, status_with, decision_at, with_mark, with_settled, with_status, with_vote, SameLearning, IsOneMore}
+use Rattle.rp_learner.specs.Status.{is_beyond, is_settled, heard_with, status_with, place_status, decision_at, with_mark, with_settled, with_status, with_vote, SameLearning, IsOneMore}
 use Rattle.rp_learner.proofs.Placing.{votes_of, settled_of, or_skip, heard_at, settled_where}
 use Rattle.rp_learner.proofs.Voters.{voters_where, one_more_voter}
 use Rattle.rp_learner.proofs.Writing.{learning_of, hears, settles, same_learning}
 
 -- an element written where it is changes nothing
-pub kept : (places : List PositionState) (k : ℕ) (p : PositionState) → slice_get places k ≡ Some p → set places k p ≡ places
+pub kept : (places : List Place) (k : ℕ) (p : Place) → slice_get places k ≡ Some p → set places k p ≡ places
 kept [] k p at = refl
-kept (q ∷ places) zero p at = ap (λ (o : Option PositionState). unwrap_or o p ∷ places) (sym at)
-kept (q ∷ places) (suc k) p at = ap (λ (rest : List PositionState). q ∷ rest) (kept places k p at)
+kept (q ∷ places) zero p at = ap (λ (o : Option Place). unwrap_or o p ∷ places) (sym at)
+kept (q ∷ places) (suc k) p at = ap (λ (rest : List Place). q ∷ rest) (kept places k p at)
 
-module _ (nodes most first : ℕ) (places : List PositionState) (i k : ℕ) (p : PositionState) (at : i ≡ first + k) (long : length places ≡ 64) (here : slice_get places k ≡ Some p) where
+module _ (nodes most first : ℕ) (places : List Place) (i k : ℕ) (p : Place) (at : i ≡ first + k) (long : length places ≡ 64) (here : slice_get places k ≡ Some p) where
   abbrev pub l : Learning
   l = learning_of nodes most first places
 
@@ -66,9 +66,13 @@ module _ (nodes most first : ℕ) (places : List PositionState) (i k : ℕ) (p :
 
     voters : voters_at nodes p cast ≡ length (nodes_among nodes (voters_of i vote (heard_with l from i vote)))
     voters =
-        ap (λ (o : Option PositionState). length (nodes_among nodes (voters_with (votes_of o) from vote))) (sym here)
+        ap (λ (o : Option Place). length (nodes_among nodes (voters_with (votes_of o) from vote))) (sym here)
         ∙ ap (λ (list : List ℕ). length (nodes_among nodes (with_member nat_eq list from))) (voters_where places first i k vote at)
         ∙ ap (λ (list : List ℕ). length (nodes_among nodes list)) (one_more_voter i from vote (heard_from first places))
+
+    -- what holds at the position is what its place says
+    pub status_here : place_status nodes p cast ≡ status_with l from i vote
+    status_here = ap (λ (n : ℕ). cond (is_settled_in p) Known (cond (nat_le (majority_of nodes) n) Learned Counting)) voters ∙ sym by_place
 
     -- a settled position is known
     pub known_here : is_settled_in p ≡ true → Known ≡ status_with l from i vote
@@ -89,20 +93,20 @@ module _ (nodes most first : ℕ) (places : List PositionState) (i k : ℕ) (p :
     counting_here free few = sym (by_majority false free (lt-leb (majority_of nodes) (voters_at nodes p cast) few))
 
     -- once the vote is noted in the place, it is noted
-    pub notes_here : (q : PositionState) → NotesCast nodes p cast q → SameLearning (learning_of nodes most first (set places k q)) (with_vote l from i vote)
+    pub notes_here : (q : Place) → NotesCast nodes p cast q → SameLearning (learning_of nodes most first (set places k q)) (with_vote l from i vote)
     notes_here q noted =
-        let now : PositionState → Learning = λ r. learning_of nodes most first (set places k r) in
+        let now : Place → Learning = λ r. learning_of nodes most first (set places k r) in
         let goes : (s : VoteStatus) → s ≡ status_with l from i vote → (m : Learning) → SameLearning m (with_status l from i vote s) → SameLearning m (with_vote l from i vote) =
         λ s e m same. subst (λ (t : VoteStatus). SameLearning m (with_status l from i vote t)) e same in
         elim (cases_Bool (is_settled_in p)) [
           | inl settled ↦
-              subst (λ (r : PositionState). SameLearning (now r) (with_vote l from i vote)) (sym (noted.known settled))
-              (subst (λ (rs : List PositionState). SameLearning (learning_of nodes most first rs) (with_vote l from i vote)) (sym (kept places k p here))
+              subst (λ (r : Place). SameLearning (now r) (with_vote l from i vote)) (sym (noted.known settled))
+              (subst (λ (rs : List Place). SameLearning (learning_of nodes most first rs) (with_vote l from i vote)) (sym (kept places k p here))
               (goes Known (known_here settled) l (same_learning l)))
           | inr free ↦ elim (cases_Bool (nat_le (majority_of nodes) (voters_at nodes p cast))) [
             | inl enough ↦
                 let most_of : majority_of nodes ≤ voters_at nodes p cast = leb-true (majority_of nodes) (voters_at nodes p cast) enough in
-                subst (λ (r : PositionState). SameLearning (now r) (with_vote l from i vote)) (sym (noted.learned free most_of))
+                subst (λ (r : Place). SameLearning (now r) (with_vote l from i vote)) (sym (noted.learned free most_of))
                 (goes Learned (learned_here free most_of) (now Settled) (settles places first k i at within nodes most))
             | inr few ↦
                 let fewer : voters_at nodes p cast < majority_of nodes = leb-false (majority_of nodes) (voters_at nodes p cast) few in
@@ -116,7 +120,7 @@ module _ (nodes most first : ℕ) (places : List PositionState) (i k : ℕ) (p :
     one_more_here many free few none = record {
       counting = sym (counting_here free (omega (arith, few, many)));
       unheard = λ h.
-          none (subst (λ (o : Option PositionState). Has cast (votes_of o)) here ((heard_at places first k (from, i, vote) at).0 h));
+          none (subst (λ (o : Option Place). Has cast (votes_of o)) here ((heard_at places first k (from, i, vote) at).0 h));
     }
 
 -- a position's offset in the window is how far it is above the first

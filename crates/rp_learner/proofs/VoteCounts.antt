@@ -308,3 +308,8 @@ pub unheard : (ts : List VoteCount) (from : ℕ) (vote : Vote) → ¬ Has vote (
 unheard ts from vote none h =
     let hit = cast_where ts (record { from = from; vote = vote }) h in
     none (subst (λ (v : Vote). Has v (map (λ (t : VoteCount). t.vote) ts)) (sym hit.4) (has_mapped (λ (t : VoteCount). t.vote) hit.1 ts (get_has ts hit.0 hit.1 hit.2)))
+
+-- no counts
+pub no_counts : (ts : List VoteCount) → length ts ≡ 0 → ts ≡ []
+no_counts [] none = refl
+no_counts (t ∷ ts) none = absurd (omega (arith, none))

@@ -10,7 +10,7 @@ use Rattle.rp_base.specs.Sets.{Has, with_member, with_members}
 use Rattle.rp_base.specs.declared.record.Vote.{Vote}
 use Rattle.rp_base.specs.Promises.{HeardVote, same_vote, same_heard, voters_of}
 use Rattle.rp_learner.specs.Casts.{CastVote}
-use Rattle.rp_learner.specs.declared.position_state.PositionState.{PositionState}
+use Rattle.rp_learner.specs.Place.{Place}
 use Rattle.rp_learner.specs.Places.{votes_in, heard_from}
 use Rattle.rp_base.proofs.Sameness.{vote_same, heard_decides}
 use Rattle.rp_base.proofs.Members.{found, finds, passes, has_mapped, member_stays, with_members-append}
@@ -58,14 +58,14 @@ none_here i j vote (c ∷ votes) ne =
     ∙ ap (λ (t : Bool). cond (t && same_vote c.vote vote) (c.from ∷ map (λ h. h.0) heard) (map (λ h. h.0) heard)) (ne_eqb i j ne)
     ∙ none_here i j vote votes ne
 
-none_below : (places : List PositionState) (i j : ℕ) (vote : Vote) → j < i → senders_heard j vote (heard_from i places) ≡ []
+none_below : (places : List Place) (i j : ℕ) (vote : Vote) → j < i → senders_heard j vote (heard_from i places) ≡ []
 none_below [] i j vote lt = refl
 none_below (place ∷ places) i j vote lt =
     senders-append j vote (map (heard_as i) (votes_in place)) (heard_from (suc i) places)
     ∙ ap (λ (l : List ℕ). l ++ senders_heard j vote (heard_from (suc i) places)) (none_here i j vote (votes_in place) (λ e. omega (arith, lt, e)))
     ∙ none_below places (suc i) j vote (omega arith)
 
-senders_where : (places : List PositionState) (i j k : ℕ) (vote : Vote) → j ≡ i + k → senders_heard j vote (heard_from i places) ≡ senders_cast vote (votes_of (slice_get places k))
+senders_where : (places : List Place) (i j k : ℕ) (vote : Vote) → j ≡ i + k → senders_heard j vote (heard_from i places) ≡ senders_cast vote (votes_of (slice_get places k))
 senders_where [] i j k vote e = refl
 senders_where (place ∷ places) i j zero vote e =
     senders-append j vote (map (heard_as i) (votes_in place)) (heard_from (suc i) places)
@@ -78,7 +78,7 @@ senders_where (place ∷ places) i j (suc k) vote e =
     ∙ senders_where places (suc i) j k vote (omega (arith, e))
 
 -- who cast a vote is who cast it at its place
-pub voters_where : (places : List PositionState) (first j k : ℕ) (vote : Vote) → j ≡ first + k
+pub voters_where : (places : List Place) (first j k : ℕ) (vote : Vote) → j ≡ first + k
     → with_members nat_eq [] (senders_cast vote (votes_of (slice_get places k))) ≡ voters_of j vote (heard_from first places)
 voters_where places first j k vote at = ap (with_members nat_eq []) (sym (senders_where places first j k vote at))
 

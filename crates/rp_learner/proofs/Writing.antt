@@ -6,8 +6,8 @@ use Rattle.std.proofs.lemmas.Bool.Decides.{Decides-eqb}
 use Rattle.rp_base.specs.Sets.{Has, SameMembers, with_member}
 use Rattle.rp_base.specs.Promises.{HeardVote, same_heard}
 use Rattle.rp_learner.specs.Casts.{CastVote, same_cast}
-use Rattle.rp_learner.specs.declared.position_state.PositionState.{PositionState}
-use Rattle.rp_learner.specs.declared.position_state.PositionState.TheVariants.{Settled}
+use Rattle.rp_learner.specs.Place.{Place}
+use Rattle.rp_learner.specs.Place.{Settled}
 use Rattle.rp_learner.specs.Learning.{Learning}
 use Rattle.rp_learner.specs.Places.{votes_in, is_settled_in, heard_from, settled_from}
 use Rattle.rp_learner.specs.Status.{SameLearning, with_mark}
@@ -17,10 +17,10 @@ use Rattle.rp_learner.proofs.Placing.{cast_of, votes_of, settled_of, heard_where
 use Rattle.rp_learner.proofs.VoteCounts.{cast_decides, get_written, get_other}
 
 -- what the places of a learner's window represent
-abbrev pub learning_of : ℕ → ℕ → ℕ → List PositionState → Learning
+abbrev pub learning_of : ℕ → ℕ → ℕ → List Place → Learning
 learning_of nodes most first places = record { nodes = nodes; max_positions = most; first = first; heard = heard_from first places; settled = settled_from first places }
 
-module _ (places : List PositionState) (first k i : ℕ) (at : i ≡ first + k) (within : k < length places) where
+module _ (places : List Place) (first k i : ℕ) (at : i ≡ first + k) (within : k < length places) where
   heard_settled : (h : HeardVote) → Has h (heard_from first (set places k Settled)) ↔ Has h (filter (λ h. not (nat_eq h.1 i)) (heard_from first places))
   heard_settled h =
       let now = set places k Settled in (
@@ -29,18 +29,18 @@ module _ (places : List PositionState) (first k i : ℕ) (at : i ≡ first + k) 
             elim (cases_eq hit.0 k) [
               | inl same ↦
                   let there : slice_get now hit.0 ≡ Some Settled = ap (slice_get now) same ∙ get_written places k Settled within in
-                  let none : Has (cast_of h) [] = subst (λ (o : Option PositionState). Has (cast_of h) (votes_of o)) there hit.2 in
+                  let none : Has (cast_of h) [] = subst (λ (o : Option Place). Has (cast_of h) (votes_of o)) there hit.2 in
                   absurd none
               | inr other ↦
                   passes (λ (h : HeardVote). not (nat_eq h.1 i)) h (heard_from first places)
-                  (heard_there places first hit.0 h hit.1 (subst (λ (o : Option PositionState). Has (cast_of h) (votes_of o)) (get_other places k hit.0 Settled other) hit.2))
+                  (heard_there places first hit.0 h hit.1 (subst (λ (o : Option Place). Has (cast_of h) (votes_of o)) (get_other places k hit.0 Settled other) hit.2))
                   (ap not (ne_eqb h.1 i (λ e. other (omega (arith, e, at, hit.1)))))
             ],
         λ m.
             let both = has_passing (λ (h : HeardVote). not (nat_eq h.1 i)) h (heard_from first places) m in
             let hit = heard_where places first h both.0 in
             let other : hit.0 ≢ k = λ e. both_ways (not (nat_eq h.1 i)) (ap not (eq-eqb h.1 i (omega (arith, e, at, hit.1)))) both.1 in
-            heard_there now first hit.0 h hit.1 (subst (λ (o : Option PositionState). Has (cast_of h) (votes_of o)) (sym (get_other places k hit.0 Settled other)) hit.2),
+            heard_there now first hit.0 h hit.1 (subst (λ (o : Option Place). Has (cast_of h) (votes_of o)) (sym (get_other places k hit.0 Settled other)) hit.2),
       )
 
   marks_settled : (j : ℕ) → Has j (settled_from first (set places k Settled)) ↔ Has j (with_member nat_eq (settled_from first places) i)
@@ -69,12 +69,12 @@ module _ (places : List PositionState) (first k i : ℕ) (at : i ≡ first + k) 
   pub settles : (nodes most : ℕ) → SameLearning (learning_of nodes most first (set places k Settled)) (with_mark (learning_of nodes most first places) i)
   settles nodes most = record { nodes = refl; positions = refl; first = refl; heard = heard_settled; settled = marks_settled }
 
-  heard_more : (cast : CastVote) (p q : PositionState) → slice_get places k ≡ Some p → SameMembers (votes_in q) (with_member same_cast (votes_in p) cast)
+  heard_more : (cast : CastVote) (p q : Place) → slice_get places k ≡ Some p → SameMembers (votes_in q) (with_member same_cast (votes_in p) cast)
       → (h : HeardVote) → Has h (heard_from first (set places k q)) ↔ Has h (with_member same_heard (heard_from first places) (cast.from, i, cast.vote))
   heard_more cast p q before votes h =
       let now = set places k q in
       let written : slice_get now k ≡ Some q = get_written places k q within in
-      let Held : Option PositionState → Type 0 = λ o. Has (cast_of h) (votes_of o) in
+      let Held : Option Place → Type 0 = λ o. Has (cast_of h) (votes_of o) in
       let here : h.1 ≡ i → Has (cast_of h) (with_member same_cast (votes_in p) cast) → Has h (heard_from first now) = λ same held.
       heard_there now first k h (same ∙ at) (subst Held (sym written) ((votes (cast_of h)).1 held)) in (
         λ m.
@@ -103,7 +103,7 @@ module _ (places : List PositionState) (first k i : ℕ) (at : i ≡ first + k) 
       )
 
   -- a vote heard at an open place is heard at its position
-  pub hears : (nodes most : ℕ) (cast : CastVote) (p q : PositionState) → slice_get places k ≡ Some p → is_settled_in q ≡ is_settled_in p → SameMembers (votes_in q) (with_member same_cast (votes_in p) cast)
+  pub hears : (nodes most : ℕ) (cast : CastVote) (p q : Place) → slice_get places k ≡ Some p → is_settled_in q ≡ is_settled_in p → SameMembers (votes_in q) (with_member same_cast (votes_in p) cast)
       → SameLearning (learning_of nodes most first (set places k q)) (record (learning_of nodes most first places) { heard = with_member same_heard (heard_from first places) (cast.from, i, cast.vote) })
   hears nodes most cast p q before mark votes = record {
     nodes = refl;

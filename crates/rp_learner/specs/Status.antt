@@ -10,7 +10,10 @@ use Rattle.rp_base.specs.Sets.{Has, SameMembers, with_member}
 use Rattle.rp_base.specs.Promises.{HeardVote, same_heard, makes_majority, heard_elsewhere}
 use Rattle.rp_learner.specs.Learning.{Learning}
 use Rattle.rp_base.specs.Number.{window}
-use Rattle.rp_learner.specs.Places.{is_marked}
+use Rattle.rp_base.specs.Majority.{majority_of}
+use Rattle.rp_learner.specs.Casts.{CastVote}
+use Rattle.rp_learner.specs.Place.{Place}
+use Rattle.rp_learner.specs.Places.{is_marked, is_settled_in, voters_at}
 use Rattle.rp_learner.specs.declared.learner.VoteStatus.{VoteStatus}
 use Rattle.rp_learner.specs.declared.learner.VoteStatus.TheVariants.{Counting, Learned, Known}
 use Rattle.rp_learner.specs.declared.learner.VoteStatus.TheVariants.{Beyond}
@@ -49,6 +52,13 @@ status_with l from i vote =
     if is_beyond l i then Beyond
     else if is_settled l i then Known
     else if makes_majority l.nodes i vote (heard_with l from i vote) then Learned
+    else Counting
+
+-- the same, by what is known of a position of the window
+abbrev pub place_status : ℕ → Place → CastVote → VoteStatus
+place_status nodes place cast =
+    if is_settled_in place then Known
+    else if nat_le (majority_of nodes) (voters_at nodes place cast) then Learned
     else Counting
 
 -- what a decision at a position is: beyond above the window, known where it is settled, else

@@ -75,14 +75,41 @@ impl VoteCount {
 }
 
 impl VoteCounts {
-    /// One vote was heard.
-    #[inline(always)]
-    pub fn new(alloc: Global, from: NodeId, vote: Vote) -> VoteCounts
-        ensures { SameMembers result (record { from = from; vote = vote } ∷ []) }
+    /// No vote was heard: the first count has no sender, and its vote says nothing.
+    pub fn new(alloc: Global) -> VoteCounts
+        ensures { result ≡ [] }
     {
         VoteCounts {
-            first: VoteCount::new(from, vote),
+            first: VoteCount {
+                vote: Vote {
+                    ballot: Ballot::of(1, NodeId::first()),
+                    action: Action::Noop,
+                },
+                senders: Senders::new(),
+            },
             others: Vec::new(alloc),
+        }
+    }
+
+    /// One vote was heard, in place of all others.
+    #[inline(always)]
+    pub fn restart(&mut self, from: NodeId, vote: Vote)
+        ensures { SameMembers self.new (record { from = from; vote = vote } ∷ []) }
+    {
+        self.first = VoteCount::new(from, vote);
+        if !self.others.is_empty() {
+            free(&mut self.others);
+        }
+    }
+
+    /// Lets go of all votes, and of the memory that they took.
+    #[inline(always)]
+    pub fn clear(&mut self)
+        ensures { self.new ≡ [] }
+    {
+        self.first.senders = Senders::new();
+        if !self.others.is_empty() {
+            free(&mut self.others);
         }
     }
 
@@ -140,6 +167,14 @@ impl VoteCounts {
             }
         }
     }
+}
+
+/// Frees all counts.
+#[inline(never)]
+fn free(vote_counts: &mut Vec<VoteCount>)
+    ensures { vote_counts.new.items ≡ [] }
+{
+    *vote_counts = Vec::new(*vote_counts.allocator());
 }
 
 /// Where the count of the vote of this ballot for this action is.

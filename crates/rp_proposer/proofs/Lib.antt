@@ -6,3 +6,4 @@ pub mod Windows
 pub mod Starting
 pub mod Owning
 pub mod Within
+pub mod Rising

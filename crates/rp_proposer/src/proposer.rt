@@ -1,6 +1,6 @@
 //! A node as a proposer.
 
-ghost use Rattle.std.specs.Prelude.{◌≡◌, ℕ, List, [], ◌∷◌, ◌++◌, ◌||◌, is_none, is_some, remove, ◌↔◌, ◌+◌, ◌<◌, ◌≤◌, ◌^◌, max, map, filter, nat_eq, not, false, length, IsTrue, IfOk, IsErrOf, IsOkUnless, option_copied, if◌then◌else◌};
+ghost use Rattle.std.specs.Prelude.{◌≡◌, ℕ, List, [], ◌∷◌, ◌++◌, ◌||◌, is_none, is_some, remove, ◌↔◌, ◌+◌, ◌<◌, ◌≤◌, ◌^◌, max, map, filter, nat_eq, not, true, false, length, IsTrue, IfOk, IsErrOf, IsOkUnless, option_copied, if◌then◌else◌};
 ghost use Rattle.std.specs.VecDeque.{deque_capacity};
 ghost use Rattle.std.specs.Int.{bit_at};
 ghost use Rattle.std.specs.List.{list_any};
@@ -9,7 +9,7 @@ ghost use Rattle.rp_base.specs.Records.{started_of};
 ghost use Rattle.rp_base.specs.Proposals.{Proposal as RunningProposal, is_in, proposal_at, without_proposal, with_proposal, with_range, range_proposal, once_promised, is_given_up};
 ghost use Rattle.rp_base.specs.Ranges.{is_covered};
 ghost use Rattle.rp_base.specs.Sets.{IsSet};
-ghost use Rattle.rp_proposer.specs.Room.{own_count, own_actions_of};
+ghost use Rattle.rp_proposer.specs.Room.{own_count, own_actions_of, Rises, IsLastBelow};
 ghost use Rattle.rp_proposer.specs.Proposing.{counted_by, restored, ballot_at, HasRoom, begins, is_own_elsewhere, index_from, AreInWindow, IsInWindow, progress_in, notes_promise, notes_refusal, settles, most_running, unskipped, begins_range, notes_range, prepared_by, offers};
 
 use crate::promise::{HeardPromise, HeardRange};
@@ -24,13 +24,15 @@ const MOST_RUNNING: usize = 64;
 
 /// A node as a proposer (Lamport, "Paxos Made Simple", section 2.2). A proposal runs from `begin`
 /// until its position is settled, a refusal comes in its ballot, or another begins at its position.
-/// At most 64 run, and it counts those that have an action of their own. Questions take `&self`;
-/// what takes effect is noted, after the record that goes before it.
+/// At most 64 run, and it counts those that have an action of their own. While their positions
+/// ascend, it knows without a search that none runs before the first or after the last. Questions
+/// take `&self`; what takes effect is noted, after the record that goes before it.
 #[derive(Drop)]
 pub struct Proposer {
     node: NodeId,
     nodes: u8,
     proposals: VecDeque<Proposal>,
+    ascending: bool,
     own_actions: usize,
     started: Option<Ballot>,
     refused: Option<Ballot>,
@@ -54,7 +56,8 @@ impl Model for Proposer {
     ghost use Rattle.rp_proposer.specs.Room.{IsWithin};
 
     ghost invariant = { λ p.
-        IsWithin p.nodes p.proposals.items (deque_capacity p.proposals) p.own_actions };
+        IsWithin p.nodes p.proposals.items (deque_capacity p.proposals) p.ascending
+        p.own_actions };
 }
 
 impl Proposer {
@@ -71,6 +74,7 @@ impl Proposer {
             node,
             nodes,
             proposals: VecDeque::with_capacity(alloc, MOST_RUNNING)?,
+            ascending: true,
             own_actions: 0,
             started: started_of(records),
             refused: None,
@@ -97,13 +101,16 @@ impl Proposer {
     pub fn runs(&self, position: Position) -> Option<Ballot>
         ensures { result ≡ ballot_at self.now.proposals position }
     {
-        proposal_at(&self.proposals, position).map(|proposal| proposal.ballot())
+        proposal_at(&self.proposals, self.ascending, position).map(|proposal| proposal.ballot())
     }
 
     /// Whether a proposal may begin at a position: fewer than 64 run at others.
     pub fn has_room(&self, position: Position) -> bool
         ensures { IsTrue result ↔ HasRoom self.now.proposals position }
     {
+        if self.proposals.len() < MOST_RUNNING {
+            return true;
+        }
         count_elsewhere(&self.proposals, position) < MOST_RUNNING
     }
 
@@ -117,7 +124,9 @@ impl Proposer {
     {
         let proposal = Proposal::new(position, ballot, own);
         let has = proposal.own_count();
-        let had = put(&mut self.proposals, proposal);
+        let index = index_of_proposal(&self.proposals, self.ascending, position);
+        self.ascending = ascends_with(&self.proposals, self.ascending, index, position);
+        let had = put(&mut self.proposals, index, proposal);
         self.own_actions = self.own_actions + has - had;
         self.started = Ballot::greater(self.started, Some(ballot));
     }
@@ -134,6 +143,7 @@ impl Proposer {
         ensures { self.new ≡ begins_range self.old (unskipped range skip) ballot }
     {
         self.own_actions = put_range(&mut self.proposals, self.own_actions, range, skip, ballot);
+        self.ascending = ascend(&self.proposals);
         self.started = Ballot::greater(self.started, Some(ballot));
     }
 
@@ -142,7 +152,7 @@ impl Proposer {
         ensures { result ≡ (is_none (proposal_at self.now.proposals position)
             || is_some (prepared_by self.now.nodes (proposal_at self.now.proposals position))) }
     {
-        match proposal_at(&self.proposals, position) {
+        match proposal_at(&self.proposals, self.ascending, position) {
             Some(proposal) => proposal.is_prepared(self.nodes),
             None => true,
         }
@@ -155,7 +165,7 @@ impl Proposer {
         //   what it may offer is the action of the highest vote reported
         ensures { result ≡ prepared_by self.now.nodes (proposal_at self.now.proposals position) }
     {
-        match proposal_at(&self.proposals, position) {
+        match proposal_at(&self.proposals, self.ascending, position) {
             Some(proposal) if proposal.is_prepared(self.nodes) => {
                 Some((proposal.ballot(), proposal.value()))
             }
@@ -170,7 +180,7 @@ impl Proposer {
         ensures offered { self.new ≡ offers self.old own (proposal_at self.old.proposals position) }
         ensures nodes { self.new.nodes ≡ self.old.nodes }
     {
-        if let Some(index) = index_of_proposal(&self.proposals, position) {
+        if let Some(index) = index_of_proposal(&self.proposals, self.ascending, position) {
             let (had, has) = self.proposals[index].offer(self.nodes, own);
             self.own_actions = self.own_actions + has - had;
         }
@@ -227,7 +237,7 @@ impl Proposer {
         ensures { result ≡ progress_in self.now.nodes ballot (from, last)
             (proposal_at self.now.proposals position) }
     {
-        match proposal_at(&self.proposals, position) {
+        match proposal_at(&self.proposals, self.ascending, position) {
             Some(proposal) if proposal.takes(ballot) => {
                 proposal.progress(self.nodes, &HeardPromise { from, last })
             }
@@ -250,7 +260,7 @@ impl Proposer {
             (proposal_at self.old.proposals position) }
         ensures nodes { self.new.nodes ≡ self.old.nodes }
     {
-        if let Some(index) = index_of_proposal(&self.proposals, position) {
+        if let Some(index) = index_of_proposal(&self.proposals, self.ascending, position) {
             self.proposals[index].note(self.nodes, ballot, HeardPromise { from, last });
         }
     }
@@ -264,7 +274,7 @@ impl Proposer {
         ensures noted { self.new ≡ notes_refusal self.old position ballot promised }
         ensures nodes { self.new.nodes ≡ self.old.nodes }
     {
-        if is_in(&self.proposals, position, ballot) {
+        if is_in(&self.proposals, self.ascending, position, ballot) {
             give_up(&mut self.proposals, self.nodes, position, ballot);
             self.own_actions = count_own(&self.proposals);
             self.refused = Ballot::greater(self.refused, Some(promised));
@@ -276,7 +286,7 @@ impl Proposer {
     pub fn settled(&mut self, position: Position)
         ensures { self.new ≡ settles self.old position }
     {
-        self.own_actions -= leave_out(&mut self.proposals, position);
+        self.own_actions -= leave_out(&mut self.proposals, self.ascending, position);
     }
 }
 
@@ -294,26 +304,41 @@ fn started_of(records: &[Rec]) -> Option<Ballot>
 }
 
 /// The proposal that runs at a position.
-fn proposal_at(proposals: &VecDeque<Proposal>, position: Position) -> Option<&Proposal>
+#[inline(always)]
+fn proposal_at(
+    proposals: &VecDeque<Proposal>,
+    ascending: bool,
+    position: Position,
+) -> Option<&Proposal>
+    requires apart { IsSet (map (λ p. p.position) proposals.now.items) }
+    requires ascends { ascending ≡ true → Rises 0 proposals.now.items }
     ensures { option_copied result ≡ proposal_at proposals.now.items position }
 {
-    match index_of_proposal(proposals, position) {
+    match index_of_proposal(proposals, ascending, position) {
         Some(index) => Some(&proposals[index]),
         None => None,
     }
 }
 
 /// Whether a proposal runs at a position in a ballot.
-fn is_in(proposals: &VecDeque<Proposal>, position: Position, ballot: Ballot) -> bool
+fn is_in(
+    proposals: &VecDeque<Proposal>,
+    ascending: bool,
+    position: Position,
+    ballot: Ballot,
+) -> bool
+    requires apart { IsSet (map (λ p. p.position) proposals.now.items) }
+    requires ascends { ascending ≡ true → Rises 0 proposals.now.items }
     ensures { result ≡ is_in ballot (proposal_at proposals.now.items position) }
 {
-    match proposal_at(proposals, position) {
+    match proposal_at(proposals, ascending, position) {
         Some(proposal) => proposal.ballot() == ballot,
         None => false,
     }
 }
 
-/// How many proposals run at other positions.
+/// How many proposals run at other positions: asked only where as many run as may, so apart.
+#[inline(never)]
 fn count_elsewhere(proposals: &VecDeque<Proposal>, position: Position) -> usize
     ensures { result ≡ length (without_proposal proposals.now.items position) }
 {
@@ -346,14 +371,16 @@ fn count_own(proposals: &VecDeque<Proposal>) -> usize
 }
 
 /// Ends the proposal at a position. It returns how many actions of its own that had.
-fn leave_out(proposals: &mut VecDeque<Proposal>, position: Position) -> usize
-    requires { IsSet (map (λ p. p.position) proposals.old.items) }
+#[inline(always)]
+fn leave_out(proposals: &mut VecDeque<Proposal>, ascending: bool, position: Position) -> usize
+    requires apart { IsSet (map (λ p. p.position) proposals.old.items) }
+    requires ascends { ascending ≡ true → Rises 0 proposals.old.items }
     ensures items { proposals.new.items ≡ without_proposal proposals.old.items position }
     ensures fewer { length proposals.new.items ≤ length proposals.old.items }
     ensures own { own_actions_of proposals.new.items + result ≡ own_actions_of proposals.old.items }
     ensures capacity { deque_capacity proposals.new ≡ deque_capacity proposals.old }
 {
-    match index_of_proposal(proposals, position) {
+    match index_of_proposal(proposals, ascending, position) {
         Some(index) => {
             let had = proposals[index].own_count();
             take_out(proposals, index);
@@ -399,14 +426,96 @@ fn give_up(proposals: &mut VecDeque<Proposal>, nodes: u8, position: Position, ba
 
 /// Where the proposal at a position is. Most questions are about the first.
 #[inline(always)]
-fn index_of_proposal(proposals: &VecDeque<Proposal>, position: Position) -> Option<usize>
+fn index_of_proposal(
+    proposals: &VecDeque<Proposal>,
+    ascending: bool,
+    position: Position,
+) -> Option<usize>
+    requires apart { IsSet (map (λ p. p.position) proposals.now.items) }
+    requires ascends { ascending ≡ true → Rises 0 proposals.now.items }
     ensures { result ≡ index_from 0 position proposals.now.items }
 {
     match proposals.front() {
         None => None,
         Some(first) if first.position() == position => Some(0),
-        Some(_) => index_by_search(proposals, position),
+        Some(_) => index_later(proposals, ascending, position),
     }
+}
+
+/// Where the proposal at a position is, of one or more. It is known without a search if the
+/// proposals up to it run at positions in a row, and if the positions ascend and this one is before
+/// the first or after the last.
+fn index_later(proposals: &VecDeque<Proposal>, ascending: bool, position: Position) -> Option<usize>
+    requires some { 0 < length proposals.now.items }
+    requires apart { IsSet (map (λ p. p.position) proposals.now.items) }
+    requires ascends { ascending ≡ true → Rises 0 proposals.now.items }
+    ensures { result ≡ index_from 0 position proposals.now.items }
+{
+    let first = proposals[0].position().get();
+    let in_row = usize::from(position.get().wrapping_sub(first));
+    if in_row < proposals.len() && proposals[in_row].position() == position {
+        return Some(in_row);
+    }
+    if ascending && is_outside(proposals, position) {
+        return None;
+    }
+    index_by_search(proposals, position)
+}
+
+/// Whether a position is before that of the first proposal, or after that of the last.
+#[inline(always)]
+fn is_outside(proposals: &VecDeque<Proposal>, position: Position) -> bool
+    requires some { 0 < length proposals.now.items }
+    ensures { Rises 0 proposals.now.items → result ≡ true
+        → index_from 0 position proposals.now.items ≡ None }
+{
+    position.get() < proposals[0].position().get() || is_after(proposals, position)
+}
+
+/// Whether a position is after that of the last proposal.
+#[inline(always)]
+fn is_after(proposals: &VecDeque<Proposal>, position: Position) -> bool
+    requires some { 0 < length proposals.now.items }
+    ensures { result ≡ true → IsLastBelow proposals.now.items position }
+{
+    proposals[proposals.len() - 1].position().get() < position.get()
+}
+
+/// Whether the positions ascend once a proposal is put at this one, in place of the one at the
+/// index, or else after the others.
+#[inline(always)]
+fn ascends_with(
+    proposals: &VecDeque<Proposal>,
+    ascending: bool,
+    index: Option<usize>,
+    position: Position,
+) -> bool
+    requires ascends { ascending ≡ true → Rises 0 proposals.now.items }
+    requires index { index ≡ index_from 0 position proposals.now.items }
+    ensures { (p : RunningProposal) → p.position ≡ position → result ≡ true
+        → Rises 0 (with_proposal proposals.now.items p) }
+{
+    if proposals.len() == 0 {
+        return true;
+    }
+    ascending && (index.is_some() || is_after(proposals, position))
+}
+
+/// Whether the positions ascend, by a look at each.
+fn ascend(proposals: &VecDeque<Proposal>) -> bool
+    ensures { result ≡ true → Rises 0 proposals.now.items }
+{
+    let mut least: u32 = 0;
+    let mut index = 0;
+    while index < proposals.len() {
+        let number = u32::from(proposals[index].position().get());
+        if number < least {
+            return false;
+        }
+        least = number + 1;
+        index += 1;
+    }
+    true
 }
 
 /// Where the proposal at a position is, by a look at each.
@@ -438,11 +547,12 @@ fn index_in(proposals: &[Proposal], position: Position) -> Option<usize>
     None
 }
 
-/// Puts a proposal in place of the one at its position, or after the others. It returns how many
-/// actions of its own the one there had.
+/// Puts a proposal in place of the one at its position, which is at this index, or after the
+/// others. It returns how many actions of its own the one there had.
 #[inline(always)]
-fn put(proposals: &mut VecDeque<Proposal>, proposal: Proposal) -> usize
-    requires { length (without_proposal proposals.old.items proposal.position)
+fn put(proposals: &mut VecDeque<Proposal>, index: Option<usize>, proposal: Proposal) -> usize
+    requires index { index ≡ index_from 0 proposal.position proposals.old.items }
+    requires room { length (without_proposal proposals.old.items proposal.position)
         < deque_capacity proposals.old }
     ensures items { proposals.new.items ≡ with_proposal proposals.old.items proposal }
     ensures length { length proposals.new.items ≤ max (length proposals.old.items) (length
@@ -451,7 +561,7 @@ fn put(proposals: &mut VecDeque<Proposal>, proposal: Proposal) -> usize
         ≡ own_actions_of proposals.old.items + own_count proposal }
     ensures capacity { deque_capacity proposals.new ≡ deque_capacity proposals.old }
 {
-    match index_of_proposal(proposals, proposal.position()) {
+    match index {
         Some(index) => {
             let had = proposals[index].own_count();
             proposals[index] = proposal;
@@ -553,7 +663,8 @@ fn put_unless(proposals: &mut VecDeque<Proposal>, skipped: bool, proposal: Propo
     ensures capacity { deque_capacity proposals.new ≡ deque_capacity proposals.old }
 {
     if !skipped {
-        let _ = put(proposals, proposal);
+        let index = index_by_search(proposals, proposal.position());
+        let _ = put(proposals, index, proposal);
     }
 }
 

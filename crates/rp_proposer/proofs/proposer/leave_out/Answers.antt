@@ -18,12 +18,12 @@ take_out-requires c = (index_at c.args.proposals.now.items c.in-Some.index c.arg
 pub returns-in-Some-clause-items : goal.returns-in-Some-clause-items
 returns-in-Some-clause-items c =
     c.take_out.ensures.items
-    ∙ left_out c.args.proposals.now.items c.in-Some.index c.args.position (sym c.index_of_proposal.ensures ∙ c.in-Some.is) c.requires
+    ∙ left_out c.args.proposals.now.items c.in-Some.index c.args.position (sym c.index_of_proposal.ensures ∙ c.in-Some.is) c.requires.apart
 
 pub returns-in-Some-clause-fewer : goal.returns-in-Some-clause-fewer
 returns-in-Some-clause-fewer c =
     let items : List Proposal = c.args.proposals.now.items in
-    let left = c.take_out.ensures.items ∙ left_out items c.in-Some.index c.args.position (sym c.index_of_proposal.ensures ∙ c.in-Some.is) c.requires in
+    let left = c.take_out.ensures.items ∙ left_out items c.in-Some.index c.args.position (sym c.index_of_proposal.ensures ∙ c.in-Some.is) c.requires.apart in
     subst (λ (l : List Proposal). length l ≤ length items) (sym left) (few_pass (λ p. not (nat_eq p.position c.args.position)) items)
 
 pub returns-in-Some-clause-own : goal.returns-in-Some-clause-own

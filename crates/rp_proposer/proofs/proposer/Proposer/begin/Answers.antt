@@ -18,6 +18,7 @@ invariant_of-self c =
     let room : HasRoom items c.args.position = subst (λ (part : ProposerPart). HasRoom part.proposals c.args.position) (sym c.self.view_is) c.requires.room in
     let here : c.new-proposal.result.position ≡ c.args.position = ap (λ (p : Proposal). p.position) c.new-proposal.ensures in
     let others = ap (λ (i : ℕ). length (without_proposal items i)) here in
-    kept _ _ _ _ _ _ _ _ is c.put-had.ensures.items c.put-had.ensures.capacity (with_apart c.new-proposal.result items is.apart)
+    kept _ _ _ _ _ _ _ _ _ _ is c.put-had.ensures.items c.put-had.ensures.capacity (with_apart c.new-proposal.result items is.apart)
     (omega (arith, c.put-had.ensures.length, others, room, is.few))
+    (c.ascends_with-self-inside.ensures c.new-proposal.result here)
     (omega (arith, c.put-had.ensures.own, is.own, c.own_count-has.ensures))

@@ -9,6 +9,7 @@ use Rattle.rp_proposer.specs.Proposing.{ProposerPart, once_noted}
 use Rattle.rp_proposer.specs.Room.{own_count}
 use Rattle.rp_proposer.proofs.Owning.{own_set, own_noted}
 use Rattle.rp_proposer.proofs.Places.{index_at, index_none, read_at, noted_there}
+use Rattle.rp_proposer.proofs.Rising.{rises_in_place}
 use Rattle.rp_proposer.proofs.Within.{kept}
 use Rattle.rp_proposer.proofs.proposer.Proposer.note_promise.Goals as goal
 
@@ -28,8 +29,9 @@ invariant_of-self c =
     let long = length-set items c.in-Some.index c.note.new.self in
     let same : c.note.new.self.own ≡ p.own = ap (λ (q : Proposal). q.own) c.note.ensures ∙ own_noted c.self.inside.nodes c.args.ballot p (c.args.from, c.args.last) in
     let count : own_count c.note.new.self ≡ own_count p = ap (λ (own : Option Action). cond (is_some own) 1 0) same in
-    kept _ _ _ _ _ _ _ _ is (sym (found.put c.note.new.self here)) refl (with_apart c.note.new.self items is.apart)
+    kept _ _ _ _ _ _ _ _ _ _ is (sym (found.put c.note.new.self here)) refl (with_apart c.note.new.self items is.apart)
     (omega (arith, long, is.few))
+    (λ yes. rises_in_place items c.in-Some.index c.args.position p c.note.new.self found here (is.ascends yes))
     (omega (arith, own_set items c.in-Some.index p c.note.new.self found.at, count, is.own))
 
 pub returns-in-Some-clause-noted : goal.returns-in-Some-clause-noted

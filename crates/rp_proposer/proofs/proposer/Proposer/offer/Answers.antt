@@ -6,6 +6,7 @@ use Rattle.rp_base.proofs.Apart.{with_apart}
 use Rattle.rp_proposer.specs.Proposing.{ProposerPart, once_offered}
 use Rattle.rp_proposer.proofs.Owning.{own_set, own_few, own_one}
 use Rattle.rp_proposer.proofs.Places.{index_at, index_none, read_at, offered_there}
+use Rattle.rp_proposer.proofs.Rising.{rises_in_place}
 use Rattle.rp_proposer.proofs.Within.{kept}
 use Rattle.rp_proposer.proofs.proposer.Proposer.offer.Goals as goal
 
@@ -34,8 +35,9 @@ invariant_of-self c =
     let here : c.offer-had.new.self.position ≡ c.args.position =
     ap (λ (q : Proposal). q.position) c.offer-had.ensures.offered ∙ offered_there c.self.inside.nodes c.args.own p ∙ found.place in
     let long = length-set items c.in-Some.index c.offer-had.new.self in
-    kept _ _ _ _ _ _ _ _ is (sym (found.put c.offer-had.new.self here)) refl (with_apart c.offer-had.new.self items is.apart)
+    kept _ _ _ _ _ _ _ _ _ _ is (sym (found.put c.offer-had.new.self here)) refl (with_apart c.offer-had.new.self items is.apart)
     (omega (arith, long, is.few))
+    (λ yes. rises_in_place items c.in-Some.index c.args.position p c.offer-had.new.self found here (is.ascends yes))
     (omega (arith, own_set items c.in-Some.index p c.offer-had.new.self found.at, c.offer-had.ensures.had, c.offer-had.ensures.has, is.own))
 
 pub returns-in-Some-clause-offered : goal.returns-in-Some-clause-offered

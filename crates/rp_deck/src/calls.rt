@@ -23,7 +23,7 @@ use rp_base::{DeckReason, Operation};
 use rp_deck_declarations::Declared;
 use rp_deck_objects::{Index, OperationName, OperationNames};
 use rp_model::{Event, Interrupt, Step};
-use rp_words::{Words, map_index_of, read_dotted, set_index_of};
+use rp_words::{Words, map_index_of, read_dotted, read_number, set_index_of};
 
 /// Reads the rest of `call TASK NODE OBJECT.OPERATION [ARG]`.
 #[tactic(auto, unfolding(crate::specs::ScriptLines::call_at))]
@@ -84,18 +84,20 @@ fn operation_named(names: &OperationNames, name: &str) -> Option<OperationName>
         ≡ find name.now (key_names names.now) (map operation_of (values names.now)) }
     ensures among { IfSome result (λ operation. IsAmong (values names.now) operation) }
 {
-    names.get(name).copied()
+    let place = map_index_of(names, name)?;
+    let (_, operation) = names.get_index(place)?;
+    Some(*operation)
 }
 
 /// Reads `[ARG]`, 0 if it is absent.
-#[tactic(auto, unfolding(crate::specs::ScriptLines::argument_at))]
+#[tactic(auto, unfolding(crate::specs::ScriptLines::argument_at, rp_words::specs::Reading::integer_at, rp_words::specs::Reading::word_at))]
 fn read_argument(words: &mut Words<'_>) -> Result<i64, DeckReason>
     ensures { Gives (λ arg. (arg, unread words.new)) result (argument_at (unread words.old)) }
 {
-    if words.is_at_end() {
-        return Ok(0);
+    match words.take_next() {
+        Some(word) => read_number(word).ok_or(DeckReason::BadNumber),
+        None => Ok(0),
     }
-    words.take_integer()
 }
 
 /// Reads the rest of `arm TASK NODE TIMER TIME`: the task sets the timing event.

@@ -4,26 +4,6 @@ ghost use Rattle.std.specs.Prelude.{◌≡◌};
 ghost use Rattle.rp_deck.specs.ScriptLines.{verb_named, is_live, takes};
 
 use crate::deck::Mode;
-use rp_words::named;
-
-/// The first words of the lines of a script.
-const VERBS: [(&[u8], Verb); 15] = [
-    (b"call", Verb::Call),
-    (b"arm", Verb::Arm),
-    (b"disarm", Verb::Disarm),
-    (b"again", Verb::Again),
-    (b"lead", Verb::Lead),
-    (b"range", Verb::Range),
-    (b"deliver", Verb::Deliver),
-    (b"lose", Verb::Lose),
-    (b"drain", Verb::Drain),
-    (b"stop", Verb::Stop),
-    (b"restart", Verb::Restart),
-    (b"cut", Verb::Cut),
-    (b"irq", Verb::Interrupt),
-    (b"tick", Verb::Tick),
-    (b"show", Verb::Show),
-];
 
 /// The first word of a line of the script.
 #[derive(Clone, Copy, Debug)]
@@ -62,10 +42,28 @@ pub enum Verb {
 
 impl Verb {
     /// The verb that the word is.
+    #[inline(always)]
     pub fn named(word: &[u8]) -> Option<Verb>
         ensures { result ≡ verb_named word.now }
     {
-        named(&VERBS, word)
+        match word {
+            b"call" => Some(Verb::Call),
+            b"arm" => Some(Verb::Arm),
+            b"disarm" => Some(Verb::Disarm),
+            b"again" => Some(Verb::Again),
+            b"lead" => Some(Verb::Lead),
+            b"range" => Some(Verb::Range),
+            b"deliver" => Some(Verb::Deliver),
+            b"lose" => Some(Verb::Lose),
+            b"drain" => Some(Verb::Drain),
+            b"stop" => Some(Verb::Stop),
+            b"restart" => Some(Verb::Restart),
+            b"cut" => Some(Verb::Cut),
+            b"irq" => Some(Verb::Interrupt),
+            b"tick" => Some(Verb::Tick),
+            b"show" => Some(Verb::Show),
+            _ => None,
+        }
     }
 
     /// Whether live mode takes a line that begins so.

@@ -5,3 +5,4 @@ pub mod FaultMessage
 pub mod Faults
 pub mod Stream
 pub mod Endings
+pub mod ShortLine

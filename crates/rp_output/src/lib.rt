@@ -4,6 +4,7 @@
 //! - `printed`: the lines that a run prints
 //! - `trace`: the line of a trace for a packet
 //! - `fault_message`: the line that is printed for a fault
+//! - `short_line`: short lines, put together in place
 //! - `stream`: writes what a run prints
 //! - `ending`: how a program ends, and what it reports
 //! - `words`: what the programs do with the words of their command lines
@@ -12,6 +13,7 @@
 mod ending;
 mod fault_message;
 mod printed;
+mod short_line;
 mod stream;
 mod trace;
 mod words;
@@ -21,6 +23,6 @@ pub use fault_message::{FaultMessage, is_refusal, reason_text, tell};
 pub use printed::{
     AgreedLine, DrainLimitLine, NodeLine, NodeState, RefusedLine, ReplyLine, ReplyText,
 };
-pub use stream::{is_interrupted, print, report, write_out, write_whole};
+pub use stream::{is_interrupted, print, print_reply_line, report, write_out, write_whole};
 pub use trace::{BodyText, PartyText, TraceLine};
 pub use words::{VERSION, given_words, refuse_unread, refuse_words};

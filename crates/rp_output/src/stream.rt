@@ -5,8 +5,11 @@ ghost use Rattle.std.specs.IoError.{error_kind};
 ghost use Rattle.std.specs.Io.{WritesAtMost};
 ghost use Rattle.std.specs.Io.KnownBytes.{Keeps, WriteAppends};
 ghost use Rattle.rp_output.specs.Faults.{IsRunFault};
+ghost use Rattle.rp_output.specs.Printed.{reply_line_of};
 ghost use Rattle.rp_output.specs.Stream.{IsReadFault, IsWriteFault, Writes};
 
+use crate::printed::ReplyLine;
+use crate::short_line::ShortLine;
 use rp_base::Fault;
 use std::alloc::Global;
 use std::fmt::{Display, InlineText, Write as _};
@@ -18,6 +21,9 @@ const USUAL_LINE: usize = 80;
 
 /// The length of each line that is reported, with its end, is at most this.
 const MOST_REPORTED: usize = 256;
+
+/// The most bytes of a task's name in a line that is put together in place.
+const MOST_OF_NAME: usize = 16;
 
 /// Whether a signal interrupted a read or a write, which is then made again: nothing was read or
 /// written.
@@ -87,6 +93,25 @@ pub fn print<W: Write, D: Display + Drop>(
     let mut text = String::with_capacity(alloc, USUAL_LINE)?;
     writeln!(text, "{line}")?;
     write_whole(writer, text.as_bytes())
+}
+
+/// As `print`, of the line of a reply. It takes no memory for a task's name of at most 16 bytes,
+/// which no name of a deck exceeds.
+pub fn print_reply_line<W: Write>(
+    alloc: Global,
+    writer: &mut W,
+    line: ReplyLine<'_>,
+) -> Result<(), Fault>
+    ensures printed { Writes (W.contents writer.old) (W.contents writer.new)
+        (reply_line_of line.entry.task.now line.entry.number line.entry.reply ++ 10 ∷ []) result }
+    ensures fault { IfErr result IsReadFault }
+{
+    if line.task.len() > MOST_OF_NAME {
+        return print(alloc, writer, line);
+    }
+    let mut text = ShortLine::new();
+    text.put_reply_line(&line);
+    write_whole(writer, text.as_slice())
 }
 
 /// As `print`, but takes no memory, for a line of at most 256 bytes with its end. `Io` if a write

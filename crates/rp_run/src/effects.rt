@@ -16,7 +16,9 @@ use rp_codec::{Packet, Party, decode};
 use rp_deck::Task;
 use rp_machine::Machine;
 use rp_model::{Dropped, Event, Step};
-use rp_output::{BodyText, NodeLine, NodeState, PartyText, ReplyLine, TraceLine, print};
+use rp_output::{
+    BodyText, NodeLine, NodeState, PartyText, ReplyLine, TraceLine, print, print_reply_line,
+};
 use rp_store::CutDevice;
 use rp_world::Cluster;
 use std::alloc::Global;
@@ -307,5 +309,5 @@ pub fn print_reply<W: Write>(
         number: answer.number,
         reply: answer.reply,
     };
-    print(alloc, writer, line)
+    print_reply_line(alloc, writer, line)
 }

@@ -1,8 +1,12 @@
 -- The lines of a text: the first one, and the others.
-use Rattle.std.proofs.Common.{◌≡◌, ℕ, suc, ◌+◌, ◌-◌, ◌<◌, ◌==◌, ◌&&◌, not, List, [], ◌∷◌, Bool, true, false, cond, length, take, drop, arith, ap, refl, sym, subst, ◌∙◌}
+use Rattle.std.proofs.Common.{◌≡◌, ℕ, suc, ◌+◌, ◌-◌, ◌<◌, ◌≤◌, ◌==◌, ◌&&◌, not, List, [], ◌∷◌, Bool, true, false, cond, length, take, drop, arith, ap, refl, sym, subst, ◌∙◌}
 use Rattle.std.specs.Prelude.{nat_eq}
 use lib.Pointwise.{pointwise}
+use Rattle.std.proofs.lemmas.Bool.{eq-eqb}
 use Rattle.std.proofs.lemmas.Bool.Decides.{nat_tests}
+use Rattle.std.proofs.lemmas.List.Folds.{prefix_len-append}
+use Rattle.std.proofs.lemmas.List.Sums.{prefix_len-le-length}
+use Rattle.std.proofs.lemmas.Simd.{chunk-drop, length-chunk}
 use Rattle.rp_words.specs.Words.{begins_with}
 use Rattle.rp_words.specs.Lines.{is_line_feed, in_front, lines_of}
 use Rattle.rp_words.specs.LineEnds.{line_end, without_return}
@@ -115,3 +119,15 @@ in_front_of_last b (c ∷ cs) false false is tested whole so_far = ap (in_front 
 pub split_last : (bytes : List ℕ) → 0 < length bytes → line_end bytes ≡ length bytes → lines_of bytes ≡ bytes ∷ []
 split_last [] some whole = absurd (omega arith)
 split_last (b ∷ rest) some whole = in_front_of_last b rest (is_line_feed b) (b == 13 && begins_with is_line_feed rest) refl refl whole (split_last rest)
+
+-- ---- bytes that are looked at together
+
+-- no line feed is among 16 bytes
+pub past_lanes : (bytes : List ℕ) (from : ℕ) → from + 16 ≤ length bytes → 16 ≤ line_end (take 16 (drop from bytes)) → line_end (drop from bytes) ≡ 16 + line_end (drop (from + 16) bytes)
+past_lanes bytes from room none =
+    let lanes = take 16 (drop from bytes) in
+    let long : length lanes ≡ 16 = length-chunk from 16 bytes room in
+    let all : line_end lanes ≡ length lanes = omega (arith, prefix_len-le-length (λ byte. not (is_line_feed byte)) lanes) in
+    ap line_end (chunk-drop from 16 bytes) ∙ prefix_len-append (λ byte. not (is_line_feed byte)) lanes (drop (from + 16) bytes)
+    ∙ ap (λ (t : Bool). cond t (length lanes + line_end (drop (from + 16) bytes)) (line_end lanes)) (eq-eqb (line_end lanes) (length lanes) all)
+    ∙ ap (λ n. n + line_end (drop (from + 16) bytes)) long

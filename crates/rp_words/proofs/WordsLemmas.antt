@@ -1,18 +1,24 @@
--- Names and numbers are ASCII, and so they are text. A number is what the standard library reads, but for a plus.
-use Rattle.std.proofs.Common.{◌≡◌, ℕ, ◌<◌, ◌==◌, ◌&&◌, List, [], ◌∷◌, Bool, true, false, cond, drop, arith, IsUtf8, Option, Some, None, ap, refl, sym, subst, ◌∙◌, zero, suc}
-use Rattle.std.specs.Prelude.{◌≢◌, ℤ, pos, negsuc, neg_ℤ, IsTrue, SomeIff, FitsSigned, slice_get, nat_le}
+-- Names are ASCII, and so they are text. A number is a sign and a size.
+use Rattle.std.proofs.Common.{◌≡◌, ℕ, ◌+◌, ◌-◌, ◌*◌, ◌^◌, ◌<◌, ◌≤◌, ◌&&◌, List, [], ◌∷◌, ◌++◌, length, Bool, true, false, cond, take, drop, get_or, arith, IsUtf8, Some, None, ap, refl, sym, ◌∙◌, zero, suc, nat_lt, not}
+use Rattle.std.specs.Prelude.{ℤ, pos, negsuc, IsTrue, FitsSigned, nat_le}
 use Rattle.std.specs.Int.{w64}
-use Rattle.std.specs.List.{list_all}
+use Rattle.std.specs.List.{list_all, prefix_len}
 use Rattle.std.specs.Char.{is_ascii_digit, digit_value}
 use Rattle.std.specs.Str.{IsAscii}
-use Rattle.std.specs.Str.Parse.{IsNumeral, AllDigits, digits_value, without_leading_sign, starts_with_minus}
-use Rattle.std.proofs.lemmas.Bool.{leb-true, le-leb}
+use Rattle.std.specs.Str.Parse.{IsNumeral, AllDigits, digits_value, digits_value_after}
+use Rattle.std.proofs.lemmas.Bool.{leb-true, lt-ltb, le-ltb, le-leb, and_right}
 use Rattle.std.proofs.lemmas.Bool.Decides.{nat_tests}
+use Rattle.std.proofs.lemmas.Int.Digits.{digits_value_more}
+use Rattle.std.proofs.lemmas.List.{take-append-drop, drop-drop, at_drop_more}
+use Rattle.std.proofs.lemmas.List.Folds.{list_all_at}
 use Rattle.std.proofs.lemmas.Str.{IsUtf8-from_ascii, digit_value_digit}
 use Rattle.std.proofs.lemmas.Str.Parse.{digit_from_value}
-use Rattle.std.proofs.lemmas.Fmt.{IsAscii-from_digits}
-use Rattle.rp_words.specs.Words.{is_of_name, IsName, without_minus, is_digits, number_written, number_of, fits_64}
-use Rattle.rp_words.specs.Numbers.{IsNumber, number_read}
+use Rattle.rp_words.specs.Words.{begins_with, is_blank, is_of_name, IsName, is_digits, fits_64}
+use Rattle.rp_words.specs.Numbers.{size_of}
+
+-- how many bytes are before the first blank
+abbrev pub word_length : List ℕ → ℕ
+word_length bytes = prefix_len (λ byte. not (is_blank byte)) bytes
 
 pub both : (a b : Bool) → (a && b) ≡ true → (a ≡ true) × (b ≡ true)
 both true true h = (refl, refl)
@@ -80,86 +86,79 @@ pub of_numeral : (ds : List ℕ) → IsNumeral 10 ds → is_digits ds ≡ true
 of_numeral [] h = absurd (omega (arith, h.0))
 of_numeral (d ∷ ds) h = and_true (is_ascii_digit d) (list_all is_ascii_digit (d ∷ ds)) (digit_back d h.1.0) (digits_all (d ∷ ds) h.1)
 
--- ---- the sign
+-- ---- the size of a number
 
-sign_cases : (b : ℕ) (bs : List ℕ) (minus plus : Bool) → (plus ≡ true → ⊥)
-    → cond minus (drop 1 (b ∷ bs)) (drop (cond plus 1 0) (b ∷ bs)) ≡ cond minus (drop 1 (b ∷ bs)) (b ∷ bs)
-sign_cases b bs true plus other = refl
-sign_cases b bs false true other = absurd (other refl)
-sign_cases b bs false false other = refl
+-- more digits write no smaller number
+no_smaller : (n : ℕ) (ds : List ℕ) → n ≤ digits_value_after 10 n ds
+no_smaller n [] = omega arith
+no_smaller n (d ∷ ds) = omega (arith, no_smaller (n * 10 + digit_value d) ds)
 
-plus_is : (b : ℕ) → (b == 43) ≡ true → b ≡ 43
-plus_is b h = grind (arith, nat_tests)
+in_parts : (n : ℕ) (ds es : List ℕ) → digits_value_after 10 n (ds ++ es) ≡ digits_value_after 10 (digits_value_after 10 n ds) es
+in_parts n [] es = refl
+in_parts n (d ∷ ds) es = in_parts (n * 10 + digit_value d) ds es
 
-without_sign : (word : List ℕ) → slice_get word 0 ≢ Some 43 → without_leading_sign word ≡ without_minus word
-without_sign [] other = refl
-without_sign (b ∷ bs) other = sign_cases b bs (b == 45) (b == 43) (λ h. other (ap Some (plus_is b h)))
+first_digits_within : (ds : List ℕ) (i : ℕ) → digits_value 10 (take i ds) ≤ digits_value 10 ds
+first_digits_within ds i =
+    let whole = ap (digits_value 10) (sym (take-append-drop i ds)) ∙ in_parts 0 (take i ds) (drop i ds) in
+    rw whole (no_smaller (digits_value 10 (take i ds)) (drop i ds))
 
-first_is : (b c : ℕ) (bs : List ℕ) → slice_get (b ∷ bs) 0 ≡ Some c → b ≡ c
-first_is b c bs h = cc
+-- one digit more
+pub next_size : (ds : List ℕ) (i : ℕ) → i < length ds → is_ascii_digit (get_or ds i 0) ≡ true
+    → digits_value 10 (take (i + 1) ds) ≡ digits_value 10 (take i ds) * 10 + (get_or ds i 0 - 48)
+next_size ds i inside digit =
+    let worth : digit_value (get_or ds i 0) ≡ get_or ds i 0 - 48 = grind (arith, nat_tests) in
+    rw (digits_value_more 10 ds i inside, worth)
 
-no_plus_by : (b : ℕ) (bs : List ℕ) (minus : Bool) → (b == 45) ≡ minus → is_digits (cond minus (drop 1 (b ∷ bs)) (b ∷ bs)) ≡ true → b ≡ 43 → ⊥
-no_plus_by b bs true is h e = grind (arith, nat_tests)
-no_plus_by b bs false is h e =
-    let t = both (is_ascii_digit b) (list_all is_ascii_digit (b ∷ bs)) h in
-    let low = leb-true 48 b (both (nat_le 48 b) (nat_le b 57) t.0).0 in
-    absurd (omega arith)
+-- a size that the first digits exceed
+pub too_large : (ds : List ℕ) (i : ℕ) → 2 ^ 64 ≤ digits_value 10 (take i ds) → size_of ds ≡ None
+too_large ds i large =
+    let most = first_digits_within ds i in
+    let more : 2 ^ 64 ≤ digits_value 10 ds = omega arith in
+    rw (le-ltb (digits_value 10 ds) (2 ^ 64) more, and_right (is_digits ds) false refl)
 
-no_plus : (word : List ℕ) → is_digits (without_minus word) ≡ true → slice_get word 0 ≢ Some 43
-no_plus [] h = absurd cc
-no_plus (b ∷ bs) h = λ e. no_plus_by b bs (b == 45) refl h (first_is b 43 bs e)
+pub no_digit : (ds : List ℕ) (i : ℕ) → i < length ds → is_ascii_digit (get_or ds i 0) ≡ false → size_of ds ≡ None
+no_digit ds i inside other = rw (list_all_at is_ascii_digit ds i 0 inside other, and_right (begins_with is_ascii_digit ds) false refl)
 
-value_same : (word : List ℕ) → slice_get word 0 ≢ Some 43 → number_read word ≡ number_written word
-value_same word other =
-    ap (λ (ds : List ℕ). cond (starts_with_minus word) (neg_ℤ (pos (digits_value 10 ds))) (pos (digits_value 10 ds))) (without_sign word other)
+pub size_is : (ds : List ℕ) → 0 < length ds → list_all is_ascii_digit ds ≡ true → digits_value 10 ds < 2 ^ 64 → size_of ds ≡ Some (digits_value 10 ds)
+size_is [] some all small = absurd (omega arith)
+size_is (d ∷ ds) some all small =
+    let value = digits_value 10 (d ∷ ds) in
+    let first = (both (is_ascii_digit d) (list_all is_ascii_digit ds) all).0 in
+    ap (λ (b : Bool). cond b (Some value) None)
+    (and_true (is_digits (d ∷ ds)) (nat_lt value (2 ^ 64)) (and_true (is_ascii_digit d) (list_all is_ascii_digit (d ∷ ds)) first all) (lt-ltb value (2 ^ 64) small))
 
 -- ---- 64 bits
-
-fits_of : (z : ℤ) → fits_64 z ≡ true → FitsSigned w64 z
-fits_of (pos n) h = record { sfits = grind (arith, nat_tests) }
-fits_of (negsuc n) h = record { sfits = grind (arith, nat_tests) }
 
 pub of_fits : (z : ℤ) → FitsSigned w64 z → fits_64 z ≡ true
 of_fits (pos n) h = let small = h.sfits in grind (arith, nat_tests)
 of_fits (negsuc n) h = let small = h.sfits in grind (arith, nat_tests)
 
--- ---- numbers
+-- ---- the length of a word
 
-pub number_is_text : (word : List ℕ) → IsNumber word → IsUtf8 word
-number_is_text word number = IsUtf8-from_ascii word (number_is_ascii word number)
-  where
-    after_sign : (b : ℕ) (bs : List ℕ) (minus : Bool) → (b == 45) ≡ minus → IsAscii (cond minus (drop 1 (b ∷ bs)) (b ∷ bs)) → IsAscii (b ∷ bs)
-    after_sign b bs true is rest = ascii_in_front b bs (grind (arith, nat_tests)) rest
-    after_sign b bs false is rest = rest
+above_space_is_no_blank : (b : ℕ) → nat_lt 32 b ≡ true → not (is_blank b) ≡ true
+above_space_is_no_blank b h = grind (arith, nat_tests)
 
-    by_sign : (word : List ℕ) → IsAscii (without_minus word) → IsAscii word
-    by_sign [] rest = ascii_nil
-    by_sign (b ∷ bs) rest = after_sign b bs (b == 45) refl rest
+above_or_not : (b : ℕ) (bs : List ℕ) (t : Bool) → nat_lt 32 b ≡ t → word_length bs ≡ prefix_len (nat_lt 32) bs + word_length (drop (prefix_len (nat_lt 32) bs) bs)
+    → word_length (b ∷ bs) ≡ cond t (1 + prefix_len (nat_lt 32) bs) 0 + word_length (drop (cond t (1 + prefix_len (nat_lt 32) bs) 0) (b ∷ bs))
+above_or_not b bs true e so_far =
+    let more : 1 + prefix_len (nat_lt 32) bs ≡ suc (prefix_len (nat_lt 32) bs) = omega arith in
+    let rest = ap (λ n. word_length (drop n (b ∷ bs))) more in
+    let here = ap (λ (t : Bool). cond t (1 + word_length bs) 0) (above_space_is_no_blank b e) in
+    omega (arith, here, rest, so_far)
+above_or_not b bs false e so_far = omega arith
 
-    number_is_ascii : (word : List ℕ) → IsNumber word → IsAscii word
-    number_is_ascii word number = by_sign word (subst IsAscii (without_sign word number.no_plus) (IsAscii-from_digits (without_leading_sign word) number.digits.1))
+-- the bytes in front that are above a space, and those up to the first blank after them
+pub word_in_parts : (bytes : List ℕ) → word_length bytes ≡ prefix_len (nat_lt 32) bytes + word_length (drop (prefix_len (nat_lt 32) bytes) bytes)
+word_in_parts [] = refl
+word_in_parts (b ∷ bs) = above_or_not b bs (nat_lt 32 b) refl (word_in_parts bs)
 
-is_number : (word : List ℕ) → (is_digits (without_minus word) && fits_64 (number_written word)) ≡ true → IsNumber word
-is_number word h =
-    let t = both (is_digits (without_minus word)) (fits_64 (number_written word)) h in
-    let other = no_plus word t.0 in
-    record {
-      no_plus = other;
-      digits = subst (IsNumeral 10) (sym (without_sign word other)) (numeral_of (without_minus word) t.0);
-      fits = subst (FitsSigned w64) (sym (value_same word other)) (fits_of (number_written word) t.1);
-    }
-
-of_number : (word : List ℕ) → IsNumber word → (is_digits (without_minus word) && fits_64 (number_written word)) ≡ true
-of_number word number =
-    and_true (is_digits (without_minus word)) (fits_64 (number_written word))
-    (of_numeral (without_minus word) (subst (IsNumeral 10) (without_sign word number.no_plus) number.digits))
-    (of_fits (number_written word) (subst (FitsSigned w64) (value_same word number.no_plus) number.fits))
-
-pub number_exact : (word : List ℕ) (found : Option ℤ) → SomeIff found (IsNumber word) (number_read word) → found ≡ number_of word
-number_exact word (Some n) h =
-    ap Some (h.1 ∙ value_same word h.0.no_plus) ∙ ap (λ (b : Bool). cond b (Some (number_written word)) None) (sym (of_number word h.0))
-number_exact word None h = by (is_digits (without_minus word) && fits_64 (number_written word)) refl
-  where
-    by : (b : Bool) → (is_digits (without_minus word) && fits_64 (number_written word)) ≡ b → None ≡ cond b (Some (number_written word)) None
-    by true e = absurd (h (is_number word e))
-    by false e = refl
+-- no blank is at the place, and it and the n bytes after it that are above a space are passed
+pub word_goes_on : (bytes : List ℕ) (end n : ℕ) → end < length bytes → is_blank (get_or bytes end 0) ≡ false → n ≡ prefix_len (nat_lt 32) (drop (end + 1) bytes)
+    → word_length (drop end bytes) ≡ 1 + (n + word_length (drop (end + (1 + n)) bytes))
+word_goes_on bytes end n inside other passed =
+    let rest = drop (end + 1) bytes in
+    let here = at_drop_more word_length bytes end 0 inside ∙ ap (λ (t : Bool). cond (not t) (1 + word_length rest) 0) other in
+    let parts = word_in_parts rest ∙ ap (λ k. k + word_length (drop k rest)) (sym passed) in
+    let sum : (end + 1) + n ≡ end + (1 + n) = omega arith in
+    let there = ap word_length (drop-drop n (end + 1) bytes ∙ ap (λ k. drop k bytes) sum) in
+    omega (arith, here, parts, there)

@@ -1,11 +1,12 @@
 //! The lines of a deck.
 
-ghost use Rattle.std.specs.Prelude.{◌≡◌, ◌+◌, ◌-◌, ◌^◌, ◌<◌, ◌≤◌, ◌∷◌, ◌==◌, [], length, IfNone, IfSome};
+ghost use Rattle.std.specs.Prelude.{◌≡◌, ◌+◌, ◌-◌, ◌^◌, ◌<◌, ◌≤◌, ◌∷◌, ◌==◌, [], drop, length, take, IfNone, IfSome};
 ghost use Rattle.rp_words.specs.Words.{begins_with};
 ghost use Rattle.rp_words.specs.Lines.{lines_of};
 ghost use Rattle.rp_words.specs.LineEnds.{line_end, without_return};
 
 use crate::words::Words;
+use std::simd::prelude::*;
 
 /// A line that holds words, and is no comment.
 #[derive(Drop)]
@@ -49,12 +50,46 @@ pub struct Lines<'a> {
     ghost fits: { count + length rest.now + 1 < 2 ^ 32 },
 }
 
+/// How many bytes are looked at together.
+const LANES: usize = 16;
+
+/// How many of the 16 bytes from a place on are before the first line feed among them.
+#[inline(always)]
+fn length_in_lanes(bytes: &[u8], from: usize) -> usize
+    requires { from + 16 ≤ length bytes.now }
+    ensures { result ≡ line_end (take 16 (drop from bytes.now)) }
+{
+    let lanes = u8x16::from_slice(&bytes[from..]);
+    let feeds = lanes.simd_eq(u8x16::splat(b'\n')).to_bitmask();
+    if feeds == 0 {
+        LANES
+    } else {
+        feeds.trailing_zeros() as usize
+    }
+}
+
+/// How many bytes are before the first line feed, one by one.
+fn length_of_rest(bytes: &[u8]) -> usize
+    ensures value { result ≡ line_end bytes.now }
+    ensures within { result ≤ length bytes.now }
+{
+    bytes.iter().take_while(|byte| **byte != b'\n').count()
+}
+
 /// How many bytes are before the first line feed.
 fn length_of_line(bytes: &[u8]) -> usize
     ensures value { result ≡ line_end bytes.now }
     ensures within { result ≤ length bytes.now }
 {
-    bytes.iter().take_while(|byte| **byte != b'\n').count()
+    let mut end = 0;
+    while LANES <= bytes.len() - end {
+        let run = length_in_lanes(bytes, end);
+        if run < LANES {
+            return end + run;
+        }
+        end += LANES;
+    }
+    end + length_of_rest(&bytes[end..])
 }
 
 /// The line without the return at its end, if there is one.
@@ -124,6 +159,7 @@ impl<'a> Lines<'a> {
     }
 
     /// The next line that holds words and is no comment.
+    #[inline(always)]
     pub fn next(&mut self) -> Option<TextLine<'a>>
         ensures next { IsNextLine result (ahead self.old) (ahead self.new) }
         ensures last { after_last self.new ≡ after_last self.old }

@@ -1,6 +1,7 @@
 //! Tables of names, in declared order.
 
-ghost use Rattle.std.specs.Prelude.{◌≡◌, ◌<◌, ◌+◌, ◌∷◌, ◌++◌, [], false, string_bytes, IfSome, IfOk, IfErr, OnOk};
+ghost use Rattle.std.specs.Prelude.{◌≡◌, ◌<◌, ◌+◌, ◌∷◌, ◌++◌, [], false, length, map, position, string_bytes, IfSome, IfOk, IfErr, OnOk};
+ghost use Rattle.std.specs.Str.{bytes_eq};
 ghost use Rattle.std.specs.String.{string_eq};
 ghost use Rattle.indexmap.specs.IndexMap.{values, index_map_len, IsUnique};
 ghost use Rattle.indexmap.specs.IndexSet.{index_set_len};
@@ -22,12 +23,30 @@ pub fn map_has_name<V>(table: &IndexMap<String, V>, name: &str) -> bool
     table.contains_key(name)
 }
 
+/// The place of the first of these that is the name. There are few names, so that to compare each
+/// with it costs less than a hash of it.
+fn first_equal(names: &[String], name: &str) -> Option<usize>
+    ensures place { result
+        ≡ position (λ other. bytes_eq name.now (string_bytes other)) names.now }
+    ensures within { IfSome result (λ place. place < length names.now) }
+{
+    names.iter().position(|other| name == other.as_str())
+}
+
+/// The place of the name among these.
+fn place_among(names: &[String], name: &str) -> Option<usize>
+    ensures place { result ≡ place_of name.now (map (λ key. string_bytes key) names.now) }
+    ensures within { IfSome result (λ place. place < length names.now) }
+{
+    first_equal(names, name)
+}
+
 /// The place of the name in the table.
 pub fn map_index_of<V>(table: &IndexMap<String, V>, name: &str) -> Option<usize>
     ensures place { result ≡ place_of name.now (key_names table.now) }
     ensures within { IfSome result (λ place. place < index_map_len table.now) }
 {
-    table.get_index_of(name)
+    place_among(table.keys().as_slice(), name)
 }
 
 /// The next word, a name that the table does not have.
@@ -95,7 +114,7 @@ pub fn set_index_of(names: &IndexSet<String>, name: &str) -> Option<usize>
     ensures place { result ≡ place_of name.now (set_names names.now) }
     ensures within { IfSome result (λ place. place < index_set_len names.now) }
 {
-    names.get_index_of(name)
+    place_among(names.as_slice(), name)
 }
 
 /// The next word, a name that the set does not have.

@@ -1,10 +1,11 @@
 //! The words of a line, and the readers of them.
 
-ghost use Rattle.std.specs.Prelude.{◌≡◌, ◌≤◌, ◌<◌, ◌==◌, length, map, not, option_map, position, IfOk, IfSome};
+ghost use Rattle.std.specs.Prelude.{◌≡◌, ◌≤◌, ◌<◌, ◌==◌, true, length, map, nat_lt, not, option_map, position, IfNone, IfOk, IfSome};
 ghost use Rattle.std.specs.Char.{is_ascii_alphabetic};
 ghost use Rattle.std.specs.List.{find, prefix_len, list_all};
 ghost use Rattle.std.specs.Str.{bytes_eq};
 ghost use Rattle.rp_words.specs.Words.{truth_named, first_named, begins_with, is_blank, is_of_name, is_name, IsName, number_of, without_blanks, is_at_end};
+ghost use Rattle.rp_words.specs.Numbers.{size_of};
 ghost use Rattle.rp_words.specs.Reading.{Gives, word_at, end_at, name_at, integer_at, number_at, name_of, dotted_of};
 
 use rp_base::DeckReason;
@@ -28,12 +29,27 @@ fn blanks_in_front(bytes: &[u8]) -> usize
     bytes.iter().take_while(|byte| is_blank(**byte)).count()
 }
 
+/// How many bytes in front are above a space, as all are in most words.
+fn length_above_space(bytes: &[u8]) -> usize
+    ensures value { result ≡ prefix_len (nat_lt 32) bytes.now }
+    ensures within { result ≤ length bytes.now }
+{
+    bytes.iter().take_while(|byte| **byte > b' ').count()
+}
+
 /// How many bytes are before the first blank.
 fn length_of_word(bytes: &[u8]) -> usize
     ensures value { result ≡ prefix_len (λ byte. not (is_blank byte)) bytes.now }
     ensures within { result ≤ length bytes.now }
 {
-    bytes.iter().take_while(|byte| !is_blank(**byte)).count()
+    let mut end = length_above_space(bytes);
+    while end < bytes.len() {
+        if is_blank(bytes[end]) {
+            return end;
+        }
+        end += 1 + length_above_space(&bytes[end + 1..]);
+    }
+    end
 }
 
 /// Whether the word begins with a letter.
@@ -76,7 +92,8 @@ pub fn read_name(word: &[u8]) -> Result<&str, DeckReason>
     if !is_name(word) {
         return Err(DeckReason::BadName);
     }
-    str::from_utf8(word).map_err(|_| DeckReason::BadName)
+    // SAFETY: a name is ASCII.
+    Ok(unsafe { str::from_utf8_unchecked(word) })
 }
 
 /// How many bytes are before the first dot, if there is one.
@@ -100,15 +117,31 @@ pub fn read_dotted(word: &[u8]) -> Result<(&str, &str), DeckReason>
     Ok((first, second))
 }
 
-/// The number that the word is: an optional `-` and decimal digits, within 64 signed bits. The
-/// standard library takes a plus as well.
+/// The number that the digits write: one decimal digit or more, below 2^64.
+fn read_digits(digits: &[u8]) -> Option<u64>
+    ensures { result ≡ size_of digits.now }
+{
+    if digits.is_empty() {
+        return None;
+    }
+    let mut size = 0u64;
+    for byte in digits {
+        if !byte.is_ascii_digit() {
+            return None;
+        }
+        size = size.checked_mul(10)?.checked_add(u64::from(*byte - b'0'))?;
+    }
+    Some(size)
+}
+
+/// The number that the word is: an optional `-` and decimal digits, within 64 signed bits.
 pub fn read_number(word: &[u8]) -> Option<i64>
     ensures { result ≡ number_of word.now }
 {
-    if word.first() == Some(&b'+') {
-        return None;
+    match word {
+        [b'-', digits @ ..] => 0i64.checked_sub_unsigned(read_digits(digits)?),
+        _ => i64::try_from(read_digits(word)?).ok(),
     }
-    str::from_utf8(word).ok()?.parse().ok()
 }
 
 /// Whether the word is this one.
@@ -175,22 +208,34 @@ impl<'a> Words<'a> {
         self.from_word().is_empty()
     }
 
+    /// The next word, if there is one.
+    #[tactic(auto, unfolding(crate::specs::Reading::word_at))]
+    pub fn take_next(&mut self) -> Option<&'a [u8]>
+        ensures none { IfNone result (is_at_end (unread self.old) ≡ true) }
+        ensures same { IfNone result (unread self.new ≡ unread self.old) }
+        ensures word { IfSome result (λ word.
+            word_at (unread self.old) ≡ Ok (word.now, unread self.new)) }
+    {
+        let from_word = self.from_word();
+        if from_word.is_empty() {
+            return None;
+        }
+        let (word, rest) = from_word.split_at(length_of_word(from_word));
+        self.rest = rest;
+        Some(word)
+    }
+
     /// The next word, which has to be there.
     #[tactic(auto, unfolding(crate::specs::Reading::word_at))]
     pub fn take(&mut self) -> Result<&'a [u8], DeckReason>
         ensures { Gives (λ word. (word.now, unread self.new)) result (word_at (unread self.old)) }
     {
-        let from_word = self.from_word();
-        if from_word.is_empty() {
-            return Err(DeckReason::WrongNumberOfWords);
-        }
-        let (word, rest) = from_word.split_at(length_of_word(from_word));
-        self.rest = rest;
-        Ok(word)
+        self.take_next().ok_or(DeckReason::WrongNumberOfWords)
     }
 
     /// The next word, a number from `low` to `high`.
     #[tactic(auto, unfolding(crate::specs::Reading::number_at))]
+    #[inline(always)]
     pub fn take_number(&mut self, low: u64, high: u64) -> Result<u64, DeckReason>
         ensures read { Gives (λ number. (number, unread self.new)) result
             (number_at low high (unread self.old)) }
@@ -206,6 +251,7 @@ impl<'a> Words<'a> {
 
     /// The next word, any number.
     #[tactic(auto, unfolding(crate::specs::Reading::integer_at))]
+    #[inline(always)]
     pub fn take_integer(&mut self) -> Result<i64, DeckReason>
         ensures { Gives (λ number. (number, unread self.new)) result
             (integer_at (unread self.old)) }

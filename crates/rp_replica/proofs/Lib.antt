@@ -5,4 +5,5 @@ pub mod Planning
 pub mod Certain
 pub mod Cuts
 pub mod Accepted
+pub mod Delivered
 pub mod Restarting

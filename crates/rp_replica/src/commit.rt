@@ -8,6 +8,8 @@ ghost use Rattle.rp_base.specs.declared.fault.WriteFault.TheVariants as faults;
 ghost use Rattle.rp_base.specs.WriteFaults.{fault_of};
 ghost use Rattle.rp_codec.specs.Decoding.{IsLongBody};
 ghost use Rattle.rp_codec.specs.Message.{MaySay};
+ghost use Rattle.rp_codec.specs.Record.{record_text};
+ghost use Rattle.rp_codec.specs.Text.{vote_text};
 ghost use Rattle.rp_codec.specs.declared.packet.Party.TheVariants.{Node};
 ghost use Rattle.rp_codec.specs.declared.packet.Body.TheVariants.{Reply as Answered};
 ghost use Rattle.rp_model.specs.Parts.{is_in_log};
@@ -23,7 +25,7 @@ ghost use Rattle.rp_replica.specs.Turning.{Stops};
 
 use crate::replica::Replica;
 use rp_base::{Action, Answer, NodeId, Rec, Reply, TaskId, Vote, WriteFault};
-use rp_codec::{Body, Header};
+use rp_codec::{Body, Header, VoteTail, voted_by};
 use rp_machine::Machine;
 use rp_model::{Plan, RightAction};
 use rp_outbox::Outbox;
@@ -35,7 +37,7 @@ impl<M: Machine, D: Device> Replica<M, D> {
     /// nothing; a plan that writes no record, sends no packet and counts no vote is never refused.
     /// If the device fails while the record is written it is refused with `Device`: a prefix
     /// of the record may then be on the device, and nothing else has changed.
-    #[inline(always)]
+    #[inline(never)]
     pub(crate) fn commit(
         &mut self,
         alloc: Global,
@@ -64,9 +66,11 @@ impl<M: Machine, D: Device> Replica<M, D> {
             Plan::OfferPrepared(position, ballot, action) => {
                 return self.offer_prepared(out, *position, *ballot, action);
             }
-            Plan::Learn(position, action) => return self.learn_by_votes(out, *position, action),
+            Plan::Learn(position, action) => {
+                return self.learn_by_votes(out, *position, action, None);
+            }
             Plan::Follow(from, position, action) => {
-                return self.learn_by_decision(out, *from, *position, action);
+                return self.learn_by_decision(out, *from, *position, action, None);
             }
             Plan::Offer(promise, action) => return self.offer(out, promise, action),
             Plan::CountVote(from, position, vote) => return self.hear(
@@ -86,8 +90,8 @@ impl<M: Machine, D: Device> Replica<M, D> {
     }
 
     /// Writes a promise, and sends it.
-    #[inline(never)]
-    fn promise(
+    #[inline(always)]
+    pub(crate) fn promise(
         &mut self,
         out: &mut Outbox,
         header: &Header,
@@ -111,8 +115,13 @@ impl<M: Machine, D: Device> Replica<M, D> {
     }
 
     /// Writes a vote, and sends it.
-    #[inline(never)]
-    fn vote(&mut self, out: &mut Outbox, header: &Header, action: &Action) -> Result<(), WriteFault>
+    #[inline(always)]
+    pub(crate) fn vote(
+        &mut self,
+        out: &mut Outbox,
+        header: &Header,
+        action: &Action,
+    ) -> Result<(), WriteFault>
         requires working { self.old.failed ≡ false }
         requires may { MayCommit (server_of self.old) (plans.Vote header.now action.now) }
         ensures ok { OnOk result (Commits
@@ -127,6 +136,34 @@ impl<M: Machine, D: Device> Replica<M, D> {
         out.reserve(1)?;
         self.keep(&Rec::Voted(header.position, header.ballot, action))?;
         out.accepted(header, &action);
+        Ok(())
+    }
+
+    /// The same, whose texts are made of how that of the accept ends.
+    #[inline(always)]
+    pub(crate) fn vote_by(
+        &mut self,
+        out: &mut Outbox,
+        header: &Header,
+        action: &Action,
+        tail: &VoteTail,
+    ) -> Result<(), WriteFault>
+        requires working { self.old.failed ≡ false }
+        requires may { MayCommit (server_of self.old) (plans.Vote header.now action.now) }
+        requires tail { tail.now ≡ vote_text header.now.position header.now.ballot action.now }
+        ensures ok { OnOk result (Commits
+            (turn_of M.next M.answers (server_of self.old) (plans.Vote header.now action.now))
+            self.old self.new out.old.sent out.new.sent) }
+        ensures err { IfErr result (λ fault.
+            Stops (written_by (plans.Vote header.now action.now))
+            self.old self.new (fault_of fault)) }
+        ensures unsent { OnErr result (out.new.sent ≡ out.old.sent) }
+    {
+        let (header, action) = (*header, *action);
+        out.reserve(1)?;
+        let rec = Rec::Voted(header.position, header.ballot, action);
+        self.keep_text(&rec, &voted_by(tail))?;
+        out.accepted_by(header, &action, tail);
         Ok(())
     }
 
@@ -237,5 +274,20 @@ impl<M: Machine, D: Device> Replica<M, D> {
             Stops (Some rec.now) self.old self.new (fault_of fault)) }
     {
         self.server.keep(&mut self.store, rec)
+    }
+    /// The same, where this is the text of the record.
+    #[inline(always)]
+    fn keep_text(&mut self, rec: &Rec, text: &[u8]) -> Result<(), WriteFault>
+        requires working { self.old.failed ≡ false }
+        requires right { IsRightRecord rec.now }
+        requires place { is_in_log self.old.config.max_positions rec.now ≡ true }
+        requires answer { IsAnswer rec.now }
+        requires text { text.now ≡ record_text rec.now }
+        ensures ok { OnOk result (self.new ≡ after_turn self.old
+            (writes rec.now self.old.running [])) }
+        ensures err { IfErr result (λ fault.
+            Stops (Some rec.now) self.old self.new (fault_of fault)) }
+    {
+        self.server.keep_text(&mut self.store, rec, text)
     }
 }

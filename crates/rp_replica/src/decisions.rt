@@ -1,10 +1,11 @@
 //! The plans of a learner, committed: votes and decisions that count (Lamport, "Paxos Made Simple",
 //! section 2.3).
 
-ghost use Rattle.std.specs.Prelude.{◌≡◌, ◌++◌, ◌∷◌, ◌+◌, ◌*◌, ◌≤◌, [], length, Some, true, false, IfErr, IsOkUnless, OnOk, OnErr};
+ghost use Rattle.std.specs.Prelude.{◌≡◌, ◌++◌, ◌∷◌, ◌+◌, ◌*◌, ◌≤◌, [], length, Some, false, IfErr, IfSome, IsOkUnless, OnOk, OnErr};
 ghost use Rattle.rp_base.specs.declared.fault.WriteFault.TheVariants as faults;
 ghost use Rattle.rp_base.specs.declared.record.Rec.TheVariants.{Learned};
 ghost use Rattle.rp_base.specs.WriteFaults.{fault_of};
+ghost use Rattle.rp_codec.specs.Tails.{decision_text};
 ghost use Rattle.rp_codec.specs.declared.packet.Body.TheVariants as bodies;
 ghost use Rattle.rp_model.specs.Learner.{learns, missing_position, asks_for};
 ghost use Rattle.rp_model.specs.Says.{says_to_others, notes};
@@ -13,7 +14,7 @@ ghost use Rattle.rp_replica.specs.State.{after_turn, server_of};
 ghost use Rattle.rp_base.specs.Action.{IsRight};
 ghost use Rattle.rp_base.specs.Promises.{HeardVote};
 ghost use Rattle.rp_base.specs.Sets.{Has};
-ghost use Rattle.rp_server.specs.Applying.{learns_alone, decided_packets};
+ghost use Rattle.rp_server.specs.Applying.{IsTail, learns_alone, decided_packets};
 ghost use Rattle.rp_outbox.specs.Packets.{longest_text};
 ghost use Rattle.rp_model.specs.Plans.{heard_running};
 ghost use Rattle.rp_rules.specs.Plans.{MayHear, MayLearn};
@@ -21,7 +22,7 @@ ghost use Rattle.rp_replica.specs.Turning.{Stops};
 
 use crate::replica::Replica;
 use rp_base::{Action, NodeId, Position, Vote, WriteFault};
-use rp_codec::Body;
+use rp_codec::{Body, DecisionTail};
 use rp_machine::Machine;
 use rp_model::Dropped;
 use rp_outbox::Outbox;
@@ -31,15 +32,17 @@ use std::alloc::Global;
 
 impl<M: Machine, D: Device> Replica<M, D> {
     /// A vote makes a majority: the action is learned, and the other nodes are informed.
-    #[inline(never)]
+    #[inline(always)]
     pub(crate) fn learn_by_votes(
         &mut self,
         out: &mut Outbox,
         position: Position,
         action: &Action,
+        tail: Option<DecisionTail>,
     ) -> Result<(), WriteFault>
         requires working { self.old.failed ≡ false }
         requires may { MayLearn (server_of self.old) position action.now }
+        requires tail { IfSome tail (λ t. t ≡ decision_text position action.now) }
         ensures ok { OnOk result (Commits (learns M.next M.answers self.old.begin
             self.old.me self.old.records self.old.running position action.now
             (says_to_others self.old.config.nodes self.old.me
@@ -50,21 +53,29 @@ impl<M: Machine, D: Device> Replica<M, D> {
         ensures unsent { OnErr result (out.new.sent ≡ out.old.sent) }
     {
         self.reserve_replies(out)?;
-        self.learn(position, action, true, out)?;
+        let decision = Decision {
+            position,
+            action: *action,
+            announces: true,
+            tail,
+        };
+        self.learn(decision, out)?;
         Ok(())
     }
 
     /// A node sent a decision: the action is learned, and the node is asked for what is missing.
-    #[inline(never)]
+    #[inline(always)]
     pub(crate) fn learn_by_decision(
         &mut self,
         out: &mut Outbox,
         from: NodeId,
         position: Position,
         action: &Action,
+        tail: Option<DecisionTail>,
     ) -> Result<(), WriteFault>
         requires working { self.old.failed ≡ false }
         requires may { MayLearn (server_of self.old) position action.now }
+        requires tail { IfSome tail (λ t. t ≡ decision_text position action.now) }
         ensures ok { OnOk result (Commits (learns M.next M.answers self.old.begin
             self.old.me self.old.records self.old.running position action.now []
             (asks_for self.old.me from (missing_position
@@ -75,7 +86,13 @@ impl<M: Machine, D: Device> Replica<M, D> {
         ensures unsent { OnErr result (out.new.sent ≡ out.old.sent) }
     {
         self.reserve_replies(out)?;
-        self.learn(position, action, false, out)?;
+        let decision = Decision {
+            position,
+            action: *action,
+            announces: false,
+            tail,
+        };
+        self.learn(decision, out)?;
         self.ask_for_missing(from, out);
         Ok(())
     }
@@ -84,40 +101,32 @@ impl<M: Machine, D: Device> Replica<M, D> {
     /// this one informs them, all that is ready then is applied, and each answer whose call is
     /// pending is replied to. After the write it takes no memory.
     #[inline(always)]
-    fn learn(
-        &mut self,
-        position: Position,
-        action: &Action,
-        announces: bool,
-        out: &mut Outbox,
-    ) -> Result<(), WriteFault>
+    fn learn(&mut self, decision: Decision, out: &mut Outbox) -> Result<(), WriteFault>
         requires working { self.old.failed ≡ false }
-        requires place { position ≤ self.old.config.max_positions }
-        requires right { IsRight action.now }
+        requires place { decision.position ≤ self.old.config.max_positions }
+        requires right { IsRight decision.action }
+        requires tail { IsTail decision }
         requires room { longest_text
             * (self.old.config.nodes + length self.old.running.pending) ≤ out.old.room }
-        ensures learned { OnOk result (self.new ≡ after_turn self.old
-            (learns_alone M.next M.answers (server_of self.old) position action.now)) }
+        ensures learned { OnOk result (self.new ≡ after_turn self.old (learns_alone M.next M.answers
+            (server_of self.old) decision.position decision.action)) }
         ensures replied { OnOk result (out.new.sent ≡ out.old.sent
-            ++ (decided_packets self.old.config.nodes self.old.me position action.now announces
-            ++ (learns_alone M.next M.answers (server_of self.old) position action.now).sent)) }
+            ++ (decided_packets self.old.config.nodes self.old.me decision.position decision.action
+            decision.announces
+            ++ (learns_alone M.next M.answers
+            (server_of self.old) decision.position decision.action).sent)) }
         ensures room { OnOk result (out.old.room ≤ out.new.room
             + longest_text * (self.old.config.nodes + length self.old.running.pending)) }
         ensures unsent { OnErr result (out.new.sent ≡ out.old.sent) }
-        ensures err { IfErr result (λ fault.
-            Stops (Some (Learned position action.now)) self.old self.new (fault_of fault)) }
+        ensures err { IfErr result (λ fault. Stops (Some
+            (Learned decision.position decision.action)) self.old self.new (fault_of fault)) }
     {
-        let decision = Decision {
-            position,
-            action: *action,
-            announces,
-        };
         self.server.learn(&mut self.store, out, decision)
     }
 
     /// Notes a vote of one of the nodes that is counted, and settles nothing. It is out of memory
     /// only for a vote that was not heard, and then changes nothing.
-    #[inline(never)]
+    #[inline(always)]
     pub(crate) fn hear(
         &mut self,
         alloc: Global,

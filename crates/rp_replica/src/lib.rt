@@ -4,6 +4,7 @@
 //! - `replica`: the replica
 //! - `opening`: a replica that is opened over a device
 //! - `turn`: a step: it decides by the rules (`rp_rules`), and commits
+//! - `delivery`: a packet that is delivered, in which a usual one makes no plan
 //! - `commit`: a plan, committed: it is written, takes effect and is sent
 //! - `range_promise`, `proposal`, `decisions`, `report`: a promise for a range, plans of a leader,
 //!   of a learner and for the audit, committed
@@ -16,6 +17,7 @@
 mod commit;
 mod cut;
 mod decisions;
+mod delivery;
 mod infallible;
 mod laws;
 mod opening;

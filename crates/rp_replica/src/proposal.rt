@@ -109,7 +109,7 @@ impl<M: Machine, D: Device> Replica<M, D> {
     }
 
     /// A promise makes a majority, and the action is offered to all.
-    #[inline(never)]
+    #[inline(always)]
     pub(crate) fn offer(
         &mut self,
         out: &mut Outbox,
@@ -198,6 +198,7 @@ impl<M: Machine, D: Device> Replica<M, D> {
     }
 
     /// A promise counts, and makes no majority.
+    #[inline(always)]
     pub(crate) fn note_promise(&mut self, promise: &CountedPromise)
         requires may { MayCount (server_of self.old) promise.now }
         ensures { self.new ≡ after_turn self.old

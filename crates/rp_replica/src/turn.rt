@@ -124,34 +124,6 @@ impl<M: Machine, D: Device> Replica<M, D> {
         Ok(plan.dropped())
     }
 
-    /// Handles the packet of a place, from 0, among those that were sent: it is read in place, and
-    /// the packets of the step are put after the others.
-    #[inline(always)]
-    pub fn deliver(
-        &mut self,
-        alloc: Global,
-        out: &mut Outbox,
-        place: usize,
-    ) -> Result<Dropped, Fault>
-        requires place { place < length out.old.sent }
-        ensures answer { (m : Message) → slice_get out.old.sent place ≡ Some m
-            → AnswersOnto (effect_of M.next M.answers self.old (inputs.NodeInput.Receive m))
-            self.old self.new out.old.sent out.new.sent result }
-        ensures certain { (m : Message) → slice_get out.old.sent place ≡ Some m
-            → (¬ IsLongBody m.body)
-            → IsCertain (effect_of M.next M.answers self.old (inputs.NodeInput.Receive m))
-            self.old result }
-    {
-        texts_are_packets();
-        if self.has_failed() {
-            return Err(Fault::Failed);
-        }
-        let mut plan = Plan::Pass(Dropped::No);
-        on_text(&self.server, alloc, out.text(place).unwrap(), &mut plan)?;
-        self.commit(alloc, out, &plan)?;
-        Ok(plan.dropped())
-    }
-
     /// Handles a packet, given as its text. Refused with `BadPacket` if the bytes are no packet's
     /// text, and otherwise as `Replica` says. A packet that is for another node, from a node or for
     /// a position beyond the configuration, or in a ballot that its sender does not own, is

@@ -119,6 +119,12 @@ OnlySends (Reply task number reply) = Unit {0}
 OnlySends (Report first) = Unit {0}
 OnlySends _ = ⊥
 
+-- these bytes are a packet, of which the node decides this
+abbrev pub IsPlanOf : {S : Type 0} → (S → Action → S) → (S → Action → List Answer)
+    → ServerState S → List ℕ → Plan → Type 0
+IsPlanOf next answers server bytes plan =
+    plan_if_given next answers server (packet_given (all_of bytes)) ≡ Ok plan
+
 -- What the function of a usual kind makes of bytes: they are no text of that kind, and the plan
 -- stays; or it decides what the rules say of their packet.
 abbrev pub Decides : {S : Type 0} → (S → Action → S) → (S → Action → List Answer) → ServerState S

@@ -28,4 +28,6 @@ mod texts;
 
 pub use input::Input;
 pub use rules::decide;
-pub use texts::on_text;
+pub use texts::{
+    accept_for, accepted_for, call_for, decided_for, on_text, prepare_for, promise_for,
+};

@@ -1,31 +1,37 @@
-//! What a server decides of a packet's text. Each usual kind has a function, which reads the text
-//! into fields and calls the rule with these. It returns whether the bytes are such a packet's
-//! text; if they are not, it leaves the plan as it is.
+//! What a server decides of a packet's text. Each usual kind has two functions: one reads the text
+//! into fields, the other calls the rule with these. It returns whether the bytes are the text of
+//! such a packet that this node takes; if they are not, it leaves the plan as it is.
 
-ghost use Rattle.std.specs.Prelude.{◌≡◌, ◌&&◌, not, nat_lt, true, Ok, IfErr, OnOk};
-ghost use Rattle.rp_codec.specs.Decoding.{IsLongText};
+ghost use Rattle.std.specs.Prelude.{◌≡◌, ◌≤◌, ◌&&◌, not, nat_lt, Ok, IfErr, IfSome, OnOk};
+ghost use Rattle.rp_base.specs.Action.{IsRight};
+ghost use Rattle.rp_base.specs.Number.{IsPosition};
+ghost use Rattle.rp_codec.specs.Decoding.{IsDecoded, IsLongText};
 ghost use Rattle.rp_codec.specs.Reading.{all_of};
+ghost use Rattle.rp_codec.specs.Usual.{accept_at, accepted_at, decided_of};
 ghost use Rattle.rp_codec.specs.declared.packet.Body.TheVariants.{Prepare};
 ghost use Rattle.rp_codec.specs.declared.packet.Party.TheVariants.{Node};
+ghost use Rattle.rp_learner.specs.Status.{vote_for};
+ghost use Rattle.rp_model.specs.Acceptor.{on_accept, on_prepare};
+ghost use Rattle.rp_model.specs.Arrivals.{on_call};
+ghost use Rattle.rp_model.specs.Leader.{on_promise};
+ghost use Rattle.rp_model.specs.Learner.{on_accepted, on_decided};
 ghost use Rattle.rp_model.specs.Receiving.{is_for_node, is_node, is_no_node_above};
 ghost use Rattle.rp_model.specs.Says.{says};
-ghost use Rattle.rp_model.specs.declared.effect.Dropped.TheVariants.{Foreign};
-ghost use Rattle.rp_model.specs.declared.plan.Plan.TheVariants.{Pass};
-ghost use Rattle.rp_rules.specs.Inputs.{Refuses, packet_given, plan_if_given};
-ghost use Rattle.rp_rules.specs.Plans.{Decides, MayCommit};
+ghost use Rattle.rp_rules.specs.Inputs.{Refuses, node_of, packet_given, plan_if_given};
+ghost use Rattle.rp_rules.specs.Plans.{Decides, IsPlanOf, MayCommit, MayCount};
 
 use crate::acceptor::{on_accept, on_prepare};
 use crate::arrivals::on_call;
 use crate::leader::on_promise;
 use crate::learner::{on_accepted, on_decided};
 use crate::packets::on_packet;
-use rp_base::{Fault, NodeId, Position};
+use rp_base::{Action, Fault, NodeId, Position};
 use rp_codec::{
-    Header, Kind, decode, usual_accept, usual_accepted, usual_call, usual_decided, usual_prepare,
-    usual_promise,
+    Header, Kind, SentDecision, decode, usual_accept, usual_accepted, usual_call, usual_decided,
+    usual_prepare, usual_promise,
 };
 use rp_machine::Machine;
-use rp_model::{CountedPromise, Dropped, Plan};
+use rp_model::{CountedPromise, Plan};
 use rp_server::Server;
 use std::alloc::Global;
 
@@ -105,18 +111,132 @@ fn on_other_text<M: Machine>(
     }
 }
 
+/// The action of a task's call to this node, if these bytes are the text of one.
+#[inline(always)]
+pub fn call_for<M: Machine>(server: &Server<M>, bytes: &[u8]) -> Option<Action>
+    ensures right { IfSome result IsRight }
+    ensures plan { IfSome result (λ action. IsPlanOf M.next M.answers server.now bytes.now
+        (on_call (node_of M.next M.answers server.now) action)) }
+{
+    let call = usual_call(bytes).ok()?;
+    if call.to == server.me() {
+        Some(call.action)
+    } else {
+        None
+    }
+}
+
+/// The header of a prepare to this node, which keeps to the configuration, if these bytes are the
+/// text of one.
+#[inline(always)]
+pub fn prepare_for<M: Machine>(server: &Server<M>, bytes: &[u8]) -> Option<Header>
+    ensures place { IfSome result (λ header.
+        header.position ≤ server.now.config.max_positions) }
+    ensures plan { IfSome result (λ header. IsPlanOf M.next M.answers server.now bytes.now
+        (on_prepare (node_of M.next M.answers server.now) header.from header.position
+        header.ballot)) }
+{
+    let header = usual_prepare(bytes).ok()?;
+    if takes_from_owner(server, &header) {
+        Some(header)
+    } else {
+        None
+    }
+}
+
+/// The same of a promise that reports no vote.
+#[inline(always)]
+pub fn promise_for<M: Machine>(server: &Server<M>, bytes: &[u8]) -> Option<CountedPromise>
+    ensures may { IfSome result (MayCount server.now) }
+    ensures plan { IfSome result (λ promise. IsPlanOf M.next M.answers server.now bytes.now
+        (on_promise (node_of M.next M.answers server.now) promise)) }
+{
+    let header = usual_promise(bytes).ok()?;
+    if takes(server, header.from, header.to, header.position) {
+        Some(CountedPromise {
+            from: header.from,
+            position: header.position,
+            ballot: header.ballot,
+            last: None,
+        })
+    } else {
+        None
+    }
+}
+
+/// The same of an accept, whose action is a call, with that action.
+#[inline(always)]
+pub fn accept_for<M: Machine>(server: &Server<M>, bytes: &[u8]) -> Option<(Header, Action)>
+    ensures decoded { IfSome result (λ vote.
+        IsDecoded bytes.now (Ok (accept_at vote.0 vote.1))) }
+    ensures place { IfSome result (λ vote.
+        vote.0.position ≤ server.now.config.max_positions) }
+    ensures right { IfSome result (λ vote. IsRight vote.1) }
+    ensures plan { IfSome result (λ vote. IsPlanOf M.next M.answers server.now bytes.now
+        (on_accept (node_of M.next M.answers server.now) vote.0.from vote.0.position
+        vote.0.ballot vote.1)) }
+{
+    let Ok((header, action)) = usual_accept(bytes) else {
+        return None;
+    };
+    if takes_from_owner(server, &header) {
+        Some((header, action))
+    } else {
+        None
+    }
+}
+
+/// The same of a vote for a call, with that call.
+#[inline(always)]
+pub fn accepted_for<M: Machine>(server: &Server<M>, bytes: &[u8]) -> Option<(Header, Action)>
+    ensures decoded { IfSome result (λ vote.
+        IsDecoded bytes.now (Ok (accepted_at vote.0 vote.1))) }
+    ensures sender { IfSome result (λ vote. vote.0.from ≤ server.now.config.nodes) }
+    ensures place { IfSome result (λ vote. IsPosition vote.0.position
+        × (vote.0.position ≤ server.now.config.max_positions)) }
+    ensures right { IfSome result (λ vote. IsRight vote.1) }
+    ensures plan { IfSome result (λ vote. IsPlanOf M.next M.answers server.now bytes.now
+        (on_accepted (node_of M.next M.answers server.now) vote.0.from vote.0.position
+        (vote_for vote.0.ballot vote.1))) }
+{
+    let Ok((header, action)) = usual_accepted(bytes) else {
+        return None;
+    };
+    if takes(server, header.from, header.to, header.position) {
+        Some((header, action))
+    } else {
+        None
+    }
+}
+
+/// The same of a decided call.
+#[inline(always)]
+pub fn decided_for<M: Machine>(server: &Server<M>, bytes: &[u8]) -> Option<SentDecision>
+    ensures decoded { IfSome result (λ sent. IsDecoded bytes.now (Ok (decided_of sent))) }
+    ensures place { IfSome result (λ sent.
+        sent.position ≤ server.now.config.max_positions) }
+    ensures right { IfSome result (λ sent. IsRight sent.action) }
+    ensures plan { IfSome result (λ sent. IsPlanOf M.next M.answers server.now bytes.now
+        (on_decided (node_of M.next M.answers server.now) sent.from sent.position
+        sent.action)) }
+{
+    let sent = usual_decided(bytes).ok()?;
+    if takes(server, sent.from, sent.to, sent.position) {
+        Some(sent)
+    } else {
+        None
+    }
+}
+
 /// A task's call comes.
 #[inline(never)]
 fn on_call_text<M: Machine>(server: &Server<M>, bytes: &[u8], plan: &mut Plan) -> bool
     ensures { Decides M.next M.answers server.now bytes.now plan.old plan.new result }
 {
-    let Ok(call) = usual_call(bytes) else {
+    let Some(action) = call_for(server, bytes) else {
         return false;
     };
-    if call.to != server.me() {
-        return drop_foreign(plan);
-    }
-    on_call(server, call.action, plan);
+    on_call(server, action, plan);
     true
 }
 
@@ -125,12 +245,9 @@ fn on_call_text<M: Machine>(server: &Server<M>, bytes: &[u8], plan: &mut Plan) -
 fn on_prepare_text<M: Machine>(server: &Server<M>, bytes: &[u8], plan: &mut Plan) -> bool
     ensures { Decides M.next M.answers server.now bytes.now plan.old plan.new result }
 {
-    let Ok(header) = usual_prepare(bytes) else {
+    let Some(header) = prepare_for(server, bytes) else {
         return false;
     };
-    if !takes_from_owner(server, &header) {
-        return drop_foreign(plan);
-    }
     on_prepare(server, header.from, header.position, header.ballot, plan);
     true
 }
@@ -140,22 +257,10 @@ fn on_prepare_text<M: Machine>(server: &Server<M>, bytes: &[u8], plan: &mut Plan
 fn on_promise_text<M: Machine>(server: &Server<M>, bytes: &[u8], plan: &mut Plan) -> bool
     ensures { Decides M.next M.answers server.now bytes.now plan.old plan.new result }
 {
-    let Ok(header) = usual_promise(bytes) else {
+    let Some(promise) = promise_for(server, bytes) else {
         return false;
     };
-    if !takes(server, header.from, header.to, header.position) {
-        return drop_foreign(plan);
-    }
-    on_promise(
-        server,
-        CountedPromise {
-            from: header.from,
-            position: header.position,
-            ballot: header.ballot,
-            last: None,
-        },
-        plan,
-    );
+    on_promise(server, promise, plan);
     true
 }
 
@@ -164,12 +269,9 @@ fn on_promise_text<M: Machine>(server: &Server<M>, bytes: &[u8], plan: &mut Plan
 fn on_accept_text<M: Machine>(server: &Server<M>, bytes: &[u8], plan: &mut Plan) -> bool
     ensures { Decides M.next M.answers server.now bytes.now plan.old plan.new result }
 {
-    let Ok((header, action)) = usual_accept(bytes) else {
+    let Some((header, action)) = accept_for(server, bytes) else {
         return false;
     };
-    if !takes_from_owner(server, &header) {
-        return drop_foreign(plan);
-    }
     on_accept(server, &header, &action, plan);
     true
 }
@@ -179,12 +281,9 @@ fn on_accept_text<M: Machine>(server: &Server<M>, bytes: &[u8], plan: &mut Plan)
 fn on_accepted_text<M: Machine>(server: &Server<M>, bytes: &[u8], plan: &mut Plan) -> bool
     ensures { Decides M.next M.answers server.now bytes.now plan.old plan.new result }
 {
-    let Ok((header, action)) = usual_accepted(bytes) else {
+    let Some((header, action)) = accepted_for(server, bytes) else {
         return false;
     };
-    if !takes(server, header.from, header.to, header.position) {
-        return drop_foreign(plan);
-    }
     on_accepted(server, &header, &action, plan);
     true
 }
@@ -194,28 +293,9 @@ fn on_accepted_text<M: Machine>(server: &Server<M>, bytes: &[u8], plan: &mut Pla
 fn on_decided_text<M: Machine>(server: &Server<M>, bytes: &[u8], plan: &mut Plan) -> bool
     ensures { Decides M.next M.answers server.now bytes.now plan.old plan.new result }
 {
-    let Ok(decision) = usual_decided(bytes) else {
+    let Some(sent) = decided_for(server, bytes) else {
         return false;
     };
-    if !takes(server, decision.from, decision.to, decision.position) {
-        return drop_foreign(plan);
-    }
-    on_decided(
-        server,
-        decision.from,
-        decision.position,
-        &decision.action,
-        plan,
-    );
-    true
-}
-
-/// Drops a packet that is not for this node or outside the configuration; it was read, so `true`.
-#[inline(always)]
-fn drop_foreign(plan: &mut Plan) -> bool
-    ensures plan { plan.new ≡ Pass Foreign }
-    ensures read { result ≡ true }
-{
-    *plan = Plan::Pass(Dropped::Foreign);
+    on_decided(server, sent.from, sent.position, &sent.action, plan);
     true
 }

@@ -1,8 +1,10 @@
 -- The results of learning and applying for a server.
 use Rattle.std.specs.Prelude.{◌≡◌, ℕ, ◌+◌, ◌*◌, ◌≤◌, Bool, List, [], ◌++◌, length, if◌then◌else◌}
+use Rattle.std.specs.Prelude.{IfSome}
 use Rattle.rp_base.specs.declared.action.Action.{Action}
 use Rattle.rp_base.specs.declared.reply.Answer.{Answer}
 use Rattle.rp_codec.specs.Message.{Message}
+use Rattle.rp_codec.specs.Tails.{decision_text}
 use Rattle.rp_codec.specs.declared.packet.Body.TheVariants.{Decided}
 use Rattle.rp_log.specs.Contents.{Contents}
 use Rattle.rp_machine.specs.Numbered.{Applied, outcome}
@@ -11,7 +13,13 @@ use Rattle.rp_model.specs.Learner.{learns}
 use Rattle.rp_model.specs.Pending.{replies_to}
 use Rattle.rp_model.specs.Says.{says_to_others}
 use Rattle.rp_server.specs.State.{ServerState}
+use Rattle.rp_server.specs.declared.learn.Decision.{Decision}
 use Rattle.rp_outbox.specs.Packets.{Sending, longest_text}
+
+-- where how the text of a decision ends is given, it is that of its position and action
+abbrev pub IsTail : Decision → Type 0
+IsTail decision =
+    IfSome decision.tail (λ tail. tail ≡ decision_text decision.position decision.action)
 
 -- the packets that go before the replies: the other nodes are informed where this one informs them
 abbrev pub decided_packets : ℕ → ℕ → ℕ → Action → Bool → List Message

@@ -79,6 +79,29 @@ impl<M: Machine> Server<M> {
     {
         write(store, &mut self.acceptor, rec)
     }
+
+    /// The same, where this is the text of the record.
+    #[inline(always)]
+    pub fn keep_text<D: Device>(
+        &mut self,
+        store: &mut Store<D>,
+        rec: &Rec,
+        text: &[u8],
+    ) -> Result<(), WriteFault>
+        requires working { store.old.failed ≡ false }
+        requires right { IsRightRecord rec.now }
+        requires text { text.now ≡ record_text rec.now }
+        requires answer { IsAnswer rec.now }
+        ensures put { OnOk result (IsPut D.disk (record_text rec.now) store.old store.new) }
+        ensures noted { OnOk result
+            (self.new ≡ server_after self.old (writes rec.now self.old.running [])) }
+        ensures range { HasRecordRanges rec.now }
+        ensures unchanged { OnErr result (self.new ≡ self.old) }
+        ensures err { IfErr result (λ fault.
+            IsNotPut D.disk (record_text rec.now) store.old (fault_of fault) store.new) }
+    {
+        write_text(store, &mut self.acceptor, rec, text)
+    }
 }
 
 /// Makes room to note the record.
@@ -114,6 +137,31 @@ pub(crate) fn write<D: Device>(
     record_in_range(rec);
     reserve(acceptor, rec)?;
     store.put(rec)?;
+    acceptor.note(rec);
+    Ok(())
+}
+
+/// The same, where this is the text of the record.
+#[inline(always)]
+pub(crate) fn write_text<D: Device>(
+    store: &mut Store<D>,
+    acceptor: &mut Acceptor,
+    rec: &Rec,
+    text: &[u8],
+) -> Result<(), WriteFault>
+    requires right { IsRightRecord rec.now }
+    requires text { text.now ≡ record_text rec.now }
+    requires working { store.old.failed ≡ false }
+    ensures put { OnOk result (IsPut D.disk (record_text rec.now) store.old store.new) }
+    ensures noted { OnOk result (acceptor.new.records ≡ acceptor.old.records ++ rec.now ∷ []) }
+    ensures range { HasRecordRanges rec.now }
+    ensures unchanged { OnErr result (acceptor.new.records ≡ acceptor.old.records) }
+    ensures err { IfErr result (λ fault.
+        IsNotPut D.disk (record_text rec.now) store.old (fault_of fault) store.new) }
+{
+    record_in_range(rec);
+    reserve(acceptor, rec)?;
+    store.put_text(text)?;
     acceptor.note(rec);
     Ok(())
 }

@@ -20,20 +20,21 @@ pub(crate) fn with_bit(bits: u64, offset: u32, is_set: bool) -> u64
     if is_set { bits | 1 << offset } else { bits }
 }
 
-/// Which positions of the window from `first` on the log learned: bit j is that of `first + j`. It
-/// looks no further than the greatest position learned.
-fn learned_bits(log: &Log, first: u32) -> u64
+/// Which positions of the window from `first` on, but for those below `entered`, the log learned:
+/// bit j is that of `first + j`. It looks no further than the greatest position learned.
+fn learned_bits(log: &Log, first: u32, entered: u32) -> u64
     requires low { 1 ≤ first }
     requires high { first ≤ 65536 }
-    ensures { (j : ℕ) → j < window
+    ensures { (j : ℕ) → j < window → entered ≤ first + j
         → is_marked result j ≡ is_some (action_at log.now (first + j)) }
 {
     let Some(top) = log.top() else {
         return 0;
     };
+    let begin = first.max(entered);
     let end = (u32::from(top.get()) + 1).min(first + WINDOW);
     let mut bits = 0;
-    for number in first..end {
+    for number in begin..end {
         let is_learned = log.is_learned(position_at(number));
         bits = with_bit(bits, number - first, is_learned);
     }
@@ -41,7 +42,7 @@ fn learned_bits(log: &Log, first: u32) -> u64
 }
 
 /// Moves the window of a learner on to the first unlearned position of a log of which all that is
-/// ready was taken. It takes no memory.
+/// ready was taken. It takes no memory, and reads only the positions that enter the window.
 #[inline(always)]
 pub(crate) fn follow(learner: &mut Learner, log: &Log)
     requires on { learner.old.first ≤ next_to_take log.now }
@@ -50,7 +51,8 @@ pub(crate) fn follow(learner: &mut Learner, log: &Log)
     ensures { Follows learner.old log.now learner.new }
 {
     let first = log.next_unlearned();
-    learner.advance(first, learned_bits(log, first));
+    let entered = learner.first() + WINDOW;
+    learner.advance(first, learned_bits(log, first, entered));
 }
 
 /// The position of a number within the log.

@@ -16,6 +16,8 @@ ghost use Rattle.rp_model.specs.Events.{event_of};
 ghost use Rattle.rp_model.specs.Facts.{HasPromised, HasVoted, IsOffered, IsDecided, IsOrder};
 ghost use Rattle.rp_model.specs.Parts.{NodePart, TaskPart};
 ghost use Rattle.rp_model.specs.World.{opening_world, part_at};
+ghost use Rattle.rp_model.specs.declared.event.Event.TheVariants.{Node};
+ghost use Rattle.rp_model.specs.declared.event.Step.TheVariants.{Deliver};
 ghost use Rattle.rp_agreement.specs.Decided.{IsCast};
 ghost use Rattle.rp_agreement.specs.Justified.{IsJustified};
 ghost use Rattle.rp_agreement.specs.Order.{AllSent, IsPrefix};
@@ -133,7 +135,7 @@ impl<M: Machine, D: CutDevice> Cluster<M, D> {
     /// `Device` if a node's device fails: then the node is stopped within the step; one that was to
     /// start again stays stopped, and some of its torn bytes may be gone, as they may be after
     /// `OutOfMemory`.
-    #[inline(never)]
+    #[inline(always)]
     pub fn step_into(
         &mut self,
         alloc: Global,
@@ -154,17 +156,32 @@ impl<M: Machine, D: CutDevice> Cluster<M, D> {
             → IsLightStep (setting_of M.next M.answers M.begin self.old) self.old.world step
             → IsOk result }
     {
+        if let Event::Node(Step::Deliver(number)) = *event {
+            return self.step_by_delivery(alloc, number, effect);
+        }
         event.keeps_ranges();
         events_keep_replies::<M>();
         events_keep_ranges::<M>();
-        // A delivery is by far the most frequent, and goes the shortest way.
-        if let Event::Node(step) = *event {
-            if let Step::Deliver(number) = step {
-                self.world.deliver(alloc, number, effect)?;
-                return Ok(());
-            }
-        }
         self.world.step_into(alloc, event, effect)
+    }
+
+    /// The delivery of a message, by its number: by far the most frequent step, so the shortest
+    /// way, and apart from the others.
+    #[inline(never)]
+    fn step_by_delivery(
+        &mut self,
+        alloc: Global,
+        number: u64,
+        effect: &mut Effect,
+    ) -> Result<(), Fault>
+        ensures step { IsStep M.next M.answers M.begin self.old (Node (Deliver number)) self.new
+            (stated result effect.new) }
+        ensures certain { IsLightStep (setting_of M.next M.answers M.begin self.old) self.old.world
+            (events.Deliver number) → IsOk result }
+    {
+        events_keep_replies::<M>();
+        events_keep_ranges::<M>();
+        self.world.deliver(alloc, number, effect)
     }
 
     /// The steps of these events one after another, up to the first that is refused. Whatever they

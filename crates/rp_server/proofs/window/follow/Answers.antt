@@ -29,7 +29,7 @@ returns c =
             | inl near ↦ c.advance.ensures.stays j above near ∙ c.requires.alike j low near
             | inr far ↦
                 c.advance.ensures.opens j above far (omega (arith, within, begins))
-                ∙ c.learned_bits.ensures (j - first) (omega (arith, above, within, begins))
+                ∙ c.learned_bits.ensures (j - first) (omega (arith, above, within, begins)) (omega (arith, above, far, c.first-entered.ensures))
                 ∙ ap (λ (k : ℕ). is_some (action_at log k)) at
           ]
     ] in

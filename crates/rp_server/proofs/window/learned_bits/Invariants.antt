@@ -6,5 +6,6 @@ use Rattle.rp_server.proofs.window.learned_bits.Given as goal
 -- the bits below are those of what was asked for, and the others are clear
 abbrev pub invariant-loop-number : goal.invariant-loop-number
 invariant-loop-number l =
-    ((j : ℕ) → j < l.number - l.first → is_marked l.bits j ≡ is_some (action_at l.log (l.first + j)))
+    (l.first ≤ l.number)
+    × ((j : ℕ) → j < l.number - l.first → l.entered ≤ l.first + j → is_marked l.bits j ≡ is_some (action_at l.log (l.first + j)))
     × ((j : ℕ) → l.number - l.first ≤ j → is_marked l.bits j ≡ false)

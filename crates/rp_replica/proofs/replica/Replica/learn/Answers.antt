@@ -12,8 +12,8 @@ pub invariant_of-self : goal.invariant_of-self
 invariant_of-self g c =
     let m = g.M.Machine in
     let r = c.self.inside in
-    let i = c.args.position in
-    let v = c.args.action.now in
+    let i = c.args.decision.position in
+    let v = c.args.decision.action in
     let within : i ≤ r.server.config.max_positions = subst (λ (k : ReplicaState g.row.M.Denot). i ≤ k.config.max_positions) (sym c.self.view_is) c.requires.place in
     let may : MayWrite r.server.config.max_positions (Some (Learned i v)) = (record { ranges = c.learn.ensures.range; right = c.requires.right }, le-leb i r.server.config.max_positions within) in
     disk_written g.D.Device.disk r.server c.learn.new.self r.store c.learn.new.store (Learned i v) (learns_alone m.next m.answers r.server i v) refl c.learn.result
@@ -22,8 +22,8 @@ invariant_of-self g c =
 pub returns-clause-err : goal.returns-clause-err
 returns-clause-err g c =
     let r = c.self.inside in
-    let i = c.args.position in
-    let v = c.args.action.now in
+    let i = c.args.decision.position in
+    let v = c.args.decision.action in
     let within : i ≤ r.server.config.max_positions = subst (λ (k : ReplicaState g.row.M.Denot). i ≤ k.config.max_positions) (sym c.self.view_is) c.requires.place in
     let may : MayWrite r.server.config.max_positions (Some (Learned i v)) = (record { ranges = c.learn.ensures.range; right = c.requires.right }, le-leb i r.server.config.max_positions within) in
     write_fails g.D.Device.disk r.server r.store c.learn.new.store (Learned i v) c.learn.result c.learn.new.self c.args.self.now

@@ -1,4 +1,4 @@
-use Rattle.std.proofs.Common.{◌≡◌, List, ℕ, true, false, sym, ap, subst, ◌∙◌}
+use Rattle.std.proofs.Common.{◌≡◌, List, ℕ, true, false, ap, subst, ◌∙◌}
 use Rattle.std.specs.Prelude.{slice_get, Result, Ok}
 use Rattle.rp_base.specs.declared.fault.Fault.{Fault}
 use Rattle.rp_base.specs.declared.fault.Fault.TheVariants.{OutOfMemory}
@@ -14,7 +14,7 @@ use Rattle.rp_outbox.proofs.Joined.{text_found_is}
 use Rattle.rp_replica.proofs.Certain.{plan_takes_none, short_text}
 use Rattle.rp_replica.proofs.Planned.{planned, refuses_turn}
 use Rattle.rp_replica.proofs.Planning.{committed, refused}
-use Rattle.rp_replica.proofs.replica.Replica.deliver.Goals as goal
+use Rattle.rp_replica.proofs.replica.Replica.deliver_other.Goals as goal
 
 pub returns-clause-answer : goal.returns-clause-answer
 returns-clause-answer g c = λ message at.
@@ -22,11 +22,10 @@ returns-clause-answer g c = λ message at.
     let h = c.args.self.now in
     let text : c.unwrap.result.now ≡ text_of message = text_found_is c.text.result c.unwrap.result (slice_get c.args.out.now.sent c.args.place) message c.unwrap.ensures c.text.ensures.text at in
     let given = ap (λ (l : List ℕ). packet_given (all_of l)) text ∙ c.texts_are_packets.ensures message (c.text.ensures.right message at) in
-    let working : h.failed ≡ false = sym c.has_failed.ensures ∙ c.if-has_failed.false in
     let made = planned m.next m.answers (server_of h) (packet_given (all_of c.unwrap.result.now)) c.on_text.new.plan
     (subst (λ (k : ReplicaState g.row.M.Denot). Ok c.on_text.new.plan ≡ plan_if_given m.next m.answers (server_of k) (packet_given (all_of c.unwrap.result.now))) c.self.view_is c.in_ok-on_text.ensures.ok) in
     committed m.next m.answers h (effect_of m.next m.answers h (NodeInput.Receive message)) c.on_text.new.plan c.commit.new.self c.args.out.now.sent c.commit.new.out.sent c.dropped.result
-    (made ∙ ap (effect_if_given m.next m.answers h) given) working c.in_ok-commit.ensures.ok c.dropped.ensures
+    (made ∙ ap (effect_if_given m.next m.answers h) given) c.requires.working c.in_ok-commit.ensures.ok c.dropped.ensures
 
 pub returns-in_err-commit-clause-answer : goal.returns-in_err-commit-clause-answer
 returns-in_err-commit-clause-answer g c = λ message at.

@@ -51,7 +51,7 @@ impl Pieces {
         ensures value { IfOk result (λ numbers.
             AreNumbers self.new numbers.items (lines_of text.now)) }
     {
-        let mut numbers = Vec::with_capacity(alloc, lines_in(text))?;
+        let mut numbers = Vec::with_capacity(alloc, near.len())?;
         let mut start = 0;
         for (at, byte) in text.iter().enumerate() {
             if *byte == b'\n' {
@@ -107,9 +107,4 @@ impl Pieces {
             None => false,
         }
     }
-}
-
-/// How many lines the text has.
-fn lines_in(text: &[u8]) -> usize {
-    text.iter().filter(|byte| **byte == b'\n').count() + 1
 }

@@ -35,6 +35,14 @@ pub struct Search<'a, M: Machine> {
     most: usize,
 }
 
+/// The order at a place, and the state to which it leads.
+#[derive(Drop)]
+struct Visited<'b, M: Machine> {
+    place: usize,
+    order: &'b [Action],
+    state: &'b Numbered<M>,
+}
+
 /// What one more action gives, and how many were taken so far.
 #[derive(Drop)]
 struct Trial {
@@ -148,75 +156,77 @@ impl<'a, M: Machine> Search<'a, M> {
         Ok(Some(place))
     }
 
-    /// Tries one action more after the order at a place, which led to this state: whether that
-    /// leads to a new state, and which answers it gives.
+    /// Tries one action more after the order that is visited: whether that leads to a new state,
+    /// and which answers it gives.
     fn step(
         &mut self,
-        state: &Numbered<M>,
-        place: usize,
+        visited: &Visited<M>,
         index: usize,
         trial: &mut Trial,
     ) -> Result<Option<usize>, AllocError>
-        requires place { place < length self.old.listed.orders }
+        requires place { visited.now.place < length self.old.listed.orders }
         requires index { index < length self.old.listed.may }
-        requires begin { state.now.begin ≡ self.old.begin }
-        requires actions { state.now.actions ≡ order_at self.old.listed.orders place }
-        ensures grows { OnOk result
+        requires right { AreRight visited.now.order.now }
+        requires order { visited.now.order.now ≡ visited.now.state.now.actions }
+        requires begin { visited.now.state.now.begin ≡ self.old.begin }
+        requires actions { visited.now.state.now.actions
+            ≡ order_at self.old.listed.orders visited.now.place }
+        ensures grows { let place = visited.now.place in OnOk result
             (Grows self.old self.new (further self.old.listed place index)) }
-        ensures there { IfOk result (λ at. MayFollowAt M.next M.answers self.old place index
+        ensures there { let place = visited.now.place in IfOk result (λ at.
+            MayFollowAt M.next M.answers self.old place index
             → MatchOption at
             (IsMissing M.next M.answers self.new (further self.old.listed place index))
             (IsAt M.next M.answers self.new (further self.old.listed place index))) }
-        ensures stays { IfOk result (λ at. MayFollowAt M.next M.answers self.old place index
+        ensures stays { let place = visited.now.place in IfOk result (λ at.
+            MayFollowAt M.next M.answers self.old place index
             → (at ≡ Some place)
             ↔ LeadAlike M.next M.answers self.old.begin self.old.guards
             (further self.old.listed place index) (order_at self.old.listed.orders place)) }
-        ensures skips { IfOk result (λ at.
+        ensures skips { let place = visited.now.place in IfOk result (λ at.
             MayFollowAt M.next M.answers self.old place index ⊎ (at ≡ Some place)) }
         ensures answers { OnOk result (trial.new.answers
-            ≡ given_next M.next M.answers self.old.guards (outcome M.next M.answers state.now)
+            ≡ given_next M.next M.answers self.old.guards
+            (outcome M.next M.answers visited.now.state.now)
             (slice_index_or self.old.listed.may index Noop)) }
     {
         trial.answers.clear();
         let action = self.tree.may()[index];
-        if !is_taken(state, self.guards, &action) {
-            return Ok(Some(place));
+        if !is_taken(visited.state, self.guards, &action) {
+            return Ok(Some(visited.place));
         }
         trial.taken = trial.taken.saturating_add(1);
-        let order = self.tree.order(self.alloc, place)?;
-        let mut next = replayed::<M>(self.alloc, self.program, order.as_slice())?;
+        let mut next = replayed::<M>(self.alloc, self.program, visited.order)?;
         next.apply(&action, &mut trial.answers);
-        let at = self.place_of(&next, place, index)?;
+        let at = self.place_of(&next, visited.place, index)?;
         let _count = self.len();
         Ok(at)
     }
 
-    /// Tries each action after the order at a place, which led to this state, and notes the
-    /// answers.
-    fn try_all(
-        &mut self,
-        state: &Numbered<M>,
-        place: usize,
-        given: &mut Given,
-    ) -> Result<Tried, AllocError>
-        requires place { place < length self.old.listed.orders }
+    /// Tries each action after the order that is visited, and notes the answers.
+    fn try_all(&mut self, visited: &Visited<M>, given: &mut Given) -> Result<Tried, AllocError>
+        requires place { visited.now.place < length self.old.listed.orders }
         requires room { length self.old.listed.orders ≤ self.old.most }
-        requires begin { state.now.begin ≡ self.old.begin }
-        requires actions { state.now.actions ≡ order_at self.old.listed.orders place }
-        requires layered { IsLayered self.old place }
-        requires before { AreGiven M.next M.answers self.old place 0
+        requires right { AreRight visited.now.order.now }
+        requires order { visited.now.order.now ≡ visited.now.state.now.actions }
+        requires begin { visited.now.state.now.begin ≡ self.old.begin }
+        requires actions { visited.now.state.now.actions
+            ≡ order_at self.old.listed.orders visited.now.place }
+        requires layered { IsLayered self.old visited.now.place }
+        requires before { AreGiven M.next M.answers self.old visited.now.place 0
             given.old.replies.keys given.old.givers.items }
         ensures extends { OnOk result (Extends self.old self.new) }
         ensures whole { IfOk result (λ tried. MatchBool tried.is_whole
-            (AllReached M.next M.answers self.new place (length self.old.listed.may))
-            (SomeMissing M.next M.answers self.new place (length self.old.listed.may))) }
+            (AllReached M.next M.answers self.new visited.now.place (length self.old.listed.may))
+            (SomeMissing M.next M.answers self.new visited.now.place
+            (length self.old.listed.may))) }
         ensures quiet { IfOk result (λ tried. IsTrue tried.is_quiet
-            ↔ AreQuiet M.next M.answers self.new place (length self.old.listed.may)) }
-        ensures given { OnOk result (AreGiven M.next M.answers self.new place
+            ↔ AreQuiet M.next M.answers self.new visited.now.place (length self.old.listed.may)) }
+        ensures given { OnOk result (AreGiven M.next M.answers self.new visited.now.place
             (length self.old.listed.may) given.new.replies.keys given.new.givers.items) }
-        ensures layered { OnOk result (IsLayered self.new place) }
+        ensures layered { OnOk result (IsLayered self.new visited.now.place) }
         ensures near { OnOk result
-            (AreNear M.next M.answers self.new place (length self.old.listed.may)) }
+            (AreNear M.next M.answers self.new visited.now.place (length self.old.listed.may)) }
     {
         let mut trial = Trial {
             answers: Answers::new(),
@@ -224,9 +234,13 @@ impl<'a, M: Machine> Search<'a, M> {
         };
         let mut tried = Tried::new();
         for action in 0..self.tree.may().len() {
-            let at = self.step(state, place, action, &mut trial)?;
-            given.note(trial.answers.as_slice(), Giver { place, action })?;
-            tried = tried.with(at, place);
+            let at = self.step(visited, action, &mut trial)?;
+            let giver = Giver {
+                place: visited.place,
+                action,
+            };
+            given.note(trial.answers.as_slice(), giver)?;
+            tried = tried.with(at, visited.place);
         }
         Ok(Tried {
             steps: trial.taken,
@@ -246,7 +260,12 @@ impl<'a, M: Machine> Search<'a, M> {
     {
         let order = self.tree.order(self.alloc, place)?;
         let state = replayed::<M>(self.alloc, self.program, order.as_slice())?;
-        let tried = self.try_all(&state, place, &mut findings.given)?;
+        let visited = Visited {
+            place,
+            order: order.as_slice(),
+            state: &state,
+        };
+        let tried = self.try_all(&visited, &mut findings.given)?;
         findings.note_order(tried, order.len())?;
         if !tried.is_quiet {
             return Ok(());

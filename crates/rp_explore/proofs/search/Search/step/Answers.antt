@@ -45,10 +45,10 @@ returns-then-not-is_taken-clause-there g c = λ may_be.
     let same : c.may.result.now ≡ is.listed.may = c.may.ensures.value ∙ ap (λ (v : Searched _). v.listed.may) c.self.view_is in
     let lt : c.args.index < length c.may.result.now = subst (λ (xs : List Action). c.args.index < length xs) (sym same) c.requires.index in
     let action : c.index-may-index.result ≡ get_or is.listed.may c.args.index Noop = get_or_read c.may.result.now c.args.index c.index-may-index.result lt c.index-may-index.is Noop ∙ ap (λ (xs : List Action). get_or xs c.args.index Noop) same in
-    let none = no_action m.next m.answers c.self.inside.guards.now is.guards c.args.state.now c.index-may-index.result c.is_taken.result (ap (λ (v : Searched _). v.guards) c.self.view_is) c.is_taken.ensures c.if-not-is_taken.true in
+    let none = no_action m.next m.answers c.self.inside.guards.now is.guards c.args.visited.now.state.now c.index-may-index.result c.is_taken.result (ap (λ (v : Searched _). v.guards) c.self.view_is) c.is_taken.ensures c.if-not-is_taken.true in
     record {
       within = c.requires.place;
-      alike = not_taken m.next m.answers is c.args.state.now c.args.place c.args.index c.index-may-index.result (is_at_place m.next m.answers is c.args.state.now c.args.place c.requires.begin c.requires.actions) action none may_be;
+      alike = not_taken m.next m.answers is c.args.visited.now.state.now c.args.visited.now.place c.args.index c.index-may-index.result (is_at_place m.next m.answers is c.args.visited.now.state.now c.args.visited.now.place c.requires.begin c.requires.actions) action none may_be;
     }
 
 pub returns-then-not-is_taken-clause-stays : goal.returns-then-not-is_taken-clause-stays
@@ -57,4 +57,4 @@ returns-then-not-is_taken-clause-stays g c = λ may_be. (λ _. (returns-then-not
 pub returns-clause-stays : goal.returns-clause-stays
 returns-clause-stays g c = λ may_be.
     let m = g.M.Machine in
-    stays m.next m.answers c.args.self.now c.place_of.new.self (further c.args.self.now.listed c.args.place c.args.index) c.args.place c.in_ok-at.at c.requires.place c.in_ok-at.ensures.grows c.in_ok-at.ensures.there c.len-count.ensures.distinct
+    stays m.next m.answers c.args.self.now c.place_of.new.self (further c.args.self.now.listed c.args.visited.now.place c.args.index) c.args.visited.now.place c.in_ok-at.at c.requires.place c.in_ok-at.ensures.grows c.in_ok-at.ensures.there c.len-count.ensures.distinct

@@ -7,9 +7,9 @@ abbrev pub invariant-loop-action : goal.invariant-loop-action
 invariant-loop-action g l =
     let m = g.M.Machine in record {
       extends : Extends l.fn.self l.self;
-      whole : MatchBool l.tried.is_whole (AllReached m.next m.answers l.self l.place l.action) (SomeMissing m.next m.answers l.self l.place l.action);
-      quiet : IsTrue l.tried.is_quiet ↔ AreQuiet m.next m.answers l.self l.place l.action;
-      layered : IsLayered l.self l.place;
-      near : AreNear m.next m.answers l.self l.place l.action;
-      given : AreGiven m.next m.answers l.self l.place l.action l.given.replies.keys l.given.givers.items;
+      whole : MatchBool l.tried.is_whole (AllReached m.next m.answers l.self l.visited.place l.action) (SomeMissing m.next m.answers l.self l.visited.place l.action);
+      quiet : IsTrue l.tried.is_quiet ↔ AreQuiet m.next m.answers l.self l.visited.place l.action;
+      layered : IsLayered l.self l.visited.place;
+      near : AreNear m.next m.answers l.self l.visited.place l.action;
+      given : AreGiven m.next m.answers l.self l.visited.place l.action l.given.replies.keys l.given.givers.items;
     }

@@ -46,12 +46,13 @@ const FEW_POSITIONS: &str =
 const NOT_SHOWN: &str = "error: the deck of this outcome does not show it";
 
 /// Runs what the words ask for and reports its fault, or reports why the words are wrong.
-pub fn obey<T: Threads + Wait + Clock, S: AsStr, R: Read + Drop, W: Write + Drop, E: Write + Drop>(
-    rt: &T,
-    alloc: Global,
-    words: &[S],
-    streams: &mut Streams<R, W, E>,
-) -> Ending
+pub fn obey<
+    T: Threads + Wait + Clock + Sync,
+    S: AsStr,
+    R: Read + Drop,
+    W: Write + Drop,
+    E: Write + Drop,
+>(rt: &T, alloc: Global, words: &[S], streams: &mut Streams<R, W, E>) -> Ending
     // claim: The program runs what its words ask for (a script, traced or not, a live run, a drawing
     //   of a script's run, or a search over every order of a deck), and nothing if they are wrong. The
     //   status is 0 if the run ended without a fault, no drawing was too long and a search is complete
@@ -80,7 +81,7 @@ pub fn obey<T: Threads + Wait + Clock, S: AsStr, R: Read + Drop, W: Write + Drop
 
 /// Runs the deck that the reader holds, in its script's order or in threads, draws its script's run,
 /// or explores every order of it. Returns what is to be reported of it.
-fn run_as<T: Threads + Wait + Clock, R: Read, W: Write>(
+fn run_as<T: Threads + Wait + Clock + Sync, R: Read, W: Write>(
     rt: &T,
     alloc: Global,
     args: Args,

@@ -5,7 +5,8 @@ use rp_codec::Party;
 use rp_threads::{Gate, is_to_lead};
 use std::alloc::{AllocError, Global};
 use std::sync::atomic::{AtomicU64, Ordering};
-use std::thread;
+use std::time::{Clock, Duration, Instant};
+use std::{io, thread};
 
 /// A thread publishes the number of its turn in every nth turn.
 const PERIOD: u64 = 8;
@@ -13,9 +14,18 @@ const PERIOD: u64 = 8;
 /// At most how many turns a thread is ahead of the slowest.
 const MOST_AHEAD: u64 = 16;
 
-/// How often a thread that is ahead yields to others before it assumes that one of them gets no
+/// How often a thread that is ahead waits for others before it assumes that one of them gets no
 /// processor.
 const MOST_WAITS: u64 = 20_000_000;
+
+/// A yield that takes longer, in microseconds, gave the processor to work outside the run.
+const LONG_YIELD: u64 = 500;
+
+/// How long a thread sleeps in place of a yield, in microseconds.
+const NAP: u64 = 100;
+
+/// How often a thread sleeps after a long yield before it yields again.
+const NAPS: u64 = 200;
 
 /// In this many turns one after the other a node looks into each box that it ever empties. With n
 /// nodes a box has its turn every 8 (n + 1) turns, at most 64. Node k skips the turns that are 0
@@ -46,6 +56,8 @@ struct Actor {
     found: AtomicU64,
     /// and the turn by which all have made `CALM_TURNS` turns since then.
     calm: AtomicU64,
+    /// How often it still sleeps before it yields again.
+    naps: AtomicU64,
 }
 
 impl Actor {
@@ -57,6 +69,7 @@ impl Actor {
             stirred: AtomicU64::new(0),
             found: AtomicU64::new(0),
             calm: AtomicU64::new(LOOKS_APART),
+            naps: AtomicU64::new(0),
         }
     }
 }
@@ -64,15 +77,16 @@ impl Actor {
 /// The gate of a run. A node leads only by its patience: the turns in which its loop would have it
 /// lead at the least position that is free for it are skipped. The threads of all nodes and tasks
 /// keep pace, so that none has made all its turns while another needs it. Each publishes the number
-/// of its turn in every eighth turn, and one that is more than 16 turns ahead of the slowest yields
-/// to others. The turn of the slowest determines how many turns a thread may make before it looks
+/// of its turn in every eighth turn, and one that is more than 16 turns ahead of the slowest waits
+/// for it. The turn of the slowest determines how many turns a thread may make before it looks
 /// again. Once a thread has waited too long, no thread waits any more. Nobody waits for a thread
 /// that ended.
 ///
 /// The run is over once nothing can happen any more (`conclude`), once memory ran out in a thread,
 /// and once a thread could not be started. It stays over.
 #[derive(Drop)]
-pub(crate) struct Pace {
+pub(crate) struct Pace<'r, C: Clock> {
+    clock: &'r C,
     /// The nodes and then the tasks.
     actors: Vec<Actor>,
     /// Not 0 once a thread has waited too long.
@@ -90,14 +104,15 @@ fn place_of(actor: Party) -> usize {
     }
 }
 
-impl Pace {
+impl<'r, C: Clock> Pace<'r, C> {
     /// The gate of a run of n nodes and eight tasks.
-    pub(crate) fn new(alloc: Global, nodes: u8) -> Result<Self, AllocError> {
+    pub(crate) fn new(alloc: Global, clock: &'r C, nodes: u8) -> Result<Self, AllocError> {
         let mut actors = Vec::new(alloc);
         for place in 0..NODES + TASKS {
             actors.push(Actor::new(place < usize::from(nodes) || place >= NODES))?;
         }
         Ok(Pace {
+            clock,
             actors,
             free: AtomicU64::new(0),
             over: AtomicU64::new(0),
@@ -122,7 +137,9 @@ impl Pace {
             if rests {
                 self.conclude(actor);
             }
-            actor.looks.store(self.next_look(turn), Ordering::SeqCst);
+            actor
+                .looks
+                .store(self.next_look(actor, turn), Ordering::SeqCst);
         }
     }
 
@@ -172,9 +189,9 @@ impl Pace {
         }
     }
 
-    /// Yields to others until the slowest is near enough to this turn, or the run is over. Returns
-    /// the turn in which the thread is to look again.
-    fn next_look(&self, turn: u64) -> u64 {
+    /// Waits until the slowest is near enough to this turn, or the run is over. Returns the turn in
+    /// which the thread is to look again.
+    fn next_look(&self, actor: &Actor, turn: u64) -> u64 {
         for _ in 0..MOST_WAITS {
             let farthest = self.slowest().saturating_add(MOST_AHEAD);
             if turn <= farthest {
@@ -183,14 +200,42 @@ impl Pace {
             if self.has_ended() || self.free.load(Ordering::SeqCst) != 0 {
                 return turn.saturating_add(MOST_AHEAD);
             }
-            thread::yield_now();
+            self.wait(actor);
         }
         self.free.store(1, Ordering::SeqCst);
         turn.saturating_add(MOST_AHEAD)
     }
+
+    /// Lets other threads run: by a yield, or by short sleeps once a yield took long. A yield puts
+    /// the thread behind all that are ready; where other work keeps the processors busy it comes
+    /// back only after their time slices, while a thread that slept is run soon.
+    fn wait(&self, actor: &Actor) {
+        let naps = actor.naps.load(Ordering::SeqCst);
+        if naps > 0 {
+            actor.naps.store(naps - 1, Ordering::SeqCst);
+            thread::sleep(self.clock, Duration::from_micros(NAP));
+            return;
+        }
+        let begun = Instant::now(self.clock);
+        thread::yield_now();
+        if self.is_long_ago(begun) {
+            actor.naps.store(NAPS, Ordering::SeqCst);
+        }
+    }
+
+    /// Whether more than `LONG_YIELD` microseconds have passed, if the clock could be read.
+    fn is_long_ago(&self, begun: io::Result<Instant>) -> bool {
+        let Ok(begun) = begun else {
+            return false;
+        };
+        match begun.elapsed(self.clock) {
+            Ok(took) => took > Duration::from_micros(LONG_YIELD),
+            Err(_) => false,
+        }
+    }
 }
 
-impl Gate for Pace {
+impl<'r, C: Clock> Gate for Pace<'r, C> {
     ghost use Rattle.rp_live.specs.Pace.{paced, heard, over, ended, stopped};
 
     ghost lets = { paced };

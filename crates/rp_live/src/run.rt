@@ -23,6 +23,7 @@ use rp_threads::{LoopOptions, NodeEnd, TaskEnd, run_threads};
 use std::alloc::Global;
 use std::sync::Wait;
 use std::thread::Threads;
+use std::time::Clock;
 
 /// The result of a run.
 #[derive(Debug, Drop)]
@@ -75,7 +76,7 @@ fn audited<M: Machine, D: InfallibleDevice>(
 /// from run to run. The threads end before their last turn once nothing can happen any more.
 /// `OutOfMemory` if an allocation failed, also within a thread, or a thread could not be started:
 /// then all threads end before their next turn.
-pub fn live<R: Threads + Wait, M: Machine + Send>(
+pub fn live<R: Threads + Wait + Clock + Sync, M: Machine + Send>(
     rt: &R,
     alloc: Global,
     program: &M::Program,
@@ -121,7 +122,7 @@ where
     note_all(&mut nodes, alloc, events)?;
     let nodes = node_starts(alloc, options.seed, nodes)?;
     let tasks = task_starts(alloc, options.seed, events, tasks)?;
-    let pace = Pace::new(alloc, options.config.nodes)?;
+    let pace = Pace::new(alloc, rt, options.config.nodes)?;
     let loops = LoopOptions {
         alloc,
         gate: &pace,

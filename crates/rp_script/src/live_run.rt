@@ -42,7 +42,7 @@ pub struct LiveRequest {
 /// prints the result. It returns how the run went, in figures. The deck is the one that the reader's bytes
 /// mean. If they mean none, nothing is printed, and the fault has the first bad line and the first
 /// reason on it. After any other fault, nothing or a prefix of the run's result was printed.
-pub fn run_live<T: Threads + Wait + Clock, R: Read, W: Write>(
+pub fn run_live<T: Threads + Wait + Clock + Sync, R: Read, W: Write>(
     rt: &T,
     alloc: Global,
     reader: &mut R,
@@ -78,7 +78,7 @@ pub fn run_live<T: Threads + Wait + Clock, R: Read, W: Write>(
 }
 
 /// Runs a deck in threads.
-fn live_deck<T: Threads + Wait>(
+fn live_deck<T: Threads + Wait + Clock + Sync>(
     rt: &T,
     alloc: Global,
     deck: &Deck,
@@ -102,7 +102,7 @@ fn live_deck<T: Threads + Wait>(
 }
 
 /// Runs protected objects in threads.
-fn live_objects<T: Threads + Wait>(
+fn live_objects<T: Threads + Wait + Clock + Sync>(
     rt: &T,
     alloc: Global,
     program: &Program,

@@ -34,7 +34,7 @@ live-requires-clause-events g c κs within =
     (of_deck deck c.requires.right c.requires.live)
 
 pub live_objects-requires-clause-events : goal.live_objects-requires-clause-events
-live_objects-requires-clause-events g c =
+live_objects-requires-clause-events g c κs within =
     let deck = c.args.deck.now in
     subst (λ (l : List Event). All (IsLive deck.config.nodes) l)
     (sym (c.deref-in-Objects.ensures.value ∙ c.in_ok-events.ensures ∙ ap events_of c.as_slice.ensures.value))

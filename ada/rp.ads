@@ -31,8 +31,9 @@ package RP is
    Out_Of_Memory : constant Status := 1;   --  there was no memory for the call; nothing has changed
    Bad_Packet    : constant Status := 4;   --  the bytes are no packet
    Ballots_Spent : constant Status := 6;   --  the node has no ballot left
-   Log_Full      : constant Status := 7;   --  the position is above the log, or 64 or more above the first
-                                           --  unlearned one
+   Log_Full      : constant Status := 7;   --  a lead is at the end of the log: its position, or one of its
+                                           --  range, is above it; or it has none, and at most 64 positions
+                                           --  are left, none of them free
    Task_Busy     : constant Status := 9;   --  the task's last call has no reply yet
    Numbers_Spent : constant Status := 10;  --  the task made its last call
    Bad_Deck      : constant Status := 11;  --  the deck is bad
@@ -46,6 +47,11 @@ package RP is
    Wrong_Handle  : constant Status := 68;  --  the handle is closed, or of the other kind; nothing has
                                            --  changed
    Null_Pointer  : constant Status := 69;  --  an address is null; nothing has changed
+   Too_Far       : constant Status := 70;  --  a lead is in the log, but 64 or more above the first
+                                           --  unlearned position: lead at that one, or wait for it;
+                                           --  nothing has changed
+   Wrong_Device  : constant Status := 71;  --  the device begins with no header, or with another node's or
+                                           --  deck's; nothing has changed
 
    --  Why bytes are no packet. Exactly one of these is so of bytes that are none.
 
@@ -121,9 +127,9 @@ package RP is
    --
    --  The caller keeps the device, a run of bytes that survives a stop. What the caller owes:
    --  * The answer of a step is first the bytes of its record, Stored of them, and then its packets, one
-   --    after another (Packet_Length says where each ends). The caller puts the record at the end of the
-   --    device and syncs it BEFORE it sends a packet of that answer. A packet that is sent first may
-   --    break the agreement: after a stop the node does not know what it said.
+   --    after another (Node_Step says where each ends, as Packet_Length does). The caller puts the
+   --    record at the end of the device and syncs it BEFORE it sends a packet of that answer. A packet
+   --    that is sent first may break the agreement: after a stop the node does not know what it said.
    --  * A record that could not be stored: no packet of that answer is sent, and the node is closed. It
    --    is opened again from the bytes that the device has.
    --  * No two handles run over one device at a time.
@@ -131,10 +137,71 @@ package RP is
 
    Step_Bytes : constant := 8_192;  --  the least size of the array for the answer of a step
 
+   --  Why a line of a deck is bad: docs/DECK.md, "Bad decks", says what each means.
+
+   subtype Deck_Reason is Interfaces.Unsigned_8;
+
+   Nodes_Expected        : constant Deck_Reason := 1;
+   Unknown_Word          : constant Deck_Reason := 2;
+   Wrong_Number_Of_Words : constant Deck_Reason := 3;
+   Bad_Number            : constant Deck_Reason := 4;
+   Bad_Name              : constant Deck_Reason := 5;
+   Duplicate_Name        : constant Deck_Reason := 6;
+   Unknown_Name          : constant Deck_Reason := 7;
+   Too_Many              : constant Deck_Reason := 8;
+   Bad_Expression        : constant Deck_Reason := 9;
+   Task_Expected         : constant Deck_Reason := 10;
+   Object_Expected       : constant Deck_Reason := 11;
+   End_Expected          : constant Deck_Reason := 12;
+   Script_Expected       : constant Deck_Reason := 13;
+   Not_In_Live           : constant Deck_Reason := 14;  --  of the program's live mode alone
+
+   --  What a step did not take.
+
+   subtype Dropped_Kind is Interfaces.Unsigned_8;
+
+   Dropped_Nothing : constant Dropped_Kind := 0;
+   Dropped_Full    : constant Dropped_Kind := 1;  --  a call, an interrupt or a tick: 32 of them are
+                                                  --  pending at the node
+   Dropped_Foreign : constant Dropped_Kind := 2;  --  a packet for another node, from a node or for a
+                                                  --  position that the deck does not have, or in a ballot
+                                                  --  that its sender does not own
+
+   --  What is after the whole records of a device.
+
+   subtype Tail_Kind is Interfaces.Unsigned_8;
+
+   No_Tail      : constant Tail_Kind := 0;
+   Torn_Tail    : constant Tail_Kind := 1;  --  the beginning of a record, as a stop leaves it: truncate the
+                                            --  device to Kept bytes
+   Damaged_Tail : constant Tail_Kind := 2;  --  bytes that begin no record, and no stop leaves: records after
+                                            --  them would be lost by a truncation. Close the node, and do
+                                            --  not use the device
+
+   --  Records have no checksum: a bit that is changed within one may make another record of it, and the
+   --  device opens whole. What is found is a record that is none. A caller whose device may change bits
+   --  keeps a checksum of its own around what a step gives, and opens a node only over bytes that pass it.
+
    type Found is record
-      Records : Interfaces.C.size_t := 0;  --  how many records the device holds
-      Kept    : Interfaces.C.size_t := 0;  --  how many bytes they have: what is after them is torn
+      Records : Interfaces.C.size_t := 0;     --  how many records the device holds
+      Kept    : Interfaces.C.size_t := 0;     --  how many bytes they have
+      Tail    : Tail_Kind := No_Tail;         --  what is after them
+      Reason  : Deck_Reason := 0;             --  why a bad deck is bad; else 0
+      Line    : Interfaces.Unsigned_32 := 0;  --  the first bad line of a bad deck, from 1; else 0
    end record
+     with Convention => C;
+
+   --  What a node's answer has, and what the last step that it made gave besides.
+
+   type Step_Lengths is record
+      Stored  : Interfaces.C.size_t := 0;  --  how many of the answer's first bytes go to the device
+      Used    : Interfaces.C.size_t := 0;  --  how many bytes it has, or, where it does not fit, needs
+      Packets : Interfaces.C.size_t := 0;  --  how many packets the last step sent
+      Dropped : Dropped_Kind := 0;         --  what the last step did not take
+   end record
+     with Convention => C;
+
+   type Ends is array (Positive range <>) of aliased Interfaces.C.size_t
      with Convention => C;
 
    --  The requests to a node, by their first byte; the operands follow, numbers in big-endian order.
@@ -152,6 +219,7 @@ package RP is
    Image       : constant Byte := 17;  --  a question: the lines that `show` prints of the objects and the
                                        --  clock
    Last_Answer : constant Byte := 18;  --  a question: the answer of the last step that was made, again
+   Left        : constant Byte := 19;  --  a question: how many positions of the log are not applied. 4 bytes
 
    function Node_Open
      (Deck   : System.Address;
@@ -164,8 +232,38 @@ package RP is
    --  Opens this node of the deck over the Held bytes of its device, which are copied; the deck's script
    --  is not run.
    --  Done: the handle keeps the node, and what it kept before is closed; What says what the device
-   --  holds. The caller truncates its device to What.Kept bytes, and syncs it, before the first step.
-   --  Bad_Deck, No_Objects, Bad_Config, Io, Out_Of_Memory: nothing has changed.
+   --  holds. The caller truncates its device to What.Kept bytes, and syncs it, before the first step,
+   --  unless What.Tail is Damaged_Tail.
+   --  Bad_Deck: What.Line and What.Reason say where and why, and nothing else has changed.
+   --  No_Objects, Bad_Config, Io, Out_Of_Memory: nothing has changed.
+
+   Header_Bytes : constant := 40;  --  how many bytes the header of a device has
+
+   function Device_Header
+     (Deck   : System.Address;
+      Count  : Interfaces.C.size_t;
+      Number : Byte;
+      Header : System.Address;
+      Size   : Interfaces.C.size_t) return Status;
+   --  Puts the header of the device of this node of the deck into the first Header_Bytes bytes of Header:
+   --  the letters RPD, 1, the node, how many nodes and positions (2 bytes) the deck has, and the SHA-256
+   --  digest of the deck's text up to the first line that begins with `script`, byte for byte. The caller
+   --  puts it at the front of a fresh device, and syncs it, before the first step. Nodes of one
+   --  installation may tell each other's packets from those of others by the digest, which the caller then
+   --  puts around them.
+   --  Short_Answer: Size is less than Header_Bytes. Otherwise as Node_Open; nothing has changed.
+
+   function Device_Open
+     (Deck   : System.Address;
+      Count  : Interfaces.C.size_t;
+      Number : Byte;
+      Device : System.Address;
+      Held   : Interfaces.C.size_t;
+      Handle : in out Node;
+      What   : in out Found) return Status;
+   --  As Node_Open, over a device that begins with this node's header. What.Kept counts the bytes after the
+   --  header alone: the caller truncates its device to Header_Bytes + What.Kept bytes.
+   --  Wrong_Device: the device begins with no header, or with that of another node or another deck.
 
    function Node_Call
      (Handle  : in out Node;
@@ -180,7 +278,23 @@ package RP is
    --  Short_Answer: the array has fewer than Length.Used bytes. A step needs Step_Bytes and is not made.
    --  Long_Answer: the step was made, its answer has Length.Used bytes, and Answer is as it was:
    --  Last_Answer gives it into a longer array. No step is known to need that.
-   --  Wrong_Handle, Bad_Request, Bad_Packet, Ballots_Spent, Log_Full, Out_Of_Memory: nothing has changed.
+   --  Wrong_Handle, Bad_Request, Bad_Packet, Ballots_Spent, Log_Full, Too_Far, Out_Of_Memory: nothing has
+   --  changed.
+
+   function Node_Step
+     (Handle  : in out Node;
+      Request : System.Address;
+      Count   : Interfaces.C.size_t;
+      Answer  : System.Address;
+      Size    : Interfaces.C.size_t;
+      Places  : System.Address;
+      Most    : Interfaces.C.size_t;
+      Length  : in out Step_Lengths) return Status;
+   --  The same, with where the packets end. Done: number K, from 1, of Places, an array Ends of Most
+   --  numbers, is where packet K of the last step ends, counted from the first byte of its packets, for
+   --  each K up to Length.Packets and Most; Length.Dropped says what that step did not take. After a
+   --  question they are those of the step before. Otherwise nothing is written but Length.Used, as by
+   --  Node_Call.
 
    procedure Node_Close (Handle : in out Node)
      with Import, Convention => C, External_Name => "rp_handle_close";

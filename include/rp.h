@@ -34,7 +34,8 @@ enum rp_status {
   RP_OUT_OF_MEMORY = 1,  /* there was no memory for the call; nothing has changed */
   RP_BAD_PACKET = 4,     /* the bytes are no packet */
   RP_BALLOTS_SPENT = 6,  /* the node has no ballot left */
-  RP_LOG_FULL = 7,       /* the position is above the log, or 64 or more above the first unlearned one */
+  RP_LOG_FULL = 7,       /* a lead is at the end of the log: its position, or one of its range, is above it;
+                          * or it has none, and at most 64 positions are left, none of them free */
   RP_TASK_BUSY = 9,      /* the task's last call has no reply yet */
   RP_NUMBERS_SPENT = 10, /* the task made its last call */
   RP_BAD_DECK = 11,      /* the deck is bad */
@@ -45,7 +46,11 @@ enum rp_status {
   RP_NO_OBJECTS = 66,    /* the deck has such a node, but declares a tally, and no objects */
   RP_LONG_ANSWER = 67,   /* the step was made, and its answer is longer than the buffer */
   RP_WRONG_HANDLE = 68,  /* the handle is closed, or of the other kind; nothing has changed */
-  RP_NULL = 69           /* a pointer is null; nothing has changed */
+  RP_NULL = 69,          /* a pointer is null; nothing has changed */
+  RP_TOO_FAR = 70,       /* a lead is in the log, but 64 or more above the first unlearned position: lead at
+                          * that one, or wait for it; nothing has changed */
+  RP_WRONG_DEVICE = 71   /* the device begins with no header, or with another node's or deck's; nothing has
+                          * changed */
 };
 
 /* Why bytes are no packet. If they are not one, exactly one of these applies. */
@@ -148,9 +153,9 @@ static inline void rp_handle_close_guarded(void *handle) {
  *
  * The caller keeps the device, a run of bytes that survives a stop. What the caller owes:
  * - The answer of a step is first the bytes of its record, `stored` of them, and then its packets, one
- *   after another (rp_packet_length says where each ends). The caller puts the record at the end of the
- *   device and syncs it BEFORE it sends a packet of that answer. A packet that is sent first may break
- *   the agreement: after a stop the node does not know what it said.
+ *   after another (rp_node_step says where each ends, as rp_packet_length does). The caller puts the
+ *   record at the end of the device and syncs it BEFORE it sends a packet of that answer. A packet that
+ *   is sent first may break the agreement: after a stop the node does not know what it said.
  * - A record that could not be stored: no packet of that answer is sent, and the node is closed. It is
  *   opened again from the bytes that the device has.
  * - No two handles run over one device at a time.
@@ -160,11 +165,60 @@ typedef struct rp_node {
   uint8_t *at;
 } rp_node;
 
-/* What a node found on its device. */
+/* What a node found on its device; or why its deck is bad.
+ *
+ * Records have no checksum: a bit that is changed within one may make another record of it, and the device
+ * opens whole. What is found is a record that is none. A caller whose device may change bits keeps a checksum
+ * of its own around what a step gives, and gives rp_node_open only bytes that pass it. */
 typedef struct rp_found {
   size_t records; /* how many records the device holds */
-  size_t kept;    /* how many bytes they have: what is after them is torn */
+  size_t kept;    /* how many bytes they have */
+  uint8_t tail;   /* what is after them, by rp_tail */
+  uint8_t reason; /* why a bad deck is bad, by rp_deck_reason; else 0 */
+  uint32_t line;  /* the first bad line of a bad deck, from 1; else 0 */
 } rp_found;
+
+/* What is after the whole records of a device. */
+enum rp_tail {
+  RP_TAIL_NOTHING = 0,
+  RP_TAIL_TORN = 1,   /* the beginning of a record, as a stop leaves it: truncate the device to `kept` bytes */
+  RP_TAIL_DAMAGED = 2 /* bytes that begin no record, and no stop leaves: records after them would be lost by
+                       * a truncation. Close the node, and do not use the device */
+};
+
+/* Why a line of a deck is bad: docs/DECK.md, "Bad decks", says what each means. */
+enum rp_deck_reason {
+  RP_DECK_NODES_EXPECTED = 1,
+  RP_DECK_UNKNOWN_WORD = 2,
+  RP_DECK_WRONG_NUMBER_OF_WORDS = 3,
+  RP_DECK_BAD_NUMBER = 4,
+  RP_DECK_BAD_NAME = 5,
+  RP_DECK_DUPLICATE_NAME = 6,
+  RP_DECK_UNKNOWN_NAME = 7,
+  RP_DECK_TOO_MANY = 8,
+  RP_DECK_BAD_EXPRESSION = 9,
+  RP_DECK_TASK_EXPECTED = 10,
+  RP_DECK_OBJECT_EXPECTED = 11,
+  RP_DECK_END_EXPECTED = 12,
+  RP_DECK_SCRIPT_EXPECTED = 13,
+  RP_DECK_NOT_IN_LIVE = 14 /* of the program's live mode alone */
+};
+
+/* What a node's answer has, and what the last step that it made gave besides. */
+typedef struct rp_step {
+  size_t stored;   /* how many of the answer's first bytes go to the node's device */
+  size_t used;     /* how many bytes it has, or, where it does not fit, how many the buffer needs */
+  size_t packets;  /* how many packets the last step sent */
+  uint8_t dropped; /* what the last step did not take, by rp_dropped */
+} rp_step;
+
+/* What a step did not take. */
+enum rp_dropped {
+  RP_DROPPED_NOTHING = 0,
+  RP_DROPPED_FULL = 1,   /* a call, an interrupt or a tick: 32 of them are pending at the node */
+  RP_DROPPED_FOREIGN = 2 /* a packet for another node, from a node or for a position that the deck does not
+                          * have, or in a ballot that its sender does not own */
+};
 
 /* The least size of the buffer for the answer of a step. */
 #define RP_STEP_BYTES 8192
@@ -180,17 +234,38 @@ enum rp_node_request {
                            * 1 to 64 (1) */
   RP_NODE_APPLIED = 16,   /* a question: how many actions are applied. The answer has 4 bytes */
   RP_NODE_IMAGE = 17,     /* a question: the lines that `show` prints of the objects and the clock */
-  RP_NODE_LAST = 18       /* a question: the answer of the last step that was made, again */
+  RP_NODE_LAST = 18,      /* a question: the answer of the last step that was made, again */
+  RP_NODE_LEFT = 19       /* a question: how many positions are not applied yet. The answer has 4 bytes */
 };
 
 /* Opens node `number` of the deck over the `held` bytes of its device, which are copied; the deck's
  * script is not run.
  *
  * RP_DONE: *node keeps the node, and what it kept before is closed; *found says what the device holds.
- *   The caller truncates its device to found->kept bytes, and syncs it, before the node's first step.
- * RP_BAD_DECK, RP_NO_OBJECTS, RP_BAD_CONFIG, RP_IO, RP_OUT_OF_MEMORY: nothing has changed. */
+ *   The caller truncates its device to found->kept bytes, and syncs it, before the node's first step, unless
+ *   found->tail is RP_TAIL_DAMAGED.
+ * RP_BAD_DECK: found->line and found->reason say where and why, and nothing else has changed.
+ * RP_NO_OBJECTS, RP_BAD_CONFIG, RP_IO, RP_OUT_OF_MEMORY: nothing has changed. */
 uint8_t rp_node_open(const uint8_t *deck, size_t count, uint8_t number, const uint8_t *device, size_t held,
                      rp_node *node, rp_found *found);
+
+/* How many bytes the header of a device has. */
+#define RP_HEADER_BYTES 40
+
+/* Puts the header of the device of node `number` of the deck into the first RP_HEADER_BYTES bytes of `header`:
+ * the letters RPD, 1, the node, how many nodes and positions (2 bytes) the deck has, and the SHA-256 digest of
+ * the deck's text up to the first line that begins with `script`, byte for byte. The caller puts it at the
+ * front of a fresh device, and syncs it, before the first step. Nodes of one installation may tell each
+ * other's packets from those of others by the digest, which the caller then puts around them.
+ *
+ * RP_SHORT_ANSWER: `size` is less than RP_HEADER_BYTES. Otherwise as rp_node_open; nothing has changed. */
+uint8_t rp_device_header(const uint8_t *deck, size_t count, uint8_t number, uint8_t *header, size_t size);
+
+/* As rp_node_open, over a device that begins with this node's header. found->kept counts the bytes after the
+ * header alone: the caller truncates its device to RP_HEADER_BYTES + found->kept bytes.
+ * RP_WRONG_DEVICE: the device begins with no header, or with that of another node or another deck. */
+uint8_t rp_device_open(const uint8_t *deck, size_t count, uint8_t number, const uint8_t *device, size_t held,
+                       rp_node *node, rp_found *found);
 
 /* Answers a request to a node.
  *
@@ -199,12 +274,19 @@ uint8_t rp_node_open(const uint8_t *deck, size_t count, uint8_t number, const ui
  * RP_SHORT_ANSWER: the buffer has fewer than lengths->used bytes. A step needs RP_STEP_BYTES and is not made.
  * RP_LONG_ANSWER: the step was made, its answer has lengths->used bytes, and `answer` is as it was:
  *   RP_NODE_LAST gives it into a longer buffer. No step is known to need that.
- * RP_WRONG_HANDLE, RP_BAD_REQUEST, RP_BAD_PACKET, RP_BALLOTS_SPENT, RP_LOG_FULL, RP_OUT_OF_MEMORY:
- *   nothing has changed. */
+ * RP_WRONG_HANDLE, RP_BAD_REQUEST, RP_BAD_PACKET, RP_BALLOTS_SPENT, RP_LOG_FULL, RP_TOO_FAR,
+ * RP_OUT_OF_MEMORY: nothing has changed. */
 static inline uint8_t rp_node_call(rp_node *node, const uint8_t *request, size_t count, uint8_t *answer,
                                    size_t size, rp_lengths *lengths) {
   return rp_handle_call_guarded(RP_NODE_HANDLE, node, request, count, answer, size, lengths);
 }
+
+/* The same, with where the packets end. RP_DONE: ends[k] is where packet k of the last step ends, counted
+ * from the first byte of its packets (answer + step->stored after a step), for each k below step->packets
+ * and `most`; step->dropped says what that step did not take. After a question they are those of the step
+ * before. Otherwise nothing is written but step->used, as lengths->used by rp_node_call. */
+uint8_t rp_node_step(rp_node *node, const uint8_t *request, size_t count, uint8_t *answer, size_t size,
+                     size_t *ends, size_t most, rp_step *step);
 
 /* Stops a node: the handle is closed, and what the node knew besides its device is gone. A closed handle
  * stays closed. */
@@ -303,6 +385,40 @@ static inline uint8_t rp_node_open_guarded(const uint8_t *deck, size_t count, ui
   return rp_node_open(deck, count, number, device, held, node, found);
 }
 
+static inline uint8_t rp_device_open_guarded(const uint8_t *deck, size_t count, uint8_t number,
+                                             const uint8_t *device, size_t held, rp_node *node,
+                                             rp_found *found) {
+  deck = rp_bytes_at(deck, count);
+  device = rp_bytes_at(device, held);
+  if (deck == NULL || device == NULL || node == NULL || found == NULL) {
+    return RP_NULL;
+  }
+  return rp_device_open(deck, count, number, device, held, node, found);
+}
+
+static inline uint8_t rp_device_header_guarded(const uint8_t *deck, size_t count, uint8_t number,
+                                               uint8_t *header, size_t size) {
+  deck = rp_bytes_at(deck, count);
+  header = rp_buffer_at(header, size);
+  if (deck == NULL || header == NULL) {
+    return RP_NULL;
+  }
+  return rp_device_header(deck, count, number, header, size);
+}
+
+static inline uint8_t rp_node_step_guarded(rp_node *node, const uint8_t *request, size_t count,
+                                           uint8_t *answer, size_t size, size_t *ends, size_t most,
+                                           rp_step *step) {
+  static size_t none = 0;
+  request = rp_bytes_at(request, count);
+  answer = rp_buffer_at(answer, size);
+  ends = ends == NULL && most == 0 ? &none : ends;
+  if (node == NULL || request == NULL || answer == NULL || ends == NULL || step == NULL) {
+    return RP_NULL;
+  }
+  return rp_node_step(node, request, count, answer, size, ends, most, step);
+}
+
 static inline uint8_t rp_task_open_guarded(uint8_t number, rp_task *task) {
   if (task == NULL) {
     return RP_NULL;
@@ -314,6 +430,9 @@ static inline uint8_t rp_task_open_guarded(uint8_t number, rp_task *task) {
 #define rp_packet_check rp_packet_check_guarded
 #define rp_run_deck rp_run_deck_guarded
 #define rp_node_open rp_node_open_guarded
+#define rp_node_step rp_node_step_guarded
+#define rp_device_open rp_device_open_guarded
+#define rp_device_header rp_device_header_guarded
 #define rp_task_open rp_task_open_guarded
 
 #ifdef __cplusplus

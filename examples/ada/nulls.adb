@@ -14,9 +14,11 @@ procedure Nulls is
    use Ada.Text_IO;
    use type Interfaces.C.size_t;
    use type RP.Bytes;
+   use type RP.Ends;
    use type RP.Found;
    use type RP.Lengths;
    use type RP.Packet_Reason;
+   use type RP.Step_Lengths;
 
    subtype Count is Interfaces.C.size_t;
 
@@ -34,8 +36,10 @@ procedure Nulls is
    Answer : RP.Bytes := Sevens;
    Used   : Count := 7;
    Reason : RP.Packet_Reason := 7;
-   What   : RP.Found := (7, 7);
+   What   : RP.Found := (7, 7, 7, 7, 7);
    Length : RP.Lengths := (7, 7);
+   Parts  : RP.Step_Lengths := (7, 7, 7, 7);
+   Places : RP.Ends := (1 => 7);
 
    Node : RP.Node;
    Stub : RP.Task_Stub;
@@ -43,15 +47,17 @@ procedure Nulls is
    --  Says whether what a call may write is as it was, and makes it so.
    procedure Say (Name : String; Result : RP.Status) is
       Same : constant Boolean :=
-        Answer = Sevens and then Used = 7 and then Reason = 7 and then What = (7, 7)
-        and then Length = (7, 7);
+        Answer = Sevens and then Used = 7 and then Reason = 7 and then What = (7, 7, 7, 7, 7)
+        and then Length = (7, 7) and then Parts = (7, 7, 7, 7) and then Places = (1 => 7);
    begin
       Put_Line (Name & ": status" & Result'Image & ", " & (if Same then "the same" else "changed"));
       Answer := Sevens;
       Used := 7;
       Reason := 7;
-      What := (7, 7);
+      What := (7, 7, 7, 7, 7);
       Length := (7, 7);
+      Parts := (7, 7, 7, 7);
+      Places := (1 => 7);
    end Say;
 
    Size : Count;
@@ -75,6 +81,20 @@ begin
      ("open a node with no device",
       RP.Node_Open (Deck'Address, Size, 1, Null_Place, 0, Node, What));
    Say ("open a task", RP.Task_Open (1, Stub));
+   Say
+     ("step: ends",
+      RP.Node_Step
+        (Node, Question'Address, 1, Answer'Address, Answer'Length, Null_Place, 1, Parts));
+   Say
+     ("step: answer",
+      RP.Node_Step
+        (Node, Question'Address, 1, Null_Place, Answer'Length, Places'Address, 1, Parts));
+   Say
+     ("header: header",
+      RP.Device_Header (Deck'Address, Size, 1, Null_Place, Answer'Length));
+   Say
+     ("open a device: device",
+      RP.Device_Open (Deck'Address, Size, 1, Null_Place, 1, Node, What));
    Say ("call: request", RP.Node_Call (Node, Null_Place, 1, Answer'Address, Answer'Length, Length));
    Say ("call: answer", RP.Node_Call (Node, Question'Address, 1, Null_Place, Answer'Length, Length));
    Say

@@ -18,6 +18,8 @@ static size_t used;
 static uint8_t reason;
 static rp_found found;
 static rp_lengths lengths;
+static rp_step step;
+static size_t ends[4];
 static rp_node node = RP_CLOSED;
 static rp_task task = RP_CLOSED;
 
@@ -26,14 +28,17 @@ static void fill(void) {
   memset(answer, 7, sizeof answer);
   used = 7;
   reason = 7;
-  found = (rp_found){7, 7};
+  found = (rp_found){7, 7, 7, 7, 7};
   lengths = (rp_lengths){7, 7};
+  step = (rp_step){7, 7, 7, 7};
+  ends[0] = 7;
 }
 
 /* Whether it is still so. */
 static bool is_same(void) {
-  bool same = used == 7 && reason == 7 && found.records == 7 && found.kept == 7 && lengths.stored == 7 &&
-              lengths.used == 7;
+  bool same = used == 7 && reason == 7 && found.records == 7 && found.kept == 7 && found.tail == 7 &&
+              found.reason == 7 && found.line == 7 && lengths.stored == 7 && lengths.used == 7 &&
+              step.stored == 7 && step.used == 7 && step.packets == 7 && step.dropped == 7 && ends[0] == 7;
   for (size_t at = 0; at < sizeof answer; at++) {
     same = same && answer[at] == 7;
   }
@@ -51,6 +56,12 @@ static void opens(size_t count) {
   say("open: device", rp_node_open(deck, count, 1, NULL, 1, &node, &found));
   say("open: node", rp_node_open(deck, count, 1, packet, 0, NULL, &found));
   say("open: found", rp_node_open(deck, count, 1, packet, 0, &node, NULL));
+  say("open a device: deck", rp_device_open(NULL, count, 1, packet, 0, &node, &found));
+  say("open a device: device", rp_device_open(deck, count, 1, NULL, 1, &node, &found));
+  say("open a device: node", rp_device_open(deck, count, 1, packet, 0, NULL, &found));
+  say("open a device: found", rp_device_open(deck, count, 1, packet, 0, &node, NULL));
+  say("header: deck", rp_device_header(NULL, count, 1, answer, sizeof answer));
+  say("header: header", rp_device_header(deck, count, 1, NULL, sizeof answer));
   say("open a task: task", rp_task_open(1, NULL));
 }
 
@@ -60,6 +71,11 @@ static void calls(void) {
   say("call: request", rp_node_call(&node, NULL, 1, answer, sizeof answer, &lengths));
   say("call: answer", rp_node_call(&node, applied, 1, NULL, sizeof answer, &lengths));
   say("call: lengths", rp_node_call(&node, applied, 1, answer, sizeof answer, NULL));
+  say("step: node", rp_node_step(NULL, applied, 1, answer, sizeof answer, ends, 4, &step));
+  say("step: request", rp_node_step(&node, NULL, 1, answer, sizeof answer, ends, 4, &step));
+  say("step: answer", rp_node_step(&node, applied, 1, NULL, sizeof answer, ends, 4, &step));
+  say("step: ends", rp_node_step(&node, applied, 1, answer, sizeof answer, NULL, 4, &step));
+  say("step: step", rp_node_step(&node, applied, 1, answer, sizeof answer, ends, 4, NULL));
   say("call a task: task", rp_task_call(NULL, again, 2, answer, sizeof answer, &lengths));
   say("call a task: request", rp_task_call(&task, NULL, 2, answer, sizeof answer, &lengths));
   say("call a task: answer", rp_task_call(&task, again, 2, NULL, sizeof answer, &lengths));
@@ -88,6 +104,7 @@ int main(void) {
 
   calls();
   say("a call", rp_node_call(&node, applied, 1, answer, sizeof answer, &lengths));
+  say("a step with no ends", rp_node_step(&node, applied, 1, answer, sizeof answer, NULL, 0, &step));
   say("no request", rp_node_call(&node, NULL, 0, answer, sizeof answer, &lengths));
   say("the task's call", rp_task_call(&task, again, 2, answer, sizeof answer, &lengths));
 

@@ -29,7 +29,7 @@ int main(void) {
   size_t count = fread(deck, 1, sizeof deck, stdin);
   rp_node one = RP_CLOSED;
   rp_task writer = RP_CLOSED;
-  rp_found found = {7, 7};
+  rp_found found = {7, 7, 7, 7, 7};
   uint8_t nothing = 0;
   const uint8_t lead[1] = {RP_NODE_LEAD};
   const uint8_t applied[1] = {RP_NODE_APPLIED};
@@ -41,7 +41,7 @@ int main(void) {
   node("a request by a closed handle", &one, lead, 1, sizeof answer);
   say("node 4 of three", rp_node_open(deck, count, 4, &nothing, 0, &one, &found));
   say("a deck that is cut off", rp_node_open(deck, count / 2, 1, &nothing, 0, &one, &found));
-  printf("  found %zu %zu\n", found.records, found.kept);
+  printf("  found %zu %zu, line %u, reason %u\n", found.records, found.kept, (unsigned)found.line, found.reason);
   say("node 1", rp_node_open(deck, count, 1, &nothing, 0, &one, &found));
   printf("  found %zu %zu\n", found.records, found.kept);
   node("a step with too short a buffer", &one, lead, 1, RP_STEP_BYTES - 1);

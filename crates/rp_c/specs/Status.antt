@@ -2,7 +2,14 @@
 use Rattle.std.specs.Prelude.{ℕ}
 use Rattle.rp_base.specs.Fault.{code_of}
 use Rattle.rp_base.specs.declared.fault.Fault.TheVariants as faults
-use Rattle.rp_base.specs.declared.fault.DeckReason.TheVariants.{NodesExpected}
+use Rattle.rp_base.specs.declared.fault.DeckReason.{DeckReason}
+use Rattle.rp_base.specs.declared.fault.DeckReason.TheVariants.{NodesExpected, UnknownWord}
+use Rattle.rp_base.specs.declared.fault.DeckReason.TheVariants.{WrongNumberOfWords, BadNumber}
+use Rattle.rp_base.specs.declared.fault.DeckReason.TheVariants.{BadName, DuplicateName, UnknownName}
+use Rattle.rp_base.specs.declared.fault.DeckReason.TheVariants.{TooMany, BadExpression}
+use Rattle.rp_base.specs.declared.fault.DeckReason.TheVariants.{TaskExpected, ObjectExpected}
+use Rattle.rp_base.specs.declared.fault.DeckReason.TheVariants.{EndExpected, ScriptExpected}
+use Rattle.rp_base.specs.declared.fault.DeckReason.TheVariants.{NotInLive}
 use Rattle.rp_base.specs.declared.fault.PacketReason.{PacketReason}
 use Rattle.rp_base.specs.declared.fault.PacketReason.TheVariants.{Short, Long, Version, Kind, Field}
 use Rattle.rp_c.specs.declared.status.Status.{Status}
@@ -24,3 +31,20 @@ reason_code Long = 2
 reason_code Version = 3
 reason_code Kind = 4
 reason_code Field = 5
+
+-- the number of the first reason for which a deck is bad
+abbrev pub deck_reason_code : DeckReason → ℕ
+deck_reason_code NodesExpected = 1
+deck_reason_code UnknownWord = 2
+deck_reason_code WrongNumberOfWords = 3
+deck_reason_code BadNumber = 4
+deck_reason_code BadName = 5
+deck_reason_code DuplicateName = 6
+deck_reason_code UnknownName = 7
+deck_reason_code TooMany = 8
+deck_reason_code BadExpression = 9
+deck_reason_code TaskExpected = 10
+deck_reason_code ObjectExpected = 11
+deck_reason_code EndExpected = 12
+deck_reason_code ScriptExpected = 13
+deck_reason_code NotInLive = 14

@@ -9,6 +9,7 @@
 //! - `nodes`: opens a node of a deck by its handle
 //! - `tasks`: opens a task's stub by its handle
 //! - `handles`: calls and closes a node or a task by its handle
+//! - `steps`: calls a node by its handle, and returns where the packets of its last step end
 #![tactic(auto)]
 
 mod answer;
@@ -17,11 +18,13 @@ mod handles;
 mod nodes;
 mod packets;
 mod status;
+mod steps;
 mod tasks;
 
 pub use answer::AnswerLengths;
 pub use decks::rp_run_deck;
 pub use handles::{rp_handle_call, rp_handle_close};
-pub use nodes::rp_node_open;
+pub use nodes::{NodeFound, rp_device_header, rp_device_open, rp_node_open};
 pub use packets::{rp_packet_check, rp_packet_length};
+pub use steps::{StepLengths, rp_node_step};
 pub use tasks::rp_task_open;

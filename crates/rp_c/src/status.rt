@@ -2,9 +2,9 @@
 
 ghost use Rattle.std.specs.Prelude.{◌≡◌};
 ghost use Rattle.rp_base.specs.declared.fault.PacketReason.TheVariants as reasons;
-ghost use Rattle.rp_c.specs.Status.{status_code, reason_code};
+ghost use Rattle.rp_c.specs.Status.{status_code, reason_code, deck_reason_code};
 
-use rp_base::PacketReason;
+use rp_base::{DeckReason, PacketReason};
 
 /// How a call ends.
 #[derive(Clone, Copy, Debug, PartialEq, Eq)]
@@ -50,5 +50,27 @@ pub fn reason_number(reason: PacketReason) -> u8
         PacketReason::Version => 3,
         PacketReason::Kind => 4,
         PacketReason::Field => 5,
+    }
+}
+
+/// The number of the first reason for which a deck is bad, from 1.
+pub fn deck_reason_number(reason: DeckReason) -> u8
+    ensures { result ≡ deck_reason_code reason }
+{
+    match reason {
+        DeckReason::NodesExpected => 1,
+        DeckReason::UnknownWord => 2,
+        DeckReason::WrongNumberOfWords => 3,
+        DeckReason::BadNumber => 4,
+        DeckReason::BadName => 5,
+        DeckReason::DuplicateName => 6,
+        DeckReason::UnknownName => 7,
+        DeckReason::TooMany => 8,
+        DeckReason::BadExpression => 9,
+        DeckReason::TaskExpected => 10,
+        DeckReason::ObjectExpected => 11,
+        DeckReason::EndExpected => 12,
+        DeckReason::ScriptExpected => 13,
+        DeckReason::NotInLive => 14,
     }
 }

@@ -16,6 +16,7 @@ use Rattle.rp_model.specs.Effect.{NodeInput}
 use Rattle.rp_model.specs.Effect as inputs
 use Rattle.rp_model.specs.Parts.{Turn, fresh_running}
 use Rattle.rp_model.specs.World.{part_at, with_part}
+use Rattle.rp_model.specs.declared.effect.Dropped.TheVariants.{No}
 use Rattle.rp_outbox.specs.Packets.{texts_of}
 use Rattle.rp_pending.specs.Pending.{noted_by}
 use Rattle.rp_replica.specs.Inputs.{effect_if_given}
@@ -90,6 +91,8 @@ fresh me = record {
   };
   stored = [];
   packets = [];
+  ends = [];
+  dropped = No;
 }
 
 fresh_opens : (me : ℕ) → OpensFrom tally_next tally_answers tally_image three_node_config one_sum me [] (fresh me) 0 0
@@ -117,7 +120,7 @@ fresh_opens me = record {
       counted = refl;
     };
     kept_is = refl;
-    no_step = (refl, refl);
+    no_step = (refl, refl, refl, refl);
   };
 }
 

@@ -1,3 +1,5 @@
 pub mod Decks
 pub mod Handles
+mod Headed
+mod Places
 pub mod Values

@@ -1,10 +1,12 @@
 -- What a handle keeps after it is opened, and the answer to a call by it.
 use Rattle.std.specs.Prelude.{◌≡◌, ◌==◌, if◌then◌else◌, ℕ, Option, Some, None, Result, List}
+use Rattle.std.specs.Prelude.{length}
 use Rattle.rp_base.specs.declared.fault.Fault.TheVariants as faults
 use Rattle.rp_base.specs.Number.{IsTask}
 use Rattle.rp_object.specs.State.{Running}
 use Rattle.rp_object.specs.Step.{objects_next, objects_answers}
 use Rattle.rp_object.specs.Image.{objects_image}
+use Rattle.rp_requests.specs.Buffers.{with_front}
 use Rattle.rp_requests.specs.declared.buffer.Lengths.{Lengths}
 use Rattle.rp_requests.specs.declared.refusal.Refusal.{Refusal}
 use Rattle.rp_requests.specs.declared.refusal.Refusal.TheVariants as refusals
@@ -18,6 +20,7 @@ use Rattle.rp_handles.specs.declared.actor.Actor.{Actor}
 use Rattle.rp_handles.specs.declared.actor.Actor.TheVariants.{Node, Task}
 use Rattle.rp_handles.specs.declared.actor.ActorKind.{ActorKind}
 use Rattle.rp_handles.specs.declared.actor.ActorKind.TheVariants as kinds
+use Rattle.rp_handles.specs.declared.actor.LastStep.{LastStep}
 
 -- the kind with this number
 abbrev pub kind_of : ℕ → Option ActorKind
@@ -69,6 +72,21 @@ abbrev pub HandleAnswers : ActorKind → Exchange → Option Actor → Option Ac
 HandleAnswers kind exchange (Some old) (Some new) result = ActorAnswers kind exchange old new result
 HandleAnswers kind exchange None new None = ChangesNothing exchange None new
 HandleAnswers kind exchange old new result = ⊥
+
+-- What a node's last step gave besides its bytes, as many of the ends of its packets as the array
+-- has room for at the array's front; nothing of a task.
+abbrev pub ActorShows : Actor → List ℕ → List ℕ → Option LastStep → Type 0
+ActorShows (Node node) before after (Some step) =
+    (after ≡ with_front node.ends before)
+    × (step ≡ record { packets = length node.ends; dropped = node.dropped })
+ActorShows (Task task) before after None = after ≡ before
+ActorShows actor before after step = ⊥
+
+-- the same of the actor that a handle keeps; nothing of a closed handle
+abbrev pub HandleShows : Option Actor → List ℕ → List ℕ → Option LastStep → Type 0
+HandleShows (Some actor) before after step = ActorShows actor before after step
+HandleShows None before after None = after ≡ before
+HandleShows None before after step = ⊥
 
 -- It keeps the node of this number of the deck that the text means, opened over these bytes.
 abbrev pub KeepsNode : List ℕ → ℕ → List ℕ → Option Actor → ℕ → ℕ → Type 0

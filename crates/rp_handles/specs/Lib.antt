@@ -1,3 +1,5 @@
 pub mod DeckNodes
+pub mod DeclaredParts
+pub mod Devices
 pub mod Handles
 pub mod Owning

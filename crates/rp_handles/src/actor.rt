@@ -1,8 +1,9 @@
 //! A node or a task, which answers requests.
 
 ghost use Rattle.std.specs.Prelude.{◌≡◌};
-ghost use Rattle.rp_handles.specs.Handles.{ActorAnswers, exchange_of, kind_of};
+ghost use Rattle.rp_handles.specs.Handles.{ActorAnswers, ActorShows, exchange_of, kind_of};
 
+use rp_model::Dropped;
 use rp_object::Objects;
 use rp_requests::{Lengths, Node, Refusal, Task};
 use std::alloc::Global;
@@ -19,6 +20,14 @@ pub enum Actor {
 pub enum ActorKind {
     Node,
     Task,
+}
+
+/// What a node's last step gave besides the bytes of its answer.
+#[derive(Clone, Copy, Debug, PartialEq, Eq)]
+pub struct LastStep {
+    /// How many packets it sent.
+    pub packets: usize,
+    pub dropped: Dropped,
 }
 
 impl ActorKind {
@@ -56,6 +65,20 @@ impl Actor {
                 ActorKind::Node => None,
                 ActorKind::Task => Some(task.call(alloc, request, answer)),
             },
+        }
+    }
+
+    /// What the last step of a node gave besides its bytes, and where its packets end, as
+    /// `Node::put_ends`; `None` if the actor is a task.
+    pub(crate) fn last_step(&self, ends: &mut [usize]) -> Option<LastStep>
+        ensures { ActorShows self.now ends.old ends.new result }
+    {
+        match self {
+            Actor::Node(node) => Some(LastStep {
+                packets: node.put_ends(ends),
+                dropped: node.dropped(),
+            }),
+            Actor::Task(_) => None,
         }
     }
 }

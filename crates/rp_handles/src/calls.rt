@@ -1,27 +1,29 @@
 //! Opens, calls and closes an actor by its handle.
 
-ghost use Rattle.std.specs.Prelude.{◌≡◌, ◌<◌, ◌+◌, ◌^◌, length, Some, None, IfOk, IfErr, OnOk, OnErr};
+ghost use Rattle.std.specs.Prelude.{◌≡◌, ◌<◌, ◌+◌, ◌^◌, drop, length, Some, None, IfOk, IfErr, OnOk, OnErr};
 ghost use Rattle.rp_base.specs.declared.fault.Fault.TheVariants as faults;
+ghost use Rattle.rp_requests.specs.Tails.{tail_of};
 ghost use Rattle.rp_requests.specs.declared.refusal.Refusal.TheVariants as refusals;
 ghost use Rattle.rp_handles.specs.DeckNodes.{OpensNoNode};
-ghost use Rattle.rp_handles.specs.Handles.{HandleAnswers, IsNoTask, KeepsNode, KeepsTask, exchange_of};
+ghost use Rattle.rp_handles.specs.Handles.{HandleAnswers, HandleShows, IsNoTask, KeepsNode, KeepsTask, exchange_of};
 
-use crate::actor::{Actor, ActorKind};
+use crate::actor::{Actor, ActorKind, LastStep};
 use crate::deck_nodes::node_of_deck;
 use crate::handle::{Handle, closed, into_box, of};
 use rp_base::Fault;
-use rp_requests::{Lengths, Refusal, Task};
+use rp_requests::{Lengths, Refusal, Tail, Task};
 use std::alloc::Global;
 use std::mem::replace;
 
 /// What a node found on its device.
-#[repr(C)]
 #[derive(Clone, Copy, Debug, PartialEq, Eq)]
 pub struct Found {
     /// How many records the device holds.
     pub records: usize,
     /// How many bytes of the device are whole records: the caller truncates what is after them.
     pub kept: usize,
+    /// What is after them.
+    pub tail: Tail,
 }
 
 /// Opens a node of a deck over the bytes of its device, which are copied; the deck's script is not
@@ -40,6 +42,9 @@ pub fn open_node(
     //   records that the device's bytes begin with
     ensures ok { IfOk result (λ found. KeepsNode deck.now number bytes.now handle.new.kept
         found.records found.kept) }
+    // claim (tail): A caller learns whether what is after the whole records of a node's device begins a
+    //   record or not
+    ensures tail { IfOk result (λ found. found.tail ≡ tail_of (drop found.kept bytes.now)) }
     // claim (err): A node of a deck is refused for the one reason that holds: the deck's first bad
     //   line; a node that it does not have; or, for a node that it has, a tally; or memory ran out
     ensures err { IfErr result (OpensNoNode deck.now number) }
@@ -50,6 +55,7 @@ pub fn open_node(
     let found = Found {
         records: opened.records,
         kept: opened.kept,
+        tail: opened.tail,
     };
     let actor = boxed(alloc, Actor::Node(opened.node))?;
     keep(alloc, actor, handle);
@@ -91,6 +97,21 @@ pub fn call(
     let result = actor.call(alloc, kind, request, answer);
     *handle = of(actor);
     result
+}
+
+/// What the last step of a handle's node gave besides the bytes of its answer, and where its packets
+/// end, as `Node::put_ends` of `rp_requests`; `None` if the handle keeps no node.
+pub fn last_step(alloc: Global, handle: &mut Handle, ends: &mut [usize]) -> Option<LastStep>
+    // claim (shown): By a node's handle a caller learns where each packet of the node's last step ends,
+    //   and what that step did not take
+    ensures shown { HandleShows handle.old.kept ends.old ends.new result }
+    ensures same { handle.new.kept ≡ handle.old.kept }
+{
+    let taken = replace(handle, closed());
+    let actor = into_box(alloc, taken)?;
+    let shown = actor.last_step(ends);
+    *handle = of(actor);
+    shown
 }
 
 /// Frees what a handle keeps, and closes the handle.

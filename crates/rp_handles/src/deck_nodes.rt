@@ -1,8 +1,9 @@
 //! Opens a node of a deck over a caller's bytes.
 
-ghost use Rattle.std.specs.Prelude.{◌≡◌, ◌≤◌, ◌<◌, ◌+◌, ◌^◌, length, IfOk, IfErr};
+ghost use Rattle.std.specs.Prelude.{◌≡◌, ◌≤◌, ◌<◌, ◌+◌, ◌^◌, drop, length, IfOk, IfErr};
 ghost use Rattle.rp_base.specs.Number.{IsNode};
 ghost use Rattle.rp_base.specs.declared.fault.Fault.TheVariants as faults;
+ghost use Rattle.rp_requests.specs.Tails.{tail_of};
 ghost use Rattle.rp_requests.specs.declared.refusal.Refusal.TheVariants as refusals;
 ghost use Rattle.rp_handles.specs.DeckNodes.{IsNoDeck, MeansDeck, OpensNode, OpensNoNode};
 
@@ -24,6 +25,7 @@ pub(crate) fn node_of_deck(
     requires { length deck.now + 1 < 2 ^ 32 }
     ensures ok { IfOk result (λ opened. OpensNode deck.now number bytes.now
         opened.node opened.records opened.kept) }
+    ensures tail { IfOk result (λ opened. opened.tail ≡ tail_of (drop opened.kept bytes.now)) }
     ensures err { IfErr result (OpensNoNode deck.now number) }
 {
     let Deck {
@@ -39,7 +41,7 @@ pub(crate) fn node_of_deck(
 }
 
 /// The deck that the bytes mean.
-fn deck_of(alloc: Global, bytes: &[u8]) -> Result<Deck, Refusal>
+pub(crate) fn deck_of(alloc: Global, bytes: &[u8]) -> Result<Deck, Refusal>
     requires { length bytes.now + 1 < 2 ^ 32 }
     ensures ok { IfOk result (MeansDeck bytes.now) }
     ensures err { IfErr result (IsNoDeck bytes.now) }
@@ -51,7 +53,7 @@ fn deck_of(alloc: Global, bytes: &[u8]) -> Result<Deck, Refusal>
 }
 
 /// The node of this number, if there are n nodes.
-fn node_of(nodes: u8, number: u8) -> Result<NodeId, Refusal>
+pub(crate) fn node_of(nodes: u8, number: u8) -> Result<NodeId, Refusal>
     ensures ok { IfOk result (λ node. (node ≡ number) × (IsNode number × (number ≤ nodes))) }
     ensures err { IfErr result (λ refusal. (refusal ≡ refusals.Fault faults.BadConfig)
         × (¬ (IsNode number × (number ≤ nodes)))) }

@@ -7,14 +7,19 @@
 //! - `loose`: a box as its pointer
 //! - `handle`: the handle by which a caller keeps an actor
 //! - `calls`: opens, calls and closes an actor by its handle
+//! - `declared`: the part of a deck's text that declares
+//! - `device`: the header of a device, which says whose it is
 #![tactic(auto)]
 
 mod actor;
 mod calls;
 mod deck_nodes;
+mod declared;
+mod device;
 mod handle;
 mod loose;
 
-pub use actor::{Actor, ActorKind};
-pub use calls::{Found, call, close, open_node, open_task};
+pub use actor::{Actor, ActorKind, LastStep};
+pub use calls::{Found, call, close, last_step, open_node, open_task};
+pub use device::{HEADER_BYTES, device_header, open_device};
 pub use handle::Handle;

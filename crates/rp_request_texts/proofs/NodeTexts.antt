@@ -16,8 +16,8 @@ use Rattle.rp_codec.proofs.Decoded.{whole_again}
 use Rattle.rp_model.specs.Effect.{NodeInput}
 use Rattle.rp_model.specs.Effect as inputs
 use Rattle.rp_rules.specs.Inputs.{packet_given}
-use Rattle.rp_requests.specs.Requests.{Asked, Step, Applied, Image, LastAnswer, given, lead_at, interrupt_at, tick_asked, report_from, range_if, range_from, asked_by, asked_of}
-use Rattle.rp_request_texts.specs.Texts.{step_text, FitsStep, applied_text, image_text, last_answer_text}
+use Rattle.rp_requests.specs.Requests.{Asked, Step, Applied, Image, LastAnswer, Left, given, lead_at, interrupt_at, tick_asked, report_from, range_if, range_from, asked_by, asked_of}
+use Rattle.rp_request_texts.specs.Texts.{step_text, FitsStep, applied_text, image_text, last_answer_text, left_text}
 
 -- ---- tests
 
@@ -94,3 +94,7 @@ image_is = refl
 pub last_is : asked_of last_answer_text ≡ Some LastAnswer
 unfolding asked_of asked_by
 last_is = refl
+
+pub left_is : asked_of left_text ≡ Some Left
+unfolding asked_of asked_by
+left_is = refl

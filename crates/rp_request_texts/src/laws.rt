@@ -5,9 +5,9 @@ ghost use Rattle.rp_base.specs.declared.fault.Fault.TheVariants.{BadPacket};
 ghost use Rattle.rp_base.specs.declared.fault.PacketReason.{PacketReason};
 ghost use Rattle.rp_codec.specs.Reading.{all_of};
 ghost use Rattle.rp_model.specs.Effect.{NodeInput};
-ghost use Rattle.rp_requests.specs.Requests.{Step, Applied, Image, LastAnswer, asked_of};
+ghost use Rattle.rp_requests.specs.Requests.{Step, Applied, Image, LastAnswer, Left, asked_of};
 ghost use Rattle.rp_requests.specs.TaskRequests.{TaskAsked, task_asked_of};
-ghost use Rattle.rp_request_texts.specs.Texts.{step_text, FitsStep, applied_text, image_text, last_answer_text, task_request_text, FitsTaskRequest};
+ghost use Rattle.rp_request_texts.specs.Texts.{step_text, FitsStep, applied_text, image_text, last_answer_text, left_text, task_request_text, FitsTaskRequest};
 
 /// The text of each step of a node asks for that step, and that of each question for that answer.
 /// A packet that came and is none asks for the refusal with its reason.
@@ -20,6 +20,7 @@ pub fn node_requests_are_read_back()
     ensures applied { asked_of applied_text ≡ Some Applied }
     ensures image { asked_of image_text ≡ Some Image }
     ensures last { asked_of last_answer_text ≡ Some LastAnswer }
+    ensures left { asked_of left_text ≡ Some Left }
 {}
 
 /// The text of each request to a task asks for that: a call of a function is not one of a procedure,

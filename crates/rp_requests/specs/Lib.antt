@@ -3,5 +3,6 @@ pub mod Buffers
 pub mod Requests
 pub mod Nodes
 pub mod Opening
+pub mod Tails
 pub mod TaskRequests
 pub mod Tasks

@@ -1,7 +1,9 @@
 -- The answer of a node (ours).
-use Rattle.std.specs.Prelude.{◌≡◌, ◌<◌, ◌≤◌, ℕ, Option, Some, None, Result, Ok, Err, List, []}
+use Rattle.std.specs.Prelude.{◌≡◌, ◌<◌, ◌≤◌, ◌+◌, ◌-◌, nat_lt, nat_le, ℕ, Bool, true, false}
+use Rattle.std.specs.Prelude.{Option, Some, None, Result, Ok, Err, List, []}
 use Rattle.std.specs.Prelude.{length}
 use Rattle.std.specs.Int.{w32, to_be_bytes}
+use Rattle.rp_base.specs.Number.{window}
 use Rattle.rp_base.specs.Records.{applied_of}
 use Rattle.rp_base.specs.declared.action.Action.{Action}
 use Rattle.rp_base.specs.declared.fault.Fault.{Fault}
@@ -12,21 +14,26 @@ use Rattle.rp_codec.specs.Record.{record_text}
 use Rattle.rp_machine.specs.Replay.{replay_state}
 use Rattle.rp_model.specs.Parts.{Turn}
 use Rattle.rp_model.specs.Effect.{NodeInput}
+use Rattle.rp_model.specs.Effect as inputs
+use Rattle.rp_model.specs.declared.effect.Dropped.{Dropped}
 use Rattle.rp_replica.specs.Inputs.{effect_if_given}
-use Rattle.rp_outbox.specs.Packets.{texts_of}
+use Rattle.rp_outbox.specs.Packets.{ends_of, texts_of}
 use Rattle.rp_replica.specs.State.{ReplicaState, after_turn}
 use Rattle.rp_replica.specs.Turning.{StopsIf}
 use Rattle.rp_requests.specs.declared.buffer.Lengths.{Lengths}
 use Rattle.rp_requests.specs.declared.refusal.Refusal.{Refusal}
 use Rattle.rp_requests.specs.declared.refusal.Refusal.TheVariants as refusals
 use Rattle.rp_requests.specs.Buffers.{IsPut, IsTooLong, PutsOr}
-use Rattle.rp_requests.specs.Requests.{Asked, Step, Applied, Image, LastAnswer}
+use Rattle.rp_requests.specs.Requests.{Asked, Step, Applied, Image, LastAnswer, Left}
 
--- The node, and the answer of its last step: the bytes to be stored, and the packets.
+-- The node, and the answer of its last step: the bytes to be stored, and the packets; where each
+-- packet ends, counted from the first byte of the packets; and what the step did not take.
 pub record NodeState (S : Type 0) : Type 0 where
   pub replica : ReplicaState S
   pub stored : List ℕ
   pub packets : List ℕ
+  pub ends : List ℕ
+  pub dropped : Dropped
 
 -- the bytes that a step appends to the device
 abbrev pub stored_by : Option Rec → List ℕ
@@ -39,11 +46,20 @@ after_step node turn = record {
   replica = after_turn node.replica turn;
   stored = stored_by turn.written;
   packets = texts_of turn.sent;
+  ends = ends_of 0 turn.sent;
+  dropped = turn.dropped;
 }
 
 -- the fewest bytes of a buffer for the answer of a step
 abbrev pub step_bytes : ℕ
 step_bytes = 8192
+
+-- The step took effect.
+pub record StepMade {S : Type 0} (effect : Result Turn Fault) (old new : NodeState S)
+    : Type 0 where
+  pub turn : Turn
+  pub takes : effect ≡ Ok turn
+  pub goes : new ≡ after_step old turn
 
 -- The step took effect, and its record and its packets are in the buffer.
 pub record StepPut {S : Type 0} (effect : Result Turn Fault) (old new : NodeState S)
@@ -68,19 +84,45 @@ pub record IsSame {S : Type 0} (old new : NodeState S) (before after : List ℕ)
   pub node : new ≡ old
   pub buffer : after ≡ before
 
+-- how many positions of the log are not applied
+abbrev pub positions_left : {S : Type 0} → ReplicaState S → ℕ
+positions_left replica = replica.config.max_positions - length (applied_of replica.records)
+
+-- Whether a lead that is out of reach is so for the end of the log: the position, or the last one
+-- of the range, is above the log; or, if the node chooses the position, no position of the log is
+-- 64 above the first that is not learned.
+abbrev pub is_at_end : {S : Type 0} → ReplicaState S → Result NodeInput Fault → Bool
+is_at_end replica (Ok (inputs.NodeInput.Lead (Some position))) =
+    nat_lt replica.config.max_positions position
+is_at_end replica (Ok (inputs.NodeInput.Lead None)) = nat_le (positions_left replica) window
+is_at_end replica (Ok (inputs.NodeInput.LeadRange first count)) =
+    nat_lt replica.config.max_positions (first + count - 1)
+is_at_end replica given = true
+
+-- the refusal for a fault: a full log that has not ended is too far
+abbrev pub step_refusal : Bool → Fault → Refusal
+step_refusal false faults.LogFull = refusals.TooFar
+step_refusal at_end fault = refusals.Fault fault
+
 -- The answer of a step: it took effect, or nothing changed, for this reason.
-abbrev pub StepAnswers : {S : Type 0} → Result Turn Fault → NodeState S → NodeState S → List ℕ
-    → List ℕ → Result Lengths Refusal → Type 0
-StepAnswers effect old new before after (Ok lengths) = StepPut effect old new before after lengths
-StepAnswers effect old new before after (Err (refusals.Fault fault)) =
+abbrev pub StepAnswers : {S : Type 0} → Result Turn Fault → Bool → NodeState S → NodeState S
+    → List ℕ → List ℕ → Result Lengths Refusal → Type 0
+StepAnswers effect at_end old new before after (Ok lengths) =
+    StepPut effect old new before after lengths
+StepAnswers effect at_end old new before after (Err (refusals.Fault fault)) =
     IsSame old new before after × (step_bytes ≤ length before)
     × StopsIf effect old.replica old.replica fault
-StepAnswers effect old new before after (Err (refusals.ShortAnswer needed)) =
+    × (step_refusal at_end fault ≡ refusals.Fault fault)
+StepAnswers effect at_end old new before after (Err refusals.TooFar) =
+    IsSame old new before after × (step_bytes ≤ length before)
+    × StopsIf effect old.replica old.replica faults.LogFull × (at_end ≡ false)
+StepAnswers effect at_end old new before after (Err (refusals.ShortAnswer needed)) =
     IsSame old new before after × (length before < step_bytes) × (needed ≡ step_bytes)
-StepAnswers effect old new before after (Err refusals.BadRequest) = ⊥
-StepAnswers effect old new before after (Err refusals.NoObjects) = ⊥
-StepAnswers effect old new before after (Err (refusals.LongAnswer needed)) =
+StepAnswers effect at_end old new before after (Err (refusals.LongAnswer needed)) =
     StepTooLong effect old new before after needed
+StepAnswers effect at_end old new before after (Err refusals.BadRequest) = ⊥
+StepAnswers effect at_end old new before after (Err refusals.NoObjects) = ⊥
+StepAnswers effect at_end old new before after (Err refusals.WrongDevice) = ⊥
 
 -- The answer that shows the objects, unless there is no memory for it.
 abbrev pub ImageAnswers : List ℕ → List ℕ → List ℕ → Result Lengths Refusal → Type 0
@@ -101,7 +143,8 @@ module _ {S : Type 0} (next : S → Action → S) (answers : S → Action → Li
   Answers None old new before after result =
       IsSame old new before after × (result ≡ Err refusals.BadRequest)
   Answers (Some (Step input)) old new before after result =
-      StepAnswers (effect_if_given next answers old.replica input) old new before after result
+      StepAnswers (effect_if_given next answers old.replica input) (is_at_end old.replica input)
+      old new before after result
   Answers (Some Applied) old new before after result =
       (new ≡ old)
       × PutsOr [] (to_be_bytes w32 (length (applied_of old.replica.records))) before after result
@@ -109,3 +152,6 @@ module _ {S : Type 0} (next : S → Action → S) (answers : S → Action → Li
       (new ≡ old) × ImageAnswers (image_of old) before after result
   Answers (Some LastAnswer) old new before after result =
       (new ≡ old) × PutsOr old.stored old.packets before after result
+  Answers (Some Left) old new before after result =
+      (new ≡ old)
+      × PutsOr [] (to_be_bytes w32 (positions_left old.replica)) before after result

@@ -1,6 +1,7 @@
 -- The result of opening a node (ours).
 use Rattle.std.specs.Prelude.{◌≡◌, ℕ, List, [], length}
 use Rattle.rp_base.specs.declared.config.Config.{Config}
+use Rattle.rp_model.specs.declared.effect.Dropped.TheVariants.{No}
 use Rattle.rp_store.specs.Disk.{Disk}
 use Rattle.rp_replica.specs.Opening.{Opens}
 use Rattle.rp_requests.specs.Nodes.{NodeState}
@@ -14,4 +15,4 @@ pub record IsOpenedNode {S : Type 0} (me : ℕ) (config : Config) (begin : S) (b
   pub cut_bytes : ℕ
   pub opens : Opens me config begin disk node.replica records cut_bytes
   pub kept_is : kept ≡ length node.replica.disk.contents
-  pub no_step : (node.stored ≡ []) × (node.packets ≡ [])
+  pub no_step : (node.stored ≡ []) × (node.packets ≡ []) × (node.ends ≡ []) × (node.dropped ≡ No)

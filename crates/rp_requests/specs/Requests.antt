@@ -12,12 +12,14 @@ use Rattle.rp_requests.specs.declared.request.Request.{Request}
 use Rattle.rp_requests.specs.declared.request.Request.TheVariants as requests
 
 -- A step, with the node's input, or the reason for which the bytes of its packet are none; how many
--- actions are applied; the lines that show the objects; or the answer of the last step.
+-- actions are applied; the lines that show the objects; the answer of the last step; or how many
+-- positions are left.
 pub data Asked : Type 0 where
   Step : Result NodeInput Fault → Asked
   Applied : Asked
   Image : Asked
   LastAnswer : Asked
+  Left : Asked
 
 -- what a request asks for
 abbrev pub asked : Request → Asked
@@ -25,12 +27,14 @@ asked (requests.Step input) = Step (given_by input)
 asked requests.Applied = Applied
 asked requests.Image = Image
 asked requests.LastAnswer = LastAnswer
+asked requests.Left = Left
 
 abbrev pub IsRightRequest : Request → Type 0
 IsRightRequest (requests.Step input) = IsRightInput input
 IsRightRequest requests.Applied = Unit {0}
 IsRightRequest requests.Image = Unit {0}
 IsRightRequest requests.LastAnswer = Unit {0}
+IsRightRequest requests.Left = Unit {0}
 
 abbrev pub given : NodeInput → Option Asked
 given input = Some (Step (Ok input))
@@ -81,6 +85,7 @@ question_asked kind [] =
     if kind == 16 then Some Applied
     else if kind == 17 then Some Image
     else if kind == 18 then Some LastAnswer
+    else if kind == 19 then Some Left
     else None
 question_asked kind _ = None
 

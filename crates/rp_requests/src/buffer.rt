@@ -1,7 +1,7 @@
 //! Answers that are put into a caller's buffer.
 
-ghost use Rattle.std.specs.Prelude.{◌≤◌, [], length};
-ghost use Rattle.rp_requests.specs.Buffers.{IsPut, Puts, PutsOr};
+ghost use Rattle.std.specs.Prelude.{◌≡◌, ◌≤◌, [], length};
+ghost use Rattle.rp_requests.specs.Buffers.{IsPut, Puts, PutsOr, with_front};
 
 use crate::refusal::Refusal;
 
@@ -50,5 +50,16 @@ pub(crate) fn put_short(text: &[u8], answer: &mut [u8]) -> Lengths
     Lengths {
         stored: 0,
         used: text.len(),
+    }
+}
+
+/// Puts numbers at the front of the array, as many as it has room for.
+pub(crate) fn put_front(front: &[usize], array: &mut [usize])
+    ensures { array.new ≡ with_front front.now array.old }
+{
+    if front.len() <= array.len() {
+        array[..front.len()].copy_from_slice(front);
+    } else {
+        array.copy_from_slice(&front[..array.len()]);
     }
 }

@@ -5,6 +5,7 @@
 //! - `refusal`: why a request is refused
 //! - `request`: a caller's request to a node, as bytes
 //! - `buffer`: answers that are put into a caller's buffer
+//! - `tail`: what a device holds after its whole records
 //! - `opening`: a node that is opened over a caller's bytes
 //! - `node`: a node that answers requests
 //! - `task_request`: a caller's request to a task, as bytes
@@ -16,6 +17,7 @@ mod node;
 mod opening;
 mod refusal;
 mod request;
+mod tail;
 mod task;
 mod task_request;
 
@@ -23,4 +25,5 @@ pub use buffer::Lengths;
 pub use node::{Node, STEP_BYTES};
 pub use opening::Opened;
 pub use refusal::Refusal;
+pub use tail::Tail;
 pub use task::{TASK_BYTES, Task};

@@ -1,16 +1,21 @@
 //! A node that answers requests.
 
-ghost use Rattle.std.specs.Prelude.{◌≡◌, [], length};
+ghost use Rattle.std.specs.Prelude.{◌≡◌, [], length, IfErr, OnErr, OnOk};
 ghost use Rattle.rp_replica.specs.Inputs.{input_effect};
-ghost use Rattle.rp_rules.specs.Inputs.{IsRightInput};
-ghost use Rattle.rp_requests.specs.Buffers.{Puts, PutsOr};
-ghost use Rattle.rp_requests.specs.Nodes.{Answers, ImageAnswers, StepAnswers, image_of};
+ghost use Rattle.rp_replica.specs.Turning.{StopsIf};
+ghost use Rattle.rp_rules.specs.Inputs.{IsRightInput, given_by};
+ghost use Rattle.rp_model.specs.declared.effect.Dropped.TheVariants.{No};
+ghost use Rattle.rp_requests.specs.Buffers.{Puts, PutsOr, with_front};
+ghost use Rattle.rp_requests.specs.Nodes.{Answers, ImageAnswers, StepAnswers, StepMade, image_of, is_at_end, positions_left, step_refusal};
 ghost use Rattle.rp_requests.specs.Requests.{asked_of};
 
-use crate::buffer::{Lengths, put, put_parts};
+use crate::buffer::{Lengths, put, put_front, put_parts};
 use crate::refusal::Refusal;
 use crate::request::{Request, request_of};
+use rp_base::{Config, Fault};
 use rp_machine::Machine;
+use rp_model::Dropped;
+use rp_outbox::Outbox;
 use rp_replica::{Input, Replica};
 use rp_store::MemDevice;
 use std::alloc::Global;
@@ -19,18 +24,27 @@ use std::marker::Model;
 /// The fewest bytes of a buffer for the answer of a step.
 pub const STEP_BYTES: usize = 8192;
 
+/// A node leads at positions less than this above the first that is not learned.
+const WINDOW: u32 = 64;
+
 /// A node with a copy of its device.
 #[derive(Drop)]
 pub struct Node<M: Machine> {
     replica: Replica<M, MemDevice>,
+    /// How many positions the log has.
+    positions: u16,
     /// Where on the device the record of the last step begins.
     last_record: usize,
     /// The packets of the last step.
     last_packets: Vec<u8>,
+    /// Where each packet of the last step ends, counted from the first byte of its packets.
+    last_ends: Vec<usize>,
+    /// What the node did not take in the last step.
+    last_dropped: Dropped,
 }
 
 impl<M: Machine> Model for Node<M> {
-    ghost use Rattle.std.specs.Prelude.{◌≤◌, drop, length};
+    ghost use Rattle.std.specs.Prelude.{◌≡◌, ◌≤◌, drop, length};
     ghost use Rattle.rp_requests.specs.Nodes.{NodeState};
 
     ghost Value = { NodeState M };
@@ -39,21 +53,34 @@ impl<M: Machine> Model for Node<M> {
       replica = n.replica;
       stored = drop n.last_record n.replica.disk.contents;
       packets = n.last_packets.items;
+      ends = n.last_ends.items;
+      dropped = n.last_dropped;
     } };
 
-    ghost invariant = { λ n. n.last_record ≤ length n.replica.disk.contents };
+    ghost invariant = { λ n. (n.last_record ≤ length n.replica.disk.contents)
+        × (n.positions ≡ n.replica.config.max_positions) };
 }
 
 impl<M: Machine> Node<M> {
     /// A node that was just opened, and has made no step.
-    pub(crate) fn new(alloc: Global, replica: Replica<M, MemDevice>) -> Self
-        ensures { result ≡ record { replica = replica; stored = []; packets = [] } }
+    pub(crate) fn new(alloc: Global, replica: Replica<M, MemDevice>, config: Config) -> Self
+        requires { config ≡ replica.config }
+        ensures { result ≡ record {
+          replica = replica;
+          stored = [];
+          packets = [];
+          ends = [];
+          dropped = No;
+        } }
     {
         let last_record = replica.stored() as usize;
         Node {
             replica,
+            positions: config.max_positions,
             last_record,
             last_packets: Vec::new(alloc),
+            last_ends: Vec::new(alloc),
+            last_dropped: Dropped::No,
         }
     }
 
@@ -61,7 +88,8 @@ impl<M: Machine> Node<M> {
     /// device and syncs, and then the packets that it sends after that; a step's buffer has at
     /// least `STEP_BYTES` bytes. Refused with `BadRequest` if the bytes are no request, with
     /// `ShortAnswer` if the buffer is too short, with `LongAnswer` if the step was made and its
-    /// answer is longer than the buffer, and otherwise as `Replica::turn`, but never with `Device`.
+    /// answer is longer than the buffer, and otherwise as `Replica::turn`, but never with `Device`,
+    /// and with `TooFar` in place of `LogFull` if the log has not ended.
     pub fn call(
         &mut self,
         alloc: Global,
@@ -82,6 +110,7 @@ impl<M: Machine> Node<M> {
                 Ok(lengths) => Ok(lengths),
                 Err(needed) => Err(Refusal::ShortAnswer(needed)),
             },
+            Some(Request::Left) => put(&self.left().to_be_bytes(), answer),
             None => Err(Refusal::BadRequest),
         }
     }
@@ -95,25 +124,84 @@ impl<M: Machine> Node<M> {
     ) -> Result<Lengths, Refusal>
         requires { IsRightInput input.now }
         ensures { StepAnswers (input_effect M.next M.answers self.old.replica input.now)
+            (is_at_end self.old.replica (given_by input.now))
             self.old self.new answer.old answer.new result }
     {
         if answer.len() < STEP_BYTES {
             return Err(Refusal::ShortAnswer(STEP_BYTES));
         }
+        match self.turn(alloc, input) {
+            Ok(()) => match self.put_last(answer) {
+                Ok(lengths) => Ok(lengths),
+                Err(needed) => Err(Refusal::LongAnswer(needed)),
+            },
+            Err(fault) => Err(step_refusal(fault, self.is_at_end(input))),
+        }
+    }
+
+    /// Makes a step of which no answer is put into a buffer yet.
+    fn turn(&mut self, alloc: Global, input: &Input<'_>) -> Result<(), Fault>
+        requires { IsRightInput input.now }
+        ensures ok { OnOk result (StepMade
+            (input_effect M.next M.answers self.old.replica input.now) self.old self.new) }
+        ensures same { OnErr result (self.new ≡ self.old) }
+        ensures err { IfErr result (λ fault. StopsIf
+            (input_effect M.next M.answers self.old.replica input.now)
+            self.old.replica self.old.replica fault) }
+    {
         let before = self.replica.stored() as usize;
-        let turned = self.replica.turn(alloc, input);
+        let mut out = Outbox::new(alloc);
+        let turned = self.replica.turn_into(alloc, &mut out, input);
         self.replica.never_failed();
         match turned {
-            Ok(sent) => {
+            Ok(dropped) => {
+                let (packets, ends) = out.into_parts();
                 self.last_record = before;
-                self.last_packets = sent.bytes;
+                self.last_packets = packets;
+                self.last_ends = ends;
+                self.last_dropped = dropped;
+                Ok(())
             }
-            Err(fault) => return Err(Refusal::Fault(fault)),
+            Err(fault) => Err(fault),
         }
-        match self.put_last(answer) {
-            Ok(lengths) => Ok(lengths),
-            Err(needed) => Err(Refusal::LongAnswer(needed)),
+    }
+
+    /// Whether a lead that is out of reach is so for the end of the log.
+    fn is_at_end(&self, input: &Input<'_>) -> bool
+        ensures { result ≡ is_at_end self.now.replica (given_by input.now) }
+    {
+        match input {
+            Input::Lead(Some(position)) => self.positions < position.get(),
+            Input::Lead(None) => self.left() <= WINDOW,
+            Input::LeadRange(range) => self.positions < range.last().get(),
+            _ => true,
         }
+    }
+
+    /// How many positions of the log are not applied.
+    fn left(&self) -> u32
+        ensures { result ≡ positions_left self.now.replica }
+    {
+        u32::from(self.positions).saturating_sub(self.replica.applied())
+    }
+
+    /// Puts where each packet of the last step ends, counted from the first byte of its packets, at
+    /// the front of the array, as many as it has room for; returns how many packets there are.
+    pub fn put_ends(&self, ends: &mut [usize]) -> usize
+        // claim (ends): A caller learns where each packet of a step ends
+        ensures ends { ends.new ≡ with_front self.now.ends ends.old }
+        ensures count { result ≡ length self.now.ends }
+    {
+        put_front(&self.last_ends, ends);
+        self.last_ends.len()
+    }
+
+    /// What the node did not take in the last step.
+    pub fn dropped(&self) -> Dropped
+        // claim: A caller learns what a step of its node did not take
+        ensures { result ≡ self.now.dropped }
+    {
+        self.last_dropped
     }
 
     /// Puts the answer of the last step into the buffer, if it fits; otherwise returns its length.
@@ -133,6 +221,17 @@ impl<M: Machine> Node<M> {
             Ok(image) => put(&image, answer),
             Err(fault) => Err(Refusal::Fault(fault)),
         }
+    }
+}
+
+/// The refusal of a step for a fault, by whether a lead that is out of reach is so for the end of the
+/// log.
+fn step_refusal(fault: Fault, at_end: bool) -> Refusal
+    ensures { result ≡ step_refusal at_end fault }
+{
+    match fault {
+        Fault::LogFull if !at_end => Refusal::TooFar,
+        _ => Refusal::Fault(fault),
     }
 }
 

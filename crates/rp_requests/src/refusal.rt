@@ -22,6 +22,10 @@ pub enum Refusal {
     /// The step was made, and its answer has this many bytes, more than the buffer: the request for
     /// the last answer returns it.
     LongAnswer(usize),
+    /// A lead has a position that is in the log, and 64 or more above the first that is not learned.
+    TooFar,
+    /// The device begins with no header, or with that of another node, deck or size.
+    WrongDevice,
 }
 
 impl Refusal {
@@ -37,6 +41,8 @@ impl Refusal {
             Refusal::BadRequest => 65,
             Refusal::NoObjects => 66,
             Refusal::LongAnswer(_) => 67,
+            Refusal::TooFar => 70,
+            Refusal::WrongDevice => 71,
         }
     }
 }

@@ -18,6 +18,8 @@ pub(crate) enum Request<'a> {
     Applied,
     /// Lines that show the state of the node's objects.
     Image,
+    /// How many positions of the log are left.
+    Left,
     /// The answer of the last step that was made.
     LastAnswer,
 }
@@ -39,6 +41,7 @@ pub(crate) fn request_of(bytes: &[u8]) -> Option<Request<'_>>
         16 if operands.is_empty() => Some(Request::Applied),
         17 if operands.is_empty() => Some(Request::Image),
         18 if operands.is_empty() => Some(Request::LastAnswer),
+        19 if operands.is_empty() => Some(Request::Left),
         _ => None,
     }
 }

@@ -1,5 +1,5 @@
 -- The device in memory holds what the replica's device holds.
-use Rattle.std.proofs.Common.{◌≡◌, ap, ◌∙◌}
+use Rattle.std.proofs.Common.{ap, ◌∙◌}
 use Rattle.rp_store.specs.Disk.{Disk}
 use Rattle.rp_requests.proofs.node.device_bytes.Goals as goal
 

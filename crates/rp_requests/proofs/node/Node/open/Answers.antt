@@ -1,5 +1,5 @@
 -- The node is the one that was opened, with no step made.
-use Rattle.std.proofs.Common.{◌≡◌, [], refl, subst, sym}
+use Rattle.std.proofs.Common.{refl, subst, sym}
 use Rattle.rp_store.specs.Disk.{disk_of}
 use Rattle.rp_requests.specs.Nodes.{NodeState}
 use Rattle.rp_requests.specs.Opening.{IsOpenedNode}
@@ -14,5 +14,5 @@ returns-in-Ok-clause-ok g c =
       cut_bytes = c.in-Ok.opening.cut_bytes;
       opens = c.in-Ok.ensures.ok;
       kept_is = c.stored-kept.ensures;
-      no_step = (refl, refl);
+      no_step = (refl, refl, refl, refl);
     })

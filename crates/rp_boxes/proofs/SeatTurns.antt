@@ -20,7 +20,7 @@ use Rattle.rp_replica.specs.Inputs.{effect_if_given, input_effect, effect_of}
 use Rattle.rp_rules.specs.Inputs.{IsLong, IsRightInput, packet_given, given_by}
 use Rattle.rp_replica.specs.Turning.{TurnsIf, FailsAt, IsCertain, Stops, StopsIf}
 use Rattle.rp_rules.specs.declared.input.Input.{Input}
-use Rattle.rp_rules.specs.declared.input.Input.TheVariants.{Receive, Lead, LeadRange, Interrupt, Tick, Report}
+use Rattle.rp_rules.specs.declared.input.Input.TheVariants.{Receive, Lead, LeadRange, Interrupt, Tick, Report, Ask}
 use Rattle.rp_replica.specs.declared.sent.Sent.{Sent}
 use Rattle.rp_world.specs.Nodes.{Member, member_of, RunsAs, RepresentsWhile, IsLight}
 use Rattle.rp_world.proofs.Light.{light_turn}
@@ -63,6 +63,7 @@ input_given texts k part (LeadRange range) own right ranges got = record { given
 input_given texts k part (Interrupt source occurrence) own right ranges got = record { given = nodes.Interrupt source occurrence; gives = refl; is = right }
 input_given texts k part (Tick now) own right ranges got = record { given = nodes.Tick now; gives = refl; is = ranges }
 input_given texts k part (Report first) own right ranges got = record { given = nodes.Report first; gives = refl; is = ranges }
+input_given texts k part (Ask to) own right ranges got = record { given = nodes.Ask to; gives = refl; is = ranges }
 
 -- ---- the result
 

@@ -4,7 +4,7 @@ use Rattle.std.specs.Prelude.{List, [], ◌∷◌}
 use Rattle.std.specs.Prelude.{length}
 use Rattle.atomic_table.specs.Seated.{TableId}
 use Rattle.rp_base.specs.Ranges.{IsRange}
-use Rattle.rp_base.specs.Number.{IsPosition, IsTask}
+use Rattle.rp_base.specs.Number.{IsNode, IsPosition, IsTask}
 use Rattle.rp_base.specs.Records.{applied_of}
 use Rattle.rp_base.specs.Sets.{Has}
 use Rattle.rp_base.specs.declared.action.Action.{Action}
@@ -26,7 +26,7 @@ use Rattle.rp_replica.specs.State.{ReplicaState}
 use Rattle.rp_rules.specs.Inputs.{IsLong, given_by}
 use Rattle.rp_rules.specs.declared.input.Input.{Input}
 use Rattle.rp_rules.specs.declared.input.Input.TheVariants.{Receive, Lead, LeadRange, Interrupt}
-use Rattle.rp_rules.specs.declared.input.Input.TheVariants.{Tick, Report}
+use Rattle.rp_rules.specs.declared.input.Input.TheVariants.{Tick, Report, Ask}
 use Rattle.rp_replica.specs.declared.sent.Sent.{Sent}
 use Rattle.rp_world.specs.Callers.{Caller}
 use Rattle.rp_world.specs.Nodes.{member_of, RepresentsWhile, DescribesSent, IsLight}
@@ -91,6 +91,7 @@ HasInputRanges (LeadRange range) = IsRange range
 HasInputRanges (Interrupt source occurrence) = Unit {0}
 HasInputRanges (Tick now) = now < 2 ^ 32
 HasInputRanges (Report first) = IsPosition first
+HasInputRanges (Ask to) = IsNode to
 
 -- the bytes are the text of a packet that the actor got
 abbrev pub IsGotText : Part → List ℕ → Type 0
@@ -104,6 +105,7 @@ IsGot part (LeadRange range) = Unit {0}
 IsGot part (Interrupt source occurrence) = Unit {0}
 IsGot part (Tick now) = Unit {0}
 IsGot part (Report first) = Unit {0}
+IsGot part (Ask to) = Unit {0}
 
 -- ---- turns of a node
 

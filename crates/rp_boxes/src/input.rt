@@ -24,6 +24,9 @@ pub(crate) fn keeps_ranges(input: &Input)
         Input::Report(first) => {
             let _ = first.get();
         }
+        Input::Ask(to) => {
+            let _ = to.get();
+        }
     }
 }
 

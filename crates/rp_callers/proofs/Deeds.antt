@@ -151,6 +151,7 @@ came_at i (inputs.NodeInput.LeadRange first count) k = true
 came_at i (inputs.NodeInput.Interrupt source occurrence) k = true
 came_at i (inputs.NodeInput.Tick now) k = true
 came_at i (inputs.NodeInput.Report first) k = true
+came_at i (inputs.NodeInput.Ask to) k = true
 
 came_is : (i : Callers) (input : NodeInput) (k : ℕ) → came_at i input k ≡ true → CameFrom i.handed_on input
 came_is i (inputs.NodeInput.Receive message) k e = was_at i.handed_on k (text_of message) e
@@ -159,6 +160,7 @@ came_is i (inputs.NodeInput.LeadRange first count) k e = tt
 came_is i (inputs.NodeInput.Interrupt source occurrence) k e = tt
 came_is i (inputs.NodeInput.Tick now) k e = tt
 came_is i (inputs.NodeInput.Report first) k e = tt
+came_is i (inputs.NodeInput.Ask to) k e = tt
 
 -- ---- deeds
 

@@ -54,6 +54,7 @@ CameFrom packets (inputs.NodeInput.LeadRange first count) = Unit {0}
 CameFrom packets (inputs.NodeInput.Interrupt source occurrence) = Unit {0}
 CameFrom packets (inputs.NodeInput.Tick now) = Unit {0}
 CameFrom packets (inputs.NodeInput.Report first) = Unit {0}
+CameFrom packets (inputs.NodeInput.Ask to) = Unit {0}
 
 abbrev rest_of : List ℕ → List ℕ
 rest_of [] = []
@@ -74,6 +75,7 @@ came packets (inputs.NodeInput.LeadRange first count) none packet is = absurd (l
 came packets (inputs.NodeInput.Interrupt source occurrence) none packet is = absurd (let e : 3 ≡ 1 = ap first_of is in omega (arith, e))
 came packets (inputs.NodeInput.Tick now) none packet is = absurd (let e : 4 ≡ 1 = ap first_of is in omega (arith, e))
 came packets (inputs.NodeInput.Report first) none packet is = absurd (let e : 5 ≡ 1 = ap first_of is in omega (arith, e))
+came packets (inputs.NodeInput.Ask to) none packet is = absurd (let e : 7 ≡ 1 = ap first_of is in omega (arith, e))
 
 -- ---- nodes
 

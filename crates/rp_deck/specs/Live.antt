@@ -4,7 +4,7 @@ use Rattle.rp_model.specs.declared.event.Event.{Event}
 use Rattle.rp_model.specs.declared.event.Event.TheVariants.{Submit, Again, Node, Cut, Stop, Restart}
 use Rattle.rp_model.specs.declared.event.Step.{Step}
 use Rattle.rp_model.specs.declared.event.Step.TheVariants.{Deliver, Lead, LeadRange, Interrupt}
-use Rattle.rp_model.specs.declared.event.Step.TheVariants.{Tick, Report}
+use Rattle.rp_model.specs.declared.event.Step.TheVariants.{Tick, Report, Ask}
 use Rattle.rp_deck.specs.declared.deck.Command.{Command}
 use Rattle.rp_deck.specs.declared.deck.Command.TheVariants.{Take, Lose, Drain, Show}
 use Rattle.rp_deck.specs.declared.deck.Deck.{Deck}
@@ -19,6 +19,7 @@ IsLiveStep (LeadRange node first count) = ⊥
 IsLiveStep (Interrupt node interrupt) = Unit {0}
 IsLiveStep (Tick node now) = Unit {0}
 IsLiveStep (Report node first) = ⊥
+IsLiveStep (Ask node to) = ⊥
 
 -- a call of a task, or an interrupt or a tick at a node
 abbrev pub IsLiveEvent : Event → Type 0

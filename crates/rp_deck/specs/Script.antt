@@ -8,7 +8,7 @@ use Rattle.rp_model.specs.declared.event.Event.{Event}
 use Rattle.rp_model.specs.declared.event.Event.TheVariants.{Submit, Again, Node, Cut, Stop, Restart}
 use Rattle.rp_model.specs.declared.event.Step.{Step}
 use Rattle.rp_model.specs.declared.event.Step.TheVariants.{Deliver, Lead, LeadRange, Interrupt}
-use Rattle.rp_model.specs.declared.event.Step.TheVariants.{Tick, Report}
+use Rattle.rp_model.specs.declared.event.Step.TheVariants.{Tick, Report, Ask}
 use Rattle.rp_deck.specs.declared.deck.Command.{Command}
 use Rattle.rp_deck.specs.declared.deck.Command.TheVariants.{Take, Lose, Drain, Show}
 use Rattle.rp_deck_declarations.specs.declared.deck_program.DeckProgram.{DeckProgram}
@@ -32,6 +32,7 @@ IsStepWithin nodes (LeadRange node first count) = IsUpTo nodes node × IsUpTo 64
 IsStepWithin nodes (Interrupt node interrupt) = IsUpTo nodes node
 IsStepWithin nodes (Tick node now) = IsUpTo nodes node
 IsStepWithin nodes (Report node first) = IsUpTo nodes node
+IsStepWithin nodes (Ask node to) = ⊥
 
 -- an event names nodes, tasks and objects of n
 abbrev pub IsEventWithin : ℕ → ℕ → ℕ → Event → Type 0
@@ -65,6 +66,7 @@ IsStepDeclared interrupts (LeadRange node first count) = Unit {0}
 IsStepDeclared interrupts (Interrupt node interrupt) = IsUpTo interrupts interrupt.source
 IsStepDeclared interrupts (Tick node now) = Unit {0}
 IsStepDeclared interrupts (Report node first) = Unit {0}
+IsStepDeclared interrupts (Ask node to) = ⊥
 
 -- an event calls what the program has, and notes one of its n interrupts
 abbrev pub IsEventDeclared : DeckProgram → ℕ → Event → Type 0

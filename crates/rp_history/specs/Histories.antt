@@ -27,7 +27,7 @@ use Rattle.rp_model.specs.declared.event.Event.TheVariants.{Submit, Again, Node 
 use Rattle.rp_model.specs.declared.event.Event.TheVariants.{Stop, Restart}
 use Rattle.rp_model.specs.declared.event.Step.{Step}
 use Rattle.rp_model.specs.declared.event.Step.TheVariants.{Deliver, Lead, LeadRange, Interrupt}
-use Rattle.rp_model.specs.declared.event.Step.TheVariants.{Tick, Report}
+use Rattle.rp_model.specs.declared.event.Step.TheVariants.{Tick, Report, Ask}
 use Rattle.rp_history.specs.Views.{is_part, is_within, sending_of}
 use Rattle.rp_history.specs.declared.stage.Stage.{Stage}
 
@@ -41,6 +41,7 @@ delivered_in (LeadRange node first count) = None
 delivered_in (Interrupt node interrupt) = None
 delivered_in (Tick node now) = None
 delivered_in (Report node first) = None
+delivered_in (Ask node to) = None
 
 -- the message that an event delivers, whole or cut
 abbrev pub delivered_by : Event → Option ℕ

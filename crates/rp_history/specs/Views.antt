@@ -137,6 +137,7 @@ actor_in (steps.LeadRange node first count) receiver = Some (Node node)
 actor_in (steps.Interrupt node interrupt) receiver = Some (Node node)
 actor_in (steps.Tick node now) receiver = Some (Node node)
 actor_in (steps.Report node first) receiver = Some (Node node)
+actor_in (steps.Ask node to) receiver = Some (Node node)
 
 -- who acts in an event
 abbrev pub actor_of : Event → Option Party → Option Party

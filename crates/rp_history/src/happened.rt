@@ -59,7 +59,8 @@ pub fn actor_of(event: &Event, receiver: Option<Party>) -> Option<Party>
             | Step::LeadRange { node, .. }
             | Step::Interrupt { node, .. }
             | Step::Tick { node, .. }
-            | Step::Report { node, .. } => Some(Party::Node(node)),
+            | Step::Report { node, .. }
+            | Step::Ask { node, .. } => Some(Party::Node(node)),
         },
     }
 }

@@ -117,6 +117,7 @@ module _ {S : Type 0} (config : Config) (next : S → Action → S) (answers : S
       (alike.kept applied)
   plan_alike (NodeInput.Tick now) = refl
   plan_alike (NodeInput.Report first) = refl
+  plan_alike (NodeInput.Ask to) = refl
 
   -- ---- and a plan does the same
 
@@ -154,6 +155,7 @@ module _ {S : Type 0} (config : Config) (next : S → Action → S) (answers : S
   turn_alike (plans.Learn i v) = learns_alike i v (says_to_others config.nodes me (bodies.Decided i v)) []
   turn_alike (plans.Follow from i v) = learns_alike i v [] (asks_for me from (missing_position (records ++ Learned i v ∷ [])))
   turn_alike (plans.Report first) = refl
+  turn_alike (plans.AskMissing to) = refl
 
   turned_alike : (found : Result Plan Fault) → turn_if here found ≡ turn_if there found
   turned_alike (Ok plan) = ap (λ (turn : Turn). (let r : Result Turn Fault = Ok turn in r)) (turn_alike plan)

@@ -5,7 +5,7 @@ use Rattle.rp_model.specs.declared.event.Event.{Event}
 use Rattle.rp_model.specs.declared.event.Event.TheVariants.{Submit, Again, Node, Cut, Stop, Restart}
 use Rattle.rp_model.specs.declared.event.Step.{Step}
 use Rattle.rp_model.specs.declared.event.Step.TheVariants.{Deliver, Lead, LeadRange, Interrupt}
-use Rattle.rp_model.specs.declared.event.Step.TheVariants.{Tick, Report}
+use Rattle.rp_model.specs.declared.event.Step.TheVariants.{Tick, Report, Ask}
 use Rattle.rp_threads.specs.declared.tasks.TaskCall.{TaskCall}
 
 -- one of n nodes notes an interrupt or a tick
@@ -16,6 +16,7 @@ IsNoting nodes (LeadRange node first count) = ⊥
 IsNoting nodes (Interrupt node interrupt) = node ≤ nodes
 IsNoting nodes (Tick node now) = node ≤ nodes
 IsNoting nodes (Report node first) = ⊥
+IsNoting nodes (Ask node to) = ⊥
 
 -- a task makes a call and asks one of n nodes, or one of them notes an interrupt or a tick
 abbrev pub IsLive : ℕ → Event → Type 0

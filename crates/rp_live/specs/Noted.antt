@@ -6,7 +6,7 @@ use Rattle.rp_model.specs.declared.event.Event.{Event}
 use Rattle.rp_model.specs.declared.event.Event.TheVariants.{Submit, Again, Node, Cut, Stop, Restart}
 use Rattle.rp_model.specs.declared.event.Step.{Step}
 use Rattle.rp_model.specs.declared.event.Step.TheVariants.{Deliver, Lead, LeadRange, Interrupt}
-use Rattle.rp_model.specs.declared.event.Step.TheVariants.{Tick, Report}
+use Rattle.rp_model.specs.declared.event.Step.TheVariants.{Tick, Report, Ask}
 use Rattle.rp_rules.specs.declared.input.Input.{Input}
 use Rattle.rp_rules.specs.declared.input.Input.TheVariants as inputs
 use Rattle.rp_boxes.specs.Seats.{SeatState}
@@ -22,6 +22,7 @@ noted_in (Interrupt node interrupt) =
     Some (node, inputs.Interrupt interrupt.source interrupt.occurrence)
 noted_in (Tick node now) = Some (node, inputs.Tick now)
 noted_in (Report node first) = None
+noted_in (Ask node to) = None
 
 -- the same of an event
 abbrev pub noted_by : Event → Option (ℕ × Input)

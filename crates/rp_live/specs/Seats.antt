@@ -10,7 +10,7 @@ use Rattle.rp_boxes.specs.Audits.{known_of}
 use Rattle.rp_boxes.specs.Seats.{SeatState, HasApplied, IsReport}
 use Rattle.rp_rules.specs.declared.input.Input.{Input}
 use Rattle.rp_rules.specs.declared.input.Input.TheVariants.{Receive, Lead, LeadRange, Interrupt}
-use Rattle.rp_rules.specs.declared.input.Input.TheVariants.{Tick, Report}
+use Rattle.rp_rules.specs.declared.input.Input.TheVariants.{Tick, Report, Ask}
 use Rattle.rp_replica.specs.declared.sent.Sent.{Sent}
 use Rattle.rp_threads.specs.Loops.{IsSameSeat}
 use Rattle.rp_threads.specs.Rounds.{IsNodeFault, Runs}
@@ -25,6 +25,7 @@ IsNote (LeadRange range) = ⊥
 IsNote (Interrupt source occurrence) = IsIndex source × IsCount occurrence
 IsNote (Tick now) = Unit {0}
 IsNote (Report first) = ⊥
+IsNote (Ask to) = ⊥
 
 -- the end of a node's loop that began at a node that ran
 abbrev pub HasRunFrom : {M D P : Type 0} → SeatState P → NodeEnd M D P → Type 0

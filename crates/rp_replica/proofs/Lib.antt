@@ -1,3 +1,4 @@
+pub mod Asking
 pub mod Planned
 pub mod Keeping
 pub mod Sending

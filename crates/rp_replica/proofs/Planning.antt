@@ -10,7 +10,7 @@ use Rattle.rp_base.specs.declared.record.Rec.{Rec}
 use Rattle.rp_base.specs.declared.reply.Answer.{Answer}
 use Rattle.rp_model.specs.Parts.{Turn}
 use Rattle.rp_model.specs.declared.plan.Plan.{Plan}
-use Rattle.rp_model.specs.declared.plan.Plan.TheVariants.{Pass, Promise, PromiseRange, Vote, Repeat, Refuse, Inform, Answer as Reply, Await, Lead, LeadRange, OfferPrepared, CountPromise, CountRangePromise, Offer, Yield, CountVote, Learn, Follow, Report}
+use Rattle.rp_model.specs.declared.plan.Plan.TheVariants.{Pass, Promise, PromiseRange, Vote, Repeat, Refuse, Inform, Answer as Reply, Await, Lead, LeadRange, OfferPrepared, CountPromise, CountRangePromise, Offer, Yield, CountVote, Learn, Follow, Report, AskMissing}
 use Rattle.rp_replica.specs.State.{ReplicaState, server_of}
 use Rattle.rp_rules.specs.Inputs.{Refuses}
 use Rattle.rp_model.specs.Plans.{written_by, dropped_by}
@@ -43,6 +43,7 @@ module _ {S : Type 0} (next : S → Action → S) (answers : S → Action → Li
   plan_is (Learn i v) = (refl, refl)
   plan_is (Follow from i v) = (refl, refl)
   plan_is (Report first) = (refl, refl)
+  plan_is (AskMissing to) = (refl, refl)
 
   -- a plan that is not committed
   pub stops_plan : (effect : Result Turn Fault) (plan : Plan) (new : ReplicaState S) (fault : Fault) → Ok (turn_of next answers (server_of replica) plan) ≡ effect

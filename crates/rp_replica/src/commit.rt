@@ -206,6 +206,7 @@ impl<M: Machine, D: Device> Replica<M, D> {
             }
             Plan::Answer(task, number, reply) => self.answer(out, task, number, reply),
             Plan::Report(first) => self.report_applied(alloc, out, first),
+            Plan::AskMissing(to) => self.ask_missing(out, to),
             _ => Ok(()),
         }
     }

@@ -8,6 +8,7 @@
 //! - `commit`: a plan, committed: it is written, takes effect and is sent
 //! - `range_promise`, `proposal`, `decisions`, `report`: a promise for a range, plans of a leader,
 //!   of a learner and for the audit, committed
+//! - `missing`: questions for what is missing, committed
 //! - `cut`: a node that stops within a step
 //! - `sent`: what a step sends
 //! - `infallible`: what a replica's device holds
@@ -20,6 +21,7 @@ mod decisions;
 mod delivery;
 mod infallible;
 mod laws;
+mod missing;
 mod opening;
 mod proposal;
 mod range_promise;

@@ -17,7 +17,7 @@ use Rattle.rp_model.specs.declared.plan.Plan.{Plan}
 use Rattle.rp_model.specs.Effect as nodes
 use Rattle.rp_rules.specs.declared.input.Input.{Input}
 use Rattle.rp_rules.specs.declared.input.Input.TheVariants.{Receive, Lead, LeadRange, Interrupt}
-use Rattle.rp_rules.specs.declared.input.Input.TheVariants.{Tick, Report}
+use Rattle.rp_rules.specs.declared.input.Input.TheVariants.{Tick, Report, Ask}
 use Rattle.rp_server.specs.State.{ServerState}
 
 -- an interrupt's source is 1 to 8, and its occurrence from 1
@@ -39,6 +39,7 @@ given_by (LeadRange range) = Ok (nodes.NodeInput.LeadRange range.first range.cou
 given_by (Interrupt source occurrence) = Ok (nodes.NodeInput.Interrupt source occurrence)
 given_by (Tick now) = Ok (nodes.NodeInput.Tick now)
 given_by (Report first) = Ok (nodes.NodeInput.Report first)
+given_by (Ask to) = Ok (nodes.NodeInput.Ask to)
 
 module _ {S : Type 0} (next : S → Action → S) (answers : S → Action → List Answer)
     (server : ServerState S) where

@@ -1,6 +1,6 @@
 //! What a node may be given.
 
-use rp_base::{Position, PositionRange};
+use rp_base::{NodeId, Position, PositionRange};
 
 /// What a node may be given: one of these makes one step.
 #[derive(Clone, Copy, Debug)]
@@ -19,4 +19,6 @@ pub enum Input<'a> {
     /// A request for a report to the audit, of the actions applied at the positions from this one
     /// on.
     Report(Position),
+    /// The command to ask another node for each position that is missing in the window.
+    Ask(NodeId),
 }

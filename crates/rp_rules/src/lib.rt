@@ -12,6 +12,7 @@
 //! - `lead`: the command to lead at a position, or at the least free one
 //! - `ranges`: the command to lead at a range
 //! - `learner`: votes, decisions and questions for decisions
+//! - `missing`: the command to ask another node for what is missing
 //! - `arrivals`: calls, interrupts and ticks
 #![tactic(auto)]
 
@@ -21,6 +22,7 @@ mod input;
 mod lead;
 mod leader;
 mod learner;
+mod missing;
 mod packets;
 mod ranges;
 mod rules;

@@ -7,6 +7,7 @@ ghost use Rattle.rp_rules.specs.Plans.{MayCommit};
 use crate::arrivals::{on_interrupt, on_tick};
 use crate::input::Input;
 use crate::lead::on_lead;
+use crate::missing::on_ask_missing;
 use crate::ranges::on_lead_range;
 use crate::texts::on_text;
 use rp_base::Fault;
@@ -16,9 +17,9 @@ use rp_server::Server;
 use std::alloc::Global;
 
 /// What the step of an input does, or why there is no step: `BadPacket` if the bytes are no
-/// packet's text, `BallotsSpent` or `LogFull` if the node cannot lead, or `OutOfMemory` if a report
-/// or a promise for a range is read. It reads the server alone, and writes the plan to `plan`, so
-/// that none is copied.
+/// packet's text, `BallotsSpent` or `LogFull` if the node cannot lead, `BadConfig` if it is to ask
+/// itself or no node, or `OutOfMemory` if a report or a promise for a range is read. It reads the
+/// server alone, and writes the plan to `plan`, so that none is copied.
 #[inline(always)]
 pub fn decide<M: Machine>(
     server: &Server<M>,
@@ -41,6 +42,7 @@ pub fn decide<M: Machine>(
         }
         Input::Tick { now } => on_tick(server, now, plan),
         Input::Report(first) => *plan = Plan::Report(first),
+        Input::Ask(to) => *plan = on_ask_missing(server, to)?,
     }
     Ok(())
 }

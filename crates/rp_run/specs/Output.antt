@@ -20,7 +20,7 @@ use Rattle.rp_model.specs.declared.event.Event.{Event}
 use Rattle.rp_model.specs.declared.event.Event.TheVariants.{Submit, Again, Node, Cut, Stop, Restart}
 use Rattle.rp_model.specs.declared.event.Step.{Step}
 use Rattle.rp_model.specs.declared.event.Step.TheVariants.{Deliver, Lead, LeadRange, Interrupt}
-use Rattle.rp_model.specs.declared.event.Step.TheVariants.{Tick, Report}
+use Rattle.rp_model.specs.declared.event.Step.TheVariants.{Tick, Report, Ask}
 use Rattle.rp_model.specs.Parts.{NodePart, Running}
 use Rattle.rp_model.specs.Effect.{Setting}
 use Rattle.rp_model.specs.Events.{event_of}
@@ -96,6 +96,7 @@ delivered_by (LeadRange node first count) = []
 delivered_by (Interrupt node interrupt) = []
 delivered_by (Tick node now) = []
 delivered_by (Report node first) = []
+delivered_by (Ask node to) = []
 
 -- the messages that an event settles if it happens
 abbrev pub settled_by : Event → List ℕ
@@ -195,6 +196,7 @@ node_of_step sent (LeadRange node first count) = Some node
 node_of_step sent (Interrupt node interrupt) = Some node
 node_of_step sent (Tick node now) = Some node
 node_of_step sent (Report node first) = Some node
+node_of_step sent (Ask node to) = Some node
 
 -- the node that takes an event
 abbrev pub node_of_event : List Message → Event → Option ℕ

@@ -251,7 +251,8 @@ fn node_of_step<M: Machine, D: CutDevice>(
         | Step::LeadRange { node, .. }
         | Step::Interrupt { node, .. }
         | Step::Tick { node, .. }
-        | Step::Report { node, .. } => Ok(Some(node)),
+        | Step::Report { node, .. }
+        | Step::Ask { node, .. } => Ok(Some(node)),
     }
 }
 

@@ -31,6 +31,7 @@ fn delivered_by(step: Step) -> Option<u64>
         | Step::LeadRange { .. }
         | Step::Interrupt { .. }
         | Step::Tick { .. }
-        | Step::Report { .. } => None,
+        | Step::Report { .. }
+        | Step::Ask { .. } => None,
     }
 }

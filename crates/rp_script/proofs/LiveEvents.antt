@@ -6,7 +6,7 @@ use Rattle.std.proofs.lemmas.List.Elements.{All-nil, All-cons}
 use Rattle.rp_model.specs.declared.event.Event.{Event}
 use Rattle.rp_model.specs.declared.event.Event.TheVariants.{Submit, Again, Node, Cut, Stop, Restart}
 use Rattle.rp_model.specs.declared.event.Step.{Step}
-use Rattle.rp_model.specs.declared.event.Step.TheVariants.{Deliver, Lead, LeadRange, Interrupt, Tick, Report}
+use Rattle.rp_model.specs.declared.event.Step.TheVariants.{Deliver, Lead, LeadRange, Interrupt, Tick, Report, Ask}
 use Rattle.rp_live.specs.Events.{IsLive, IsNoting}
 use Rattle.rp_deck.specs.Live.{IsLiveCommand, IsLiveEvent, IsLiveStep}
 use Rattle.rp_deck.specs.Script.{FitsIn, IsEventWithin, IsStepWithin}
@@ -23,6 +23,7 @@ module _ (nodes tasks objects : ℕ) where
   noting (Interrupt node interrupt) within live = within.1
   noting (Tick node now) within live = within.1
   noting (Report node first) within live = absurd live
+  noting (Ask node to) within live = absurd live
 
   live_event : (event : Event) → IsEventWithin nodes tasks objects event → IsLiveEvent event → IsLive nodes event
   live_event (Submit task node object operation arg) within live = within.1.1

@@ -1,14 +1,36 @@
-//! The learner's window, which begins at the first unlearned position of the log.
+//! The window of a server, which begins at the first unlearned position of the log, and that of its
+//! learner, which follows.
 
-ghost use Rattle.std.specs.Prelude.{◌≡◌, ◌≢◌, ℕ, ◌+◌, ◌<◌, ◌≤◌, ◌^◌, None, is_some, false};
+ghost use Rattle.std.specs.Prelude.{◌≡◌, ◌≢◌, ℕ, ◌+◌, ◌<◌, ◌≤◌, ◌^◌, None, IfSome, IfNone, is_some, false};
 ghost use Rattle.rp_base.specs.Number.{window};
 ghost use Rattle.rp_learner.specs.Places.{is_marked};
 ghost use Rattle.rp_log.specs.Contents.{action_at, next_to_take};
+ghost use Rattle.rp_model.specs.Learner.{window_of};
 ghost use Rattle.rp_server.specs.Invariant.{IsSettledAlike, Follows};
 
-use rp_base::{Position, WINDOW};
+use crate::server::Server;
+use rp_base::{Position, PositionRange, WINDOW};
 use rp_learner::Learner;
 use rp_log::Log;
+use rp_machine::Machine;
+
+impl<M: Machine> Server<M> {
+    /// The positions of its window: 64 from the first unlearned one on, or as many as the log has
+    /// there. There is none once every position is applied.
+    pub fn window(&self) -> Option<PositionRange>
+        ensures some { IfSome result (λ range.
+            range ≡ window_of self.now.config.max_positions self.now.records) }
+        ensures none { IfNone result
+            ((window_of self.now.config.max_positions self.now.records).count ≡ 0) }
+    {
+        let first = self.log.next_unlearned();
+        let end = (first + WINDOW).min(u32::from(self.config.max_positions) + 1);
+        if end <= first {
+            return None;
+        }
+        PositionRange::new(position_at(first), (end - first) as u8).ok()
+    }
+}
 
 /// The bits, in which this one is clear, with it set or not.
 pub(crate) fn with_bit(bits: u64, offset: u32, is_set: bool) -> u64

@@ -9,7 +9,7 @@ use Rattle.rp_base.specs.declared.fault.Fault.{Fault}
 use Rattle.rp_base.specs.declared.fault.Fault.TheVariants.{BallotsSpent, Failed, LogFull, OutOfMemory}
 use Rattle.rp_codec.specs.Message.{Message}
 use Rattle.rp_codec.specs.Reading.{all_of}
-use Rattle.rp_model.specs.Effect.{Setting, Done, NodeInput, Receive, Lead, LeadRange, turn_done_if, effect_while, running_effect}
+use Rattle.rp_model.specs.Effect.{Setting, Done, NodeInput, Receive, Lead, LeadRange, Ask, turn_done_if, effect_while, running_effect}
 use Rattle.rp_model.specs.Effect.{plan_of, turn_if}
 use Rattle.rp_model.specs.Node.{RunningNode, running_node}
 use Rattle.rp_model.specs.declared.plan.Plan.{Plan}
@@ -23,9 +23,10 @@ use Rattle.rp_boxes.specs.Seats.{IsReason}
 use Rattle.rp_threads.specs.Loops.{is_refusal}
 use Rattle.rp_threads.specs.Turns.{IsReceipt}
 
--- no range is to be led
+-- no range is to be led, and no node to be asked
 abbrev pub IsNoRange : NodeInput → Type 0
 IsNoRange (LeadRange first count) = ⊥
+IsNoRange (Ask to) = ⊥
 IsNoRange _ = Unit {0}
 
 abbrev pub GivesNoRange : Input → Type 0
@@ -55,7 +56,7 @@ module _ {S : Type 0} (s : Setting S) (me : ℕ) (node : NodePart) where
   running_refused input running fault none is =
       let known = running_node s me node.records running in
       planned_refused known (plan_of known input) fault
-      (plan_refused known input (λ f. is_refusal f ≡ true) refl refl (λ first count same. absurd (subst IsNoRange same none))) is
+      (plan_refused known input (λ f. is_refusal f ≡ true) refl refl (λ to same. absurd (subst IsNoRange same none)) (λ first count same. absurd (subst IsNoRange same none))) is
 
   refused_by : (input : NodeInput) (running : Running) (effect : Result (Done NodePart) Fault) (fault : Fault) → IsNoRange input → effect_while s me node input (Some running) ≡ effect
       → IsReason (Some running) effect fault → (fault ≡ OutOfMemory) ⊎ (is_refusal fault ≡ true)

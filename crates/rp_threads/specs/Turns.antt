@@ -13,7 +13,7 @@ use Rattle.rp_codec.specs.declared.packet.Party.TheVariants.{Node}
 use Rattle.rp_outbox.specs.Packets.{texts_of}
 use Rattle.rp_rules.specs.declared.input.Input.{Input}
 use Rattle.rp_rules.specs.declared.input.Input.TheVariants.{Receive, Lead, LeadRange, Interrupt}
-use Rattle.rp_rules.specs.declared.input.Input.TheVariants.{Tick, Report}
+use Rattle.rp_rules.specs.declared.input.Input.TheVariants.{Tick, Report, Ask}
 use Rattle.rp_replica.specs.declared.sent.Sent.{Sent}
 use Rattle.rp_tasks.specs.Line.{Line}
 use Rattle.rp_boxes.specs.Moments.{WasPut, WasInUse, WasNotFull}
@@ -69,6 +69,7 @@ IsReceipt text (LeadRange range) = ⊥
 IsReceipt text (Interrupt source occurrence) = ⊥
 IsReceipt text (Tick now) = ⊥
 IsReceipt text (Report first) = ⊥
+IsReceipt text (Ask to) = ⊥
 
 -- the input is the command to lead at the least position that is free for it
 abbrev pub IsLead : Input → Type 0

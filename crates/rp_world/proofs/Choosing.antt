@@ -13,23 +13,24 @@ use Rattle.rp_codec.specs.declared.packet.Party.{Party}
 use Rattle.rp_codec.specs.declared.packet.Party.TheVariants.{Node, Task, Audit}
 use Rattle.rp_model.specs.Effect as nodes
 use Rattle.rp_model.specs.Effect.{Setting, NodeInput, node_effect, effect_while, turn_done_if, cut_if}
-use Rattle.rp_model.specs.declared.event.Step.{Step as Taken}
-use Rattle.rp_model.specs.Events.{Deliver, LeadRange, step_of}
+use Rattle.rp_model.specs.Events.{Step, Deliver, Lead, LeadRange, Interrupt, Tick, Report, Ask}
 use Rattle.rp_model.specs.Effect.{turn_if}
 use Rattle.rp_model.specs.Leader.{on_lead_range}
 use Rattle.rp_model.specs.Node.{running_node}
-use Rattle.rp_model.specs.Parts.{NodePart, Running}
-use Rattle.rp_model.specs.World.{World, part_at, cut_step, node_named, receiver_of, node_takes, node_done_if, node_is_cut, hearing_is_cut, arrival_is_cut, delivery_is_cut, arrival_writes, delivery_writes, node_writes, step_writes, stepping}
-use Rattle.rp_rules.specs.Inputs.{given_by}
+use Rattle.rp_model.specs.Parts.{NodePart, TaskPart, Running}
+use Rattle.rp_model.specs.World.{World, part_at, commanded, reaches_task, reaches, delivers, chosen, node_chosen, chosen_effect, chosen_cut, chosen_record, cut_step, stepping, node_done_if}
+use Rattle.rp_rules.specs.Inputs.{IsLong, IsRightInput, given_by}
 use Rattle.rp_rules.specs.declared.input.Input.{Input}
 use Rattle.rp_rules.specs.declared.input.Input.TheVariants as inputs
 use Rattle.rp_store.specs.Disk.{Disk}
-use Rattle.rp_world.specs.Choosing.{AreNodesOf, IsOf, IsOfNone, IsRefused}
+use Rattle.rp_world.specs.Choosing.{AreNodesOf, Commands, IsOf, IsOfNone, IsRefused}
 use Rattle.rp_world.specs.Nodes.{Represents, member_of}
 use Rattle.rp_world.specs.Shape.{part_by}
 use Rattle.rp_world.specs.declared.node.Node.{Node as OneNode}
 use Rattle.rp_world.proofs.Fields.{Fields, IsKept, as_seen, world}
+use Rattle.rp_world.proofs.Hearing.{cut_by_none, cut_heard, heard_record, heard_stepping}
 use Rattle.rp_world.proofs.Moving.{no_node, part_here, represents_here}
+use Rattle.rp_world.proofs.Messages.{SentTo}
 use Rattle.rp_world.proofs.Placing.{Found}
 
 there_is : {A : Type 0} (xs : List A) (i : ℕ) → i < length xs → (x : A) × (slice_get xs i ≡ Some x)
@@ -51,52 +52,77 @@ no_text None is = refl
 no_text (Some m) is = absurd cc
 
 -- the node of this number is to make a step that is no delivery
-module _ {S : Type 0} (s : Setting S) (w : World) {step taken : Taken} {node : ℕ × Input} {me : ℕ} {input : Input} (step_is : step ≡ taken) (node_is : node ≡ (me, input)) (given : NodeInput)
-    (cut : (kept : ℕ) → cut_step s w (step_of taken) kept ≡ node_is_cut s w me given kept (part_at w.nodes me)) where
+module _ {S : Type 0} (s : Setting S) (w : World) {step : Step} {me : ℕ} {input : Input} (told : Commands step me input) where
+  cut_so : (kept : ℕ) → cut_step s w step kept ≡ chosen_cut s w kept (commanded me told.given (part_at w.nodes me))
+  cut_so kept = ap (chosen_cut s w kept) (told.chosen w)
+
   -- there is none
-  pub none_chosen : length w.nodes < node.0 → IsOfNone s w (step_of step) BadConfig
-  none_chosen past =
-      let none = part_past w.nodes me (subst (λ (pair : ℕ × Input). length w.nodes < pair.0) node_is past) in
-      subst (λ (x : Taken). IsOfNone s w (step_of x) BadConfig) (sym step_is)
-      (record { cut = λ kept. cut kept ∙ ap (node_is_cut s w me given kept) none; reason = λ same. cc })
+  pub none_chosen : length w.nodes < me → IsOfNone s w step BadConfig
+  none_chosen past = record { cut = λ kept. cut_so kept ∙ ap (λ o. chosen_cut s w kept (commanded me told.given o)) (part_past w.nodes me past); reason = λ same. cc }
+
+  whose : (o : Option NodePart) → node_chosen (commanded me told.given o) ≡ Some me
+  whose None = refl
+  whose (Some part) = refl
+
+  pub its_node : stepping w step ≡ Some me
+  its_node = ap node_chosen (told.chosen w) ∙ whose (part_at w.nodes me)
 
   -- it is one of these
-  pub one_chosen : given_by input ≡ Ok given → step_writes s w (step_of taken) ≡ node_writes s me given (part_at w.nodes me) → stepping w (step_of taken) ≡ Some me → node.0 ≤ length w.nodes
-      → IsOf s w (step_of step) node.0 node.1
-  one_chosen gives writes its_node within =
-      subst (λ (pair : ℕ × Input). IsOf s w (step_of step) pair.0 pair.1) (sym node_is)
-      (subst (λ (x : Taken). IsOf s w (step_of x) me input) (sym step_is)
-      (record {
-        given = given;
-        gives = gives;
-        within = subst (λ (pair : ℕ × Input). pair.0 ≤ length w.nodes) node_is within;
-        cut = cut;
-        writes = writes;
-        node = its_node;
-      }))
+  pub one_chosen : me ≤ length w.nodes → IsOf s w step me input
+  one_chosen within = record {
+    given = told.given;
+    gives = told.gives;
+    within = within;
+    cut = cut_so;
+    writes = ap (chosen_record s) (told.chosen w);
+    node = its_node;
+  }
+
+-- the commands
+pub leads : (me : ℕ) (choice : Option ℕ) → Commands (Lead me choice) me (inputs.Lead choice)
+leads me choice = record { right = tt; short = λ long. long; given = nodes.Lead choice; gives = refl; chosen = λ w. refl }
+
+pub leads_range : (me first count : ℕ) (range : Range) → given_by (inputs.LeadRange range) ≡ Ok (nodes.LeadRange first count) → Commands (LeadRange me first count) me (inputs.LeadRange range)
+leads_range me first count range gives = record { right = tt; short = λ long. long; given = nodes.LeadRange first count; gives = gives; chosen = λ w. refl }
+
+pub interrupts : (me source occurrence : ℕ) (input : Input) → IsRightInput input → (¬ IsLong input) → given_by input ≡ Ok (nodes.Interrupt source occurrence) → Commands (Interrupt me source occurrence) me input
+interrupts me source occurrence input right short gives = record { right = right; short = short; given = nodes.Interrupt source occurrence; gives = gives; chosen = λ w. refl }
+
+pub ticks : (me now : ℕ) → Commands (Tick me now) me (inputs.Tick now)
+ticks me now = record { right = tt; short = λ long. long; given = nodes.Tick now; gives = refl; chosen = λ w. refl }
+
+pub reports : (me first : ℕ) → Commands (Report me first) me (inputs.Report first)
+reports me first = record { right = tt; short = λ long. long; given = nodes.Report first; gives = refl; chosen = λ w. refl }
+
+pub asks : (me to : ℕ) → Commands (Ask me to) me (inputs.Ask to)
+asks me to = record { right = tt; short = λ long. long; given = nodes.Ask to; gives = refl; chosen = λ w. refl }
 
 module _ {S : Type 0} (s : Setting S) (w : World) (number : ℕ) where
   -- there is no such message
   pub no_message : part_at w.sent number ≡ None → IsOfNone s w (Deliver number) NoSuchMessage
-  no_message none = record { cut = λ kept. ap (λ o. delivery_is_cut s w o kept) none; reason = λ same. cc }
+  no_message none = record { cut = λ kept. ap (λ o. chosen_cut s w kept (delivers w o)) none; reason = λ same. cc }
 
   module _ (m : Message) (sent : part_at w.sent number ≡ Some m) where
-    cut_by : (party : Party) → party ≡ m.to → (kept : ℕ) → delivery_is_cut s w (part_at w.sent number) kept ≡ arrival_is_cut s w m party kept
-    cut_by party to kept = ap (λ o. delivery_is_cut s w o kept) sent ∙ ap (λ (p : Party). arrival_is_cut s w m p kept) (sym to)
+    reached : (party : Party) → party ≡ m.to → chosen w (Deliver number) ≡ reaches w m party
+    reached party to = ap (delivers w) sent ∙ ap (reaches w m) (sym to)
+
+    cut_by_task : (kept task : ℕ) (o : Option TaskPart) → chosen_cut s w kept (reaches_task task m o) ≡ Err NotRunning
+    cut_by_task kept task None = refl
+    cut_by_task kept task (Some part) = refl
 
     -- it is for no node
     pub for_no_node : (party : Party) → party ≡ m.to → ((me : ℕ) → party ≡ Node me → ⊥) → IsOfNone s w (Deliver number) NotRunning
     for_no_node (Node me) to none = absurd (none me refl)
-    for_no_node (Task task) to none = record { cut = cut_by (Task task) to; reason = λ same. cc }
-    for_no_node Audit to none = record { cut = cut_by Audit to; reason = λ same. cc }
+    for_no_node (Task task) to none = record { cut = λ kept. ap (chosen_cut s w kept) (reached (Task task) to) ∙ cut_by_task kept task (part_at w.tasks task); reason = λ same. cc }
+    for_no_node Audit to none = record { cut = λ kept. ap (chosen_cut s w kept) (reached Audit to); reason = λ same. cc }
 
     module _ (me : ℕ) (to : (let p : Party = Node me in p ≡ m.to)) where
+      abbrev it_is_sent : SentTo w.sent number (Node me)
+      it_is_sent = record { packet = m; found = sent; is_to = sym to }
+
       -- it is for a node that is none of these
       pub past_all : length w.nodes < me → IsOfNone s w (Deliver number) NotRunning
-      past_all past = record {
-        cut = λ kept. cut_by (Node me) to kept ∙ ap (λ o. hearing_is_cut s w m me o kept) (part_past w.nodes me past);
-        reason = λ same. cc;
-      }
+      past_all past = record { cut = cut_by_none s w it_is_sent (part_past w.nodes me past); reason = λ same. cc }
 
       -- or for one of them
       pub delivered : (input : Input) → given_by input ≡ (let r = Ok (nodes.Receive m) in r) → 1 ≤ me → me ≤ length w.nodes → IsOf s w (Deliver number) me input
@@ -107,9 +133,9 @@ module _ {S : Type 0} (s : Setting S) (w : World) (number : ℕ) where
             given = given;
             gives = gives;
             within = within;
-            cut = λ kept. cut_by (Node me) to kept ∙ ap (λ o. hearing_is_cut s w m me o kept) part.1 ∙ sym (ap (node_is_cut s w me given kept) part.1);
-            writes = ap (delivery_writes s w) sent ∙ ap (arrival_writes s w m) (sym to);
-            node = ap receiver_of sent ∙ ap node_named (sym to);
+            cut = λ kept. cut_heard s w it_is_sent part.0 part.1 kept ∙ sym (ap (λ o. chosen_cut s w kept (commanded me given o)) part.1);
+            writes = heard_record s w it_is_sent;
+            node = heard_stepping s w it_is_sent;
           }
 
 -- ---- the nodes of a world
@@ -179,15 +205,15 @@ module _ {S : Type 0} (s : Setting S) (w : World) (me first count : ℕ) where
   -- there is no such node
   pub no_node_leads : part_at w.nodes me ≡ None → IsRefused s w (LeadRange me first count) BadConfig
   no_node_leads none = record {
-    whole = ap (node_takes s w me given_range) none;
-    none = record { cut = λ kept. ap (node_is_cut s w me given_range kept) none; reason = λ same. cc };
+    whole = ap (λ o. chosen_effect s w (commanded me given_range o)) none;
+    none = record { cut = λ kept. ap (λ o. chosen_cut s w kept (commanded me given_range o)) none; reason = λ same. cc };
   }
 
   module _ (part : NodePart) (here : part_at w.nodes me ≡ Some part) where
     refuses : (fault : Fault) → node_effect s me part given_range ≡ Err fault → fault ≢ Device → IsRefused s w (LeadRange me first count) fault
     refuses fault resulted reason = record {
-      whole = ap (node_takes s w me given_range) here ∙ ap (node_done_if w me) resulted;
-      none = record { cut = λ kept. ap (node_is_cut s w me given_range kept) here ∙ ap (λ effect. node_done_if w me (cut_if kept part effect)) resulted; reason = reason };
+      whole = ap (λ o. chosen_effect s w (commanded me given_range o)) here ∙ ap (node_done_if w me) resulted;
+      none = record { cut = λ kept. ap (λ o. chosen_cut s w kept (commanded me given_range o)) here ∙ ap (λ effect. node_done_if w me (cut_if kept part effect)) resulted; reason = reason };
     }
 
     -- the node is stopped

@@ -14,12 +14,12 @@ use Rattle.rp_model.specs.Effect.{Setting, NodeInput}
 use Rattle.rp_model.specs.Parts.{Turn}
 use Rattle.rp_codec.specs.declared.packet.Party.{Party}
 use Rattle.rp_model.specs.declared.effect.Dropped.{Dropped}
-use Rattle.rp_model.specs.World.{World, part_at, with_part, written_by, node_named, receiver_of, node_writes, arrival_writes, delivery_writes}
+use Rattle.rp_model.specs.World.{World, part_at, with_part, written_by, commanded, chosen_record, step_writes, stepping}
 use Rattle.rp_model.proofs.Devices.{NoDevice, input_is, turn_is}
 use Rattle.rp_replica.specs.declared.cut.NotCut.{NotCut}
 use Rattle.rp_replica.specs.declared.cut.NotCut.TheVariants.{Failed as DeviceFailed, Refused}
 use Rattle.rp_rules.specs.declared.input.Input.{Input}
-use Rattle.rp_rules.specs.declared.input.Input.TheVariants.{Receive, Lead, LeadRange, Interrupt, Tick, Report}
+use Rattle.rp_rules.specs.declared.input.Input.TheVariants.{Receive, Lead, LeadRange, Interrupt, Tick, Report, Ask}
 use Rattle.rp_replica.specs.Cutting.{CutsIf, IsNotCutIf, cut_disk}
 use Rattle.rp_replica.specs.State.{ReplicaState, setting_of, with_text}
 use Rattle.rp_replica.specs.Inputs.{effect_if_given, input_effect}
@@ -71,6 +71,7 @@ module _ {S : Type 0} (next : S → Action → S) (answers : S → Action → Li
   input_so (Interrupt source occurrence) = tt
   input_so (Tick now) = tt
   input_so (Report first) = tt
+  input_so (Ask to) = turn_is (setting_of next answers old) old.me old.records old.running (NodeInput.Ask to)
 
   stops_counted : (new : ReplicaState S) (written : Option Rec) (fault : Fault) → Stops written old new fault → IsCounted old.disk.failures new.disk.failures (as_turn_fault fault)
   stops_counted new written OutOfMemory stops = ap (λ (h : ReplicaState S). h.disk.failures) stops.0
@@ -206,9 +207,9 @@ module _ {S D P : Type 0} (f : Fields S D P) (at : Found f.nodes) (new : Node S 
 
   -- the device failed where a record was written
   pub writes : (input : NodeInput) (fault : Fault) → NotTaken f.disk (member f at.me) at.it new (node_step f.next f.answers (member f at.me) input) fault → fault ≡ Device
-      → IsSome (node_writes (setting f) at.me input (part_at (world f).nodes at.me))
+      → IsSome (chosen_record (setting f) (commanded at.me input (part_at (world f).nodes at.me)))
   writes input fault not_taken device =
-      subst (λ o. IsSome (node_writes (setting f) at.me input o)) (sym (is_here f at))
+      subst (λ o. IsSome (chosen_record (setting f) (commanded at.me input o))) (sym (is_here f at))
       (elim (not_taken (part f at) (represents_now f at)) [
         | inl refused ↦ absurd (subst NoDevice (refused.0 ∙ ap Err device) (input_is (setting f) at.me (part f at) input))
         | inr other ↦
@@ -220,8 +221,8 @@ module _ {S D P : Type 0} (f : Fields S D P) (at : Found f.nodes) (new : Node S 
 
 -- a delivery to a node is a step of that node
 module _ {S : Type 0} (s : Setting S) (w : World) {number me : ℕ} (m : SentTo w.sent number (Party.Node me)) (fault : Fault) (before after : List ℕ) where
-  pub heard_counts : Counts (IsSome (node_writes s me (NodeInput.Receive m.packet) (part_at w.nodes me))) (Some me) before after (as_fault fault)
-      → Counts (IsSome (delivery_writes s w (part_at w.sent number))) (receiver_of (part_at w.sent number)) before after (as_fault fault)
+  pub heard_counts : Counts (IsSome (chosen_record s (commanded me (NodeInput.Receive m.packet) (part_at w.nodes me)))) (Some me) before after (as_fault fault)
+      → Counts (IsSome (step_writes s w (Deliver number))) (stepping w (Deliver number)) before after (as_fault fault)
   heard_counts is =
-      subst (λ (o : Option Message). Counts (IsSome (delivery_writes s w o)) (receiver_of o) before after (as_fault fault)) (sym m.found)
-      (subst (λ (party : Party). Counts (IsSome (arrival_writes s w m.packet party)) (node_named party) before after (as_fault fault)) (sym m.is_to) is)
+      subst (λ (o : Option Rec). Counts (IsSome o) (stepping w (Deliver number)) before after (as_fault fault)) (sym (heard_record s w m))
+      (subst (λ (who : Option ℕ). Counts (IsSome (chosen_record s (commanded me (NodeInput.Receive m.packet) (part_at w.nodes me)))) who before after (as_fault fault)) (sym (heard_stepping s w m)) is)

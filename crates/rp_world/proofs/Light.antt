@@ -8,7 +8,7 @@ use Rattle.rp_agreement.proofs.PartPlaces.{put_there}
 use Rattle.rp_model.specs.Effect.{Done, NodeInput, Setting, node_effect, turn_done, turn_done_if}
 use Rattle.rp_model.specs.Events.{Step}
 use Rattle.rp_model.specs.Parts.{NodePart, Turn}
-use Rattle.rp_model.specs.World.{World, Transition, part_at, with_part, node_done, node_done_if, node_takes, node_writes, step_effect, step_writes, stepping, written_by}
+use Rattle.rp_model.specs.World.{World, Transition, part_at, with_part, node_done, node_done_if, commanded, chosen_effect, chosen_record, step_effect, step_writes, stepping, written_by}
 use Rattle.rp_replica.specs.Inputs.{effect_of}
 use Rattle.rp_replica.specs.State.{ReplicaState}
 use Rattle.rp_rules.specs.Plans.{TakesNoMemory}
@@ -57,18 +57,18 @@ same_number one other e = cc
 
 module _ {S : Type 0} (s : Setting S) (w : World) (step : Step) (light : IsLightStep s w step) (me : ℕ) (mine : stepping w step ≡ Some me) (input : NodeInput) where
   -- there is one of the number of a step that gives an input
-  has_part : step_effect s w step ≡ node_takes s w me input (part_at w.nodes me) → (part : NodePart) × (part_at w.nodes me ≡ Some part)
+  has_part : step_effect s w step ≡ chosen_effect s w (commanded me input (part_at w.nodes me)) → (part : NodePart) × (part_at w.nodes me ≡ Some part)
   has_part whole = by (part_at w.nodes me) refl
     where
       by : (o : Option NodePart) → part_at w.nodes me ≡ o → (part : NodePart) × (part_at w.nodes me ≡ Some part)
       by (Some part) here = (part, here)
       by None none =
-          let refused : step_effect s w step ≡ Err BadConfig = whole ∙ ap (node_takes s w me input) none in
+          let refused : step_effect s w step ≡ Err BadConfig = whole ∙ ap (λ o. chosen_effect s w (commanded me input o)) none in
           let resulted : step_effect s w step ≡ Ok light.transition = light.resulted in
           absurd (cc)
 
   -- the input takes no memory there
-  module _ (part : NodePart) (here : part_at w.nodes me ≡ Some part) (whole : step_effect s w step ≡ node_done_if w me (node_effect s me part input)) (writes : step_writes s w step ≡ node_writes s me input (part_at w.nodes me)) where
+  module _ (part : NodePart) (here : part_at w.nodes me ≡ Some part) (whole : step_effect s w step ≡ node_done_if w me (node_effect s me part input)) (writes : step_writes s w step ≡ chosen_record s (commanded me input (part_at w.nodes me))) where
     heard_same : votes_heard (part_at light.transition.world.nodes me) ≡ heard_while part.running
     heard_same =
         let same : light.me ≡ me = same_number light.me me (sym light.node ∙ mine) in
@@ -83,7 +83,7 @@ module _ {S : Type 0} (s : Setting S) (w : World) (step : Step) (light : IsLight
         record {
           done = done;
           resulted = resulted;
-          written = sym (writes ∙ ap (node_writes s me input) here ∙ ap written_by resulted) ∙ light.written;
+          written = sym (writes ∙ ap (λ o. chosen_record s (commanded me input o)) here ∙ ap written_by resulted) ∙ light.written;
           sends = ap (λ (t : Transition). t.sends) same ∙ light.sends;
           heard = sym (ap votes_heard put) ∙ ap (λ (t : Transition). votes_heard (part_at t.world.nodes me)) same ∙ heard_same;
         }
@@ -101,7 +101,7 @@ module _ {S : Type 0} (s : Setting S) (w : World) (step : Step) (light : IsLight
     pub here : part_at w.nodes me ≡ Some part
     pub takes_none : IsLight part (node_effect s me part input)
 
-  pub light_input : step_effect s w step ≡ node_takes s w me input (part_at w.nodes me) → step_writes s w step ≡ node_writes s me input (part_at w.nodes me) → LightInput
+  pub light_input : step_effect s w step ≡ chosen_effect s w (commanded me input (part_at w.nodes me)) → step_writes s w step ≡ chosen_record s (commanded me input (part_at w.nodes me)) → LightInput
   light_input whole writes =
       let there = has_part whole in
-      record { part = there.0; here = there.1; takes_none = light_part there.0 there.1 (whole ∙ ap (node_takes s w me input) there.1) writes }
+      record { part = there.0; here = there.1; takes_none = light_part there.0 there.1 (whole ∙ ap (λ o. chosen_effect s w (commanded me input o)) there.1) writes }

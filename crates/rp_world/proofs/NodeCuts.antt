@@ -7,7 +7,7 @@ use Rattle.rp_base.specs.declared.fault.Fault.TheVariants.{Device}
 use Rattle.rp_model.specs.declared.effect.Effect.{Effect}
 use Rattle.rp_model.specs.Effect.{NodeInput, node_effect, cut_if}
 use Rattle.rp_model.specs.Events.{Step}
-use Rattle.rp_model.specs.World.{cut_step, node_done_if, node_is_cut, step_writes, stepping}
+use Rattle.rp_model.specs.World.{commanded, chosen_cut, cut_step, node_done_if, step_writes, stepping}
 use Rattle.rp_rules.specs.Inputs.{given_by}
 use Rattle.rp_rules.specs.declared.input.Input.{Input}
 use Rattle.rp_world.specs.Choosing.{IsOf}
@@ -52,7 +52,7 @@ module _ {S D P : Type 0} (f : Fields S D P) (change : Changed f.nodes) {step : 
   still_cut answer ok err = still f change (left_by_cut f change kept input one.gives answer ok err)
 
   cut_here : (k : ℕ) → cut_step (setting f) (world f) step k ≡ node_done_if (world f) me (cut_if k (part f change.at) (node_effect (setting f) me (part f change.at) one.given))
-  cut_here k = one.cut k ∙ ap (node_is_cut (setting f) (world f) me one.given k) (is_here f change.at)
+  cut_here k = one.cut k ∙ ap (λ o. chosen_cut (setting f) (world f) k (commanded me one.given o)) (is_here f change.at)
 
   -- what a cluster answers to the cut, and what it counts
   abbrev Answered : Result Effect Fault → Setup P → Type 0

@@ -11,7 +11,7 @@ use Rattle.rp_model.specs.declared.effect.Effect.{Effect}
 use Rattle.rp_model.specs.Effect.{NodeInput, node_effect}
 use Rattle.rp_model.specs.Events.{Deliver}
 use Rattle.rp_model.specs.Parts.{NodePart}
-use Rattle.rp_model.specs.World.{World, Transition, part_at, node_takes, node_is_cut, node_writes, node_done_if, node_named, nothing_happens, delivers, delivery_writes, arrival_writes, receiver_of, stepping, step_writes}
+use Rattle.rp_model.specs.World.{World, Transition, part_at, node_done_if, nothing_happens, commanded, chosen_effect, chosen_cut, chosen_record, step_effect, stepping, step_writes}
 use Rattle.rp_outbox.specs.Packets.{Sending}
 use Rattle.rp_world.specs.Going.{Goes, Answers, AnswersDelivery, Counts, CountsDelivery, stated}
 use Rattle.rp_world.specs.Nodes.{Member, Represents, GoesBy, IsLight, NotTaken, DescribesSending, IsCounted, failures_in, node_step}
@@ -20,7 +20,7 @@ use Rattle.rp_world.specs.declared.node.Node.{Node}
 use Rattle.rp_world.proofs.Ending.{none_here}
 use Rattle.rp_world.proofs.Failing.{counts, heard_counts, writes}
 use Rattle.rp_world.proofs.Fields.{Fields, IsKept, as_seen, counts_of, first_seen, made_of, member, now, sent_seen, setting, setting_by, world, world_with}
-use Rattle.rp_world.proofs.Hearing.{nothing_goes, heard_by_none, heard_resting, heard_running, cut_heard}
+use Rattle.rp_world.proofs.Hearing.{nothing_goes, heard_by_none, heard_resting, heard_running, heard_stepping, heard_record, cut_heard}
 use Rattle.rp_world.proofs.Light.{light_part}
 use Rattle.rp_world.proofs.Messages.{SentTo, at_place}
 use Rattle.rp_world.proofs.Moving.{part, is_here, represents_now, nodes_stay}
@@ -42,13 +42,13 @@ module _ {S D P : Type 0} (f : Fields S D P) (at : Found f.nodes) (new : Node S 
 
   -- what a cluster answers to the input, and what it counts
   abbrev takes : Setup P → Result Transition Fault
-  takes v = node_takes (setting_by f v) v.world at.me input (part_at v.world.nodes at.me)
+  takes v = chosen_effect (setting_by f v) v.world (commanded at.me input (part_at v.world.nodes at.me))
 
   abbrev Answered : Sending → Result Effect Fault → Setup P → Type 0
-  Answered later r v = Answers v.world (takes v) (λ kept. node_is_cut (setting_by f v) v.world at.me input kept (part_at v.world.nodes at.me)) (after later) r
+  Answered later r v = Answers v.world (takes v) (λ kept. chosen_cut (setting_by f v) v.world kept (commanded at.me input (part_at v.world.nodes at.me))) (after later) r
 
   abbrev Counted : {A : Type 0} → Result A Fault → Setup P → Type 0
-  Counted r v = Counts (IsSome (node_writes (setting_by f v) at.me input (part_at v.world.nodes at.me))) (Some at.me) v.failures (counts_of f (slice_set f.nodes at.place new)) r
+  Counted r v = Counts (IsSome (chosen_record (setting_by f v) (commanded at.me input (part_at v.world.nodes at.me)))) (Some at.me) v.failures (counts_of f (slice_set f.nodes at.place new)) r
 
   pub goes_given : (dropped : Dropped) (later : Sending) → GoesBy f.disk (member f at.me) at.it new (node_step f.next f.answers (member f at.me) input) (DescribesSending f.messages.sent later.sent) dropped
       → {first count : ℕ} {effect : Effect} → first ≡ length f.was.world.sent → count ≡ length later.sent → effect ≡ stated_sent (first + 1) count dropped → Goes f.was.world (takes f.was) (after later) effect
@@ -58,7 +58,7 @@ module _ {S D P : Type 0} (f : Fields S D P) (at : Found f.nodes) (new : Node S 
 
   module _ (fault : Fault) (by : NotTaken f.disk (member f at.me) at.it new (node_step f.next f.answers (member f at.me) input) fault) where
     pub counts_refused : IsCounted (failures_in f.disk at.it) (failures_in f.disk new) (as_turn_fault fault) → Counted (as_fault fault) (now f)
-    counts_refused counted = counts f at new (IsSome (node_writes (setting f) at.me input (part_at (world f).nodes at.me))) fault (writes f at new input fault by) counted
+    counts_refused counted = counts f at new (IsSome (chosen_record (setting f) (commanded at.me input (part_at (world f).nodes at.me)))) fault (writes f at new input fault by) counted
 
     module _ (r : Result Unit Fault) (refuses : IsErrAnd r (λ e. e ≡ fault)) where
       pub answers_given : (later : Sending) → later.sent ≡ f.messages.sent → (effect : Effect) → Answered later (stated r effect) f.was
@@ -81,7 +81,7 @@ light_given f at input p here light =
 
 module _ {S D P : Type 0} (f : Fields S D P) (number : ℕ) where
   abbrev heard : Setup P → Result Transition Fault
-  heard v = delivers (setting_by f v) v.world (part_at v.world.sent number)
+  heard v = step_effect (setting_by f v) v.world (Deliver number)
 
 -- a message that changes nothing
 nothing_heard : {S D P : Type 0} (f : Fields S D P) (number : ℕ) (after : World) {first : ℕ} {effect : Effect} → heard f number (now f) ≡ Ok (nothing_happens (world f)) → after ≡ world f → first ≡ length f.was.world.sent
@@ -119,9 +119,8 @@ module _ {S D P : Type 0} (f : Fields S D P) (at : Found f.nodes) {number : ℕ}
   module _ (runs : Runs) (light : IsLightStep (setting_by f f.was) f.was.world (Deliver number)) where
     pub light_heard : IsLight (part f at) (node_step f.next f.answers (member f at.me) input (part f at))
     light_heard =
-        let mine : stepping (world f) (Deliver number) ≡ Some at.me = ap receiver_of m.found ∙ ap node_named m.is_to in
-        let writes : step_writes (setting f) (world f) (Deliver number) ≡ node_writes (setting f) at.me input (part_at (world f).nodes at.me) =
-        ap (delivery_writes (setting f) (world f)) m.found ∙ ap (arrival_writes (setting f) (world f) m.packet) m.is_to in
+        let mine : stepping (world f) (Deliver number) ≡ Some at.me = heard_stepping (setting f) (world f) m in
+        let writes : step_writes (setting f) (world f) (Deliver number) ≡ chosen_record (setting f) (commanded at.me input (part_at (world f).nodes at.me)) = heard_record (setting f) (world f) m in
         as_seen f (λ v. IsLightStep (setting_by f v) v.world (Deliver number) → IsLight (part f at) (node_step f.next f.answers (member f at.me) input (part f at)))
         (λ is. light_part (setting f) (world f) (Deliver number) is at.me mine input (part f at) (is_here f at) (its_turn runs) writes) light
 

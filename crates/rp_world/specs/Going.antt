@@ -12,10 +12,9 @@ use Rattle.rp_base.specs.declared.fault.Fault.{Fault}
 use Rattle.rp_base.specs.declared.fault.PacketReason.{PacketReason}
 use Rattle.rp_base.specs.declared.fault.Fault.TheVariants.{OutOfMemory, Device, NotRunning}
 use Rattle.rp_model.specs.Answers.{Describes, IsLeft}
-use Rattle.rp_model.specs.Events.{Restart}
+use Rattle.rp_model.specs.Events.{Deliver, Restart}
 use Rattle.rp_model.specs.Effect.{Setting}
-use Rattle.rp_model.specs.World.{World, Transition, part_at, delivers, delivery_is_cut}
-use Rattle.rp_model.specs.World.{delivery_writes, receiver_of}
+use Rattle.rp_model.specs.World.{World, Transition, step_effect, cut_step, step_writes, stepping}
 use Rattle.rp_model.specs.declared.effect.Effect.{Effect}
 use Rattle.rp_world.specs.Failures.{RisesOnly}
 
@@ -73,17 +72,16 @@ Counts why me old new (Err _) = new ≡ old
 abbrev pub AnswersDelivery : {S : Type 0} → Setting S → World → ℕ → World → Result Effect Fault
     → Type 0
 AnswersDelivery setting w number new result =
-    let message = part_at w.sent number in
-    Answers w (delivers setting w message)
-    (λ kept. delivery_is_cut setting w message kept) new result
+    Answers w (step_effect setting w (Deliver number))
+    (λ kept. cut_step setting w (Deliver number) kept) new result
 
 -- after it the counts of failures are as before, but where the device failed of its node, that
 -- writes a record then
 abbrev pub CountsDelivery : {S A : Type 0} → Setting S → World → ℕ → List ℕ → List ℕ
     → Result A Fault → Type 0
 CountsDelivery setting w number old new result =
-    let message = part_at w.sent number in
-    Counts (IsSome (delivery_writes setting w message)) (receiver_of message) old new result
+    Counts (IsSome (step_writes setting w (Deliver number))) (stepping w (Deliver number)) old new
+    result
 
 -- what a call answers that returns its effect in place
 abbrev pub stated : {A : Type 0} → Result A Fault → Effect → Result Effect Fault

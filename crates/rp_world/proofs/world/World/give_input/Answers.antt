@@ -1,5 +1,5 @@
 use Rattle.std.proofs.Common.{◌≡◌, ◌-◌, ◌<◌, true, false, length, inl, refl, ap, arith}
-use Rattle.rp_model.specs.World.{node_takes}
+use Rattle.rp_model.specs.World.{commanded, chosen_effect}
 use Rattle.rp_world.proofs.Ending.{none_seen}
 use Rattle.rp_world.proofs.Failing.{same_seen}
 use Rattle.rp_world.proofs.Fields.{fields_of, member, same_setup, setting_by}
@@ -14,7 +14,7 @@ returns-in_default-clause-answer g c = λ given gives.
     let f = fields_of g.M.Machine.next g.M.Machine.answers g.M.Machine.begin c.self.inside.messages c.self.invariant c.self.view_is in
     let off : c.from.result - 1 < length f.nodes → ⊥ = λ h. let yes = c.in_default.ensures.variant.1 (omega (arith, h, c.self.inside.nodes.ok.0)) in absurd cc in
     let none = none_seen f (placed_at c.get.ensures c.from.ensures) (omega (arith, off)) in
-    inl (record { resulted = ap (node_takes (setting_by f f.was) f.was.world c.args.node given) none; unchanged = ap (λ v. v.world) f.view_is })
+    inl (record { resulted = ap (λ o. chosen_effect (setting_by f f.was) f.was.world (commanded c.args.node given o)) none; unchanged = ap (λ v. v.world) f.view_is })
 
 pub invariant_of-self-in_err-dropped : goal.invariant_of-self-in_err-dropped
 invariant_of-self-in_err-dropped g c =

@@ -16,7 +16,7 @@ step_to_cut-requires g c =
 pub returns-in-Err : goal.returns-in-Err
 returns-in-Err g c =
     let f = fields_of g.M.Machine.next g.M.Machine.answers g.M.Machine.begin c.self.inside.messages c.self.invariant c.self.view_is in
-    let none = c.in-Err.ensures.chosen (setting_by f f.was) f.was.world (sym (sent_seen f)) (nodes_seen f c.deref.ensures.value) in
+    let none = c.in-Err.ensures.maker (setting_by f f.was) f.was.world (sym (sent_seen f)) (nodes_seen f c.deref.ensures.value) in
     record {
       answer = inl (record { resulted = none.cut c.args.kept; unchanged = refl });
       setup = record { config = refl; program = refl };
@@ -26,20 +26,20 @@ returns-in-Err g c =
 pub remove-requires : goal.remove-requires
 remove-requires g c =
     let f = fields_of g.M.Machine.next g.M.Machine.answers g.M.Machine.begin c.self.inside.messages c.self.invariant c.self.view_is in
-    let one = c.in-Ok.ensures.chosen (setting f) (world f) refl (nodes_of f c.deref.ensures.value) in
+    let one = c.in-Ok.ensures.maker (setting f) (world f) refl (nodes_of f c.deref.ensures.value) in
     omega (arith, within f one (placed_at c.get.ensures c.from-place.ensures), c.self.inside.nodes.ok.0)
 
 pub invariant_of-self : goal.invariant_of-self
 invariant_of-self g c =
     let f = fields_of g.M.Machine.next g.M.Machine.answers g.M.Machine.begin c.self.inside.messages c.self.invariant c.self.view_is in
-    let one = c.in-Ok.ensures.chosen (setting f) (world f) refl (nodes_of f c.deref.ensures.value) in
+    let one = c.in-Ok.ensures.maker (setting f) (world f) refl (nodes_of f c.deref.ensures.value) in
     let change = changed f.nodes c.remove.result c.cut-node.result.0 c.get.ensures c.from-place.ensures (within f one (placed_at c.get.ensures c.from-place.ensures)) c.remove.ensures.value c.remove.ensures.items c.put_back.ensures in
     still_cut f change one c.args.kept c.cut-node.result.1 c.cut-node.ensures.ok c.cut-node.ensures.err
 
 pub returns : goal.returns
 returns g c =
     let f = fields_of g.M.Machine.next g.M.Machine.answers g.M.Machine.begin c.self.inside.messages c.self.invariant c.self.view_is in
-    let one = c.in-Ok.ensures.chosen (setting f) (world f) refl (nodes_of f c.deref.ensures.value) in
+    let one = c.in-Ok.ensures.maker (setting f) (world f) refl (nodes_of f c.deref.ensures.value) in
     let change = changed f.nodes c.remove.result c.cut-node.result.0 c.get.ensures c.from-place.ensures (within f one (placed_at c.get.ensures c.from-place.ensures)) c.remove.ensures.value c.remove.ensures.items c.put_back.ensures in
     let cut = c.cut-node in
     let stated : IsStated (c.messages-first.result + 1) cut.result.1 c.match-answer.result =

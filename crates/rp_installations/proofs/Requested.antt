@@ -126,6 +126,13 @@ module _ (sent : List Message) where
       (λ _. none_comes)
   range_comes (a ∷ b ∷ c ∷ d ∷ rest) bytes = none_comes
 
+  ask_comes : (operands : List ℕ) → AreBytes operands → ComesIf sent (ask_asked operands)
+  ask_comes [] bytes = none_comes
+  ask_comes (node ∷ []) bytes =
+      if_comes (in_range 1 7 node) (given (nodes.Ask node)) None
+      (λ tests. let both = and_parts (nat_le 1 node) (nat_le node 7) tests in given_comes (nodes.Ask node) (leb-true 1 node both.0, leb-true node 7 both.1)) (λ _. none_comes)
+  ask_comes (a ∷ b ∷ rest) bytes = none_comes
+
   question_comes : (kind : ℕ) (operands : List ℕ) → ComesIf sent (question_asked kind operands)
   question_comes kind [] =
       if_comes (kind == 16) (Some Applied) _ (λ _. asks_none Applied (λ input e. cc))

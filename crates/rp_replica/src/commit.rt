@@ -84,6 +84,7 @@ impl<M: Machine, D: Device> Replica<M, D> {
                 bound,
             } => self.note_refusal(*position, *ballot, *bound),
             Plan::Await(item) => self.add(*item),
+            Plan::AskMissing(to) => return self.ask_missing(out, *to),
             _ => return self.send(alloc, out, plan),
         }
         Ok(())
@@ -206,7 +207,6 @@ impl<M: Machine, D: Device> Replica<M, D> {
             }
             Plan::Answer(task, number, reply) => self.answer(out, task, number, reply),
             Plan::Report(first) => self.report_applied(alloc, out, first),
-            Plan::AskMissing(to) => self.ask_missing(out, to),
             _ => Ok(()),
         }
     }

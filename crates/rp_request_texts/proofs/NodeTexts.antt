@@ -4,7 +4,7 @@ use Rattle.std.specs.Prelude.{nat_le, nat_lt}
 use Rattle.std.specs.Int.{w16, w32, to_be_bytes, from_be_bytes}
 use Rattle.std.proofs.lemmas.Bool.Decides.{nat_tests}
 use Rattle.std.proofs.lemmas.Nat.{from_be_bytes-to_be_bytes_2, from_be_bytes-to_be_bytes_4}
-use Rattle.rp_base.specs.Number.{IsPosition, in_range}
+use Rattle.rp_base.specs.Number.{IsNode, IsPosition, in_range}
 use Rattle.rp_base.specs.Action.{IsIndex, IsCount}
 use Rattle.rp_base.specs.Ranges.{Range, IsRange, range_of}
 use Rattle.rp_base.specs.declared.fault.Fault.{Fault}
@@ -16,7 +16,7 @@ use Rattle.rp_codec.proofs.Decoded.{whole_again}
 use Rattle.rp_model.specs.Effect.{NodeInput}
 use Rattle.rp_model.specs.Effect as inputs
 use Rattle.rp_rules.specs.Inputs.{packet_given}
-use Rattle.rp_requests.specs.Requests.{Asked, Step, Applied, Image, LastAnswer, Left, given, lead_at, interrupt_at, tick_asked, report_from, range_if, range_from, asked_by, asked_of}
+use Rattle.rp_requests.specs.Requests.{Asked, Step, Applied, Image, LastAnswer, Left, given, lead_at, interrupt_at, tick_asked, report_from, range_if, range_from, ask_to, asked_by, asked_of}
 use Rattle.rp_request_texts.specs.Texts.{step_text, FitsStep, applied_text, image_text, last_answer_text, left_text}
 
 -- ---- tests
@@ -67,6 +67,11 @@ range_asked_is first count right =
     ∙ ap (λ b. cond {A = Option Asked} b (range_if (range_of first count)) None) (from_one first right.first.0)
     ∙ ap range_if (range_is first count right)
 
+ask_is : (node : ℕ) → IsNode node → ask_to node ≡ given (inputs.NodeInput.Ask node)
+ask_is node right =
+    ap (λ b. cond {A = Option Asked} b (given (inputs.NodeInput.Ask node)) None)
+    (both (nat_le 1 node) (nat_le node 7) (from_one node right.0) (up_to node 7 right.1))
+
 -- ---- requests
 
 pub steps : (input : NodeInput) → FitsStep input → asked_of (step_text input) ≡ Some (Step (Ok input))
@@ -78,6 +83,7 @@ steps (inputs.NodeInput.Interrupt source occurrence) right = interrupt_is source
 steps (inputs.NodeInput.Tick now) right = tick_is now right
 steps (inputs.NodeInput.Report first) right = report_is first right
 steps (inputs.NodeInput.LeadRange first count) right = range_asked_is first count right
+steps (inputs.NodeInput.Ask node) right = ask_is node right
 
 pub no_packet : (bytes : List ℕ) (reason : PacketReason) → all_of bytes ≡ Err reason → asked_of (1 ∷ bytes) ≡ Some (Step (Err (BadPacket reason)))
 unfolding asked_of asked_by

@@ -15,7 +15,7 @@ use Rattle.rp_model.specs.Effect as inputs
 use Rattle.rp_requests.specs.TaskRequests.{TaskAsked, MakeCall, SendAgain, TakePacket}
 
 -- RP_NODE_RECEIVE 1, RP_NODE_LEAD 2, RP_NODE_INTERRUPT 3, RP_NODE_TICK 4, RP_NODE_REPORT 5,
--- RP_NODE_LEAD_RANGE 6
+-- RP_NODE_LEAD_RANGE 6, RP_NODE_ASK 7
 abbrev pub step_text : NodeInput → List ℕ
 step_text (inputs.NodeInput.Receive message) = 1 ∷ text_of message
 step_text (inputs.NodeInput.Lead None) = 2 ∷ []
@@ -25,6 +25,7 @@ step_text (inputs.NodeInput.Interrupt source occurrence) =
 step_text (inputs.NodeInput.Tick now) = 4 ∷ to_be_bytes w32 now
 step_text (inputs.NodeInput.Report first) = 5 ∷ to_be_bytes w16 first
 step_text (inputs.NodeInput.LeadRange first count) = 6 ∷ (to_be_bytes w16 first ++ count ∷ [])
+step_text (inputs.NodeInput.Ask node) = 7 ∷ node ∷ []
 
 -- its numbers are within the ranges that the header states
 abbrev pub FitsStep : NodeInput → Type 0
@@ -35,6 +36,7 @@ FitsStep (inputs.NodeInput.Interrupt source occurrence) = IsIndex source × IsCo
 FitsStep (inputs.NodeInput.Tick now) = now < 2 ^ 32
 FitsStep (inputs.NodeInput.Report first) = IsPosition first
 FitsStep (inputs.NodeInput.LeadRange first count) = IsRange (record { first = first; count = count })
+FitsStep (inputs.NodeInput.Ask node) = IsNode node
 
 -- RP_NODE_APPLIED, RP_NODE_IMAGE, RP_NODE_LAST and RP_NODE_LEFT
 abbrev pub applied_text : List ℕ

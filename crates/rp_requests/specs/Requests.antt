@@ -3,6 +3,7 @@ use Rattle.std.specs.Prelude.{ℕ, ◌&&◌, nat_le, ◌==◌, Option, Some, Non
 use Rattle.std.specs.Prelude.{◌∷◌, if◌then◌else◌}
 use Rattle.std.specs.Int.{w16, w32, from_be_bytes}
 use Rattle.rp_base.specs.declared.fault.Fault.{Fault}
+use Rattle.rp_base.specs.Number.{in_range}
 use Rattle.rp_base.specs.Ranges.{Range, range_of}
 use Rattle.rp_codec.specs.Reading.{all_of}
 use Rattle.rp_model.specs.Effect.{NodeInput}
@@ -80,6 +81,13 @@ abbrev pub range_asked : List ℕ → Option Asked
 range_asked (high ∷ low ∷ count ∷ []) = range_from (from_be_bytes w16 (high ∷ low ∷ [])) count
 range_asked _ = None
 
+abbrev pub ask_to : ℕ → Option Asked
+ask_to node = if in_range 1 7 node then given (inputs.NodeInput.Ask node) else None
+
+abbrev pub ask_asked : List ℕ → Option Asked
+ask_asked (node ∷ []) = ask_to node
+ask_asked _ = None
+
 abbrev pub question_asked : ℕ → List ℕ → Option Asked
 question_asked kind [] =
     if kind == 16 then Some Applied
@@ -98,6 +106,7 @@ asked_by kind operands =
     else if kind == 4 then tick_asked operands
     else if kind == 5 then report_asked operands
     else if kind == 6 then range_asked operands
+    else if kind == 7 then ask_asked operands
     else question_asked kind operands
 
 unfoldable pub asked_of : List ℕ → Option Asked

@@ -4,9 +4,9 @@
 ghost use Rattle.std.specs.Prelude.{◌≡◌, ◌∷◌, [], Some, None, IfSome, IfNone, option_map};
 ghost use Rattle.std.specs.Int.{w16, from_be_bytes};
 ghost use Rattle.rp_base.specs.Number.{IsPosition};
-ghost use Rattle.rp_requests.specs.Requests.{asked, asked_of, lead_asked, interrupt_asked, tick_asked, report_asked, range_asked, IsRightRequest};
+ghost use Rattle.rp_requests.specs.Requests.{asked, asked_of, lead_asked, interrupt_asked, tick_asked, report_asked, range_asked, ask_asked, IsRightRequest};
 
-use rp_base::{MOST_SOURCES, Position, PositionRange};
+use rp_base::{MOST_SOURCES, NodeId, Position, PositionRange};
 use rp_replica::Input;
 
 /// A caller's request to a node.
@@ -38,6 +38,7 @@ pub(crate) fn request_of(bytes: &[u8]) -> Option<Request<'_>>
         4 => tick_of(operands),
         5 => report_of(operands),
         6 => range_of(operands),
+        7 => ask_of(operands),
         16 if operands.is_empty() => Some(Request::Applied),
         17 if operands.is_empty() => Some(Request::Image),
         18 if operands.is_empty() => Some(Request::LastAnswer),
@@ -116,6 +117,18 @@ fn range_of(operands: &[u8]) -> Option<Request<'static>>
         Ok(range) => Some(Request::Step(Input::LeadRange(range))),
         Err(_) => None,
     }
+}
+
+/// The command to ask a node for what is missing: the node, in one byte.
+fn ask_of(operands: &[u8]) -> Option<Request<'static>>
+    ensures asked { option_map asked result ≡ ask_asked operands.now }
+    ensures right { IfSome result IsRightRequest }
+{
+    let [node] = operands else {
+        return None;
+    };
+    let node = NodeId::new(*node)?;
+    Some(Request::Step(Input::Ask(node)))
 }
 
 /// The position in these two bytes.

@@ -30,7 +30,6 @@ use Rattle.rp_model.specs.declared.plan.Plan.TheVariants.{Refuse, Inform, Answer
 use Rattle.rp_model.specs.declared.plan.Plan.TheVariants.{Lead, LeadRange, OfferPrepared}
 use Rattle.rp_model.specs.declared.plan.Plan.TheVariants.{CountPromise, CountRangePromise, Offer}
 use Rattle.rp_model.specs.declared.plan.Plan.TheVariants.{CountVote, Learn, Follow, Report}
-use Rattle.rp_model.specs.declared.plan.Plan.TheVariants.{AskMissing}
 use Rattle.rp_server.specs.State.{ServerState}
 use Rattle.rp_server.specs.Status.{status_of}
 
@@ -118,7 +117,6 @@ OnlySends (Refuse to i b bound) = Unit {0}
 OnlySends (Inform to i v) = Unit {0}
 OnlySends (Reply task number reply) = Unit {0}
 OnlySends (Report first) = Unit {0}
-OnlySends (AskMissing to) = Unit {0}
 OnlySends _ = ⊥
 
 -- these bytes are a packet, of which the node decides this

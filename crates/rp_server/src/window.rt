@@ -3,6 +3,7 @@
 
 ghost use Rattle.std.specs.Prelude.{◌≡◌, ◌≢◌, ℕ, ◌+◌, ◌<◌, ◌≤◌, ◌^◌, None, IfSome, IfNone, is_some, false};
 ghost use Rattle.rp_base.specs.Number.{window};
+ghost use Rattle.rp_base.specs.Records.{learned_at};
 ghost use Rattle.rp_learner.specs.Places.{is_marked};
 ghost use Rattle.rp_log.specs.Contents.{action_at, next_to_take};
 ghost use Rattle.rp_model.specs.Learner.{window_of};
@@ -20,6 +21,8 @@ impl<M: Machine> Server<M> {
     pub fn window(&self) -> Option<PositionRange>
         ensures some { IfSome result (λ range.
             range ≡ window_of self.now.config.max_positions self.now.records) }
+        ensures unlearned { IfSome result (λ range.
+            learned_at self.now.records range.first ≡ None) }
         ensures none { IfNone result
             ((window_of self.now.config.max_positions self.now.records).count ≡ 0) }
     {

@@ -1,9 +1,11 @@
 use Rattle.std.proofs.Common.{◌≡◌, ℕ, suc, ◌+◌, ◌-◌, ◌^◌, min, Bool, true, false, if◌then◌else◌, not, nat_lt, Option, Some, None, Result, Ok, Err, refl, sym, ap, subst, ◌∙◌, arith}
-use Rattle.std.specs.Prelude.{IfSome}
+use Rattle.std.specs.Prelude.{IfSome, IsSome}
 use Rattle.std.specs.Result.{result_ok}
 use Rattle.rp_base.specs.Number.{in_range}
 use Rattle.rp_base.specs.Ranges.{Range, range_of}
-use Rattle.rp_base.specs.Records.{first_unlearned}
+use Rattle.rp_base.specs.Records.{first_unlearned, learned_at}
+use Rattle.rp_base.specs.declared.action.Action.{Action}
+use Rattle.rp_base.specs.declared.record.Rec.{Rec}
 use Rattle.rp_base.specs.declared.fault.Fault.{Fault}
 use Rattle.rp_base.specs.declared.fault.Fault.TheVariants.{BadConfig, LogFull}
 use Rattle.rp_log.specs.Contents.{ready_of}
@@ -48,3 +50,24 @@ returns-clause-some g c =
     let found : c.ok.result ≡ result_ok (range_of c.position_at.result (c.min-end.result - next)) = c.ok.ensures.value ∙ ap (λ (o : Result Range Fault). result_ok o) c.new.ensures.answer in
     subst (λ (h : ServerState g.row.M.Denot). IfSome c.ok.result (λ r. r ≡ window_of h.config.max_positions h.records)) c.self.view_is
     (subst (λ (w : Range). IfSome c.ok.result (λ r. r ≡ w)) (sym range) (subst (λ (o : Option Range). IfSome o (λ r. r ≡ (let one : Range = record { first = c.position_at.result; count = c.min-end.result - next } in one))) (sym found) (range_is c.position_at.result (c.min-end.result - next))))
+
+none_of : (o : Option Action) → (¬ IsSome o) → o ≡ None
+none_of None never = refl
+none_of (Some v) never = absurd (never refl)
+
+if_range : (o : Option Range) (w : Range) (P : Range → Type 0) → IfSome o (λ r. r ≡ w) → P w → IfSome o P
+if_range None w P same holds = tt
+if_range (Some r) w P same holds = subst P (sym same) holds
+
+pub returns-clause-unlearned : goal.returns-clause-unlearned
+returns-clause-unlearned g c =
+    let r = c.self.inside in
+    let next = c.next_unlearned-first.result in
+    let range : Range = record { first = c.position_at.result; count = c.min-end.result - next } in
+    let none : learned_at r.acceptor.records next ≡ None =
+    none_of (learned_at r.acceptor.records next) (λ some. c.next_unlearned-first.ensures.unlearned (subst (λ (o : Option Action). IsSome o) (sym (c.self.invariant.applies.learned next)) some)) in
+    let here : learned_at c.args.self.now.records c.position_at.result ≡ None =
+    ap (λ (h : ServerState g.row.M.Denot). learned_at h.records c.position_at.result) (sym c.self.view_is) ∙ ap (learned_at r.acceptor.records) c.position_at.ensures ∙ none in
+    let found : c.ok.result ≡ result_ok (range_of c.position_at.result (c.min-end.result - next)) = c.ok.ensures.value ∙ ap (λ (o : Result Range Fault). result_ok o) c.new.ensures.answer in
+    if_range c.ok.result range (λ w. learned_at c.args.self.now.records w.first ≡ None)
+    (subst (λ (o : Option Range). IfSome o (λ w. w ≡ range)) (sym found) (range_is c.position_at.result (c.min-end.result - next))) here

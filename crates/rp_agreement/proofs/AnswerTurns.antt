@@ -23,7 +23,7 @@ use Rattle.rp_machine.specs.Asked.{last_number, answer_to, kept_reply}
 use Rattle.rp_agreement.specs.Answered.{SaysAnswer, answers_of}
 use Rattle.rp_agreement.proofs.Lists.{some_same, found_has}
 use Rattle.rp_model.specs.Effect.{Setting, NodeInput, running_effect}
-use Rattle.rp_model.specs.Learner.{missing_position, asks_for}
+use Rattle.rp_model.specs.Learner.{missing_position, asks_for, missing_in_window, asks_for_each}
 use Rattle.rp_model.specs.Node.{RunningNode, running_node, kept_by, given_by}
 use Rattle.rp_model.specs.Parts.{Running, Turn, with_record}
 use Rattle.rp_model.specs.Pending.{is_answered_by, replies_to}
@@ -139,6 +139,8 @@ module _ {S : Type 0} (s : Setting S) where
         learned_answers i v [] (asks_for me from (missing_position (records ++ Learned i v ∷ []))) none_answered
         (λ given. asks_answers given me from (missing_position (records ++ Learned i v ∷ [])))
     plan_answers (plans.Report first) saw = one_answer _ (report_of me first (applied_of records)) tt
+    plan_answers (plans.AskMissing to) saw =
+        mapped_answers _ (λ i. says me (bodies.Ask i) to) (missing_in_window s.config.max_positions records) (λ i h. tt)
 
   pub input_answers : (me : ℕ) (records : List Rec) (running : Running) (input : NodeInput) → TurnAnswersIf records (running_effect s me records running input)
   input_answers me records running input =

@@ -13,8 +13,9 @@ use Rattle.rp_model.specs.Effect as nodes
 use Rattle.rp_model.specs.Effect.{Setting, Done, NodeInput, node_effect, cut_effect, stop_effect, restart_part, untorn_part}
 use Rattle.rp_model.specs.Tasks as tasks
 use Rattle.rp_model.specs.Tasks.{TaskInput, task_effect}
-use Rattle.rp_model.specs.Events.{Step, Deliver, Lead, LeadRange, Interrupt, Tick, Report, IsRightStep, Event, Submit, Again, Makes, Cut, Stop, Restart, IsRightEvent}
-use Rattle.rp_model.specs.World.{World, Transition, part_at, node_done, task_done, node_done_if, task_done_if, task_takes, task_receives, node_takes, node_hears, node_receives, arrives, delivers, step_effect, node_is_cut, hearing_is_cut, arrival_is_cut, delivery_is_cut, cut_step, stops, restarts, event_effect}
+use Rattle.rp_model.specs.Events.{Step, Deliver, Lead, LeadRange, Interrupt, Tick, Report, Ask, IsRightStep, Event, Submit, Again, Makes, Cut, Stop, Restart, IsRightEvent}
+use Rattle.rp_model.specs.World.{World, Transition, part_at, node_done, task_done, node_done_if, task_done_if, task_takes, chosen_effect, chosen_cut, step_effect, cut_step, stops, restarts, event_effect}
+use Rattle.rp_model.proofs.Choosing.{GivesOnly, by_chosen}
 use Rattle.rp_model.specs.Answers.{untorn, IsLeft, FailsBy, Steps, Happen}
 use Rattle.rp_agreement.specs.Inputs.{IsInput, IsTaskInput}
 use Rattle.rp_agreement.proofs.PartPlaces.{part_has}
@@ -40,6 +41,7 @@ StepMay may (LeadRange me first count) = may (nodes.LeadRange first count)
 StepMay may (Interrupt me source occurrence) = may (nodes.Interrupt source occurrence)
 StepMay may (Tick me now) = may (nodes.Tick now)
 StepMay may (Report me first) = may (nodes.Report first)
+StepMay may (Ask me to) = may (nodes.Ask to)
 
 -- and that of an event, if it is a node's step that is not cut
 abbrev pub EventMay : (NodeInput → Type 0) → Event → Type 0
@@ -61,6 +63,7 @@ any_step (LeadRange me first count) = tt
 any_step (Interrupt me source occurrence) = tt
 any_step (Tick me now) = tt
 any_step (Report me first) = tt
+any_step (Ask me to) = tt
 
 pub any_event : (event : Event) → EventMay any_input event
 any_event (Submit t node object operation arg) = tt
@@ -88,81 +91,43 @@ module _ {S : Type 0} (s : Setting S) (may : NodeInput → Type 0) (P : World �
 
   -- ---- steps
 
-  takes_keep : (w : World) (me : ℕ) (input : NodeInput) (part : Option NodePart) → P w → IsInput w.sent input → may input → part_at w.nodes me ≡ part
-      → HoldsAfter P (node_takes s w me input part)
-  takes_keep w me input None fact right comes here = tt
-  takes_keep w me input (Some part) fact right comes here = node_if w me (node_effect s me part input) (λ done is. kept_by.input w me part input done fact here right comes is)
-
-  hears_keep : (w : World) (me : ℕ) (message : Message) (part : NodePart) (running : Option Running) → P w → Has message w.sent → may (nodes.Receive message)
-      → part_at w.nodes me ≡ Some part → HoldsAfter P (node_hears s w me message part running)
-  hears_keep w me message part None fact sent comes here = fact
-  hears_keep w me message part (Some running) fact sent comes here =
-      node_if w me (node_effect s me part (nodes.Receive message)) (λ done is. kept_by.input w me part (nodes.Receive message) done fact here sent comes is)
-
-  received_keep : (w : World) (me : ℕ) (message : Message) (part : Option NodePart) → P w → Has message w.sent → may (nodes.Receive message) → part_at w.nodes me ≡ part
-      → HoldsAfter P (node_receives s w me message part)
-  received_keep w me message None fact sent comes here = fact
-  received_keep w me message (Some part) fact sent comes here = hears_keep w me message part part.running fact sent comes here
-
   task_takes_keep : (w : World) (t : ℕ) (input : TaskInput) (part : Option TaskPart) → P w → IsTaskInput w.sent t input → part_at w.tasks t ≡ part
       → HoldsAfter P (task_takes s.config w t input part)
   task_takes_keep w t input None fact right here = tt
   task_takes_keep w t input (Some part) fact right here = task_if w t (task_effect s.config t part input) (λ done is. kept_by.task w t part input done fact here right is)
 
-  task_received_keep : (w : World) (t : ℕ) (message : Message) (part : Option TaskPart) → P w → IsTaskInput w.sent t (tasks.Take message) → part_at w.tasks t ≡ part
-      → HoldsAfter P (task_receives s.config w t message part)
-  task_received_keep w t message None fact right here = fact
-  task_received_keep w t message (Some part) fact right here =
-      task_if w t (task_effect s.config t part (tasks.Take message)) (λ done is. kept_by.task w t part (tasks.Take message) done fact here right is)
+  -- the inputs of a step may come, and are right
+  step_gives : (w : World) (step : Step) → IsRightStep step → StepMay may step → GivesOnly w (λ input. IsInput w.sent input × may input) step
+  step_gives w (Deliver number) is comes = λ message sent. (part_has w.sent number message sent, comes message)
+  step_gives w (Lead me choice) is comes = (is.1, comes)
+  step_gives w (LeadRange me first count) is comes = (is.1, comes)
+  step_gives w (Interrupt me source occurrence) is comes = ((is.1, is.2), comes)
+  step_gives w (Tick me now) is comes = (is.1, comes)
+  step_gives w (Report me first) is comes = (is.1, comes)
+  step_gives w (Ask me to) is comes = (is.1, comes)
 
-  arrival_keeps : (w : World) (message : Message) (party : Party) → P w → Has message w.sent → may (nodes.Receive message) → message.to ≡ party
-      → HoldsAfter P (arrives s w message party)
-  arrival_keeps w message (Node me) fact sent comes is = received_keep w me message (part_at w.nodes me) fact sent comes refl
-  arrival_keeps w message (Task t) fact sent comes is = task_received_keep w t message (part_at w.tasks t) fact (sent, is) refl
-  arrival_keeps w message Audit fact sent comes is = fact
-
-  delivery_keeps : (w : World) (number : ℕ) (message : Option Message) → P w → ((m : Message) → may (nodes.Receive m)) → part_at w.sent number ≡ message
-      → HoldsAfter P (delivers s w message)
-  delivery_keeps w number None fact comes is = tt
-  delivery_keeps w number (Some message) fact comes is = arrival_keeps w message message.to fact (part_has w.sent number message is) (comes message) refl
+  right_gives : (w : World) (step : Step) → IsRightStep step → GivesOnly w (IsInput w.sent) step
+  right_gives w (Deliver number) is = λ message sent. part_has w.sent number message sent
+  right_gives w (Lead me choice) is = is.1
+  right_gives w (LeadRange me first count) is = is.1
+  right_gives w (Interrupt me source occurrence) is = (is.1, is.2)
+  right_gives w (Tick me now) is = is.1
+  right_gives w (Report me first) is = is.1
+  right_gives w (Ask me to) is = is.1
 
   step_keeps : (w : World) (step : Step) → P w → IsRightStep step → StepMay may step → HoldsAfter P (step_effect s w step)
-  step_keeps w (Deliver number) fact is comes = delivery_keeps w number (part_at w.sent number) fact comes refl
-  step_keeps w (Lead me choice) fact is comes = takes_keep w me (nodes.Lead choice) (part_at w.nodes me) fact is.1 comes refl
-  step_keeps w (LeadRange me first count) fact is comes = takes_keep w me (nodes.LeadRange first count) (part_at w.nodes me) fact is.1 comes refl
-  step_keeps w (Interrupt me source occurrence) fact is comes = takes_keep w me (nodes.Interrupt source occurrence) (part_at w.nodes me) fact (is.1, is.2) comes refl
-  step_keeps w (Tick me now) fact is comes = takes_keep w me (nodes.Tick now) (part_at w.nodes me) fact is.1 comes refl
-  step_keeps w (Report me first) fact is comes = takes_keep w me (nodes.Report first) (part_at w.nodes me) fact is.1 comes refl
-
-  -- ---- steps that are cut
-
-  cuts_keep : (w : World) (me : ℕ) (input : NodeInput) (kept : ℕ) (part : Option NodePart) → P w → IsInput w.sent input → part_at w.nodes me ≡ part
-      → HoldsAfter P (node_is_cut s w me input kept part)
-  cuts_keep w me input kept None fact right here = tt
-  cuts_keep w me input kept (Some part) fact right here = node_if w me (cut_effect s me part input kept) (λ done is. kept_by.cut w me kept part input done fact here right is)
-
-  hearing_cut_keeps : (w : World) (message : Message) (me : ℕ) (part : Option NodePart) (kept : ℕ) → P w → Has message w.sent → part_at w.nodes me ≡ part
-      → HoldsAfter P (hearing_is_cut s w message me part kept)
-  hearing_cut_keeps w message me None kept fact sent here = tt
-  hearing_cut_keeps w message me (Some part) kept fact sent here =
-      node_if w me (cut_effect s me part (nodes.Receive message) kept) (λ done is. kept_by.cut w me kept part (nodes.Receive message) done fact here sent is)
-
-  arrival_cut_keeps : (w : World) (message : Message) (party : Party) (kept : ℕ) → P w → Has message w.sent → HoldsAfter P (arrival_is_cut s w message party kept)
-  arrival_cut_keeps w message (Node me) kept fact sent = hearing_cut_keeps w message me (part_at w.nodes me) kept fact sent refl
-  arrival_cut_keeps w message (Task t) kept fact sent = tt
-  arrival_cut_keeps w message Audit kept fact sent = tt
-
-  delivery_cut_keeps : (w : World) (number : ℕ) (message : Option Message) (kept : ℕ) → P w → part_at w.sent number ≡ message → HoldsAfter P (delivery_is_cut s w message kept)
-  delivery_cut_keeps w number None kept fact is = tt
-  delivery_cut_keeps w number (Some message) kept fact is = arrival_cut_keeps w message message.to kept fact (part_has w.sent number message is)
+  step_keeps w step fact is comes =
+      by_chosen w (λ input. IsInput w.sent input × may input) (λ c. HoldsAfter P (chosen_effect s w c))
+      (λ me part input here given. node_if w me (node_effect s me part input) (λ done is. kept_by.input w me part input done fact here given.0 given.1 is))
+      (λ t part message here to. task_if w t (task_effect s.config t part (tasks.Take message))
+      (λ done is. kept_by.task w t part (tasks.Take message) done fact here (part_has w.sent to.number message to.sent, to.receiver) is)) (λ whom. fact) tt (λ me none. tt) step
+      (step_gives w step is comes)
 
   cut_step_keeps : (w : World) (step : Step) (kept : ℕ) → P w → IsRightStep step → HoldsAfter P (cut_step s w step kept)
-  cut_step_keeps w (Deliver number) kept fact is = delivery_cut_keeps w number (part_at w.sent number) kept fact refl
-  cut_step_keeps w (Lead me choice) kept fact is = cuts_keep w me (nodes.Lead choice) kept (part_at w.nodes me) fact is.1 refl
-  cut_step_keeps w (LeadRange me first count) kept fact is = cuts_keep w me (nodes.LeadRange first count) kept (part_at w.nodes me) fact is.1 refl
-  cut_step_keeps w (Interrupt me source occurrence) kept fact is = cuts_keep w me (nodes.Interrupt source occurrence) kept (part_at w.nodes me) fact (is.1, is.2) refl
-  cut_step_keeps w (Tick me now) kept fact is = cuts_keep w me (nodes.Tick now) kept (part_at w.nodes me) fact is.1 refl
-  cut_step_keeps w (Report me first) kept fact is = cuts_keep w me (nodes.Report first) kept (part_at w.nodes me) fact is.1 refl
+  cut_step_keeps w step kept fact is =
+      by_chosen w (IsInput w.sent) (λ c. HoldsAfter P (chosen_cut s w kept c))
+      (λ me part input here given. node_if w me (cut_effect s me part input kept) (λ done is. kept_by.cut w me kept part input done fact here given is)) (λ t part message here to. tt) (λ whom. tt) tt
+      (λ me none. tt) step (right_gives w step is)
 
   -- ---- events
 

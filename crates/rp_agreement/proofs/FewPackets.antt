@@ -22,8 +22,9 @@ use Rattle.rp_model.specs.Effect as nodes
 use Rattle.rp_model.specs.Effect.{Setting, Done, NodeInput, running_effect, turn_done_if, effect_while, node_effect, stops_while, stop_effect, cut_if, cut_effect, restart_while, restart_part}
 use Rattle.rp_model.specs.Tasks as tasks
 use Rattle.rp_model.specs.Tasks.{TaskInput, next_call, may_call, calls_if, asks_again, takes, takes_reply, task_hears, task_effect}
-use Rattle.rp_model.specs.Events.{Step, Deliver, Lead, LeadRange, Interrupt, Tick, Report, Event, Submit, Again, Makes, Cut, Stop, Restart}
-use Rattle.rp_model.specs.World.{World, Transition, part_at, node_done_if, task_done_if, task_takes, task_receives, node_takes, node_hears, node_receives, arrives, delivers, step_effect, node_is_cut, hearing_is_cut, arrival_is_cut, delivery_is_cut, cut_step, stops, restarts, event_effect}
+use Rattle.rp_model.specs.Events.{Step, Event, Submit, Again, Makes, Cut, Stop, Restart}
+use Rattle.rp_model.specs.World.{World, Transition, part_at, node_done_if, task_done_if, task_takes, chosen_effect, chosen_cut, step_effect, cut_step, stops, restarts, event_effect}
+use Rattle.rp_model.proofs.Choosing.{any_given, gives_any, by_chosen}
 use Rattle.rp_agreement.specs.Answered.{answers_of}
 use Rattle.rp_agreement.specs.Worlds.{node_in, IsSoundWorld}
 use Rattle.rp_agreement.proofs.Following.{decided_asked}
@@ -79,7 +80,7 @@ one_taken config t part (tasks.Take message) = one_heard t part message.body
 module _ {S : Type 0} (s : Setting S) where
   -- few packets, by these applied actions
   abbrev IsFewBy : List Message → NodePart → Type 0
-  IsFewBy packets part = length packets ≤ s.config.nodes + 1 + length (answers_of s (applied_of part.records))
+  IsFewBy packets part = length packets ≤ s.config.nodes + 64 + length (answers_of s (applied_of part.records))
 
   -- what a node's step sends, if it is not refused
   abbrev IsFewDone : Result (Done NodePart) Fault → Type 0
@@ -123,71 +124,21 @@ module _ {S : Type 0} (s : Setting S) where
   task_few w t (Ok done) few = inl few
   task_few w t (Err fault) few = tt
 
-  takes_few : (w : World) (me : ℕ) (input : NodeInput) (part : Option NodePart) → part_at w.nodes me ≡ part → IsFewAfterIf (node_takes s w me input part)
-  takes_few w me input None here = tt
-  takes_few w me input (Some part) here = node_few w me part (node_effect s me part input) here (few_while me part input part.running)
-
-  hears_few : (w : World) (me : ℕ) (message : Message) (part : NodePart) (running : Option Running) → part_at w.nodes me ≡ Some part
-      → IsFewAfterIf (node_hears s w me message part running)
-  hears_few w me message part None here = inl (omega arith)
-  hears_few w me message part (Some running) here =
-      node_few w me part (node_effect s me part (nodes.Receive message)) here (few_while me part (nodes.Receive message) part.running)
-
-  received_few : (w : World) (me : ℕ) (message : Message) (part : Option NodePart) → part_at w.nodes me ≡ part → IsFewAfterIf (node_receives s w me message part)
-  received_few w me message None here = inl (omega arith)
-  received_few w me message (Some part) here = hears_few w me message part part.running here
-
   task_takes_few : (w : World) (t : ℕ) (input : TaskInput) (part : Option TaskPart) → IsFewAfterIf (task_takes s.config w t input part)
   task_takes_few w t input None = tt
   task_takes_few w t input (Some part) = task_few w t (task_effect s.config t part input) (one_taken s.config t part input)
 
-  task_received_few : (w : World) (t : ℕ) (message : Message) (part : Option TaskPart) → IsFewAfterIf (task_receives s.config w t message part)
-  task_received_few w t message None = inl (omega arith)
-  task_received_few w t message (Some part) = task_few w t (task_effect s.config t part (tasks.Take message)) (one_taken s.config t part (tasks.Take message))
-
-  arrival_few : (w : World) (message : Message) (party : Party) → IsFewAfterIf (arrives s w message party)
-  arrival_few w message (Node me) = received_few w me message (part_at w.nodes me) refl
-  arrival_few w message (Task t) = task_received_few w t message (part_at w.tasks t)
-  arrival_few w message Audit = inl (omega arith)
-
-  delivery_few : (w : World) (message : Option Message) → IsFewAfterIf (delivers s w message)
-  delivery_few w None = tt
-  delivery_few w (Some message) = arrival_few w message message.to
-
   step_few : (w : World) (step : Step) → IsFewAfterIf (step_effect s w step)
-  step_few w (Deliver number) = delivery_few w (part_at w.sent number)
-  step_few w (Lead me choice) = takes_few w me (nodes.Lead choice) (part_at w.nodes me) refl
-  step_few w (LeadRange me first count) = takes_few w me (nodes.LeadRange first count) (part_at w.nodes me) refl
-  step_few w (Interrupt me source occurrence) = takes_few w me (nodes.Interrupt source occurrence) (part_at w.nodes me) refl
-  step_few w (Tick me now) = takes_few w me (nodes.Tick now) (part_at w.nodes me) refl
-  step_few w (Report me first) = takes_few w me (nodes.Report first) (part_at w.nodes me) refl
-
-  cuts_few : (w : World) (me : ℕ) (input : NodeInput) (kept : ℕ) (part : Option NodePart) → part_at w.nodes me ≡ part → IsFewAfterIf (node_is_cut s w me input kept part)
-  cuts_few w me input kept None here = tt
-  cuts_few w me input kept (Some part) here = node_few w me part (cut_effect s me part input kept) here (few_cut kept part (node_effect s me part input))
-
-  hearing_cut_few : (w : World) (message : Message) (me : ℕ) (part : Option NodePart) (kept : ℕ) → part_at w.nodes me ≡ part
-      → IsFewAfterIf (hearing_is_cut s w message me part kept)
-  hearing_cut_few w message me None kept here = tt
-  hearing_cut_few w message me (Some part) kept here =
-      node_few w me part (cut_effect s me part (nodes.Receive message) kept) here (few_cut kept part (node_effect s me part (nodes.Receive message)))
-
-  arrival_cut_few : (w : World) (message : Message) (party : Party) (kept : ℕ) → IsFewAfterIf (arrival_is_cut s w message party kept)
-  arrival_cut_few w message (Node me) kept = hearing_cut_few w message me (part_at w.nodes me) kept refl
-  arrival_cut_few w message (Task t) kept = tt
-  arrival_cut_few w message Audit kept = tt
-
-  delivery_cut_few : (w : World) (message : Option Message) (kept : ℕ) → IsFewAfterIf (delivery_is_cut s w message kept)
-  delivery_cut_few w None kept = tt
-  delivery_cut_few w (Some message) kept = arrival_cut_few w message message.to kept
+  step_few w step =
+      by_chosen w any_given (λ c. IsFewAfterIf (chosen_effect s w c)) (λ me part input here _. node_few w me part (node_effect s me part input) here (few_while me part input part.running))
+      (λ t part message here _. task_few w t (task_effect s.config t part (tasks.Take message)) (one_taken s.config t part (tasks.Take message))) (λ whom. inl (omega arith)) tt (λ me none. tt) step
+      (gives_any w step)
 
   cut_step_few : (w : World) (step : Step) (kept : ℕ) → IsFewAfterIf (cut_step s w step kept)
-  cut_step_few w (Deliver number) kept = delivery_cut_few w (part_at w.sent number) kept
-  cut_step_few w (Lead me choice) kept = cuts_few w me (nodes.Lead choice) kept (part_at w.nodes me) refl
-  cut_step_few w (LeadRange me first count) kept = cuts_few w me (nodes.LeadRange first count) kept (part_at w.nodes me) refl
-  cut_step_few w (Interrupt me source occurrence) kept = cuts_few w me (nodes.Interrupt source occurrence) kept (part_at w.nodes me) refl
-  cut_step_few w (Tick me now) kept = cuts_few w me (nodes.Tick now) kept (part_at w.nodes me) refl
-  cut_step_few w (Report me first) kept = cuts_few w me (nodes.Report first) kept (part_at w.nodes me) refl
+  cut_step_few w step kept =
+      by_chosen w any_given (λ c. IsFewAfterIf (chosen_cut s w kept c))
+      (λ me part input here _. node_few w me part (cut_effect s me part input kept) here (few_cut kept part (node_effect s me part input))) (λ t part message here _. tt) (λ whom. tt) tt
+      (λ me none. tt) step (gives_any w step)
 
   stops_few : (w : World) (me : ℕ) (part : Option NodePart) → part_at w.nodes me ≡ part → IsFewAfterIf (stops w me part)
   stops_few w me None here = tt
@@ -230,7 +181,7 @@ module _ {S : Type 0} (s : Setting S) where
       few_of_one : length transition.sends ≤ 1 → length transition.sends < 2 ^ 32 - 1
       few_of_one one = omega (arith, one)
 
-      few_of_all : {given applied : ℕ} → length transition.sends ≤ s.config.nodes + 1 + given → given ≤ applied → applied ≤ s.config.max_positions → length transition.sends < 2 ^ 32 - 1
+      few_of_all : {given applied : ℕ} → length transition.sends ≤ s.config.nodes + 64 + given → given ≤ applied → applied ≤ s.config.max_positions → length transition.sends < 2 ^ 32 - 1
       few_of_all {given} {applied} sends answers actions =
           let nodes_few : s.config.nodes ≤ 7 = right.nodes.1 in
           let positions_few : s.config.max_positions < 2 ^ 16 = right.positions.1 in

@@ -1,20 +1,22 @@
--- A node's turn sends at most one packet to each node, a question, and the answers that its applied list
+-- A node's turn sends at most one packet to each node, 64 questions, and the answers that its applied list
 use Rattle.std.proofs.Common.{◌≡◌, ℕ, zero, suc, ◌+◌, ◌≤◌, Bool, true, false, if◌then◌else◌, Result, Ok, Err, Option, Some, None, List, [], ◌∷◌, ◌++◌, ◌-◌, length, drop, refl, arith}
-use Rattle.std.specs.Prelude.{nat_eq, not, filter}
+use Rattle.std.specs.Prelude.{nat_eq, not, filter, is_none}
 use Rattle.std.specs.List.{list_any}
 use Rattle.std.proofs.lemmas.List.{length-append, length-map, length-drop}
+use Rattle.std.proofs.lemmas.List.FromFn.{length-range_with_len}
 use Rattle.rp_base.specs.declared.action.Action.{Action}
 use Rattle.rp_base.specs.declared.reply.Answer.{Answer}
 use Rattle.rp_base.specs.declared.fault.Fault.{Fault}
 use Rattle.rp_base.specs.declared.record.Rec.{Rec}
 use Rattle.rp_base.specs.declared.record.Rec.TheVariants.{Learned}
-use Rattle.rp_base.specs.Records.{applied_of}
+use Rattle.rp_base.specs.Ranges.{positions_of}
+use Rattle.rp_base.specs.Records.{applied_of, learned_at}
 use Rattle.rp_codec.specs.Message.{Message}
 use Rattle.rp_codec.specs.declared.packet.Body.{Body}
 use Rattle.rp_codec.specs.declared.packet.Body.TheVariants as bodies
 use Rattle.rp_machine.specs.Replay.{one_to, replay_answers}
 use Rattle.rp_model.specs.Effect.{Setting, NodeInput, running_effect}
-use Rattle.rp_model.specs.Learner.{missing_position, asks_for}
+use Rattle.rp_model.specs.Learner.{missing_position, asks_for, window_of, missing_in_window, asks_for_each}
 use Rattle.rp_model.specs.Node.{RunningNode, running_node}
 use Rattle.rp_model.specs.Parts.{Running, Turn, with_record}
 use Rattle.rp_model.specs.Pending.{is_answered_by, replies_to}
@@ -69,9 +71,17 @@ asking_few : (me from : ℕ) (missing : Option ℕ) → length (asks_for me from
 asking_few me from None = omega arith
 asking_few me from (Some i) = omega arith
 
+missing_few : (me to most : ℕ) (records : List Rec) → length (asks_for_each me to (missing_in_window most records)) ≤ 64
+missing_few me to most records =
+    let range = window_of most records in
+    let mapped : length (asks_for_each me to (missing_in_window most records)) ≡ length (missing_in_window most records) = length-map (missing_in_window most records) (λ i. says me (bodies.Ask i) to) in
+    let fewer : length (missing_in_window most records) ≤ length (positions_of range) = passing_few (λ i. is_none (learned_at records i)) (positions_of range) in
+    let size : length (positions_of range) ≡ range.count = length-range_with_len range.first range.count in
+    omega (arith, mapped, fewer, size)
+
 -- what the turn sends
 abbrev pub IsFew : {S : Type 0} → Setting S → List Rec → Turn → Type 0
-IsFew s records turn = length turn.sent ≤ s.config.nodes + 1 + length (replay_answers s.next s.answers s.begin (applied_of (with_record records turn.written)))
+IsFew s records turn = length turn.sent ≤ s.config.nodes + 64 + length (replay_answers s.next s.answers s.begin (applied_of (with_record records turn.written)))
 
 -- the same, if it is not refused
 abbrev pub IsFewIf : {S : Type 0} → Setting S → List Rec → Result Turn Fault → Type 0
@@ -121,6 +131,7 @@ module _ {S : Type 0} (s : Setting S) (me : ℕ) (records : List Rec) (running :
       let asked : length (asks_for me from (missing_position (records ++ Learned i v ∷ []))) ≤ 1 = asking_few me from (missing_position (records ++ Learned i v ∷ [])) in
       few_learned i v [] (asks_for me from (missing_position (records ++ Learned i v ∷ []))) (omega (arith, asked))
   plan_few (plans.Report first) = omega arith
+  plan_few (plans.AskMissing to) = omega (arith, missing_few me to s.config.max_positions records)
 
 pub turn_few : {S : Type 0} (s : Setting S) (me : ℕ) (records : List Rec) (running : Running) (input : NodeInput) → IsFewIf s records (running_effect s me records running input)
 turn_few s me records running input =

@@ -63,6 +63,7 @@ module _ {S : Type 0} (node : RunningNode S) (input : NodeInput) where
   plan_in_log (plans.Learn i v) saw = not_above _ i (came_allowed node input saw.from (bodies.Accepted i saw.ballot v) saw.vote.came)
   plan_in_log (plans.Follow from i v) saw = not_above _ i (came_allowed node input from (bodies.Decided i v) saw.came)
   plan_in_log (plans.Report first) saw = tt
+  plan_in_log (plans.AskMissing to) saw = tt
 
 pub turn_in_log : {S : Type 0} (s : Setting S) (me : ℕ) (records : List Rec) (running : Running) (input : NodeInput)
     → InLogIf s.config.max_positions (running_effect s me records running input)

@@ -22,7 +22,7 @@ use Rattle.rp_model.specs.Texts.{written_for}
 use Rattle.rp_base.specs.Number.{window}
 use Rattle.rp_model.specs.Receiving.{party_number}
 use Rattle.rp_model.specs.Tasks.{TaskInput, Submit, Again, Take, asks, next_call, may_call, calls_if, asks_again, takes, takes_reply, task_hears, task_effect}
-use Rattle.rp_model.specs.Effect.{Setting, Done, goes_on_as, NodeInput, Receive, Lead, LeadRange, Interrupt, Tick, Report, running_effect, turn_done_if, effect_while, node_effect, stop_part, cut_part, stops_while, cut_if, restart_while, untorn_part}
+use Rattle.rp_model.specs.Effect.{Setting, Done, goes_on_as, NodeInput, Receive, Lead, LeadRange, Interrupt, Tick, Report, Ask, running_effect, turn_done_if, effect_while, node_effect, stop_part, cut_part, stops_while, cut_if, restart_while, untorn_part}
 use Rattle.rp_model.specs.Events.{Event}
 use Rattle.rp_model.specs.World.{World, opening_world, part_at, with_part, node_done}
 use Rattle.rp_model.proofs.AppliedGrowing.{applied_more}
@@ -126,6 +126,7 @@ may_vote_for w (Lead choice) all is = tt
 may_vote_for w (Interrupt source occurrence) all is = tt
 may_vote_for w (Tick now) all is = tt
 may_vote_for w (Report first) all is = tt
+may_vote_for w (Ask to) all is = tt
 may_vote_for w (LeadRange first count) all is = tt
 
 written_more : (records : List Rec) (written : Option Rec) → (more : List Rec) × (with_record records written ≡ records ++ more)

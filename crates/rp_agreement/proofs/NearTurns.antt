@@ -25,9 +25,9 @@ use Rattle.rp_base.specs.Number.{window}
 use Rattle.rp_agreement.proofs.Lists.{found_has}
 use Rattle.rp_agreement.proofs.RangedParts.{with_or_old}
 use Rattle.rp_base.proofs.Apart.{promised_there}
-use Rattle.rp_model.specs.Effect.{Setting, NodeInput, Receive, Lead, LeadRange, Interrupt, Tick, Report, running_effect}
+use Rattle.rp_model.specs.Effect.{Setting, NodeInput, Receive, Lead, LeadRange, Interrupt, Tick, Report, Ask, running_effect}
 use Rattle.rp_model.specs.Leader.{is_out_of_reach, is_beyond, unlearned_in, refused_running}
-use Rattle.rp_model.specs.Learner.{missing_position, asks_for}
+use Rattle.rp_model.specs.Learner.{missing_position, asks_for, missing_in_window, asks_for_each}
 use Rattle.rp_model.specs.Node.{RunningNode, running_node}
 use Rattle.rp_model.specs.Parts.{Running, Turn}
 use Rattle.rp_model.specs.Pending.{is_answered_by, replies_to}
@@ -135,6 +135,7 @@ MayVoteFor Votes (LeadRange first count) = Unit {0}
 MayVoteFor Votes (Interrupt source occurrence) = Unit {0}
 MayVoteFor Votes (Tick now) = Unit {0}
 MayVoteFor Votes (Report first) = Unit {0}
+MayVoteFor Votes (Ask to) = Unit {0}
 
 -- each new proposal of a range is near, where each position is
 ranged_near : (me : ℕ) (records : List Rec) (Votes : ℕ → ℕ → Type 0) (b : ℕ) (positions : List ℕ) (ps : List Proposal) → ((i : ℕ) → Has i positions → IsNear records i) → AreNear records ps
@@ -234,6 +235,7 @@ module _ {S : Type 0} (s : Setting S) (me : ℕ) (records : List Rec) (Votes : �
   plan_near (plans.Follow from i v) saw =
       learned_near i v [] (asks_for me from (missing_position (records ++ Learned i v ∷ []))) (none me records Votes) (asked me records Votes from (missing_position (records ++ Learned i v ∷ [])))
   plan_near (plans.Report first) saw = record { proposals = near; sent = one me records Votes (report_of me first (applied_of records)) tt }
+  plan_near (plans.AskMissing to) saw = record { proposals = near; sent = mapped me records Votes (λ i. says me (bodies.Ask i) to) (missing_in_window s.config.max_positions records) (λ i. tt) }
 
 pub turn_near : {S : Type 0} (s : Setting S) (me : ℕ) (records : List Rec) (Votes : ℕ → ℕ → Type 0) (running : Running) (input : NodeInput) → AreNear records running.proposals → MayVoteFor Votes input
     → IsNearIf me records Votes (running_effect s me records running input)

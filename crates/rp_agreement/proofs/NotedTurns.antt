@@ -29,7 +29,7 @@ use Rattle.rp_agreement.proofs.Lists.{found_has}
 use Rattle.rp_agreement.proofs.Offering.{offer_is_so}
 use Rattle.rp_agreement.proofs.RangedParts.{with_or_old}
 use Rattle.rp_agreement.proofs.Turns.{IsOffer}
-use Rattle.rp_model.specs.Effect.{Setting, NodeInput, Receive, Lead, LeadRange, Interrupt, Tick, Report, running_effect}
+use Rattle.rp_model.specs.Effect.{Setting, NodeInput, Receive, Lead, LeadRange, Interrupt, Tick, Report, Ask, running_effect}
 use Rattle.rp_model.specs.Leader.{unlearned_in, refused_running}
 use Rattle.rp_model.specs.Learner.{missing_position, asks_for}
 use Rattle.rp_model.specs.Node.{RunningNode, running_node, kept_by, own_for}
@@ -102,6 +102,7 @@ module _ (P : Action → Type 0) where
   InputIs (Interrupt source occurrence) = P (actions.Interrupt source occurrence)
   InputIs (Tick now) = P (actions.Tick now)
   InputIs (Report first) = Unit {0}
+  InputIs (Ask to) = Unit {0}
 
   silent : (packets : List Message) → AreSilent packets → OffersAre packets
   silent packets none i b v offer = absurd (none _ offer.2 tt)
@@ -279,6 +280,7 @@ module _ (P : Action → Type 0) where
     plan_holds (plans.Follow from i v) saw =
         learned_turn i v [] (asks_for me from (missing_position (records ++ Learned i v ∷ []))) nothing (asks_silent me from (missing_position (records ++ Learned i v ∷ [])))
     plan_holds (plans.Report first) saw = says_one (turn_of here (plans.Report first)) (report_of me first (applied_of records)) is refl (λ h. h)
+    plan_holds (plans.AskMissing to) saw = says_silent (turn_of here (plans.AskMissing to)) is (mapped_silent (λ i. says me (bodies.Ask i) to) _ (λ i h. h))
 
     -- any input
     pub holds_in_turn : HoldsIf (running_effect s me records running input)

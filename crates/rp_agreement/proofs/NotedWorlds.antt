@@ -17,7 +17,7 @@ use Rattle.rp_model.specs.Texts.{written_for}
 use Rattle.rp_model.specs.Effect.{Setting, Done, NodeInput, goes_on_as, running_effect, turn_done_if, effect_while, node_effect, stop_part, cut_part, untorn_part, stops_while, stop_effect, cut_if, cut_effect, restart_while, restart_part}
 use Rattle.rp_model.specs.Tasks.{task_effect}
 use Rattle.rp_model.specs.Facts.{IsDecided}
-use Rattle.rp_model.specs.Events.{Step, Deliver, Lead, LeadRange, Interrupt, Tick, Report, Event, Submit, Again, Makes, Cut, Stop, Restart}
+use Rattle.rp_model.specs.Events.{Step, Deliver, Lead, LeadRange, Interrupt, Tick, Report, Ask, Event, Submit, Again, Makes, Cut, Stop, Restart}
 use Rattle.rp_model.specs.World.{World, opening_world, part_at, node_done}
 use Rattle.rp_agreement.specs.History.{IsHistory}
 use Rattle.rp_agreement.specs.Inputs.{IsInput}
@@ -171,6 +171,7 @@ module _ {S : Type 0} (s : Setting S) (right : IsRightConfig s.config) (happened
   step_noted (Interrupt me source occurrence) h = (me, h)
   step_noted (Tick me now) h = (me, h)
   step_noted (Report me first) h = tt
+  step_noted (Ask me to) h = tt
 
   event_noted : (event : Event) → Has event happened → EventMay (InputIs Noted) event
   event_noted (Submit t node object operation arg) h = tt

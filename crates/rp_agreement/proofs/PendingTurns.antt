@@ -104,6 +104,7 @@ module _ {S : Type 0} (s : Setting S) (me : ℕ) (records : List Rec) (running :
   plan_fate (plans.Learn i v) saw = inl (i, v, refl, refl)
   plan_fate (plans.Follow from i v) saw = inl (i, v, refl, refl)
   plan_fate (plans.Report first) saw = inr (λ i v e. absurd cc, inl refl)
+  plan_fate (plans.AskMissing to) saw = inr (λ i v e. absurd cc, inl refl)
 
 -- any input
 pub fate_of : {S : Type 0} (s : Setting S) (me : ℕ) (records : List Rec) (running : Running) (input : NodeInput) → FateIf s records running (brought_by input) (running_effect s me records running input)

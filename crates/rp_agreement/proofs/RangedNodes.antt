@@ -20,7 +20,7 @@ use Rattle.rp_base.specs.Proposals.{Proposal, new_proposal, without_proposal, pr
 use Rattle.rp_base.specs.Records.{learned_at, learned_run, unless_missing, applied_of, first_unlearned}
 use Rattle.rp_base.specs.Right.{IsRightVote}
 use Rattle.rp_base.specs.Sets.{Has}
-use Rattle.rp_base.proofs.Members.{has_passing}
+use Rattle.rp_base.proofs.Members.{has_passing, mapped_has}
 use Rattle.rp_base.specs.Ranges.{Range, IsRange, positions_of, range_of}
 use Rattle.rp_base.specs.declared.fault.Fault.TheVariants.{BadConfig, LogFull}
 use Rattle.rp_codec.specs.Message.{Message, IsPacket, IsBody, MaySay, IsVoteBelow, report_len}
@@ -42,7 +42,7 @@ use Rattle.rp_agreement.proofs.RangedParts.{AreRecords, learned_ranged, with_ran
 use Rattle.rp_agreement.proofs.RangedTurns.{ArePackets, AreReplies, IsRangedTurn, no_packets, one_packet, both_packets, noted, sending, writing, said, said_to_all, said_to_others, replies_ranged, range_position}
 use Rattle.rp_model.specs.Effect.{Setting, NodeInput, running_effect}
 use Rattle.rp_model.specs.Leader.{is_out_of_reach, unlearned_in}
-use Rattle.rp_model.specs.Learner.{missing_position, asks_for}
+use Rattle.rp_model.specs.Learner.{missing_position, asks_for, missing_in_window, asks_for_each}
 use Rattle.rp_model.specs.Node.{RunningNode, running_node, kept_by, given_by, own_for}
 use Rattle.rp_model.specs.Parts.{Running, Turn}
 use Rattle.rp_model.specs.Pending.{own_action}
@@ -55,6 +55,7 @@ use Rattle.rp_model.specs.declared.plan.Plan.TheVariants as plans
 use Rattle.rp_model.proofs.EveryPlan.{Came, Brings, ByCall, ByInterrupt, ByTick, Saw, SawPromise, SawPrepared, SawPlace, promised_is, offered_is, by_plan}
 use Rattle.rp_model.specs.Leader.{chosen_position, free_from, is_free_position, starts_above, ballot_of, is_exhausted}
 use Rattle.rp_model.specs.Learner.{learns_above}
+use Rattle.rp_model.proofs.Missing.{is_missing}
 use Rattle.rp_model.specs.Parts.{is_in_log}
 use Rattle.rp_base.specs.PlacedVotes.{last_votes}
 use Rattle.rp_base.specs.Proposals.{with_promise, after_promise}
@@ -226,6 +227,13 @@ missing_ranged records all =
 asked_ranged : (me from : ℕ) (missing : Option ℕ) → IsNode me → IsNode from → IfSome missing IsPosition → ArePackets (asks_for me from missing)
 asked_ranged me from None mine theirs is = no_packets
 asked_ranged me from (Some i) mine theirs is = one_packet _ (said me from (bodies.Ask i) mine theirs is (tt, tt))
+
+-- questions for what is missing
+missing_asked : (me to most : ℕ) (records : List Rec) → IsNode me → IsNode to → IsPosition most → ArePackets (asks_for_each me to (missing_in_window most records))
+missing_asked me to most records mine theirs high m h =
+    let hit = mapped_has (λ (i : ℕ). says me (bodies.Ask i) to) m (missing_in_window most records) h in
+    let there = (is_missing most hit.0 records).0 hit.1 in
+    subst IsPacket (sym hit.2) (said me to (bodies.Ask hit.0) mine theirs (omega (arith, there.0), omega (arith, there.2, high.1)) (tt, tt))
 
 -- ---- what came
 
@@ -447,6 +455,10 @@ module _ {S : Type 0} (s : Setting S) (fits : (actions : List Action) → AllRig
   plan_ranged (plans.Report first) saw =
       sending running (report_of me first (applied_of records) ∷ []) runs
       (one_packet _ (report_packet me first records mine (subst (λ (i : NodeInput). IsInput sent i) saw given) all))
+  plan_ranged (plans.AskMissing to) saw =
+      let theirs : IsNode to = subst (λ (i : NodeInput). IsInput sent i) saw.input_is given in
+      sending running (asks_for_each me to (missing_in_window s.config.max_positions records)) runs
+      (missing_asked me to s.config.max_positions records mine theirs right.positions)
 
   -- ---- any input
 

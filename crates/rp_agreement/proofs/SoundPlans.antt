@@ -32,7 +32,7 @@ use Rattle.rp_agreement.specs.Sound.{IsReported, IsSo, IsProposal, IsRunning, Is
 use Rattle.rp_agreement.specs.Steps.{MayWrite}
 use Rattle.rp_agreement.proofs.Lists.{found_has}
 use Rattle.rp_agreement.proofs.RecordGrowth.{learned_has}
-use Rattle.rp_agreement.proofs.Turns.{IsSoundTurn, IsOffer, ArePlain, none_plain, one_plain, said_plain, plain, quiet, sending, runs_written}
+use Rattle.rp_agreement.proofs.Turns.{IsSoundTurn, IsOffer, IsPlain, ArePlain, none_plain, one_plain, mapped_plain, said_plain, plain, quiet, sending, runs_written}
 use Rattle.rp_agreement.proofs.Acceptors.{one_said, promise_is_so, range_is_so, AllowsVote, vote_allowed}
 use Rattle.rp_agreement.proofs.Leaders.{runs_with, more_promised, offering, offers_sound, after_majority, after_few, waits_by, refused_sound, range_noted, next_owned, next_above, new_unoffered, own_is_asked, own_offer, unless_is_so, started_new, runs_ranged}
 use Rattle.rp_agreement.proofs.Learners.{decides, heard_more, runs_heard, asking_plain, learned_sound}
@@ -40,7 +40,7 @@ use Rattle.rp_agreement.proofs.Pendings.{runs_pending, interrupt_asked, tick_ask
 use Rattle.rp_agreement.proofs.Arriving.{came_said, call_asked}
 use Rattle.rp_model.specs.Effect.{Setting, NodeInput, running_effect}
 use Rattle.rp_model.specs.Leader.{unlearned_in}
-use Rattle.rp_model.specs.Learner.{missing_position, asks_for}
+use Rattle.rp_model.specs.Learner.{missing_position, asks_for, missing_in_window, asks_for_each}
 use Rattle.rp_model.specs.Node.{RunningNode, running_node, kept_by, own_for}
 use Rattle.rp_model.specs.Parts.{Running, Turn, with_record}
 use Rattle.rp_model.specs.Plans.{once_counted, report_of, turn_of}
@@ -257,6 +257,11 @@ module _ {S : Type 0} (s : Setting S) (x : ℕ) (node : ℕ → NodePart) (sent 
   plan_sound (plans.Report first) saw =
       sending nodes x records sent running (report_of x first (applied_of records) ∷ [])
       (one_plain nodes x sent records (report_of x first (applied_of records)) (record { from = refl; so = reported_now (applied_of records) first; no_offer = λ h. h })) runs
+  plan_sound (plans.AskMissing to) saw =
+      let positions = missing_in_window s.config.max_positions records in
+      sending nodes x records sent running (asks_for_each x to positions)
+      (mapped_plain nodes x sent records (λ i. says x (bodies.Ask i) to) positions
+      (λ i. let is : IsPlain nodes x sent records (says x (bodies.Ask i) to) = record { from = refl; so = tt; no_offer = λ h. h } in is)) runs
 
 pub running_sound : {S : Type 0} (s : Setting S) (x : ℕ) (node : ℕ → NodePart) (sent : List Message) (running : Running) (input : NodeInput)
     → x < 8 → IsSound s.config.nodes node sent → IsRunning sent (node x).records running → IsInput sent input

@@ -9,7 +9,7 @@ use Rattle.rp_codec.specs.Message.{Message}
 use Rattle.rp_codec.specs.declared.packet.Party.TheVariants.{Task}
 use Rattle.rp_codec.specs.declared.packet.Body.TheVariants.{Call}
 use Rattle.rp_model.specs.Effect.{Done, NodeInput, Receive, Lead, LeadRange, Interrupt, Tick}
-use Rattle.rp_model.specs.Effect.{Report}
+use Rattle.rp_model.specs.Effect.{Report, Ask}
 use Rattle.rp_model.specs.Tasks.{TaskInput, Submit, Again, Take}
 use Rattle.rp_model.specs.Parts.{NodePart}
 use Rattle.rp_model.specs.Parts.{TaskPart}
@@ -24,6 +24,7 @@ IsInput sent (LeadRange first count) = IsPosition first
 IsInput sent (Interrupt source occurrence) = IsIndex source × IsCount occurrence
 IsInput sent (Tick now) = now < 2 ^ 32
 IsInput sent (Report first) = IsPosition first
+IsInput sent (Ask to) = IsNode to
 
 -- the numbers are within the ranges of their types, and a packet was sent to the task
 abbrev pub IsTaskInput : List Message → ℕ → TaskInput → Type 0

@@ -14,7 +14,7 @@ use Rattle.rp_machine.specs.Asked.{last_number, last_occurrence}
 use Rattle.rp_machine.specs.Calls.{CallName, calls_of, call_of}
 use Rattle.rp_machine.specs.Replay.{kept_of, replay_answers}
 use Rattle.rp_model.specs.Effect.{Setting, NodeInput, Receive, Lead, LeadRange, Interrupt, Tick}
-use Rattle.rp_model.specs.Effect.{Report}
+use Rattle.rp_model.specs.Effect.{Report, Ask}
 use Rattle.rp_model.specs.Parts.{Running, Turn}
 use Rattle.rp_model.specs.declared.effect.Dropped.TheVariants.{Full}
 use Rattle.rp_agreement.specs.Answered.{named}
@@ -52,6 +52,7 @@ brought_by (LeadRange first count) = []
 brought_by (Interrupt source occurrence) = actions.Interrupt source occurrence ∷ []
 brought_by (Tick now) = actions.Tick now ∷ []
 brought_by (Report first) = []
+brought_by (Ask to) = []
 
 -- the items that waited still do, in order, and one of these may come after them
 abbrev pub AreKept : Running → Turn → List Action → Type 0

@@ -8,12 +8,8 @@ use Rattle.rp_base.specs.declared.config.Config.{Config}
 use Rattle.rp_base.specs.declared.fault.Fault.{Fault}
 use Rattle.rp_base.specs.declared.fault.Fault.TheVariants.{Device, LogFull, NumbersSpent, BadConfig}
 use Rattle.rp_base.specs.declared.record.Rec.{Rec}
-use Rattle.rp_codec.specs.Message.{Message}
-use Rattle.rp_codec.specs.declared.packet.Party.{Party}
-use Rattle.rp_codec.specs.declared.packet.Party.TheVariants.{Node, Task, Audit}
-use Rattle.rp_model.specs.Effect as nodes
 use Rattle.rp_model.specs.Effect.{Setting, Done, NodeInput, plan_of, turn_if, running_effect, turn_done_if, effect_while, node_effect, stops_while, cut_if}
-use Rattle.rp_model.specs.Events.{Step, Deliver, Lead, LeadRange, Interrupt, Tick, Report, Event, Submit, Again, Makes, Cut, Stop, Restart}
+use Rattle.rp_model.specs.Events.{Step, Event, Submit, Again, Makes, Cut, Stop, Restart}
 use Rattle.rp_model.specs.Node.{RunningNode, running_node}
 use Rattle.rp_model.proofs.EveryPlan.{plan_refused}
 use Rattle.rp_model.specs.declared.plan.Plan.{Plan}
@@ -22,7 +18,8 @@ use Rattle.rp_base.specs.Ranges.{Range, range_of}
 use Rattle.rp_model.specs.Parts.{NodePart, TaskPart, Running, Turn}
 use Rattle.rp_model.specs.Tasks as tasks
 use Rattle.rp_model.specs.Tasks.{TaskInput, may_call, calls_if, task_effect}
-use Rattle.rp_model.specs.World.{World, part_at, node_done_if, task_done_if, task_takes, task_receives, node_takes, node_hears, node_receives, arrives, delivers, step_effect, node_is_cut, hearing_is_cut, arrival_is_cut, delivery_is_cut, cut_step, stops, restarts, event_effect}
+use Rattle.rp_model.specs.World.{World, part_at, node_done_if, task_done_if, task_takes, chosen_effect, chosen_cut, step_effect, cut_step, stops, restarts, event_effect}
+use Rattle.rp_model.proofs.Choosing.{any_given, gives_any, by_chosen}
 
 -- it is no fault of a device
 abbrev pub NoDevice : {A : Type 0} → Result A Fault → Type 0
@@ -77,10 +74,6 @@ task_part : (config : Config) (w : World) (t : ℕ) (input : TaskInput) (o : Opt
 task_part config w t input None = tt
 task_part config w t input (Some part) = task_so w t (task_effect config t part input) (task_input config t part input)
 
-task_received : (config : Config) (w : World) (t : ℕ) (message : Message) (o : Option TaskPart) → NoDevice (task_receives config w t message o)
-task_received config w t message None = tt
-task_received config w t message (Some part) = task_so w t (task_effect config t part (tasks.Take message)) tt
-
 range_so : (first count : ℕ) → NoDevice (range_of first count)
 range_so first count =
     let whole : Result Range Fault = Ok (record { first = first; count = count }) in
@@ -102,7 +95,7 @@ module _ {S : Type 0} (s : Setting S) where
   pub turn_is : (me : ℕ) (records : List Rec) (running : Running) (input : NodeInput) → NoDevice (running_effect s me records running input)
   turn_is me records running input =
       let node = running_node s me records running in
-      turn_so node (plan_of node input) (plan_refused node input (λ fault. let none : Result Plan Fault = Err fault in NoDevice none) tt tt (λ first count is. range_none (range_of first count) (range_so first count)))
+      turn_so node (plan_of node input) (plan_refused node input (λ fault. let none : Result Plan Fault = Err fault in NoDevice none) tt tt (λ to is. tt) (λ first count is. range_none (range_of first count) (range_so first count)))
 
   while_is : (me : ℕ) (part : NodePart) (input : NodeInput) (o : Option Running) → NoDevice (effect_while s me part input o)
   while_is me part input None = tt
@@ -112,62 +105,17 @@ module _ {S : Type 0} (s : Setting S) where
   pub input_is : (me : ℕ) (part : NodePart) (input : NodeInput) → NoDevice (node_effect s me part input)
   input_is me part input = while_is me part input part.running
 
-  takes_is : (w : World) (me : ℕ) (input : NodeInput) (o : Option NodePart) → NoDevice (node_takes s w me input o)
-  takes_is w me input None = tt
-  takes_is w me input (Some part) = done_so w me (node_effect s me part input) (input_is me part input)
-
-  hears_is : (w : World) (me : ℕ) (message : Message) (part : NodePart) (o : Option Running) → NoDevice (node_hears s w me message part o)
-  hears_is w me message part None = tt
-  hears_is w me message part (Some running) = done_so w me (node_effect s me part (nodes.Receive message)) (input_is me part (nodes.Receive message))
-
-  received_is : (w : World) (me : ℕ) (message : Message) (o : Option NodePart) → NoDevice (node_receives s w me message o)
-  received_is w me message None = tt
-  received_is w me message (Some part) = hears_is w me message part part.running
-
-  arrival_is : (w : World) (message : Message) (party : Party) → NoDevice (arrives s w message party)
-  arrival_is w message (Node me) = received_is w me message (part_at w.nodes me)
-  arrival_is w message (Task t) = task_received s.config w t message (part_at w.tasks t)
-  arrival_is w message Audit = tt
-
-  -- a delivery
-  pub delivery_is : (w : World) (o : Option Message) → NoDevice (delivers s w o)
-  delivery_is w None = tt
-  delivery_is w (Some message) = arrival_is w message message.to
-
+  -- a step, and a step that is cut
   step_is : (w : World) (step : Step) → NoDevice (step_effect s w step)
-  step_is w (Deliver number) = delivery_is w (part_at w.sent number)
-  step_is w (Lead me choice) = takes_is w me (nodes.Lead choice) (part_at w.nodes me)
-  step_is w (LeadRange me first count) = takes_is w me (nodes.LeadRange first count) (part_at w.nodes me)
-  step_is w (Interrupt me source occurrence) = takes_is w me (nodes.Interrupt source occurrence) (part_at w.nodes me)
-  step_is w (Tick me now) = takes_is w me (nodes.Tick now) (part_at w.nodes me)
-  step_is w (Report me first) = takes_is w me (nodes.Report first) (part_at w.nodes me)
-
-  cut_is : (w : World) (me : ℕ) (input : NodeInput) (kept : ℕ) (o : Option NodePart) → NoDevice (node_is_cut s w me input kept o)
-  cut_is w me input kept None = tt
-  cut_is w me input kept (Some part) = done_so w me (cut_if kept part (node_effect s me part input)) (cut_so kept part (node_effect s me part input) (input_is me part input))
-
-  hearing_cut_is : (w : World) (message : Message) (me : ℕ) (o : Option NodePart) (kept : ℕ) → NoDevice (hearing_is_cut s w message me o kept)
-  hearing_cut_is w message me None kept = tt
-  hearing_cut_is w message me (Some part) kept =
-      let input = nodes.Receive message in
-      done_so w me (cut_if kept part (node_effect s me part input)) (cut_so kept part (node_effect s me part input) (input_is me part input))
-
-  arrival_cut_is : (w : World) (message : Message) (party : Party) (kept : ℕ) → NoDevice (arrival_is_cut s w message party kept)
-  arrival_cut_is w message (Node me) kept = hearing_cut_is w message me (part_at w.nodes me) kept
-  arrival_cut_is w message (Task t) kept = tt
-  arrival_cut_is w message Audit kept = tt
-
-  delivery_cut_is : (w : World) (o : Option Message) (kept : ℕ) → NoDevice (delivery_is_cut s w o kept)
-  delivery_cut_is w None kept = tt
-  delivery_cut_is w (Some message) kept = arrival_cut_is w message message.to kept
+  step_is w step =
+      by_chosen w any_given (λ c. NoDevice (chosen_effect s w c)) (λ me part input here _. done_so w me (node_effect s me part input) (input_is me part input))
+      (λ t part message here _. task_so w t (task_effect s.config t part (tasks.Take message)) tt) (λ whom. tt) tt (λ me none. tt) step (gives_any w step)
 
   cut_step_is : (w : World) (step : Step) (kept : ℕ) → NoDevice (cut_step s w step kept)
-  cut_step_is w (Deliver number) kept = delivery_cut_is w (part_at w.sent number) kept
-  cut_step_is w (Lead me choice) kept = cut_is w me (nodes.Lead choice) kept (part_at w.nodes me)
-  cut_step_is w (LeadRange me first count) kept = cut_is w me (nodes.LeadRange first count) kept (part_at w.nodes me)
-  cut_step_is w (Interrupt me source occurrence) kept = cut_is w me (nodes.Interrupt source occurrence) kept (part_at w.nodes me)
-  cut_step_is w (Tick me now) kept = cut_is w me (nodes.Tick now) kept (part_at w.nodes me)
-  cut_step_is w (Report me first) kept = cut_is w me (nodes.Report first) kept (part_at w.nodes me)
+  cut_step_is w step kept =
+      by_chosen w any_given (λ c. NoDevice (chosen_cut s w kept c))
+      (λ me part input here _. done_so w me (cut_if kept part (node_effect s me part input)) (cut_so kept part (node_effect s me part input) (input_is me part input)))
+      (λ t part message here _. tt) (λ whom. tt) tt (λ me none. tt) step (gives_any w step)
 
   stop_is : (part : NodePart) (o : Option Running) → NoDevice (stops_while part o)
   stop_is part None = tt

@@ -1,13 +1,14 @@
 -- What the rule of each plan saw.
 use Rattle.std.proofs.Common.{◌≡◌, ℕ, ℤ, ◌<◌, Bool, true, false, if◌then◌else◌, Option, Some, None, Result, Ok, Err, List, [], ◌∷◌, length, refl, sym, ap, subst, ◌∙◌}
-use Rattle.std.specs.Prelude.{◌&&◌, IfErr, find, nat_eq, nat_lt, is_some, unwrap_or}
+use Rattle.std.specs.Prelude.{◌&&◌, not, IfErr, find, nat_eq, nat_lt, is_some, unwrap_or}
+use Rattle.rp_base.specs.Number.{in_range}
 use Rattle.std.specs.List.{list_any}
 use Rattle.std.proofs.lemmas.Bool.{ltb-true, and_parts}
 use Rattle.rp_base.specs.declared.action.Action.{Action}
 use Rattle.rp_base.specs.declared.action.Action.TheVariants as actions
 use Rattle.rp_base.specs.declared.action.Operation.{Operation}
 use Rattle.rp_base.specs.declared.fault.Fault.{Fault}
-use Rattle.rp_base.specs.declared.fault.Fault.TheVariants.{BallotsSpent, LogFull}
+use Rattle.rp_base.specs.declared.fault.Fault.TheVariants.{BallotsSpent, LogFull, BadConfig}
 use Rattle.rp_base.specs.declared.proposal.Phase.TheVariants.{Offering}
 use Rattle.rp_base.specs.declared.voting.AcceptAnswer.{AcceptAnswer}
 use Rattle.rp_base.specs.declared.record.Rec.TheVariants.{Promised, PromisedRange, Voted}
@@ -30,7 +31,7 @@ use Rattle.rp_codec.specs.declared.usual_texts.Header.{Header}
 use Rattle.rp_machine.specs.Asked.{last_number, last_occurrence, kept_reply}
 use Rattle.rp_model.specs.Acceptor.{answer_to, prepare_plan, range_plan, accept_plan}
 use Rattle.rp_model.specs.Arrivals.{adds_pending, on_numbered, on_call}
-use Rattle.rp_model.specs.Effect.{NodeInput, Receive, Lead, LeadRange, Interrupt, Tick, Report, plan_of, turn_if}
+use Rattle.rp_model.specs.Effect.{NodeInput, Receive, Lead, LeadRange, Interrupt, Tick, Report, Ask, plan_of, turn_if}
 use Rattle.rp_model.specs.Leader.{chosen_position, is_beyond, is_out_of_reach, unlearned_in, ballot_of, is_exhausted, begins_if, leads_at, on_lead, on_lead_range, counts_promise, on_promise_to}
 use Rattle.rp_model.specs.Learner.{ask_plan, decision_plan, on_vote}
 use Rattle.rp_model.specs.Node.{RunningNode, nodes_of, kept_by, given_by, own_for}
@@ -188,6 +189,11 @@ module _ {S : Type 0} (node : RunningNode S) (input : NodeInput) where
     pub came : Came from (bodies.Decided i v)
     pub unlearned : learned_at node.records i ≡ None
 
+  -- the command to ask another node
+  pub record SawAskMissing (to : ℕ) : Type 0 where
+    pub input_is : input ≡ Ask to
+    pub other : (in_range 1 (nodes_of node) to && not (nat_eq to node.me)) ≡ true
+
   -- ---- each plan
 
   abbrev pub Saw : Plan → Type 0
@@ -211,6 +217,7 @@ module _ {S : Type 0} (node : RunningNode S) (input : NodeInput) where
   Saw (plans.Learn i v) = SawLast i v
   Saw (plans.Follow from i v) = SawDecision from i v
   Saw (plans.Report first) = input ≡ Report first
+  Saw (plans.AskMissing to) = SawAskMissing to
 
   abbrev pub SawIf : Result Plan Fault → Type 0
   SawIf (Ok plan) = Saw plan
@@ -384,6 +391,9 @@ module _ {S : Type 0} (node : RunningNode S) (input : NodeInput) where
       (λ _. adds_saw (actions.Interrupt source occurrence) (ByInterrupt source occurrence is refl)) (λ _. tt)
   saw (Tick now) is = adds_saw (actions.Tick now) (ByTick now is refl)
   saw (Report first) is = is
+  saw (Ask to) is =
+      either_if (in_range 1 (nodes_of node) to && not (nat_eq to node.me)) (Ok (plans.AskMissing to)) (Err BadConfig)
+      (λ other. record { input_is = is; other = other }) (λ _. tt)
 
   -- what the rule of the plan of an input saw
   pub every_plan : SawIf (plan_of node input)
@@ -432,8 +442,9 @@ by_plan node input Holds refused turned = by (plan_of node input) (every_plan no
 
 -- ---- why there is no plan
 
--- what holds of each reason: no ballot is left, the log is full, or the numbers make no range
+-- what holds of each reason: no ballot is left, the log is full, the numbers make no range, or the node asked is no other one
 module _ {S : Type 0} (node : RunningNode S) (input : NodeInput) (P : Fault → Type 0) (spent : P BallotsSpent) (full : P LogFull)
+    (asked : (to : ℕ) → input ≡ Ask to → P BadConfig)
     (range : (first count : ℕ) → input ≡ LeadRange first count → IfErr (range_of first count) P) where
   one_of : (test : Bool) (one other : Result Plan Fault) → IfErr one P → IfErr other P → IfErr (if test then one else other) P
   one_of true one other left right = left
@@ -463,6 +474,7 @@ module _ {S : Type 0} (node : RunningNode S) (input : NodeInput) (P : Fault → 
   refused (Interrupt source occurrence) is = tt
   refused (Tick now) is = tt
   refused (Report first) is = tt
+  refused (Ask to) is = one_of (in_range 1 (nodes_of node) to && not (nat_eq to node.me)) (Ok (plans.AskMissing to)) (Err BadConfig) tt (asked to is)
 
   pub plan_refused : IfErr (plan_of node input) P
   plan_refused = refused input refl

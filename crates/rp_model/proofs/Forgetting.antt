@@ -227,6 +227,7 @@ module _ (grown : (records : List Rec) (rec : Rec) (i : ℕ) → learned_at (rec
       plan_decided (inputs.Interrupt source occurrence) = refl
       plan_decided (inputs.Tick now) = refl
       plan_decided (inputs.Report first) = refl
+      plan_decided (inputs.Ask to) = refl
 
       -- ---- and a plan does the same
 
@@ -271,6 +272,7 @@ module _ (grown : (records : List Rec) (rec : Rec) (i : ℕ) → learned_at (rec
       plan_alike input (plans.Learn i v) saw = learns_alike i v (says_to_others s.config.nodes me (bodies.Decided i v)) []
       plan_alike input (plans.Follow from i v) saw = learns_alike i v [] (asks_for me from (missing_position (records ++ Learned i v ∷ [])))
       plan_alike input (plans.Report first) saw = quiet None (report_of me first (applied_of records) ∷ []) No one refl
+      plan_alike input (plans.AskMissing to) saw = quiet None _ No one refl
 
       input_alike : (input : NodeInput) → AreAlikeAnswers records (running_effect s me records one input) (running_effect s me records other input)
       input_alike input =

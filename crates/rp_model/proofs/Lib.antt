@@ -1,5 +1,7 @@
 pub mod EveryPlan
+pub mod Choosing
 pub mod Forgetting
+pub mod Missing
 pub mod Replying
 pub mod AppliedGrowing
 pub mod WorldGrowing

@@ -6,21 +6,18 @@ use Rattle.rp_base.specs.declared.action.Action.{Action}
 use Rattle.rp_base.specs.declared.fault.Fault.{Fault}
 use Rattle.rp_base.specs.declared.record.Rec.{Rec}
 use Rattle.rp_base.specs.Records.{applied_of}
-use Rattle.rp_codec.specs.Message.{Message}
-use Rattle.rp_codec.specs.declared.packet.Party.{Party}
-use Rattle.rp_codec.specs.declared.packet.Party.TheVariants.{Node, Task, Audit}
 use Rattle.rp_model.specs.Parts.{Running}
 use Rattle.rp_model.specs.Parts.{NodePart}
 use Rattle.rp_model.specs.Parts.{TaskPart}
 use Rattle.rp_model.specs.Parts.{Turn}
 use Rattle.rp_model.specs.Parts.{with_record}
 use Rattle.rp_model.specs.Texts.{written_for}
-use Rattle.rp_model.specs.Effect as nodes
 use Rattle.rp_model.specs.Effect.{Setting, Done, NodeInput, running_effect, turn_done_if, effect_while, node_effect, stop_part, cut_part, cut_if, stops_while, restart_while, restart_part}
 use Rattle.rp_model.specs.Tasks as tasks
 use Rattle.rp_model.specs.Tasks.{TaskInput, task_effect}
-use Rattle.rp_model.specs.Events.{Step, Deliver, Lead, LeadRange, Interrupt, Tick, Report, Event, Submit, Again, Makes, Cut, Stop, Restart}
-use Rattle.rp_model.specs.World.{World, Transition, part_at, with_part, nothing_happens, node_done, task_done, node_done_if, task_done_if, task_takes, task_receives, node_takes, node_hears, node_receives, arrives, delivers, step_effect, node_is_cut, hearing_is_cut, arrival_is_cut, delivery_is_cut, cut_step, stops, restarts, event_effect}
+use Rattle.rp_model.specs.Events.{Step, Event, Submit, Again, Makes, Cut, Stop, Restart}
+use Rattle.rp_model.specs.World.{World, Transition, part_at, with_part, nothing_happens, node_done, task_done, node_done_if, task_done_if, task_takes, chosen_effect, chosen_cut, step_effect, cut_step, stops, restarts, event_effect}
+use Rattle.rp_model.proofs.Choosing.{any_given, gives_any, by_chosen}
 use Rattle.rp_model.specs.Growing.{Grows}
 use Rattle.rp_model.proofs.AppliedGrowing.{applied_more}
 
@@ -150,65 +147,17 @@ module _ {S : Type 0} (s : Setting S) where
 
   -- ---- one event
 
-  takes_grow : (w : World) (me : ℕ) (input : NodeInput) (part : Option NodePart) → part_at w.nodes me ≡ part → GrowsIf w (node_takes s w me input part)
-  takes_grow w me input None here = tt
-  takes_grow w me input (Some part) here = node_grows_if w me part (node_effect s me part input) here (effect_on me part input part.running)
-
-  hears_grow : (w : World) (me : ℕ) (message : Message) (part : NodePart) (running : Option Running) → part_at w.nodes me ≡ Some part → GrowsIf w (node_hears s w me message part running)
-  hears_grow w me message part None here = nothing_grows w
-  hears_grow w me message part (Some running) here =
-      node_grows_if w me part (node_effect s me part (nodes.Receive message)) here (effect_on me part (nodes.Receive message) part.running)
-
-  received_grows : (w : World) (me : ℕ) (message : Message) (part : Option NodePart) → part_at w.nodes me ≡ part → GrowsIf w (node_receives s w me message part)
-  received_grows w me message None here = nothing_grows w
-  received_grows w me message (Some part) here = hears_grow w me message part part.running here
-
-  task_received_grows : (w : World) (task : ℕ) (message : Message) (part : Option TaskPart) → GrowsIf w (task_receives s.config w task message part)
-  task_received_grows w task message None = nothing_grows w
-  task_received_grows w task message (Some part) = task_grows_if w task (task_effect s.config task part (tasks.Take message))
-
-  arrival_grows : (w : World) (message : Message) (party : Party) → GrowsIf w (arrives s w message party)
-  arrival_grows w message (Node me) = received_grows w me message (part_at w.nodes me) refl
-  arrival_grows w message (Task task) = task_received_grows w task message (part_at w.tasks task)
-  arrival_grows w message Audit = nothing_grows w
-
-  delivery_grows : (w : World) (message : Option Message) → GrowsIf w (delivers s w message)
-  delivery_grows w None = tt
-  delivery_grows w (Some message) = arrival_grows w message message.to
-
   step_grows : (w : World) (step : Step) → GrowsIf w (step_effect s w step)
-  step_grows w (Deliver number) = delivery_grows w (part_at w.sent number)
-  step_grows w (Lead me choice) = takes_grow w me (nodes.Lead choice) (part_at w.nodes me) refl
-  step_grows w (LeadRange me first count) = takes_grow w me (nodes.LeadRange first count) (part_at w.nodes me) refl
-  step_grows w (Interrupt me source occurrence) = takes_grow w me (nodes.Interrupt source occurrence) (part_at w.nodes me) refl
-  step_grows w (Tick me now) = takes_grow w me (nodes.Tick now) (part_at w.nodes me) refl
-  step_grows w (Report me first) = takes_grow w me (nodes.Report first) (part_at w.nodes me) refl
-
-  cuts_grow : (w : World) (me : ℕ) (input : NodeInput) (kept : ℕ) (part : Option NodePart) → part_at w.nodes me ≡ part → GrowsIf w (node_is_cut s w me input kept part)
-  cuts_grow w me input kept None here = tt
-  cuts_grow w me input kept (Some part) here = node_grows_if w me part (cut_if kept part (node_effect s me part input)) here (cut_if_on kept part (node_effect s me part input))
-
-  hearing_cut_grows : (w : World) (message : Message) (me : ℕ) (part : Option NodePart) (kept : ℕ) → part_at w.nodes me ≡ part → GrowsIf w (hearing_is_cut s w message me part kept)
-  hearing_cut_grows w message me None kept here = tt
-  hearing_cut_grows w message me (Some part) kept here =
-      node_grows_if w me part (cut_if kept part (node_effect s me part (nodes.Receive message))) here (cut_if_on kept part (node_effect s me part (nodes.Receive message)))
-
-  arrival_cut_grows : (w : World) (message : Message) (party : Party) (kept : ℕ) → GrowsIf w (arrival_is_cut s w message party kept)
-  arrival_cut_grows w message (Node me) kept = hearing_cut_grows w message me (part_at w.nodes me) kept refl
-  arrival_cut_grows w message (Task task) kept = tt
-  arrival_cut_grows w message Audit kept = tt
-
-  delivery_cut_grows : (w : World) (message : Option Message) (kept : ℕ) → GrowsIf w (delivery_is_cut s w message kept)
-  delivery_cut_grows w None kept = tt
-  delivery_cut_grows w (Some message) kept = arrival_cut_grows w message message.to kept
+  step_grows w step =
+      by_chosen w any_given (λ c. GrowsIf w (chosen_effect s w c))
+      (λ me part input here _. node_grows_if w me part (node_effect s me part input) here (effect_on me part input part.running))
+      (λ task part message here _. task_grows_if w task (task_effect s.config task part (tasks.Take message))) (λ whom. nothing_grows w) tt (λ me none. tt) step (gives_any w step)
 
   cut_grows : (w : World) (step : Step) (kept : ℕ) → GrowsIf w (cut_step s w step kept)
-  cut_grows w (Deliver number) kept = delivery_cut_grows w (part_at w.sent number) kept
-  cut_grows w (Lead me choice) kept = cuts_grow w me (nodes.Lead choice) kept (part_at w.nodes me) refl
-  cut_grows w (LeadRange me first count) kept = cuts_grow w me (nodes.LeadRange first count) kept (part_at w.nodes me) refl
-  cut_grows w (Interrupt me source occurrence) kept = cuts_grow w me (nodes.Interrupt source occurrence) kept (part_at w.nodes me) refl
-  cut_grows w (Tick me now) kept = cuts_grow w me (nodes.Tick now) kept (part_at w.nodes me) refl
-  cut_grows w (Report me first) kept = cuts_grow w me (nodes.Report first) kept (part_at w.nodes me) refl
+  cut_grows w step kept =
+      by_chosen w any_given (λ c. GrowsIf w (chosen_cut s w kept c))
+      (λ me part input here _. node_grows_if w me part (cut_if kept part (node_effect s me part input)) here (cut_if_on kept part (node_effect s me part input)))
+      (λ task part message here _. tt) (λ whom. tt) tt (λ me none. tt) step (gives_any w step)
 
   stops_grow : (w : World) (me : ℕ) (part : Option NodePart) → part_at w.nodes me ≡ part → GrowsIf w (stops w me part)
   stops_grow w me None here = tt

@@ -19,6 +19,7 @@ use Rattle.rp_model.specs.Node.{RunningNode, running_node}
 use Rattle.rp_model.specs.Texts.{written_for}
 use Rattle.rp_model.specs.Arrivals.{on_interrupt, on_tick}
 use Rattle.rp_model.specs.Leader.{on_lead, on_lead_range}
+use Rattle.rp_model.specs.Learner.{on_ask_missing}
 use Rattle.rp_model.specs.Receiving.{receives}
 use Rattle.rp_model.specs.Plans.{turn_of}
 use Rattle.rp_model.specs.declared.plan.Plan.{Plan}
@@ -41,8 +42,8 @@ goes_on_as part =
     record { part = part; written = None; sends = []; dropped = No; taken = None; opened = None }
 
 -- what a node may be given: a packet, the command to lead at a position or the least free one, the
--- command to lead at n positions from one on, an interrupt of a source, a tick, or a
--- request to report
+-- command to lead at n positions from one on, an interrupt of a source, a tick, a request to report
+-- from a position on, or the command to ask a node for what it misses
 pub data NodeInput : Type 0 where
   Receive : Message → NodeInput
   Lead : Option ℕ → NodeInput
@@ -50,6 +51,7 @@ pub data NodeInput : Type 0 where
   Interrupt : ℕ → ℕ → NodeInput
   Tick : ℕ → NodeInput
   Report : ℕ → NodeInput
+  Ask : ℕ → NodeInput
 
 -- What a node that runs decides of an input: a plan of all that it does, or a refusal.
 abbrev pub plan_of : {S : Type 0} → RunningNode S → NodeInput → Result Plan Fault
@@ -59,6 +61,7 @@ plan_of node (LeadRange first count) = on_lead_range node (range_of first count)
 plan_of node (Interrupt source occurrence) = Ok (on_interrupt node source occurrence)
 plan_of node (Tick now) = Ok (on_tick node now)
 plan_of node (Report first) = Ok (plans.Report first)
+plan_of node (Ask to) = on_ask_missing node to
 
 -- the turn of a plan, if there is one
 abbrev pub turn_if : {S : Type 0} → RunningNode S → Result Plan Fault → Result Turn Fault

@@ -13,7 +13,8 @@ use Rattle.rp_model.specs.declared.event.Event.TheVariants as taken_events
 
 -- A packet that was sent, by its number from 1, is delivered to its receiver, a node or a task; or
 -- the node of a number leads, at a position or the least free one or at n from a position on, notes
--- an interrupt of a source, notes a tick, or reports from a position on.
+-- an interrupt of a source, notes a tick, reports from a position on, or asks a node for what it
+-- misses.
 pub data Step : Type 0 where
   Deliver : ℕ → Step
   Lead : ℕ → Option ℕ → Step
@@ -21,6 +22,7 @@ pub data Step : Type 0 where
   Interrupt : ℕ → ℕ → ℕ → Step
   Tick : ℕ → ℕ → Step
   Report : ℕ → ℕ → Step
+  Ask : ℕ → ℕ → Step
 
 -- A task makes its next call and asks a node; it asks a node again; a node makes a step; it stops
 -- within the step, of whose record n bytes are kept; it stops; it starts again.
@@ -48,6 +50,7 @@ IsRightStep (LeadRange node first count) = IsNode node × IsPosition first × (c
 IsRightStep (Interrupt node source occurrence) = IsNode node × IsIndex source × IsCount occurrence
 IsRightStep (Tick node now) = IsNode node × (now < 2 ^ 32)
 IsRightStep (Report node first) = IsNode node × IsPosition first
+IsRightStep (Ask node to) = IsNode node × IsNode to
 
 -- an event that the types of its numbers allow
 abbrev pub IsRightEvent : Event → Type 0
@@ -69,6 +72,7 @@ step_of (taken_steps.Interrupt node interrupt) =
     Interrupt node interrupt.source interrupt.occurrence
 step_of (taken_steps.Tick node now) = Tick node now
 step_of (taken_steps.Report node first) = Report node first
+step_of (taken_steps.Ask node to) = Ask node to
 
 abbrev pub event_of : TakenEvent → Event
 event_of (taken_events.Submit task node object operation arg) =

@@ -1,14 +1,19 @@
 -- What a node decides as a learner, and what learning an action does. Lamport, "Paxos Made Simple", section
 -- 2.3; the replies are ours.
-use Rattle.std.specs.Prelude.{ℕ, Bool, false, nat_lt, Option, Some, None, List, [], ◌∷◌, ◌++◌}
-use Rattle.std.specs.Prelude.{length, drop, filter, if◌then◌else◌}
+use Rattle.std.specs.Prelude.{ℕ, suc, ◌-◌, min, Bool, false, not, ◌&&◌, nat_eq, nat_lt, Option, Some}
+use Rattle.std.specs.Prelude.{None, Result, Ok, Err, List, [], ◌∷◌, ◌++◌, length, drop, map, filter}
+use Rattle.std.specs.Prelude.{if◌then◌else◌}
 use Rattle.std.specs.List.{list_any}
 use Rattle.rp_base.specs.declared.action.Action.{Action}
+use Rattle.rp_base.specs.declared.fault.Fault.{Fault}
+use Rattle.rp_base.specs.declared.fault.Fault.TheVariants.{BadConfig}
 use Rattle.rp_base.specs.declared.reply.Answer.{Answer}
 use Rattle.rp_base.specs.declared.record.Vote.{Vote}
 use Rattle.rp_base.specs.declared.record.Rec.{Rec}
 use Rattle.rp_base.specs.declared.record.Rec.TheVariants.{Started, Promised, Voted, Learned}
 use Rattle.rp_base.specs.declared.record.Rec.TheVariants.{PromisedRange}
+use Rattle.rp_base.specs.Number.{in_range, window}
+use Rattle.rp_base.specs.Ranges.{Range}
 use Rattle.rp_base.specs.Sets.{with_member}
 use Rattle.rp_base.specs.Records.{learned_at, applied_of, first_unlearned}
 use Rattle.rp_base.specs.Promises.{same_heard, makes_majority, heard_elsewhere}
@@ -21,7 +26,7 @@ use Rattle.rp_model.specs.Parts.{Turn}
 use Rattle.rp_model.specs.Node.{RunningNode, nodes_of}
 use Rattle.rp_model.specs.Says.{says, writes}
 use Rattle.rp_model.specs.Pending.{stays, replies_to}
-use Rattle.rp_model.specs.Leader.{is_beyond}
+use Rattle.rp_model.specs.Leader.{is_beyond, unlearned_in}
 use Rattle.rp_model.specs.declared.effect.Dropped.TheVariants.{No}
 use Rattle.rp_model.specs.declared.plan.Plan.{Plan}
 use Rattle.rp_model.specs.declared.plan.Plan.TheVariants as plans
@@ -44,6 +49,20 @@ missing_position records =
 abbrev pub asks_for : ℕ → ℕ → Option ℕ → List Message
 asks_for me from None = []
 asks_for me from (Some i) = says me (bodies.Ask i) from ∷ []
+
+-- a node's window: 64 positions from the first unlearned one on, or as many as the log has there
+abbrev pub window_of : ℕ → List Rec → Range
+window_of most records =
+    let first = first_unlearned records in
+    record { first = first; count = min window (suc most - first) }
+
+-- the positions of the window at which nothing is learned, rising
+abbrev pub missing_in_window : ℕ → List Rec → List ℕ
+missing_in_window most records = unlearned_in records (window_of most records)
+
+-- a question for each of these positions, to one node
+abbrev pub asks_for_each : ℕ → ℕ → List ℕ → List Message
+asks_for_each me to positions = map (λ i. says me (bodies.Ask i) to) positions
 
 module _ {S : Type 0} (next : S → Action → S) (answers : S → Action → List Answer) (begin : S) where
   -- An action is learned at a position: the proposal there ends, the votes heard there are let go,
@@ -75,6 +94,13 @@ ask_plan from i (Some v) = plans.Inform from i v
 abbrev pub decision_plan : ℕ → ℕ → Action → Option Action → Plan
 decision_plan from i v (Some learned) = plans.Pass No
 decision_plan from i v None = plans.Follow from i v
+
+-- The command to ask a node for what is missing in the window. It has to be another one of the
+-- nodes.
+abbrev pub on_ask_missing : {S : Type 0} → RunningNode S → ℕ → Result Plan Fault
+on_ask_missing node to =
+    if in_range 1 (nodes_of node) to && not (nat_eq to node.me) then Ok (plans.AskMissing to)
+    else Err BadConfig
 
 module _ {S : Type 0} (node : RunningNode S) (from i : ℕ) where
   -- Ask: a node asks what was decided at a position, and gets the answer if it is learned here

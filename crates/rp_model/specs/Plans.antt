@@ -20,6 +20,7 @@ use Rattle.rp_model.specs.Parts.{Turn}
 use Rattle.rp_model.specs.Node.{RunningNode, nodes_of}
 use Rattle.rp_model.specs.Leader.{begins_range, on_promise_range, on_nack}
 use Rattle.rp_model.specs.Learner.{learns, asks_for, missing_position}
+use Rattle.rp_model.specs.Learner.{asks_for_each, missing_in_window}
 use Rattle.rp_model.specs.Says.{says, says_to_all, says_to_others, says_to_task, sends, notes}
 use Rattle.rp_model.specs.Says.{writes}
 use Rattle.rp_model.specs.declared.effect.Dropped.{Dropped}
@@ -31,6 +32,7 @@ use Rattle.rp_model.specs.declared.plan.Plan.TheVariants.{Refuse, Inform, Answer
 use Rattle.rp_model.specs.declared.plan.Plan.TheVariants.{Lead, LeadRange, OfferPrepared}
 use Rattle.rp_model.specs.declared.plan.Plan.TheVariants.{CountPromise, CountRangePromise, Offer}
 use Rattle.rp_model.specs.declared.plan.Plan.TheVariants.{Yield, CountVote, Learn, Follow, Report}
+use Rattle.rp_model.specs.declared.plan.Plan.TheVariants.{AskMissing}
 
 -- the record that a plan writes, if it writes one
 abbrev pub written_by : Plan → Option Rec
@@ -137,3 +139,6 @@ module _ {S : Type 0} (node : RunningNode S) where
       (asks_for node.me from (missing_position (node.records ++ Learned i v ∷ [])))
   turn_of (Report first) =
       sends node.running (report_of node.me first (applied_of node.records) ∷ [])
+  turn_of (AskMissing to) = sends node.running
+      (asks_for_each node.me to
+      (missing_in_window node.setting.config.max_positions node.records))

@@ -21,8 +21,8 @@ use Rattle.rp_model.specs.Effect.{Setting, Done, NodeInput, node_effect, stop_ef
 use Rattle.rp_model.specs.Effect.{restart_part}
 use Rattle.rp_model.specs.Tasks as tasks
 use Rattle.rp_model.specs.Tasks.{TaskInput, task_effect}
-use Rattle.rp_model.specs.Events.{Step, Deliver, Lead, LeadRange, Interrupt, Tick, Report, Event}
-use Rattle.rp_model.specs.Events.{Submit, Again, Makes, Cut, Stop, Restart}
+use Rattle.rp_model.specs.Events.{Step, Deliver, Lead, LeadRange, Interrupt, Tick, Report, Ask}
+use Rattle.rp_model.specs.Events.{Event, Submit, Again, Makes, Cut, Stop, Restart}
 
 -- the nodes and the tasks, each from number 1, and the packets ever sent, in order
 pub record World : Type 0 where
@@ -91,91 +91,112 @@ task_takes config w task input None = Err BadConfig
 task_takes config w task input (Some part) =
     task_done_if w task (task_effect config task part input)
 
--- a packet arrives at a task; to none it is lost
-abbrev pub task_receives : Config → World → ℕ → Message → Option TaskPart → Result Transition Fault
-task_receives config w task message None = Ok (nothing_happens w)
-task_receives config w task message (Some part) =
-    task_done_if w task (task_effect config task part (tasks.Take message))
+-- ---- who makes a step
+
+-- Who makes a step, and what is given to it: the node of a number has an input, or the task of a
+-- number gets a packet. Or a packet is lost: there is no node or task of that number, or the node
+-- is stopped, or the packet is for the audit. Or the step is refused. Where a packet is lost or a
+-- step refused, this is the number of the node whose step it would be, if it is a node's.
+pub data Chosen : Type 0 where
+  NodeTakes : ℕ → NodePart → NodeInput → Chosen
+  TaskTakes : ℕ → TaskPart → Message → Chosen
+  LostFor : Option ℕ → Chosen
+  RefusedTo : Option ℕ → Fault → Chosen
 
 -- a node's input, if there is a node of this number
-abbrev pub node_takes : {S : Type 0} → Setting S → World → ℕ → NodeInput → Option NodePart
-    → Result Transition Fault
-node_takes s w me input None = Err BadConfig
-node_takes s w me input (Some part) = node_done_if w me (node_effect s me part input)
+abbrev pub commanded : ℕ → NodeInput → Option NodePart → Chosen
+commanded me input None = RefusedTo (Some me) BadConfig
+commanded me input (Some part) = NodeTakes me part input
 
--- a packet arrives at a node that runs; one that is stopped loses it
-abbrev pub node_hears : {S : Type 0} → Setting S → World → ℕ → Message → NodePart → Option Running
-    → Result Transition Fault
-node_hears s w me message part None = Ok (nothing_happens w)
-node_hears s w me message part (Some running) =
-    node_done_if w me (node_effect s me part (nodes.Receive message))
+-- a packet for a node that runs, or is stopped
+abbrev pub reaches_node : ℕ → Message → NodePart → Option Running → Chosen
+reaches_node me message part None = LostFor (Some me)
+reaches_node me message part (Some running) = NodeTakes me part (nodes.Receive message)
 
--- a packet arrives at the node of this number; to none it is lost
-abbrev pub node_receives : {S : Type 0} → Setting S → World → ℕ → Message → Option NodePart
-    → Result Transition Fault
-node_receives s w me message None = Ok (nothing_happens w)
-node_receives s w me message (Some part) = node_hears s w me message part part.running
+-- a packet for the node of this number, if there is one
+abbrev pub reaches_number : ℕ → Message → Option NodePart → Chosen
+reaches_number me message None = LostFor (Some me)
+reaches_number me message (Some part) = reaches_node me message part part.running
 
--- a packet arrives at its receiver
-abbrev pub arrives : {S : Type 0} → Setting S → World → Message → Party → Result Transition Fault
-arrives s w message (Node me) = node_receives s w me message (part_at w.nodes me)
-arrives s w message (Task task) = task_receives s.config w task message (part_at w.tasks task)
-arrives s w message Audit = Ok (nothing_happens w)
+-- a packet for the task of this number, if there is one
+abbrev pub reaches_task : ℕ → Message → Option TaskPart → Chosen
+reaches_task task message None = LostFor None
+reaches_task task message (Some part) = TaskTakes task part message
+
+-- a packet reaches its receiver
+abbrev pub reaches : World → Message → Party → Chosen
+reaches w message (Node me) = reaches_number me message (part_at w.nodes me)
+reaches w message (Task task) = reaches_task task message (part_at w.tasks task)
+reaches w message Audit = LostFor None
 
 -- a packet that was sent is delivered, if there is one of this number
-abbrev pub delivers : {S : Type 0} → Setting S → World → Option Message → Result Transition Fault
-delivers s w None = Err NoSuchMessage
-delivers s w (Some message) = arrives s w message message.to
+abbrev pub delivers : World → Option Message → Chosen
+delivers w None = RefusedTo None NoSuchMessage
+delivers w (Some message) = reaches w message message.to
 
--- a node's step
-abbrev pub step_effect : {S : Type 0} → Setting S → World → Step → Result Transition Fault
-step_effect s w (Deliver number) = delivers s w (part_at w.sent number)
-step_effect s w (Lead me choice) = node_takes s w me (nodes.Lead choice) (part_at w.nodes me)
-step_effect s w (LeadRange me first count) =
-    node_takes s w me (nodes.LeadRange first count) (part_at w.nodes me)
-step_effect s w (Interrupt me source occurrence) =
-    node_takes s w me (nodes.Interrupt source occurrence) (part_at w.nodes me)
-step_effect s w (Tick me now) = node_takes s w me (nodes.Tick now) (part_at w.nodes me)
-step_effect s w (Report me first) = node_takes s w me (nodes.Report first) (part_at w.nodes me)
+-- who makes a step
+abbrev pub chosen : World → Step → Chosen
+chosen w (Deliver number) = delivers w (part_at w.sent number)
+chosen w (Lead me choice) = commanded me (nodes.Lead choice) (part_at w.nodes me)
+chosen w (LeadRange me first count) =
+    commanded me (nodes.LeadRange first count) (part_at w.nodes me)
+chosen w (Interrupt me source occurrence) =
+    commanded me (nodes.Interrupt source occurrence) (part_at w.nodes me)
+chosen w (Tick me now) = commanded me (nodes.Tick now) (part_at w.nodes me)
+chosen w (Report me first) = commanded me (nodes.Report first) (part_at w.nodes me)
+chosen w (Ask me to) = commanded me (nodes.Ask to) (part_at w.nodes me)
 
--- ---- a stop within a step
+-- the record that a node writes first by the result of an input, if it does
+abbrev pub written_by : Result (Done NodePart) Fault → Option Rec
+written_by (Ok done) = done.written
+written_by (Err fault) = None
 
--- a node's input is cut, if there is a node of this number
-abbrev pub node_is_cut : {S : Type 0} → Setting S → World → ℕ → NodeInput → ℕ → Option NodePart
-    → Result Transition Fault
-node_is_cut s w me input kept None = Err BadConfig
-node_is_cut s w me input kept (Some part) = node_done_if w me (cut_effect s me part input kept)
+-- the node whose step it is, if it is a node's: for a delivery the one that the packet is for
+abbrev pub node_chosen : Chosen → Option ℕ
+node_chosen (NodeTakes me part input) = Some me
+node_chosen (TaskTakes task part message) = None
+node_chosen (LostFor whom) = whom
+node_chosen (RefusedTo whom fault) = whom
 
--- a packet that goes to a node; one that goes to no node of these is no step to be cut
-abbrev pub hearing_is_cut : {S : Type 0} → Setting S → World → Message → ℕ → Option NodePart → ℕ
-    → Result Transition Fault
-hearing_is_cut s w message me None kept = Err NotRunning
-hearing_is_cut s w message me (Some part) kept =
-    node_done_if w me (cut_effect s me part (nodes.Receive message) kept)
+module _ {S : Type 0} (s : Setting S) where
+  -- the result of what is chosen
+  abbrev pub chosen_effect : World → Chosen → Result Transition Fault
+  chosen_effect w (NodeTakes me part input) = node_done_if w me (node_effect s me part input)
+  chosen_effect w (TaskTakes task part message) =
+      task_done_if w task (task_effect s.config task part (tasks.Take message))
+  chosen_effect w (LostFor whom) = Ok (nothing_happens w)
+  chosen_effect w (RefusedTo whom fault) = Err fault
 
-abbrev pub arrival_is_cut : {S : Type 0} → Setting S → World → Message → Party → ℕ
-    → Result Transition Fault
-arrival_is_cut s w message (Node me) kept = hearing_is_cut s w message me (part_at w.nodes me) kept
-arrival_is_cut s w message (Task task) kept = Err NotRunning
-arrival_is_cut s w message Audit kept = Err NotRunning
+  -- the same if it is cut with n bytes of its record kept: only a node's step is
+  abbrev pub chosen_cut : World → ℕ → Chosen → Result Transition Fault
+  chosen_cut w kept (NodeTakes me part input) =
+      node_done_if w me (cut_effect s me part input kept)
+  chosen_cut w kept (TaskTakes task part message) = Err NotRunning
+  chosen_cut w kept (LostFor whom) = Err NotRunning
+  chosen_cut w kept (RefusedTo whom fault) = Err fault
 
-abbrev pub delivery_is_cut : {S : Type 0} → Setting S → World → Option Message → ℕ
-    → Result Transition Fault
-delivery_is_cut s w None kept = Err NoSuchMessage
-delivery_is_cut s w (Some message) kept = arrival_is_cut s w message message.to kept
+  -- the record that what is chosen writes, if it writes one
+  abbrev pub chosen_record : Chosen → Option Rec
+  chosen_record (NodeTakes me part input) = written_by (node_effect s me part input)
+  chosen_record (TaskTakes task part message) = None
+  chosen_record (LostFor whom) = None
+  chosen_record (RefusedTo whom fault) = None
 
--- a node's step, cut with n bytes of its record kept
-abbrev pub cut_step : {S : Type 0} → Setting S → World → Step → ℕ → Result Transition Fault
-cut_step s w (Deliver number) kept = delivery_is_cut s w (part_at w.sent number) kept
-cut_step s w (Lead me choice) kept =
-    node_is_cut s w me (nodes.Lead choice) kept (part_at w.nodes me)
-cut_step s w (LeadRange me first count) kept =
-    node_is_cut s w me (nodes.LeadRange first count) kept (part_at w.nodes me)
-cut_step s w (Interrupt me source occurrence) kept =
-    node_is_cut s w me (nodes.Interrupt source occurrence) kept (part_at w.nodes me)
-cut_step s w (Tick me now) kept = node_is_cut s w me (nodes.Tick now) kept (part_at w.nodes me)
-cut_step s w (Report me first) kept =
-    node_is_cut s w me (nodes.Report first) kept (part_at w.nodes me)
+  -- a step
+  abbrev pub step_effect : World → Step → Result Transition Fault
+  step_effect w step = chosen_effect w (chosen w step)
+
+  -- a step, cut with n bytes of its record kept
+  abbrev pub cut_step : World → Step → ℕ → Result Transition Fault
+  cut_step w step kept = chosen_cut w kept (chosen w step)
+
+  -- the record that a step writes, if it writes one
+  abbrev pub step_writes : World → Step → Option Rec
+  step_writes w step = chosen_record (chosen w step)
+
+-- the node that makes a step, if one does
+abbrev pub stepping : World → Step → Option ℕ
+stepping w step = node_chosen (chosen w step)
 
 -- ---- stops and restarts
 
@@ -198,28 +219,6 @@ event_effect s w (Cut step kept) = cut_step s w step kept
 event_effect s w (Stop me) = stops w me (part_at w.nodes me)
 event_effect s w (Restart me) = restarts w me (part_at w.nodes me)
 
--- ---- whose step it is, and what it writes
-
--- the node that a party is, if it is one
-abbrev pub node_named : Party → Option ℕ
-node_named (Node me) = Some me
-node_named (Task task) = None
-node_named Audit = None
-
--- the node that a packet is for
-abbrev pub receiver_of : Option Message → Option ℕ
-receiver_of None = None
-receiver_of (Some message) = node_named message.to
-
--- the node that makes a step: for a delivery the one that the packet is for
-abbrev pub stepping : World → Step → Option ℕ
-stepping w (Deliver number) = receiver_of (part_at w.sent number)
-stepping w (Lead me choice) = Some me
-stepping w (LeadRange me first count) = Some me
-stepping w (Interrupt me source occurrence) = Some me
-stepping w (Tick me now) = Some me
-stepping w (Report me first) = Some me
-
 -- the node that an event happens to, if it is one
 abbrev pub node_of : World → Event → Option ℕ
 node_of w (Submit task node object operation arg) = None
@@ -228,32 +227,3 @@ node_of w (Makes step) = stepping w step
 node_of w (Cut step kept) = stepping w step
 node_of w (Stop me) = Some me
 node_of w (Restart me) = Some me
-
--- the record that a node writes first by the result of an input, if it does
-abbrev pub written_by : Result (Done NodePart) Fault → Option Rec
-written_by (Ok done) = done.written
-written_by (Err fault) = None
-
-abbrev pub node_writes : {S : Type 0} → Setting S → ℕ → NodeInput → Option NodePart → Option Rec
-node_writes s me input None = None
-node_writes s me input (Some part) = written_by (node_effect s me part input)
-
-abbrev pub arrival_writes : {S : Type 0} → Setting S → World → Message → Party → Option Rec
-arrival_writes s w message (Node me) = node_writes s me (nodes.Receive message) (part_at w.nodes me)
-arrival_writes s w message (Task task) = None
-arrival_writes s w message Audit = None
-
-abbrev pub delivery_writes : {S : Type 0} → Setting S → World → Option Message → Option Rec
-delivery_writes s w None = None
-delivery_writes s w (Some message) = arrival_writes s w message message.to
-
--- the record that a step writes, if it writes one
-abbrev pub step_writes : {S : Type 0} → Setting S → World → Step → Option Rec
-step_writes s w (Deliver number) = delivery_writes s w (part_at w.sent number)
-step_writes s w (Lead me choice) = node_writes s me (nodes.Lead choice) (part_at w.nodes me)
-step_writes s w (LeadRange me first count) =
-    node_writes s me (nodes.LeadRange first count) (part_at w.nodes me)
-step_writes s w (Interrupt me source occurrence) =
-    node_writes s me (nodes.Interrupt source occurrence) (part_at w.nodes me)
-step_writes s w (Tick me now) = node_writes s me (nodes.Tick now) (part_at w.nodes me)
-step_writes s w (Report me first) = node_writes s me (nodes.Report first) (part_at w.nodes me)

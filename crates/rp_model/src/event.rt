@@ -39,6 +39,12 @@ pub enum Step {
         node: NodeId,
         first: Position,
     },
+    /// The node asks another one for each position of its window that it has not learned: of the
+    /// 64 from its first unlearned one on, as far as the log goes.
+    Ask {
+        node: NodeId,
+        to: NodeId,
+    },
 }
 
 /// One step of one actor, or a stop or a restart of a node.
@@ -126,6 +132,9 @@ impl Step {
             }
             Step::Report { node, first } => {
                 let _ = (node.get(), first.get());
+            }
+            Step::Ask { node, to } => {
+                let _ = (node.get(), to.get());
             }
         }
     }

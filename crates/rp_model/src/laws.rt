@@ -1,20 +1,28 @@
 //! What every event keeps, at any machine.
 
-ghost use Rattle.std.specs.Prelude.{◌≡◌, ◌≢◌, ◌↔◌, ◌⊎◌, ℕ, Some, None, Ok, Err, List, [], ◌++◌};
+ghost use Rattle.std.specs.Prelude.{◌≡◌, ◌≢◌, ◌↔◌, ◌⊎◌, ◌≤◌, ◌<◌, ◌+◌, ℕ, Some, None, Ok, Err, List};
+ghost use Rattle.std.specs.Prelude.{[], ◌++◌};
 ghost use Rattle.std.specs.Prelude.{length};
-ghost use Rattle.rp_base.specs.Records.{applied_of};
+ghost use Rattle.rp_base.specs.Number.{window};
+ghost use Rattle.rp_base.specs.Records.{applied_of, first_unlearned, learned_at};
+ghost use Rattle.rp_base.specs.Sets.{Has};
 ghost use Rattle.rp_base.specs.declared.action.Action.{Action};
 ghost use Rattle.rp_base.specs.declared.fault.Fault.{Fault};
 ghost use Rattle.rp_base.specs.declared.fault.Fault.TheVariants.{Device, NotRunning};
 ghost use Rattle.rp_base.specs.declared.record.Rec.{Rec};
 ghost use Rattle.rp_model.specs.Effect.{Setting, Done, NodeInput, running_effect, node_effect};
-ghost use Rattle.rp_model.specs.Effect.{stop_effect, cut_effect, restart_part};
+ghost use Rattle.rp_codec.specs.declared.packet.Body.TheVariants as bodies;
+ghost use Rattle.rp_model.specs.Effect.{stop_effect, cut_effect, restart_part, plan_of, Receive};
 ghost use Rattle.rp_model.specs.Events.{Event};
 ghost use Rattle.rp_model.specs.World.{World, Transition, event_effect};
 ghost use Rattle.rp_model.specs.Forgetting.{KnowsAlike, AreAlikeAnswers};
 ghost use Rattle.rp_model.specs.Parts.{Running, NodePart, fresh_running};
 ghost use Rattle.rp_model.specs.Facts.{IsOrder};
 ghost use Rattle.rp_model.specs.Growing.{Grows};
+ghost use Rattle.rp_model.specs.Learner.{missing_in_window};
+ghost use Rattle.rp_model.specs.Node.{RunningNode, nodes_of};
+ghost use Rattle.rp_model.specs.Says.{says};
+ghost use Rattle.rp_model.specs.declared.plan.Plan.TheVariants as plans;
 
 use rp_base::one_more_record;
 use rp_machine::Machine;
@@ -111,3 +119,21 @@ pub fn old_votes_change_nothing<M: Machine>()
 {
     one_more_record();
 }
+
+/// What a node asks another one for: nothing is learned there, it is one of the 64 positions from
+/// the first unlearned one on, and in the log.
+pub fn asks_for_what_is_missing()
+    // claim: A node asks for exactly the positions that it has not learned, of the 64 from its
+    //   first unlearned one on, as far as the log goes
+    ensures { (most i : ℕ) (records : List Rec) → Has i (missing_in_window most records)
+        ↔ (first_unlearned records ≤ i) × (i < first_unlearned records + window)
+        × (i ≤ most) × (learned_at records i ≡ None) }
+{}
+
+/// A node that has learned a position informs each of the nodes that asks for it.
+pub fn what_is_learned_is_answered<M: Machine>()
+    // claim: A node that has learned a position sends its decision to each node that asks for it
+    ensures { (node : RunningNode M) (from i : ℕ) (v : Action) → from ≤ nodes_of node
+        → i ≤ node.setting.config.max_positions → learned_at node.records i ≡ Some v
+        → plan_of node (Receive (says from (bodies.Ask i) node.me)) ≡ Ok (plans.Inform from i v) }
+{}

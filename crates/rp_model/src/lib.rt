@@ -20,9 +20,9 @@ pub use effect::{Dropped, Effect};
 pub use event::{Event, Step};
 pub use interrupt::Interrupt;
 pub use laws::{
-    applied_grows, cuts_send_nothing, no_event_is_refused_by_a_device, nothing_is_decided_at_first,
-    old_votes_change_nothing, restarts_begin_with_the_records, stops_leave_the_records,
-    worlds_grow,
+    applied_grows, asks_for_what_is_missing, cuts_send_nothing, no_event_is_refused_by_a_device,
+    nothing_is_decided_at_first, old_votes_change_nothing, restarts_begin_with_the_records,
+    stops_leave_the_records, what_is_learned_is_answered, worlds_grow,
 };
 pub use plan::{CountedPromise, CountedRange, Plan, RangePromise};
 pub use right::RightAction;

@@ -88,6 +88,8 @@ pub enum Plan {
     Follow(NodeId, Position, Action),
     /// A report to the audit, from a position on.
     Report(Position),
+    /// A node is asked for each position that is missing in the window.
+    AskMissing(NodeId),
 }
 
 impl Plan {

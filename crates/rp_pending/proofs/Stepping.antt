@@ -11,7 +11,7 @@ use Rattle.rp_codec.specs.declared.packet.Party.{Party}
 use Rattle.rp_codec.specs.declared.packet.Party.TheVariants as parties
 use Rattle.rp_model.specs.Effect as nodes
 use Rattle.rp_model.specs.Effect.{Setting, Done, NodeInput, node_effect, effect_while, running_effect, turn_done, turn_done_if}
-use Rattle.rp_model.specs.Events.{Event, Step, Deliver, Lead, LeadRange, Interrupt, Tick, Report, Makes, IsRightEvent, IsRightStep}
+use Rattle.rp_model.specs.Events.{Event, Step, Deliver, Lead, LeadRange, Interrupt, Tick, Report, Ask, Makes, IsRightEvent, IsRightStep}
 use Rattle.rp_model.specs.Parts.{NodePart, Running, Turn}
 use Rattle.rp_model.specs.Receiving.{is_node, is_for_node, receives}
 use Rattle.rp_model.specs.Node.{running_node}
@@ -19,7 +19,7 @@ use Rattle.rp_model.specs.Plans.{turn_of}
 use Rattle.rp_model.specs.declared.effect.Dropped.TheVariants.{Foreign}
 use Rattle.rp_model.specs.declared.plan.Plan.{Plan}
 use Rattle.rp_model.specs.declared.plan.Plan.TheVariants as plans
-use Rattle.rp_model.specs.World.{World, Transition, part_at, opening_world, event_effect, node_done, node_done_if, node_takes, node_hears, node_receives, arrives, delivers}
+use Rattle.rp_model.specs.World.{World, Transition, part_at, opening_world, event_effect, node_done, node_done_if, delivers, NodeTakes, commanded, reaches_node, reaches_number, reaches, chosen, chosen_effect}
 use Rattle.rp_agreement.specs.History.{IsHistory}
 use Rattle.rp_agreement.specs.Order.{AllSent}
 use Rattle.rp_agreement.proofs.Lists.{has_get}
@@ -39,6 +39,7 @@ comes_later sent later (nodes.LeadRange first count) all may = may
 comes_later sent later (nodes.Interrupt source occurrence) all may = may
 comes_later sent later (nodes.Tick now) all may = may
 comes_later sent later (nodes.Report first) all may = may
+comes_later sent later (nodes.Ask to) all may = may
 
 pub steps_stay : {S : Type 0} (s : Setting S) (sent later : List Message) (me : ℕ) (part : NodePart) (steps : List PendingStep) → AllSent sent later → AreSteps s sent me part steps → AreSteps s later me part steps
 steps_stay s sent later me part [] all are = tt
@@ -131,6 +132,7 @@ step_for me number (nodes.LeadRange first count) = LeadRange me first count
 step_for me number (nodes.Interrupt source occurrence) = Interrupt me source occurrence
 step_for me number (nodes.Tick now) = Tick me now
 step_for me number (nodes.Report first) = Report me first
+step_for me number (nodes.Ask to) = Ask me to
 
 -- its event notes what the input does
 notes_same : (me number : ℕ) (input : NodeInput) → notes_of (Makes (step_for me number input)) ≡ noted_by input
@@ -140,6 +142,7 @@ notes_same me number (nodes.LeadRange first count) = refl
 notes_same me number (nodes.Interrupt source occurrence) = refl
 notes_same me number (nodes.Tick now) = refl
 notes_same me number (nodes.Report first) = refl
+notes_same me number (nodes.Ask to) = refl
 
 -- a node that has an effect runs
 runs_if : {S : Type 0} (s : Setting S) (me : ℕ) (part : NodePart) (input : NodeInput) (done : Done NodePart) (running : Option Running) → part.running ≡ running → effect_while s me part input running ≡ Ok done → (known : Running) × (part.running ≡ Some known)
@@ -154,6 +157,7 @@ IsFor me (nodes.LeadRange first count) b = Unit {0}
 IsFor me (nodes.Interrupt source occurrence) b = Unit {0}
 IsFor me (nodes.Tick now) b = Unit {0}
 IsFor me (nodes.Report first) b = Unit {0}
+IsFor me (nodes.Ask to) b = Unit {0}
 
 pub party_is : (me : ℕ) (party : Party) → is_node me party ≡ true → party ≡ parties.Node me
 party_is me (parties.Node k) e = ap (λ (n : ℕ). parties.Node n) (eqb-true k me e)
@@ -161,24 +165,31 @@ party_is me (parties.Task t) e = absurd (cc)
 party_is me parties.Audit e = absurd (cc)
 
 module _ {S : Type 0} (s : Setting S) (w : World) (me : ℕ) (part : NodePart) (here : part_at w.nodes me ≡ Some part) where
+  -- a step that is for the node, which runs, is that node's
+  pub its_step : (input : NodeInput) (known : Running) → MayCome w.sent input → IsFor me input true → part.running ≡ Some known
+      → (number : ℕ) × (chosen w (step_for me number input) ≡ NodeTakes me part input)
+  its_step (nodes.Receive message) known may is runs =
+      let found = has_get w.sent message may in (
+        suc found.0,
+        ap (delivers w) found.1
+            ∙ ap (reaches w message) (party_is me message.to is)
+            ∙ ap (reaches_number me message) here
+            ∙ ap (reaches_node me message part) runs,
+      )
+  its_step (nodes.Lead choice) known may is runs = (0, ap (commanded me (nodes.Lead choice)) here)
+  its_step (nodes.LeadRange first count) known may is runs = (0, ap (commanded me (nodes.LeadRange first count)) here)
+  its_step (nodes.Interrupt source occurrence) known may is runs = (0, ap (commanded me (nodes.Interrupt source occurrence)) here)
+  its_step (nodes.Tick now) known may is runs = (0, ap (commanded me (nodes.Tick now)) here)
+  its_step (nodes.Report first) known may is runs = (0, ap (commanded me (nodes.Report first)) here)
+  its_step (nodes.Ask to) known may is runs = (0, ap (commanded me (nodes.Ask to)) here)
+
   -- the event of a step that is for the node
   event_is : (input : NodeInput) (done : Done NodePart) → MayCome w.sent input → IsFor me input true → node_effect s me part input ≡ Ok done
       → (number : ℕ) × (event_effect s w (Makes (step_for me number input)) ≡ Ok (node_done w me done))
-  event_is (nodes.Receive message) done may is effect =
-      let found = has_get w.sent message may in
-      let runs = runs_if s me part (nodes.Receive message) done part.running refl effect in (
-        suc found.0,
-        ap (delivers s w) found.1
-            ∙ ap (arrives s w message) (party_is me message.to is)
-            ∙ ap (node_receives s w me message) here
-            ∙ ap (node_hears s w me message part) runs.1
-            ∙ ap (node_done_if w me) effect,
-      )
-  event_is (nodes.Lead choice) done may is effect = (0, ap (node_takes s w me (nodes.Lead choice)) here ∙ ap (node_done_if w me) effect)
-  event_is (nodes.LeadRange first count) done may is effect = (0, ap (node_takes s w me (nodes.LeadRange first count)) here ∙ ap (node_done_if w me) effect)
-  event_is (nodes.Interrupt source occurrence) done may is effect = (0, ap (node_takes s w me (nodes.Interrupt source occurrence)) here ∙ ap (node_done_if w me) effect)
-  event_is (nodes.Tick now) done may is effect = (0, ap (node_takes s w me (nodes.Tick now)) here ∙ ap (node_done_if w me) effect)
-  event_is (nodes.Report first) done may is effect = (0, ap (node_takes s w me (nodes.Report first)) here ∙ ap (node_done_if w me) effect)
+  event_is input done may is effect =
+      let runs = runs_if s me part input done part.running refl effect in
+      let chose = its_step input runs.0 may is runs.1 in
+      (chose.0, ap (chosen_effect s w) chose.1 ∙ ap (node_done_if w me) effect)
 
 pub right_step : (sent : List Message) (me number : ℕ) (input : NodeInput) → IsNode me → MayCome sent input → IsRightStep (step_for me number input)
 right_step sent me number (nodes.Receive message) node may = tt
@@ -187,6 +198,7 @@ right_step sent me number (nodes.LeadRange first count) node may = (node, may.0,
 right_step sent me number (nodes.Interrupt source occurrence) node may = (node, may.0, may.1)
 right_step sent me number (nodes.Tick now) node may = (node, may)
 right_step sent me number (nodes.Report first) node may = (node, may)
+right_step sent me number (nodes.Ask to) node may = (node, may)
 
 -- ---- a packet that is for another
 
@@ -258,6 +270,7 @@ module _ {S : Type 0} (s : Setting S) (ranged : (events : List Event) (w : World
     one_made (nodes.Interrupt source occurrence) turn may effect = happens (nodes.Interrupt source occurrence) turn may tt effect
     one_made (nodes.Tick now) turn may effect = happens (nodes.Tick now) turn may tt effect
     one_made (nodes.Report first) turn may effect = happens (nodes.Report first) turn may tt effect
+    one_made (nodes.Ask to) turn may effect = happens (nodes.Ask to) turn may tt effect
 
   pub made : (front back : List PendingStep) (events : List Event) (w : World) (me : ℕ) (part : NodePart) → IsHistory s events w → part_at w.nodes me ≡ Some part → AreSteps s w.sent me part (front ++ back) → Made s events w me part front back
   made [] back events w me part history here are = record {

@@ -20,18 +20,18 @@ use Rattle.rp_codec.specs.Text.{action_text_at, number_text}
 use Rattle.rp_store.specs.Records.{AreTextsOf, AreRecordsOf}
 use Rattle.rp_store.proofs.Whole.{texts_end, are_alone, before_put}
 use Rattle.rp_model.specs.Effect as nodes
-use Rattle.rp_model.specs.Effect.{Setting, Done, NodeInput, node_effect, cut_effect, cut_if, cut_part, goes_on_as, turn_done}
+use Rattle.rp_model.specs.Effect.{Setting, Done, NodeInput, effect_while, node_effect, cut_effect, cut_if, cut_part, goes_on_as, turn_done}
 use Rattle.rp_model.specs.Events.{Event, Cut}
-use Rattle.rp_model.specs.Parts.{NodePart, Turn, with_record}
+use Rattle.rp_model.specs.Parts.{NodePart, Running, Turn, with_record}
 use Rattle.rp_model.specs.Receiving.{is_node}
-use Rattle.rp_model.specs.World.{World, part_at, event_effect, node_done, node_done_if, delivery_is_cut, arrival_is_cut, hearing_is_cut, node_is_cut}
+use Rattle.rp_model.specs.World.{World, part_at, event_effect, node_done, node_done_if, chosen_cut}
 use Rattle.rp_agreement.specs.History.{IsHistory}
 use Rattle.rp_agreement.specs.Ranges.{IsRangedWorld}
 use Rattle.rp_agreement.proofs.Lists.{has_get}
 use Rattle.rp_agreement.proofs.PartPlaces.{part_has}
 use Rattle.rp_pending.specs.Pending.{PendingStep, MayCome, AreSteps, after_steps, bytes_written, bytes_of, noted_in}
 use Rattle.rp_pending.specs.Making.{AreAmong, GoesOnTo, Stopped}
-use Rattle.rp_pending.proofs.Stepping.{IsFor, party_is, lost, step_for, right_step, one_more, leads_on, node_here, one_made, made, noted_append, joined_among}
+use Rattle.rp_pending.proofs.Stepping.{IsFor, its_step, lost, step_for, right_step, one_more, leads_on, node_here, one_made, made, noted_append, joined_among}
 
 -- ---- where the bytes end
 
@@ -131,21 +131,17 @@ few_bytes (PromisedRange range ballot) = omega arith
 -- ---- a step that is cut
 
 module _ {S : Type 0} (s : Setting S) (w : World) (me : ℕ) (part : NodePart) (here : part_at w.nodes me ≡ Some part) (kept : ℕ) where
+  cut_runs : (input : NodeInput) (done : Done NodePart) (running : Option Running) → part.running ≡ running → cut_if kept part (effect_while s me part input running) ≡ Ok done
+      → (known : Running) × (part.running ≡ Some known)
+  cut_runs input done None is effect = absurd (cc)
+  cut_runs input done (Some known) is effect = (known, is)
+
   cut_is : (input : NodeInput) (done : Done NodePart) → MayCome w.sent input → IsFor me input true → cut_effect s me part input kept ≡ Ok done
       → (number : ℕ) × (event_effect s w (Cut (step_for me number input) kept) ≡ Ok (node_done w me done))
-  cut_is (nodes.Receive message) done may is effect =
-      let found = has_get w.sent message may in (
-        suc found.0,
-        ap (λ (o : Option Message). delivery_is_cut s w o kept) found.1
-            ∙ ap (λ (p : Party). arrival_is_cut s w message p kept) (party_is me message.to is)
-            ∙ ap (λ (o : Option NodePart). hearing_is_cut s w message me o kept) here
-            ∙ ap (node_done_if w me) effect,
-      )
-  cut_is (nodes.Lead choice) done may is effect = (0, ap (node_is_cut s w me (nodes.Lead choice) kept) here ∙ ap (node_done_if w me) effect)
-  cut_is (nodes.LeadRange first count) done may is effect = (0, ap (node_is_cut s w me (nodes.LeadRange first count) kept) here ∙ ap (node_done_if w me) effect)
-  cut_is (nodes.Interrupt source occurrence) done may is effect = (0, ap (node_is_cut s w me (nodes.Interrupt source occurrence) kept) here ∙ ap (node_done_if w me) effect)
-  cut_is (nodes.Tick now) done may is effect = (0, ap (node_is_cut s w me (nodes.Tick now) kept) here ∙ ap (node_done_if w me) effect)
-  cut_is (nodes.Report first) done may is effect = (0, ap (node_is_cut s w me (nodes.Report first) kept) here ∙ ap (node_done_if w me) effect)
+  cut_is input done may is effect =
+      let runs = cut_runs input done part.running refl effect in
+      let chose = its_step s w me part here input runs.0 may is runs.1 in
+      (chose.0, ap (chosen_cut s w kept) chose.1 ∙ ap (node_done_if w me) effect)
 
 -- a step that writes a record is for the node
 writes_for : {S : Type 0} (s : Setting S) (me : ℕ) (part : NodePart) (turn : Turn) (rec : Rec) (input : NodeInput) → turn.written ≡ Some rec → node_effect s me part input ≡ Ok (turn_done part turn) → IsFor me input true
@@ -159,6 +155,7 @@ writes_for s me part turn rec (nodes.LeadRange first count) writes effect = tt
 writes_for s me part turn rec (nodes.Interrupt source occurrence) writes effect = tt
 writes_for s me part turn rec (nodes.Tick now) writes effect = tt
 writes_for s me part turn rec (nodes.Report first) writes effect = tt
+writes_for s me part turn rec (nodes.Ask to) writes effect = tt
 
 torn_part : (kept : ℕ) (part : NodePart) (rec : Rec) → kept < length (record_text rec) → cut_part kept part (Some rec) ≡ record { records = part.records; torn = kept; running = None }
 torn_part kept part rec less =

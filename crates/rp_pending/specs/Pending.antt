@@ -2,7 +2,7 @@
 use Rattle.std.specs.Prelude.{◌≡◌, ℕ, ◌<◌, ◌^◌, Option, Some, None, Ok, List, [], ◌∷◌, ◌++◌}
 use Rattle.std.specs.Prelude.{IfSome}
 use Rattle.rp_base.specs.Action.{IsIndex, IsCount}
-use Rattle.rp_base.specs.Number.{IsPosition}
+use Rattle.rp_base.specs.Number.{IsNode, IsPosition}
 use Rattle.rp_base.specs.Sets.{Has}
 use Rattle.rp_base.specs.declared.action.Action.{Action}
 use Rattle.rp_base.specs.declared.action.Action.TheVariants as actions
@@ -10,7 +10,7 @@ use Rattle.rp_base.specs.declared.record.Rec.{Rec}
 use Rattle.rp_codec.specs.Message.{Message}
 use Rattle.rp_codec.specs.Record.{record_text}
 use Rattle.rp_model.specs.Effect.{Setting, NodeInput, Receive, Lead, LeadRange, Interrupt, Tick}
-use Rattle.rp_model.specs.Effect.{Report, node_effect, turn_done}
+use Rattle.rp_model.specs.Effect.{Report, Ask, node_effect, turn_done}
 use Rattle.rp_model.specs.Parts.{NodePart, Turn}
 
 -- A step: its input and its turn.
@@ -26,6 +26,7 @@ MayCome sent (LeadRange first count) = IsPosition first × (count < 2 ^ 8)
 MayCome sent (Interrupt source occurrence) = IsIndex source × IsCount occurrence
 MayCome sent (Tick now) = now < 2 ^ 32
 MayCome sent (Report first) = IsPosition first
+MayCome sent (Ask to) = IsNode to
 
 -- the interrupt or the tick that the input has a node note
 abbrev pub noted_by : NodeInput → List Action
@@ -35,6 +36,7 @@ noted_by (LeadRange first count) = []
 noted_by (Interrupt source occurrence) = actions.Interrupt source occurrence ∷ []
 noted_by (Tick now) = actions.Tick now ∷ []
 noted_by (Report first) = []
+noted_by (Ask to) = []
 
 -- those that the steps noted
 abbrev pub noted_in : List PendingStep → List Action

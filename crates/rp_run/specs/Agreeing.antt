@@ -116,8 +116,8 @@ module _ {S : Type 0} (s : RunSetting S) where
     RunIsPrinted = IsPrinted (run_said s most lines).play.world (run_said s most lines).items
 
     -- After any number of lines one order gives all that they print, and each call, interrupt and
-    -- tick in it was asked for or noted by one of them; nodes agree, one after some lines and the other after as many or
-    -- more; and each line shows the nodes as they are then.
+    -- tick in it was asked for or noted by one of them; nodes agree, one after some lines and the
+    -- other after as many or more; and each line shows the nodes as they are then.
     pub record RunAgrees : Type 0 where
       pub agree : (i j : ℕ) → i ≤ j
           → Agree s.setting.next s.setting.answers s.image s.setting.begin

@@ -1,14 +1,10 @@
 with Ada.Real_Time;
 with Ada.Task_Identification;
-with Ada.Unchecked_Conversion;
-with Interfaces.C;
 with Udp;
 
 package body Callers is
    use Ada.Real_Time;
    use type Ada.Task_Identification.Task_Id;
-   use type Interfaces.C.size_t;
-   use type Interfaces.Unsigned_64;
    use type RP.Byte;
 
    subtype Task_Number is RP.Byte range 1 .. 8;
@@ -63,65 +59,36 @@ package body Callers is
       raise Program_Error with "a task that is not enrolled";
    end Self;
 
-   --  The value of a reply's bytes, the first of which says of which kind it is.
-   function Value_Of (Reply : RP.Bytes) return Value is
-      function Signed is new Ada.Unchecked_Conversion (Interfaces.Unsigned_64, Value);
-      Number : Interfaces.Unsigned_64 := 0;
-   begin
-      case Reply (Reply'First) is
-         when RP.Value_Reply | RP.Truth_Reply =>
-            for Each of Reply (Reply'First + 1 .. Reply'Last) loop
-               Number := Number * 256 + Interfaces.Unsigned_64 (Each);
-            end loop;
-            return Signed (Number);
-         when RP.Constraint_Reply => raise Constraint_Error;
-         when others              => raise Program_Error;
-      end case;
-   end Value_Of;
-
-   --  The request of a call of an operation through a node.
-   function Request_Of (Node, Object, Kind, Index : RP.Byte; Argument : Value) return RP.Bytes is
-      function Unsigned is new Ada.Unchecked_Conversion (Value, Interfaces.Unsigned_64);
-      Request : RP.Bytes (1 .. 13) := (RP.Make_Call, Node, Object, Kind, Index, others => 0);
-      Left    : Interfaces.Unsigned_64 := Unsigned (Argument);
-   begin
-      for Place in reverse 6 .. 13 loop
-         Request (Place) := RP.Byte (Left mod 256);
-         Left := Left / 256;
-      end loop;
-      return Request;
-   end Request_Of;
+   --  The value of a reply, or what the operation raised.
+   function Value_Of (Reply : RP.Call_Reply) return Value is
+     (case Reply.Kind is
+         when RP.Value_Reply | RP.Truth_Reply => Reply.Value,
+         when RP.Constraint_Reply             => raise Constraint_Error,
+         when others                          => raise Program_Error);
 
    function Call (Object, Kind, Index : RP.Byte; Argument : Value) return Value is
       Me      : Caller renames All_Callers (Self);
-      Request : constant RP.Bytes := Request_Of (Me.Node, Object, Kind, Index, Argument);
-      Packet  : RP.Bytes (1 .. RP.Task_Bytes);
-      Reply   : RP.Bytes (1 .. RP.Task_Bytes);
-      Taken   : RP.Bytes (1 .. 1 + RP.Step_Bytes) := (1 => RP.Take_Packet, others => 0);
+      Packet  : RP.Call_Packet;
+      Reply   : RP.Call_Reply;
+      Arrived : RP.Bytes (1 .. RP.Step_Bytes);
       Last    : Natural;
-      Lengths : RP.Lengths;
       Due     : Time;
    begin
-      Must (RP.Task_Call (Me.Stub, Request'Address, Request'Length, Packet'Address, Packet'Length, Lengths));
+      Must (RP.Task_Operation (Me.Stub, Me.Node, Object, Kind, Index, Argument, Packet));
       loop
-         Udp.Send (Me.Link, Packet (1 .. Natural (Lengths.Used)));
+         Udp.Send (Me.Link, Packet.Text (1 .. Packet.Count));
          Due := Clock + Retry;
          while Clock < Due loop
-            Udp.Receive (Me.Link, Taken, Last);
+            Udp.Receive (Me.Link, Arrived, Last);
             if Last > 0
-              and then RP.Task_Call
-                (Me.Stub, Taken'Address, Interfaces.C.size_t (Last), Reply'Address, Reply'Length, Lengths) = RP.Done
-              and then Lengths.Used > 0  --  else it is the reply to an older call
+              and then RP.Task_Take (Me.Stub, Arrived (1 .. Last), Reply) = RP.Done
+              and then Reply.Kind /= 0  --  else it is the reply to an older call
             then
-               return Value_Of (Reply (1 .. Natural (Lengths.Used)));
+               return Value_Of (Reply);
             end if;
          end loop;
          Me.Node := Me.Node mod Node_Count + 1;
-         declare
-            Again : constant RP.Bytes := (RP.Send_Again, Me.Node);
-         begin
-            Must (RP.Task_Call (Me.Stub, Again'Address, Again'Length, Packet'Address, Packet'Length, Lengths));
-         end;
+         Must (RP.Task_Again (Me.Stub, Me.Node, Packet));
       end loop;
    end Call;
 

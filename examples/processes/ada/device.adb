@@ -8,7 +8,6 @@ package body Device is
    use type Interfaces.C.long;
    use type Interfaces.C.size_t;
    use type RP.Status;
-   use type RP.Tail_Kind;
 
    subtype Count is Interfaces.C.size_t;
    subtype Int is Interfaces.C.int;

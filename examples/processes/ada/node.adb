@@ -20,7 +20,6 @@ procedure Node with Priority => 10 is
    use Ada.Real_Time;
    use type Interfaces.C.size_t;
    use type RP.Byte;
-   use type RP.Bytes;
 
    Batch        : constant := 64;
    Most_Packets : constant := 128;
@@ -61,28 +60,25 @@ procedure Node with Priority => 10 is
       To.Ends (To.Count) := Interfaces.C.size_t (Start + Bytes'Length);
    end Add;
 
+   --  Where a step's answer goes.
    Answer : RP.Bytes (1 .. RP.Step_Bytes);
    Ends   : RP.Ends (1 .. Most_Packets);
+   Made   : RP.Step_Lengths;
 
-   --  A step. What is refused changes nothing: a packet counts as lost then, and a lead is tried again.
-   procedure Step (Request : RP.Bytes) is
-      Made  : RP.Step_Lengths;
-      Start : Natural;
+   --  Keeps what a step gave. What is refused changed nothing: a packet counts as lost then, and a lead is tried again.
+   procedure Keep (Result : RP.Status) is
+      Start : Natural := Natural (Made.Stored);
    begin
-      if RP.Node_Step
-          (Handle, Request'Address, Request'Length, Answer'Address, Answer'Length, Ends'Address, Ends'Length, Made)
-        /= RP.Done
-      then
+      if Result /= RP.Done then
          return;
       end if;
-      Start := Natural (Made.Stored);
       Records (Recorded + 1 .. Recorded + Start) := Answer (1 .. Start);
       Recorded := Recorded + Start;
       for Place in 1 .. Natural (Made.Packets) loop
          Add (Waiting, Answer (Start + 1 .. Natural (Made.Stored + Ends (Place))));
          Start := Natural (Made.Stored + Ends (Place));
       end loop;
-   end Step;
+   end Keep;
 
    procedure Store_Records is
    begin
@@ -109,17 +105,17 @@ procedure Node with Priority => 10 is
    --  Receives what came. RULE 2: the only bytes that the node is given as packets are those of datagrams with this
    --  installation's mark, and its own.
    procedure Receive_Packets is
-      Request : RP.Bytes (1 .. 1 + RP.Step_Bytes) := (1 => RP.Receive, others => 0);
+      Arrived : RP.Bytes (1 .. RP.Step_Bytes);
       Last    : Natural;
    begin
       for Place in 1 .. Own.Count loop
-         Step (RP.Receive & Packet (Own, Place));
+         Keep (RP.Node_Take (Handle, Packet (Own, Place), Answer, Ends, Made));
       end loop;
       Own.Count := 0;
       for Got in 1 .. Batch loop
-         Udp.Receive (Link, Request, Last);
+         Udp.Receive (Link, Arrived, Last);
          exit when Last = 0;
-         Step (Request (1 .. Last));
+         Keep (RP.Node_Take (Handle, Arrived (1 .. Last), Answer, Ends, Made));
       end loop;
    end Receive_Packets;
 
@@ -132,7 +128,7 @@ procedure Node with Priority => 10 is
          Asked := Asked mod Nodes + 1;
          exit when Asked /= Me;
       end loop;
-      Step ((RP.Ask, Asked));
+      Keep (RP.Node_Ask (Handle, Asked, Answer, Ends, Made));
    end Ask_Another;
 
    Before   : Time := Clock;
@@ -153,7 +149,7 @@ procedure Node with Priority => 10 is
          return;
       end if;
       case Advice.Kind is
-         when RP.Advice_Lead => Step ((RP.Lead, RP.Byte (Advice.Position / 256), RP.Byte (Advice.Position mod 256)));
+         when RP.Advice_Lead => Keep (RP.Node_Lead_At (Handle, Advice.Position, Answer, Ends, Made));
          when RP.Advice_Ask  => Ask_Another;
          when others         => null;
       end case;

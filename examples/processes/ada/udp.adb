@@ -60,8 +60,8 @@ package body Udp is
       Last := 0;
       Receive_Socket (Each.Socket, Got, Count, From);
       if Count > Mark_Bytes and then Bytes (1 .. Mark_Bytes) = Each.Mark then
-         Last := Packet'First + Natural (Count) - Mark_Bytes;
-         Packet (Packet'First + 1 .. Last) := Bytes (Mark_Bytes + 1 .. Natural (Count));
+         Last := Packet'First + Natural (Count) - Mark_Bytes - 1;
+         Packet (Packet'First .. Last) := Bytes (Mark_Bytes + 1 .. Natural (Count));
       end if;
    exception
       when Socket_Error => null;  --  nothing came in time

@@ -24,8 +24,8 @@ package Udp is
    --  Sends a packet to its receiver, which may lose it.
 
    procedure Receive (Each : Link; Packet : in out RP.Bytes; Last : out Natural);
-   --  Waits for a datagram of this installation, at most two milliseconds, and puts its packet at
-   --  Packet (Packet'First + 1) on, so that a request's first byte has its place; Last is 0 if none came.
+   --  Waits for a datagram of this installation, at most two milliseconds, and puts its packet into
+   --  Packet (Packet'First .. Last); Last is 0 if none came.
 
 private
 

@@ -20,7 +20,7 @@ struct packets {
 };
 
 static rp_node node = RP_CLOSED;
-static rp_patience patience;
+static rp_patience patience = RP_NO_WAIT;
 static struct link net;
 static uint8_t me, nodes;
 static int device;
@@ -38,16 +38,18 @@ static void add(struct packets *all, const uint8_t *packet, size_t count) {
   all->ends[all->count++] = start + count;
 }
 
-/* A step. What is refused changes nothing: a packet counts as lost then, and a lead is tried again. */
-static void step(const uint8_t *request, size_t count) {
-  static uint8_t answer[RP_STEP_BYTES];
-  size_t ends[MOST_PACKETS], start = 0;
-  rp_step made;
-  if (rp_node_step(&node, request, count, answer, sizeof answer, ends, MOST_PACKETS, &made) != RP_DONE) return;
-  memcpy(records + recorded, answer, made.stored);
-  recorded += made.stored;
-  for (size_t place = 0; place < made.packets; start = ends[place++]) {
-    add(&waiting, answer + made.stored + start, ends[place] - start);
+/* Where a step's answer goes. */
+static uint8_t answer[RP_STEP_BYTES];
+static size_t ends[MOST_PACKETS];
+static rp_room room = {answer, sizeof answer, ends, MOST_PACKETS, {0, 0, 0, 0}};
+
+/* Keeps what a step gave. What is refused changed nothing: a packet counts as lost then, and a lead is tried again. */
+static void keep(uint8_t status) {
+  if (status != RP_DONE) return;
+  memcpy(records + recorded, answer, room.step.stored);
+  recorded += room.step.stored;
+  for (size_t place = 0, start = 0; place < room.step.packets; start = ends[place++]) {
+    add(&waiting, answer + room.step.stored + start, ends[place] - start);
   }
 }
 
@@ -78,19 +80,16 @@ static void hand_on_packets(void) {
 /* Receives what came: at first a wait, unless there are packets of its own. RULE 2: the only bytes that the node is given
  * as packets are those of datagrams with this installation's mark, and its own. */
 static void receive_packets(void) {
-  static uint8_t datagram[MOST_DATAGRAM], request[1 + RP_STEP_BYTES] = {RP_NODE_RECEIVE};
+  static uint8_t datagram[MOST_DATAGRAM];
   int wait = own.count > 0 ? 0 : WAIT_MS;
   for (size_t place = 0; place < own.count; place++) {
-    size_t start = end_of(&own, place), count = own.ends[place] - start;
-    memcpy(request + 1, own.bytes + start, count);
-    step(request, 1 + count);
+    keep(rp_node_take(&node, own.bytes + end_of(&own, place), own.ends[place] - end_of(&own, place), &room));
   }
   own.count = 0;
   for (int got = 0; got < BATCH; got++, wait = 0) {
     size_t count = receive_packet(&net, datagram, wait);
     if (count == 0) return;
-    datagram[MARK - 1] = RP_NODE_RECEIVE; /* the packet is received where it lies */
-    step(datagram + MARK - 1, 1 + count);
+    keep(rp_node_take(&node, datagram + MARK, count, &room));
   }
 }
 
@@ -99,7 +98,7 @@ static void ask_another(void) {
   static uint8_t asked;
   do asked = (uint8_t)(asked % nodes + 1);
   while (asked == me);
-  step((uint8_t[]){RP_NODE_ASK, asked}, 2);
+  keep(rp_node_ask(&node, asked, &room));
 }
 
 /* Leads or asks, if it is time to; a turn of the node's patience is a millisecond. */
@@ -114,7 +113,7 @@ static void lead_or_ask(void) {
   }
   if (rp_node_advise(&node, &patience, passed, &advice) != RP_DONE) return;
   if (advice.kind == RP_ADVICE_LEAD) {
-    step((uint8_t[]){RP_NODE_LEAD, (uint8_t)(advice.position >> 8), (uint8_t)advice.position}, 3);
+    keep(rp_node_lead_at(&node, advice.position, &room));
   } else if (advice.kind == RP_ADVICE_ASK) {
     ask_another();
   }

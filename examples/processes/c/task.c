@@ -19,43 +19,23 @@ static uint64_t nanoseconds(void) {
   return (uint64_t)now.tv_sec * 1000000000 + (uint64_t)now.tv_nsec;
 }
 
-static void put_number(uint8_t *at, int64_t number) {
-  for (int place = 7; place >= 0; place--, number >>= 8) at[place] = (uint8_t)number;
-}
-
-static int64_t number_of(const uint8_t *at) {
-  uint64_t number = 0;
-  for (int place = 0; place < 8; place++) number = number << 8 | at[place];
-  return (int64_t)number;
-}
-
-/* A request to the stub, whose answer is a packet to send, a reply, or empty. */
-static size_t ask_stub(const uint8_t *request, size_t count, uint8_t *answer) {
-  rp_lengths lengths = {0, 0};
-  uint8_t status = rp_task_call(&stub, request, count, answer, RP_TASK_BYTES, &lengths);
-  return status == RP_DONE ? lengths.used : 0;
-}
-
 /* One call of the replicated object. It returns once the reply is there, and asks again meanwhile, also another node. */
-static int64_t call(uint8_t kind, uint8_t index, int64_t argument) {
+static int64_t call(uint8_t operation, uint8_t index, int64_t argument) {
   static uint8_t datagram[MOST_DATAGRAM];
-  uint8_t request[13] = {RP_TASK_CALL, node, REG, kind, index}, answer[RP_TASK_BYTES];
-  put_number(request + 5, argument);
-  size_t count = ask_stub(request, sizeof request, answer);
-  if (count == 0) stop("a call is refused");
+  rp_call_packet packet;
+  rp_call_reply reply;
+  if (rp_task_operation(&stub, node, REG, operation, index, argument, &packet) != RP_DONE) stop("a call is refused");
   for (;;) {
-    send_packet(&net, answer, count);
+    send_packet(&net, packet.bytes, packet.count);
     uint64_t due = milliseconds() + RETRY_MS, now;
     while ((now = milliseconds()) < due) {
-      size_t length = receive_packet(&net, datagram, (int)(due - now));
-      if (length == 0) continue;
-      datagram[MARK - 1] = RP_TASK_RECEIVE;
-      if (ask_stub(datagram + MARK - 1, 1 + length, answer) == 0) continue; /* the reply to an older call */
-      if (answer[0] != RP_REPLY_VALUE) stop("the call raised an exception");
-      return number_of(answer + 1);
+      size_t count = receive_packet(&net, datagram, (int)(due - now));
+      if (count == 0 || rp_task_take(&stub, datagram + MARK, count, &reply) != RP_DONE || reply.kind == 0) continue;
+      if (reply.kind != RP_REPLY_VALUE) stop("the call raised an exception");
+      return reply.value;
     }
     node = (uint8_t)(node % nodes + 1);
-    count = ask_stub((uint8_t[]){RP_TASK_AGAIN, node}, 2, answer);
+    if (rp_task_again(&stub, node, &packet) != RP_DONE) stop("a call is refused");
   }
 }
 

@@ -131,8 +131,25 @@ procedure Node with Priority => 10 is
       Keep (RP.Node_Ask (Handle, Asked, Answer, Ends, Made));
    end Ask_Another;
 
-   Before   : Time := Clock;
-   Asked_At : Time := Time_First;
+   Window         : constant := 64;
+   Asked_At       : Time := Time_First;
+   Applied_Before : Interfaces.Unsigned_32 := 0;
+
+   --  Whether it is time to ask, though the node may not know that it misses something: it was away, or the last
+   --  question brought a whole window, so there may be more.
+   function Is_To_Ask (Now : Time) return Boolean is
+      Applied : Interfaces.Unsigned_32 := 0;
+      Ignore  : constant RP.Status := RP.Node_Applied (Handle, Applied);
+   begin
+      if Now - Asked_At < Seconds (1) and then Applied < Applied_Before + Window then
+         return False;
+      end if;
+      Asked_At := Now;
+      Applied_Before := Applied;
+      return True;
+   end Is_To_Ask;
+
+   Before : Time := Clock;
 
    --  Leads or asks, if it is time to; a turn of the node's patience is a millisecond.
    procedure Lead_Or_Ask is
@@ -141,8 +158,7 @@ procedure Node with Priority => 10 is
       Advice : RP.Advice;
    begin
       Before := Before + Milliseconds (Passed);
-      if Now - Asked_At > Seconds (1) then  --  also where it does not know that it misses some: it was away
-         Asked_At := Now;
+      if Is_To_Ask (Now) then
          Ask_Another;
       end if;
       if RP.Node_Advise (Handle, Patience, Interfaces.Unsigned_64 (Passed), Advice) /= RP.Done then

@@ -10,7 +10,7 @@
 
 #include "udp.h"
 
-enum { BATCH = 64, WAIT_MS = 2, MOST_PACKETS = 128, ASK_MS = 1000 };
+enum { BATCH = 64, WAIT_MS = 2, MOST_PACKETS = 128, ASK_MS = 1000, WINDOW = 64 };
 
 /* Packets one after another, and where each ends. */
 struct packets {
@@ -101,22 +101,28 @@ static void ask_another(void) {
   keep(rp_node_ask(&node, asked, &room));
 }
 
+/* Whether it is time to ask, though the node may not know that it misses something: it was away, or the last question brought
+ * a whole window, so there may be more. */
+static bool is_to_ask(uint64_t now) {
+  static uint64_t asked;
+  static uint32_t before;
+  uint32_t applied = 0;
+  (void)rp_node_applied(&node, &applied);
+  if (now - asked < ASK_MS && applied < before + WINDOW) return false;
+  asked = now, before = applied;
+  return true;
+}
+
 /* Leads or asks, if it is time to; a turn of the node's patience is a millisecond. */
 static void lead_or_ask(void) {
-  static uint64_t before, asked;
+  static uint64_t before;
   uint64_t now = milliseconds(), passed = before == 0 ? 0 : now - before;
   rp_advice advice;
   before = now;
-  if (now - asked > ASK_MS) { /* also where it does not know that it misses some: it was away */
-    asked = now;
-    ask_another();
-  }
+  if (is_to_ask(now)) ask_another();
   if (rp_node_advise(&node, &patience, passed, &advice) != RP_DONE) return;
-  if (advice.kind == RP_ADVICE_LEAD) {
-    keep(rp_node_lead_at(&node, advice.position, &room));
-  } else if (advice.kind == RP_ADVICE_ASK) {
-    ask_another();
-  }
+  if (advice.kind == RP_ADVICE_LEAD) keep(rp_node_lead_at(&node, advice.position, &room));
+  if (advice.kind == RP_ADVICE_ASK) ask_another();
 }
 
 /* Opens the node over its device, which gets a header if it is fresh. */

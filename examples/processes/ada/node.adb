@@ -19,6 +19,7 @@ procedure Node with Priority => 10 is
    use Ada.Command_Line;
    use Ada.Real_Time;
    use type Interfaces.C.size_t;
+   use type Interfaces.Unsigned_32;
    use type RP.Byte;
 
    Batch        : constant := 64;

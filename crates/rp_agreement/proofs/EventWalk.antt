@@ -20,9 +20,15 @@ use Rattle.rp_model.specs.Answers.{untorn, IsLeft, FailsBy, Steps, Happen}
 use Rattle.rp_agreement.specs.Inputs.{IsInput, IsTaskInput}
 use Rattle.rp_agreement.proofs.PartPlaces.{part_has}
 
+-- what a task is asked for: a packet may always come to it
+abbrev pub TaskMay : (ℕ → TaskInput → Type 0) → ℕ → TaskInput → Type 0
+TaskMay asked t (tasks.Submit node object operation arg) = asked t (tasks.Submit node object operation arg)
+TaskMay asked t (tasks.Again node) = asked t (tasks.Again node)
+TaskMay asked t (tasks.Take message) = Unit {0}
+
 -- Each step of an actor keeps the fact: a node's input that may come, whole, or any that is cut, its stop and restart,
 -- torn bytes that are truncated, and a task's input.
-pub record IsKeptByAll {S : Type 0} (s : Setting S) (may : NodeInput → Type 0) (P : World → Type 0) : Type 0 where
+pub record IsKeptByAll {S : Type 0} (s : Setting S) (may : NodeInput → Type 0) (asked : ℕ → TaskInput → Type 0) (P : World → Type 0) : Type 0 where
   pub input : (w : World) (me : ℕ) (part : NodePart) (input : NodeInput) (done : Done NodePart) → P w → part_at w.nodes me ≡ Some part → IsInput w.sent input
       → may input → node_effect s me part input ≡ Ok done → P (node_done w me done).world
   pub cut : (w : World) (me kept : ℕ) (part : NodePart) (input : NodeInput) (done : Done NodePart) → P w → part_at w.nodes me ≡ Some part → IsInput w.sent input
@@ -31,7 +37,7 @@ pub record IsKeptByAll {S : Type 0} (s : Setting S) (may : NodeInput → Type 0)
   pub restart : (w : World) (me : ℕ) (part : NodePart) → P w → part_at w.nodes me ≡ Some part → P (node_done w me (restart_part part)).world
   pub torn : (w : World) (me kept : ℕ) (part : NodePart) → P w → part_at w.nodes me ≡ Some part → P (untorn kept w me (Some part))
   pub task : (w : World) (t : ℕ) (part : TaskPart) (input : TaskInput) (done : Done TaskPart) → P w → part_at w.tasks t ≡ Some part → IsTaskInput w.sent t input
-      → task_effect s.config t part input ≡ Ok done → P (task_done w t done).world
+      → TaskMay asked t input → task_effect s.config t part input ≡ Ok done → P (task_done w t done).world
 
 -- the input of a node's step may come
 abbrev pub StepMay : (NodeInput → Type 0) → Step → Type 0
@@ -43,18 +49,27 @@ StepMay may (Tick me now) = may (nodes.Tick now)
 StepMay may (Report me first) = may (nodes.Report first)
 StepMay may (Ask me to) = may (nodes.Ask to)
 
--- and that of an event, if it is a node's step that is not cut
-abbrev pub EventMay : (NodeInput → Type 0) → Event → Type 0
-EventMay may (Submit t node object operation arg) = Unit {0}
-EventMay may (Again t node) = Unit {0}
-EventMay may (Makes step) = StepMay may step
-EventMay may (Cut step kept) = Unit {0}
-EventMay may (Stop me) = Unit {0}
-EventMay may (Restart me) = Unit {0}
+-- and that of an event, if it is a task's or a node's step that is not cut
+abbrev pub EventMay : (NodeInput → Type 0) → (ℕ → TaskInput → Type 0) → Event → Type 0
+EventMay may asked (Submit t node object operation arg) = asked t (tasks.Submit node object operation arg)
+EventMay may asked (Again t node) = asked t (tasks.Again node)
+EventMay may asked (Makes step) = StepMay may step
+EventMay may asked (Cut step kept) = Unit {0}
+EventMay may asked (Stop me) = Unit {0}
+EventMay may asked (Restart me) = Unit {0}
 
 -- any input may come
 abbrev pub any_input : NodeInput → Type 0
 any_input input = Unit {0}
+
+-- a task may be asked for anything
+abbrev pub any_task : ℕ → TaskInput → Type 0
+any_task t input = Unit {0}
+
+pub any_asked : (t : ℕ) (input : TaskInput) → TaskMay any_task t input
+any_asked t (tasks.Submit node object operation arg) = tt
+any_asked t (tasks.Again node) = tt
+any_asked t (tasks.Take message) = tt
 
 any_step : (step : Step) → StepMay any_input step
 any_step (Deliver number) = λ message. tt
@@ -65,7 +80,7 @@ any_step (Tick me now) = tt
 any_step (Report me first) = tt
 any_step (Ask me to) = tt
 
-pub any_event : (event : Event) → EventMay any_input event
+pub any_event : (event : Event) → EventMay any_input any_task event
 any_event (Submit t node object operation arg) = tt
 any_event (Again t node) = tt
 any_event (Makes step) = any_step step
@@ -78,7 +93,7 @@ abbrev pub HoldsAfter : (World → Type 0) → Result Transition Fault → Type 
 HoldsAfter P (Ok transition) = P transition.world
 HoldsAfter P (Err fault) = Unit {0}
 
-module _ {S : Type 0} (s : Setting S) (may : NodeInput → Type 0) (P : World → Type 0) (kept_by : IsKeptByAll s may P) where
+module _ {S : Type 0} (s : Setting S) (may : NodeInput → Type 0) (asked : ℕ → TaskInput → Type 0) (P : World → Type 0) (kept_by : IsKeptByAll s may asked P) where
   node_if : (w : World) (me : ℕ) (result : Result (Done NodePart) Fault) → ((done : Done NodePart) → result ≡ Ok done → P (node_done w me done).world)
       → HoldsAfter P (node_done_if w me result)
   node_if w me (Ok done) fact = fact done refl
@@ -91,10 +106,10 @@ module _ {S : Type 0} (s : Setting S) (may : NodeInput → Type 0) (P : World �
 
   -- ---- steps
 
-  task_takes_keep : (w : World) (t : ℕ) (input : TaskInput) (part : Option TaskPart) → P w → IsTaskInput w.sent t input → part_at w.tasks t ≡ part
+  task_takes_keep : (w : World) (t : ℕ) (input : TaskInput) (part : Option TaskPart) → P w → IsTaskInput w.sent t input → TaskMay asked t input → part_at w.tasks t ≡ part
       → HoldsAfter P (task_takes s.config w t input part)
-  task_takes_keep w t input None fact right here = tt
-  task_takes_keep w t input (Some part) fact right here = task_if w t (task_effect s.config t part input) (λ done is. kept_by.task w t part input done fact here right is)
+  task_takes_keep w t input None fact right comes here = tt
+  task_takes_keep w t input (Some part) fact right comes here = task_if w t (task_effect s.config t part input) (λ done is. kept_by.task w t part input done fact here right comes is)
 
   -- the inputs of a step may come, and are right
   step_gives : (w : World) (step : Step) → IsRightStep step → StepMay may step → GivesOnly w (λ input. IsInput w.sent input × may input) step
@@ -120,7 +135,7 @@ module _ {S : Type 0} (s : Setting S) (may : NodeInput → Type 0) (P : World �
       by_chosen w (λ input. IsInput w.sent input × may input) (λ c. HoldsAfter P (chosen_effect s w c))
       (λ me part input here given. node_if w me (node_effect s me part input) (λ done is. kept_by.input w me part input done fact here given.0 given.1 is))
       (λ t part message here to. task_if w t (task_effect s.config t part (tasks.Take message))
-      (λ done is. kept_by.task w t part (tasks.Take message) done fact here (part_has w.sent to.number message to.sent, to.receiver) is)) (λ whom. fact) tt (λ me none. tt) step
+      (λ done is. kept_by.task w t part (tasks.Take message) done fact here (part_has w.sent to.number message to.sent, to.receiver) tt is)) (λ whom. fact) tt (λ me none. tt) step
       (step_gives w step is comes)
 
   cut_step_keeps : (w : World) (step : Step) (kept : ℕ) → P w → IsRightStep step → HoldsAfter P (cut_step s w step kept)
@@ -139,9 +154,9 @@ module _ {S : Type 0} (s : Setting S) (may : NodeInput → Type 0) (P : World �
   restarts_keep w me None fact here = tt
   restarts_keep w me (Some part) fact here = kept_by.restart w me part fact here
 
-  pub event_keeps : (w : World) (event : Event) → P w → IsRightEvent event → EventMay may event → HoldsAfter P (event_effect s w event)
-  event_keeps w (Submit t node object operation arg) fact is comes = task_takes_keep w t (tasks.Submit node object operation arg) (part_at w.tasks t) fact (is.1, is.4) refl
-  event_keeps w (Again t node) fact is comes = task_takes_keep w t (tasks.Again node) (part_at w.tasks t) fact is.1 refl
+  pub event_keeps : (w : World) (event : Event) → P w → IsRightEvent event → EventMay may asked event → HoldsAfter P (event_effect s w event)
+  event_keeps w (Submit t node object operation arg) fact is comes = task_takes_keep w t (tasks.Submit node object operation arg) (part_at w.tasks t) fact (is.1, is.4) comes refl
+  event_keeps w (Again t node) fact is comes = task_takes_keep w t (tasks.Again node) (part_at w.tasks t) fact is.1 comes refl
   event_keeps w (Makes step) fact is comes = step_keeps w step fact is comes
   event_keeps w (Cut step kept) fact is comes = cut_step_keeps w step kept fact is.0
   event_keeps w (Stop me) fact is comes = stops_keep w me (part_at w.nodes me) fact refl
@@ -176,7 +191,7 @@ module _ {S : Type 0} (s : Setting S) (may : NodeInput → Type 0) (P : World �
   fails_keeps w (Stop me) left fact is fails = absurd fails
   fails_keeps w (Restart me) left fact is fails = left_keeps w (Restart me) left fact fails
 
-  pub answer_keeps : (w : World) (event : Event) (after : World) (answer : Result Effect Fault) → P w → IsRightEvent event → EventMay may event → Steps s w event after answer → P after
+  pub answer_keeps : (w : World) (event : Event) (after : World) (answer : Result Effect Fault) → P w → IsRightEvent event → EventMay may asked event → Steps s w event after answer → P after
   answer_keeps w event after (Ok effect) fact is comes steps = result_keeps (event_effect s w event) steps.transition after (event_keeps w event fact is comes) steps.resulted steps.world
   answer_keeps w event left (Err fault) fact is comes steps =
       elim steps [
@@ -189,7 +204,7 @@ module _ {S : Type 0} (s : Setting S) (may : NodeInput → Type 0) (P : World �
 
   -- events one after another
   pub history_keeps : (w : World) (events : List Event) (after : World) → P w → ((event : Event) → Has event events → IsRightEvent event)
-      → ((event : Event) → Has event events → EventMay may event) → Happen s w events after → P after
+      → ((event : Event) → Has event events → EventMay may asked event) → Happen s w events after → P after
   history_keeps w [] after fact right come happen = same_keeps w after fact happen
   history_keeps w (event ∷ rest) after fact right come happen =
       history_keeps happen.0.world rest after

@@ -23,7 +23,7 @@ use Rattle.rp_agreement.proofs.NodeEffects.{IsSoundDone, done_keeps}
 use Rattle.rp_agreement.proofs.WorldKeeping.{member_here, moves_here, untorn_world, input_done, cut_done, stop_done, restart_done, torn_done}
 use Rattle.rp_model.specs.Events.{Event}
 use Rattle.rp_agreement.specs.History.{IsHistory}
-use Rattle.rp_agreement.proofs.EventWalk.{IsKeptByAll, any_input, any_event, history_keeps}
+use Rattle.rp_agreement.proofs.EventWalk.{IsKeptByAll, any_input, any_task, any_event, history_keeps}
 use Rattle.rp_agreement.proofs.AnswerTurns.{AreAnswers}
 use Rattle.rp_agreement.proofs.NodeReplies.{node_keeps, effect_answers, cut_answers, stop_answers, restart_answers}
 use Rattle.rp_agreement.proofs.TaskKeeping.{task_goes_on}
@@ -56,7 +56,7 @@ module _ {S : Type 0} (s : Setting S) (right : IsRightConfig s.config) where
       }
 
   -- all keep the replies to tasks
-  pub kept_by_all : IsKeptByAll s any_input (IsKeptWorld s)
+  pub kept_by_all : IsKeptByAll s any_input any_task (IsKeptWorld s)
   kept_by_all = record {
     input = λ w me part input done world here is _ resulted. node_case w me part done world here (input_done s right w me part world.size world.kept.sound here input done is resulted) (effect_answers s me part input done resulted);
     cut = λ w me kept part input done world here is resulted. node_case w me part done world here (cut_done s right w me part world.size world.kept.sound here kept input done is resulted) (cut_answers s me kept part input done resulted);
@@ -64,7 +64,7 @@ module _ {S : Type 0} (s : Setting S) (right : IsRightConfig s.config) where
     restart = λ w me part world here. node_case w me part (restart_part part) world here (restart_done s right w me part world.size world.kept.sound here) (restart_answers s part);
     torn = λ w me kept part world here.
         untorn_world (IsKeptWorld s) w me kept part (node_case w me part (goes_on_as (untorn_part kept part)) world here (torn_done s right w me part world.size world.kept.sound here kept) (λ m h. absurd h));
-    task = λ w t part input done world here is resulted. record {
+    task = λ w t part input done world here is _ resulted. record {
       size = world.size;
       kept = task_goes_on s t input done (node_in w.nodes) (task_in w.tasks) w.sent (node_in w.nodes) (task_in (with_part w.tasks t done.part)) (w.sent ++ done.sends) world.kept is
           (subst (λ (p : TaskPart). task_effect s.config t p input ≡ Ok done) (sym (task_here w t part here)) resulted) (λ k. refl) (task_moves_here w t part done here);
@@ -121,4 +121,4 @@ reply_has replies k answer e = part_has replies (suc k) answer e
 -- each history leads to a world that keeps the replies to tasks
 pub kept_in : {S : Type 0} (s : Setting S) (events : List Event) (world : World) → IsSoundWorld s.config.nodes (opening_world s.config.nodes) → IsHistory s events world → IsKeptWorld s world
 kept_in s events world opening history =
-    history_keeps s any_input (IsKeptWorld s) (kept_by_all s history.config) (opening_world s.config.nodes) events world (kept_opening s opening) history.right (λ event _. any_event event) history.happened
+    history_keeps s any_input any_task (IsKeptWorld s) (kept_by_all s history.config) (opening_world s.config.nodes) events world (kept_opening s opening) history.right (λ event _. any_event event) history.happened

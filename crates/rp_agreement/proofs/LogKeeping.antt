@@ -21,7 +21,7 @@ use Rattle.rp_agreement.specs.History.{IsHistory}
 use Rattle.rp_agreement.proofs.InLog.{WritesInLog, InLogIf, turn_in_log}
 use Rattle.rp_agreement.proofs.RecordGrowth.{learned_has}
 use Rattle.rp_agreement.proofs.PartPlaces.{part_has}
-use Rattle.rp_agreement.proofs.EventWalk.{IsKeptByAll, any_input, any_event, history_keeps}
+use Rattle.rp_agreement.proofs.EventWalk.{IsKeptByAll, any_input, any_task, any_event, history_keeps}
 
 -- each record is at a position of the log, or at none
 abbrev pub AreInLog : ℕ → List Rec → Type 0
@@ -111,7 +111,7 @@ module _ {S : Type 0} (s : Setting S) where
   at_place : (w : World) (me : ℕ) (part : NodePart) → NodesInLog s.config.max_positions w → part_at w.nodes me ≡ Some part → AreInLog s.config.max_positions part.records
   at_place w me part all here = all part (part_has w.nodes me part here)
 
-  pub log_kept : IsKeptByAll s any_input (NodesInLog s.config.max_positions)
+  pub log_kept : IsKeptByAll s any_input any_task (NodesInLog s.config.max_positions)
   log_kept = record {
     input = λ w me part input done all here is _ resulted. put_in_log s.config.max_positions w me done.part all
         (result_in_log s.config.max_positions (node_effect s me part input) done (input_while s me part input part.running (at_place w me part all here)) resulted);
@@ -122,7 +122,7 @@ module _ {S : Type 0} (s : Setting S) where
     restart = λ w me part all here. put_in_log s.config.max_positions w me (restart_part part).part all
         (restarted s.config.max_positions part part.running (at_place w me part all here));
     torn = λ w me kept part all here. put_in_log s.config.max_positions w me _ all (at_place w me part all here);
-    task = λ w t part input done all here is resulted. all;
+    task = λ w t part input done all here is _ resulted. all;
   }
 
 pub same_everywhere : {A : Type 0} (n : ℕ) (a x : A) → Has x (replicate n a) → x ≡ a
@@ -134,7 +134,7 @@ opening_in_log most nodes part h rec is = absurd (subst (λ (p : NodePart). Has 
 
 pub history_in_log : {S : Type 0} (s : Setting S) (events : List Event) (w : World) → IsHistory s events w → NodesInLog s.config.max_positions w
 history_in_log s events w history =
-    history_keeps s any_input (NodesInLog s.config.max_positions) (log_kept s) (opening_world s.config.nodes) events w (opening_in_log s.config.max_positions s.config.nodes) history.right (λ event _. any_event event) history.happened
+    history_keeps s any_input any_task (NodesInLog s.config.max_positions) (log_kept s) (opening_world s.config.nodes) events w (opening_in_log s.config.max_positions s.config.nodes) history.right (λ event _. any_event event) history.happened
 
 -- ---- what is applied
 

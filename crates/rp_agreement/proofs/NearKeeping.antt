@@ -29,7 +29,7 @@ use Rattle.rp_model.proofs.AppliedGrowing.{applied_more}
 use Rattle.rp_agreement.specs.History.{IsHistory}
 use Rattle.rp_agreement.specs.Inputs.{IsInput}
 use Rattle.rp_agreement.specs.Ranges.{AreVotesNear}
-use Rattle.rp_agreement.proofs.EventWalk.{IsKeptByAll, any_input, any_event, history_keeps}
+use Rattle.rp_agreement.proofs.EventWalk.{IsKeptByAll, any_input, any_task, any_event, history_keeps}
 use Rattle.rp_agreement.proofs.LogKeeping.{same_everywhere}
 use Rattle.rp_agreement.proofs.NearTurns.{IsNear, AreNear, SaysNear, MayVote, MayVoteFor, IsNearIf, turn_near}
 use Rattle.rp_agreement.proofs.PartPlaces.{part_has, put_there, put_beside}
@@ -260,7 +260,7 @@ task_plain config t part (Take message) = hears t part message.body
 
 -- ---- histories
 
-pub near_kept : {S : Type 0} (s : Setting S) → IsKeptByAll s any_input IsNearWorld
+pub near_kept : {S : Type 0} (s : Setting S) → IsKeptByAll s any_input any_task IsNearWorld
 near_kept s = record {
   input = λ w me part input done all here right _ resulted. input_results w me part all here s input part.running done right refl resulted;
   cut = λ w me kept part input done all here right resulted. cut_results w me part all here kept (node_effect s me part input) done resulted;
@@ -269,7 +269,7 @@ near_kept s = record {
   torn = λ w me kept part all here.
       same_sent w me part all here (untorn_part kept part)
       (near_next w me part (untorn_part kept part) here [] (sym (append-nil part.records)) [] all (runs_still w me part all here) (no_sends me part.records (IsNodeNear w)));
-  task = λ w t part input done all here right resulted. task_sends w t done.part done.sends all (subst SendsPlainIf resulted (task_plain s.config t part input));
+  task = λ w t part input done all here right _ resulted. task_sends w t done.part done.sends all (subst SendsPlainIf resulted (task_plain s.config t part input));
 }
 
 opening_near : (nodes : ℕ) → IsNearWorld (opening_world nodes)
@@ -283,7 +283,7 @@ opening_near nodes = record {
 
 pub votes_near : {S : Type 0} (s : Setting S) (events : List Event) (w : World) → IsHistory s events w → AreVotesNear w
 votes_near s events w history from x i b v h part here =
-    let all : IsNearWorld w = history_keeps s any_input IsNearWorld (near_kept s) (opening_world s.config.nodes) events w (opening_near s.config.nodes) history.right (λ event _. any_event event) history.happened in
+    let all : IsNearWorld w = history_keeps s any_input any_task IsNearWorld (near_kept s) (opening_world s.config.nodes) events w (opening_near s.config.nodes) history.right (λ event _. any_event event) history.happened in
     let sent = all.sent (record { from = from; to = Node x; body = bodies.Accepted i b v }) h in
     let same : x ≡ sent.0 = cc in
     let one : sent.2.part ≡ part = some_is sent.2.part part (sym sent.2.here ∙ ap (part_at w.nodes) (sym same) ∙ here) in

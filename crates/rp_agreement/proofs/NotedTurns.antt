@@ -47,7 +47,10 @@ use Rattle.rp_model.specs.Facts.{HasPromised, IsOffered}
 use Rattle.rp_model.specs.Parts.{NodePart}
 use Rattle.rp_model.proofs.EveryPlan.{SawMajority}
 use Rattle.rp_agreement.specs.Sound.{IsProposal}
-use Rattle.rp_agreement.proofs.Arriving.{came_said}
+use Rattle.rp_agreement.proofs.Arriving.{came_said, call_asked}
+use Rattle.rp_agreement.specs.Answered.{named}
+use Rattle.rp_machine.specs.Calls.{calls_of}
+use Rattle.rp_model.specs.Tasks.{asks}
 use Rattle.rp_agreement.proofs.Leaders.{own_offer}
 
 -- ---- packets that offer nothing
@@ -140,16 +143,22 @@ module _ (P : Action → Type 0) where
         | false ↦ is
       ]
 
-  -- ---- the turns of a node, where the fact holds of calls, of nothing and of all that was offered
+  -- and of each call that a task asked for
+  abbrev pub CallsAre : List Message → Type 0
+  CallsAre sent = (task node : ℕ) (call : Action) → Has (asks task node call) sent → P call
 
-  module _ {S : Type 0} (s : Setting S) (noop : P actions.Noop) (calls : (task number object : ℕ) (operation : Operation) (arg : ℤ) → P (actions.Call task number object operation arg))
-      (node : ℕ → NodePart) (sent : List Message) (sound : IsSound s.config.nodes node sent) (offered : OffersAre sent)
+  -- ---- the turns of a node, where the fact holds of nothing, of all calls and of all that was offered
+
+  module _ {S : Type 0} (s : Setting S) (noop : P actions.Noop)
+      (node : ℕ → NodePart) (sent : List Message) (sound : IsSound s.config.nodes node sent) (offered : OffersAre sent) (calls : CallsAre sent)
       (me : ℕ) (records : List Rec) (running : Running) (input : NodeInput) (given : IsInput sent input) (comes : InputIs input) (runs : IsRunning sent records running) (is : HoldsWhile running) where
     abbrev here : RunningNode S
     here = running_node s me records running
 
     item_holds : (item : Action) → Brings here input item → P item
-    item_holds item (ByCall from task number object operation arg came same) = subst P (sym same) (calls task number object operation arg)
+    item_holds item (ByCall from task number object operation arg came same) =
+        let asked = (call_asked here node sent input sound given from item came).asked (named task number) (subst (λ (a : Action). Has (named task number) (calls_of a)) (sym same) (inl refl)) in
+        calls task asked.0 item asked.1
     item_holds item (ByInterrupt source occurrence brought same) = subst P (sym same) (subst InputIs brought comes)
     item_holds item (ByTick now brought same) = subst P (sym same) (subst InputIs brought comes)
 

@@ -32,7 +32,7 @@ use Rattle.rp_agreement.specs.Inputs.{IsInput, IsTaskInput, WaitsForOwn}
 use Rattle.rp_agreement.specs.Sound.{IsCall}
 use Rattle.rp_agreement.specs.Ranges.{IsRangedRunning, IsRangedPart, IsRangedWorld}
 use Rattle.rp_agreement.specs.Worlds.{IsSoundWorld}
-use Rattle.rp_agreement.proofs.EventWalk.{IsKeptByAll, any_input}
+use Rattle.rp_agreement.proofs.EventWalk.{IsKeptByAll, any_input, any_task}
 use Rattle.rp_agreement.proofs.PartPlaces.{part_has, part_below, put_length}
 use Rattle.rp_agreement.proofs.LogKeeping.{part_or_new, same_everywhere}
 use Rattle.rp_agreement.proofs.RangedParts.{AreRecords, written_ranged}
@@ -231,7 +231,7 @@ module _ {S : Type 0} (s : Setting S) (right : IsRightConfig s.config) (fits : (
       let few : s.config.nodes ≤ 7 = right.nodes.1 in
       (place.0, omega (arith, place.1, size, few))
 
-  pub ranges_kept : IsKeptByAll s any_input (IsRangedWorld s.config.nodes)
+  pub ranges_kept : IsKeptByAll s any_input any_task (IsRangedWorld s.config.nodes)
   ranges_kept = record {
     input = λ w me part input done all here is _ resulted. node_ranged s.config.nodes w me done all
         (result_ranged (node_effect s me part input) done
@@ -246,7 +246,7 @@ module _ {S : Type 0} (s : Setting S) (right : IsRightConfig s.config) (fits : (
         let was = all.parts part (part_has w.nodes me part here) in
         untorn_world (IsRangedWorld s.config.nodes) w me kept part
         (node_ranged s.config.nodes w me (goes_on_as (untorn_part kept part)) all (record { records = was.records; running = was.running }, no_packets));
-    task = λ w t part input done all here is resulted. task_ranged s.config.nodes w t part done all here
+    task = λ w t part input done all here is _ resulted. task_ranged s.config.nodes w t part done all here
         (if_task_done t (task_effect s.config t part input) done (task_sound s.config w.sent t part input (all.waits t part here) is) resulted)
         (for_nodes_if (task_effect s.config t part input) done (input_nodes s.config w.sent t part input is) resulted);
   }

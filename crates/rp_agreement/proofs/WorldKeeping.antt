@@ -19,7 +19,7 @@ use Rattle.rp_agreement.specs.Inputs.{IsInput, NodeMoves, WaitsForOwn}
 use Rattle.rp_agreement.specs.Worlds.{node_in, IsSoundWorld}
 use Rattle.rp_agreement.proofs.PartPlaces.{part_below, put_there, put_beside, put_length, sent_after}
 use Rattle.rp_agreement.proofs.EventWalk as walk
-use Rattle.rp_agreement.proofs.EventWalk.{IsKeptByAll, any_input, any_event}
+use Rattle.rp_agreement.proofs.EventWalk.{IsKeptByAll, any_input, any_task, any_event}
 use Rattle.rp_agreement.proofs.NodeEffects.{IsSoundDone, IsSoundDoneIf, done_keeps, if_done, below_eight, input_sound, cut_sound, stop_sound, restart_sound, untorn_sound}
 use Rattle.rp_agreement.proofs.TaskEffects.{IsTaskDone, task_keeps, task_sound, if_task_done}
 
@@ -114,7 +114,7 @@ module _ {S : Type 0} (s : Setting S) (right : IsRightConfig s.config) where
         (untorn_sound s.config.nodes me kept (node_in w.nodes) w.sent sound)
 
   -- the invariant of a world is kept by all
-  pub sound_kept : IsKeptByAll s any_input (IsSoundWorld s.config.nodes)
+  pub sound_kept : IsKeptByAll s any_input any_task (IsSoundWorld s.config.nodes)
   sound_kept = record {
     input = λ w me part input done sound here is _ resulted. node_done_keeps s.config.nodes w me part done sound here (input_done w me part sound.size sound.sound here input done is resulted);
     cut = λ w me kept part input done sound here is resulted. node_done_keeps s.config.nodes w me part done sound here (cut_done w me part sound.size sound.sound here kept input done is resulted);
@@ -123,7 +123,7 @@ module _ {S : Type 0} (s : Setting S) (right : IsRightConfig s.config) where
     torn = λ w me kept part sound here.
         untorn_world (IsSoundWorld s.config.nodes) w me kept part
         (node_done_keeps s.config.nodes w me part (goes_on_as (untorn_part kept part)) sound here (torn_done w me part sound.size sound.sound here kept));
-    task = λ w t part input done sound here is resulted.
+    task = λ w t part input done sound here is _ resulted.
         task_done_keeps s.config.nodes w t part done sound here
         (if_task_done t (task_effect s.config t part input) done (task_sound s.config w.sent t part input (sound.waits t part here) is) resulted);
   }
@@ -131,4 +131,4 @@ module _ {S : Type 0} (s : Setting S) (right : IsRightConfig s.config) where
   -- so any events keep it
   pub history_keeps : (w : World) (events : List Event) (after : World) → IsSoundWorld s.config.nodes w → ((event : Event) → Has event events → IsRightEvent event)
       → Happen s w events after → IsSoundWorld s.config.nodes after
-  history_keeps w events after sound are happen = walk.history_keeps s any_input (IsSoundWorld s.config.nodes) sound_kept w events after sound are (λ event _. any_event event) happen
+  history_keeps w events after sound are happen = walk.history_keeps s any_input any_task (IsSoundWorld s.config.nodes) sound_kept w events after sound are (λ event _. any_event event) happen

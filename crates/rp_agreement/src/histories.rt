@@ -63,11 +63,12 @@ pub fn histories_agree<M: Machine>()
     the_opening_is_sound();
 }
 
-/// Each interrupt and each tick that is decided was noted at some node: the clock and the sources
-/// of interrupts move by what happened alone, and no node has a tick or an interrupt of its own.
+/// Each call that is decided is one that its task was asked to make, with its object, operation and
+/// argument, and each interrupt and each tick was noted at some node: the clock and the sources of
+/// interrupts move by what happened alone, and no node has a call, a tick or an interrupt of its own.
 pub fn only_noted_actions_are_decided<M: Machine>()
-    // claim: Each interrupt and tick that is decided was noted at some node by an event of the
-    //   history
+    // claim: An event of the history asked for each call that is decided, with its object, operation
+    //   and argument, and noted each interrupt and tick that is decided at some node
     ensures { (setting : Setting M) (events : List Event) (world : World)
         → IsHistory setting events world
         → let nodes = setting.config.nodes in

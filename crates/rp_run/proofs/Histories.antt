@@ -10,7 +10,7 @@ use Rattle.rp_base.specs.declared.action.Action.TheVariants.{Noop, Call}
 use Rattle.rp_base.specs.declared.fault.Fault.{Fault}
 use Rattle.rp_model.specs.Answers.{Happen}
 use Rattle.rp_model.specs.Effect.{Setting}
-use Rattle.rp_model.specs.Events.{Event, IsRightEvent, Makes, Step, Deliver, Interrupt, Tick, event_of}
+use Rattle.rp_model.specs.Events.{Event, IsRightEvent, Submit, Makes, Step, Deliver, Interrupt, Tick, event_of}
 use Rattle.rp_model.specs.World.{World, Transition, opening_world, event_effect}
 use Rattle.rp_model.specs.declared.event.Event.{Event as TakenEvent}
 use Rattle.rp_model.specs.declared.event.Event.TheVariants.{Node}
@@ -175,18 +175,15 @@ module _ {S : Type 0} (s : RunSetting S) (config : IsRightConfig s.setting.confi
 
 -- ---- what these lines noted
 
-noted_by : (events : List Event) (lines : List Line) → ((event : Event) → Has event events → IsOfLines lines event) → (step : Step) → ((message : ℕ) → step ≢ Deliver message)
-    → Has (Makes step) events → IsAskedIn lines (Makes step)
-noted_by events lines are step other has = elim (are (Makes step) has) [
+noted_by : (events : List Event) (lines : List Line) → ((event : Event) → Has event events → IsOfLines lines event) → (event : Event) → ((message : ℕ) → event ≢ Makes (Deliver message))
+    → Has event events → IsAskedIn lines event
+noted_by events lines are event other has = elim (are event has) [
   | inl asked ↦ asked
-  | inr delivers ↦ absurd (other delivers.0 (made delivers.1))
+  | inr delivers ↦ absurd (other delivers.0 delivers.1)
 ]
-  where
-    made : {one two : Step} → Makes one ≡ Makes two → one ≡ two
-    made is = cc
 
 pub noted_in : (events : List Event) (lines : List Line) → ((event : Event) → Has event events → IsOfLines lines event) → (v : Action) → IsNoted events v → IsNotedIn lines v
 noted_in events lines are Noop noted = tt
-noted_in events lines are (Call task number object operation arg) noted = tt
-noted_in events lines are (actions.Interrupt source occurrence) noted = (noted.0, noted_by events lines are (Interrupt noted.0 source occurrence) (λ message e. cc) noted.1)
-noted_in events lines are (actions.Tick now) noted = (noted.0, noted_by events lines are (Tick noted.0 now) (λ message e. cc) noted.1)
+noted_in events lines are (Call task number object operation arg) noted = (noted.0, noted_by events lines are (Submit task noted.0 object operation arg) (λ message e. cc) noted.1)
+noted_in events lines are (actions.Interrupt source occurrence) noted = (noted.0, noted_by events lines are (Makes (Interrupt noted.0 source occurrence)) (λ message e. cc) noted.1)
+noted_in events lines are (actions.Tick now) noted = (noted.0, noted_by events lines are (Makes (Tick noted.0 now)) (λ message e. cc) noted.1)

@@ -10,7 +10,7 @@ use Rattle.rp_machine.specs.Calls.{call_of}
 use Rattle.rp_machine.specs.Places.{HasReply}
 use Rattle.rp_machine.specs.Replay.{replay_state}
 use Rattle.rp_model.specs.Events as events
-use Rattle.rp_model.specs.Events.{Event, Makes, event_of}
+use Rattle.rp_model.specs.Events.{Event, Submit, Makes, event_of}
 use Rattle.rp_model.specs.Parts.{NodePart, Running, TaskPart}
 use Rattle.rp_model.specs.World.{World, part_at}
 use Rattle.rp_model.specs.declared.event.Event.{Event as TakenEvent}
@@ -41,10 +41,12 @@ pub record IsAskedIn (lines : List Line) (event : Event) : Type 0 where
   pub takes : line.command ≡ Take taken
   pub is : event_of taken ≡ event
 
--- the action, if it is an interrupt or a tick, was noted at some node by one of these lines
+-- One of these lines asked for the call, with its object, operation and argument; the interrupt or
+-- the tick was noted at some node by one.
 abbrev pub IsNotedIn : List Line → Action → Type 0
 IsNotedIn lines Noop = Unit {0}
-IsNotedIn lines (Call task number object operation arg) = Unit {0}
+IsNotedIn lines (Call task number object operation arg) =
+    (node : ℕ) × IsAskedIn lines (Submit task node object operation arg)
 IsNotedIn lines (Interrupt source occurrence) =
     (me : ℕ) × IsAskedIn lines (Makes (events.Interrupt me source occurrence))
 IsNotedIn lines (Tick now) = (me : ℕ) × IsAskedIn lines (Makes (events.Tick me now))
@@ -113,9 +115,9 @@ module _ {S : Type 0} (s : RunSetting S) where
     abbrev pub RunIsPrinted : Type 0
     RunIsPrinted = IsPrinted (run_said s most lines).play.world (run_said s most lines).items
 
-    -- After any number of lines one order gives all that they print, and each interrupt and tick in
-    -- it was noted by one of them; nodes agree, one after some lines and the other after as many or
-    -- more; and each line shows the nodes as they are then.
+    -- After any number of lines one order gives all that they print, and each call, interrupt and
+    -- tick in it was asked for or noted by one of them; nodes agree, one after some lines and the
+    -- other after as many or more; and each line shows the nodes as they are then.
     pub record RunAgrees : Type 0 where
       pub agree : (i j : ℕ) → i ≤ j
           → Agree s.setting.next s.setting.answers s.image s.setting.begin

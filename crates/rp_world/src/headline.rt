@@ -23,7 +23,8 @@ use rp_machine::{Machine, a_call_has_one_place};
 /// moment there is one order of all that is decided: what each node has applied is a prefix of it,
 /// the calls of a task that count in it are those that the task made, in order, and each reply that
 /// a task got is the answer that it gives to the task's call, which takes effect at one place of
-/// it. Each interrupt and each tick in it was noted at some node by an event of the history.
+/// it. An event of the history asked for each call in it, with its object, operation and argument, and
+/// noted each interrupt and each tick in it at some node.
 pub fn histories_are_ordered<M: Machine>()
     // claim: The agreement and the order of a run hold of any two moments of any history of right
     //   events, with no cluster in it

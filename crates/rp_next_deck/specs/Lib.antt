@@ -1,0 +1,2 @@
+pub mod NextLines
+pub mod NextDecks

@@ -1,0 +1,80 @@
+with Ada.Text_IO;
+with GNAT.OS_Lib;
+with Interfaces.C.Strings;
+with System;
+
+package body Device is
+   use type Interfaces.C.int;
+   use type Interfaces.C.long;
+   use type Interfaces.C.size_t;
+   use type RP.Status;
+
+   subtype Count is Interfaces.C.size_t;
+   subtype Int is Interfaces.C.int;
+   subtype Long is Interfaces.C.long;
+
+   --  What Ada's files lack: a lock, a sync, and a truncation.
+   function C_Open (Path : Interfaces.C.Strings.chars_ptr; Flags, Mode : Int) return Int
+     with Import, Convention => C, External_Name => "open";
+   function C_Lock (File, How : Int) return Int with Import, Convention => C, External_Name => "flock";
+   function C_Read (File : Int; To : System.Address; Size : Count) return Long
+     with Import, Convention => C, External_Name => "read";
+   function C_Write (File : Int; From : System.Address; Size : Count) return Long
+     with Import, Convention => C, External_Name => "write";
+   function C_Sync (File : Int) return Int with Import, Convention => C, External_Name => "fdatasync";
+   function C_Truncate (File : Int; Size : Long) return Int
+     with Import, Convention => C, External_Name => "ftruncate";
+   function C_Seek (File : Int; Place : Long; From : Int) return Long
+     with Import, Convention => C, External_Name => "lseek";
+
+   Read_Write_Create : constant := 8#2000102#;  --  with close on exec
+   Exclusive         : constant := 2;
+
+   File : Int := -1;
+   Held : RP.Bytes (1 .. 2**24);
+
+   procedure Must (Holds : Boolean; What : String) is
+   begin
+      if not Holds then
+         Ada.Text_IO.Put_Line (Ada.Text_IO.Standard_Error, "the device: " & What);
+         GNAT.OS_Lib.OS_Exit (1);
+      end if;
+   end Must;
+
+   procedure Append (Bytes : RP.Bytes) is
+   begin
+      Must (Bytes'Length = 0 or else C_Write (File, Bytes'Address, Bytes'Length) = Long (Bytes'Length), "write");
+   end Append;
+
+   procedure Sync is
+   begin
+      Must (C_Sync (File) = 0, "sync");
+   end Sync;
+
+   procedure Open (Deck : RP.Bytes; Number : RP.Byte; Name : String; Node : in out RP.Node) is
+      Header : RP.Bytes (1 .. RP.Header_Bytes);
+      Length : Long;
+      Found  : RP.Found;
+   begin
+      File := C_Open (Interfaces.C.Strings.New_String (Name), Read_Write_Create, 8#644#);
+      Must (File >= 0 and then C_Lock (File, Exclusive) = 0, Name);  --  RULE 3: one handle
+      Must
+        (RP.Device_Header (Deck'Address, Deck'Length, Number, Header'Address, Header'Length) = RP.Done,
+         "the deck has no such node");
+      Length := C_Read (File, Held'Address, Held'Length);
+      if Length < RP.Header_Bytes then
+         Must (C_Truncate (File, 0) = 0 and then C_Seek (File, 0, 0) = 0, "truncate");
+         Append (Header);
+         Held (Header'Range) := Header;
+         Length := RP.Header_Bytes;
+      end if;
+      Must  --  RULE 3: its own device
+        (RP.Device_Open (Deck'Address, Deck'Length, Number, Held'Address, Count (Length), Node, Found) = RP.Done
+         and then Found.Tail /= RP.Damaged_Tail,
+         "it is refused");
+      Length := RP.Header_Bytes + Long (Found.Kept);
+      Must (C_Truncate (File, Length) = 0 and then C_Seek (File, Length, 0) = Length, "truncate");
+      Sync;  --  RULE 3: what is after the last whole record is gone before the first step
+   end Open;
+
+end Device;

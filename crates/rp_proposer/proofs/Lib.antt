@@ -7,3 +7,4 @@ pub mod Starting
 pub mod Owning
 pub mod Within
 pub mod Rising
+pub mod Rows

@@ -1,3 +1,4 @@
 pub mod Heard
 pub mod Proposing
 pub mod Room
+pub mod Rows

@@ -9,6 +9,7 @@ ghost use Rattle.rp_base.specs.Records.{started_of};
 ghost use Rattle.rp_base.specs.Proposals.{Proposal as RunningProposal, is_in, proposal_at, without_proposal, with_proposal, with_range, range_proposal, once_promised, is_given_up};
 ghost use Rattle.rp_base.specs.Ranges.{is_covered};
 ghost use Rattle.rp_base.specs.Sets.{IsSet};
+ghost use Rattle.rp_proposer.specs.Rows.{IsBusy, in_row};
 ghost use Rattle.rp_proposer.specs.Room.{own_count, own_actions_of, Rises, IsLastBelow};
 ghost use Rattle.rp_proposer.specs.Proposing.{counted_by, restored, ballot_at, HasRoom, begins, is_own_elsewhere, index_from, AreInWindow, IsInWindow, progress_in, notes_promise, notes_refusal, settles, most_running, unskipped, begins_range, notes_range, prepared_by, offers};
 
@@ -156,6 +157,17 @@ impl Proposer {
             Some(proposal) => proposal.is_prepared(self.nodes),
             None => true,
         }
+    }
+
+    /// How many of the proposals, from the first on, run at positions in a row from this number on
+    /// and are not prepared.
+    pub fn in_row(&self, first: u32) -> u32
+        ensures value { result ≡ in_row self.now.nodes first self.now.proposals }
+        ensures busy { (j : ℕ) → first ≤ j → j < first + result
+            → IsBusy self.now.nodes (proposal_at self.now.proposals j) }
+        ensures few { result ≤ most_running }
+    {
+        in_row(&self.proposals, self.nodes, u64::from(first)) as u32
     }
 
     /// The ballot of the prepared proposal at a position, one that a majority promised though it
@@ -318,6 +330,26 @@ fn proposal_at(
         Some(index) => Some(&proposals[index]),
         None => None,
     }
+}
+
+/// How many of the proposals, from the first on, run at positions in a row from this number on and
+/// are not prepared.
+fn in_row(proposals: &VecDeque<Proposal>, nodes: u8, first: u64) -> usize
+    requires nodes { nodes ≤ 7 }
+    requires small { first < 2 ^ 32 }
+    ensures value { result ≡ in_row nodes first proposals.now.items }
+    ensures few { result ≤ length proposals.now.items }
+{
+    let mut count = 0;
+    while count < proposals.len() {
+        let proposal = &proposals[count];
+        let number = u64::from(proposal.position().get());
+        if !(number == first + count as u64 && !proposal.is_prepared(nodes)) {
+            return count;
+        }
+        count += 1;
+    }
+    count
 }
 
 /// Whether a proposal runs at a position in a ballot.

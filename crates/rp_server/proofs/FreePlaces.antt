@@ -13,6 +13,7 @@ use Rattle.rp_log.specs.Recorded.{LearnedAlike}
 use Rattle.rp_base.specs.Promises.{highest_vote}
 use Rattle.rp_base.specs.Proposals.{Proposal, proposal_at, is_prepared}
 use Rattle.rp_proposer.specs.Proposing.{prepared_by}
+use Rattle.rp_proposer.specs.Rows.{IsBusy}
 use Rattle.rp_model.specs.Leader.{is_ready, is_free_position, free_from, least_free, is_out_of_reach}
 
 -- ---- no more positions are taken than there are records and proposals
@@ -260,6 +261,16 @@ module _ (nodes : ℕ) (records : List Rec) (proposals : List Proposal) where
   least_is_out most first end is at none =
       let trailing : end ≤ least_free nodes records proposals = least_is_after end none in
       out_by records most (least_free nodes records proposals) (elim (cases_lt most (least_free nodes records proposals)) [ inl above ↦ inl above | inr within ↦ inr (omega (arith, trailing, is, at)) ])
+
+-- where a proposal runs that is not prepared, none is free
+busy_taken : (nodes : ℕ) (learned : Option Action) (o : Option Proposal) → IsBusy nodes o → (is_none learned && is_ready nodes o) ≡ false
+busy_taken nodes (Some v) o busy = refl
+busy_taken nodes None None busy = absurd busy
+busy_taken nodes None (Some p) busy = busy
+
+pub none_in_row : (nodes : ℕ) (records : List Rec) (proposals : List Proposal) (first count : ℕ) → ((j : ℕ) → first ≤ j → j < first + count → IsBusy nodes (proposal_at proposals j))
+    → NoneFree nodes records proposals first (first + count)
+none_in_row nodes records proposals first count busy = λ j low high. busy_taken nodes (learned_at records j) (proposal_at proposals j) (busy j low high)
 
 -- no proposal runs, or one that is prepared, as a proposer answers
 pub ready_is : (nodes : ℕ) (o : Option Proposal) → (is_none (option_map (λ p. p.ballot) o) || is_some (prepared_by nodes o)) ≡ is_ready nodes o

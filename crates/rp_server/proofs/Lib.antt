@@ -16,3 +16,4 @@ pub mod Learned
 pub mod Staying
 pub mod Taken
 pub mod Missing
+pub mod Ticks

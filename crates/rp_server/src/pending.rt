@@ -1,11 +1,12 @@
 //! The calls, interrupts and ticks that wait to be proposed.
 
-ghost use Rattle.std.specs.Prelude.{◌≡◌, ◌<◌, ◌≤◌, [], ◌∷◌, ◌++◌, length, drop, filter, slice_get, nat_lt, not, IfOk, IsTrue, IsOkUnless};
+ghost use Rattle.std.specs.Prelude.{◌≡◌, ◌<◌, ◌≤◌, [], ◌∷◌, ◌++◌, length, drop, filter, slice_get, nat_lt, not, false, IfOk, IsTrue, IsOkUnless};
 ghost use Rattle.std.specs.List.{list_any};
 ghost use Rattle.rp_base.specs.Action.{IsCount, same_action};
 ghost use Rattle.rp_base.specs.declared.fault.Fault.TheVariants as faults;
 ghost use Rattle.rp_machine.specs.Numbered.{outcome};
 ghost use Rattle.rp_model.specs.Pending.{most_pending, is_same_call, is_answered_by, stays};
+ghost use Rattle.rp_server.specs.Ticks.{is_tick, HasNoTick};
 
 use crate::window::position_at;
 use circular_buffer::HeapCircularBuffer;
@@ -88,9 +89,28 @@ impl Pending {
         ensures { let r = outcome M.next M.answers machine.now in self.new
             ≡ filter (stays r.kept r.given (drop before log.now.taken)) self.old }
     {
-        if self.len() > 0 {
-            self.settle_each(machine, log, before);
+        match self.len() {
+            0 => {}
+            1 => self.settle_each(machine, log, before),
+            _ => {
+                if self.has_leaving(machine, log, before) {
+                    self.settle_each(machine, log, before);
+                }
+            }
         }
+    }
+
+    /// Whether an item does not stay.
+    #[inline(never)]
+    fn has_leaving<M: Machine>(&self, machine: &Numbered<M>, log: &Log, before: u32) -> bool
+        requires { before ≤ length log.now.taken }
+        ensures { let r = outcome M.next M.answers machine.now in result ≡ list_any
+            (λ item. not (stays r.kept r.given (drop before log.now.taken) item)) self.now }
+    {
+        let ticked = has_taken_a_tick(log, before);
+        let (front, back) = self.items.as_slices();
+        has_leaving(front, machine, log, before, ticked)
+            || has_leaving(back, machine, log, before, ticked)
     }
 
     /// Takes out each item that does not stay.
@@ -102,7 +122,7 @@ impl Pending {
     {
         for _ in 0..self.len() {
             if let Some(item) = self.pop() {
-                if stays(machine, log, before, item) {
+                if stays(machine, log, before, true, item) {
                     self.push(item);
                 }
             }
@@ -181,10 +201,40 @@ fn has_call(items: &[RightAction], answer: &Answer) -> bool
     false
 }
 
+/// Whether one of these items does not stay. Where it is `false` that the log took a tick, it took
+/// none.
+fn has_leaving<M: Machine>(
+    items: &[RightAction],
+    machine: &Numbered<M>,
+    log: &Log,
+    before: u32,
+    ticked: bool,
+) -> bool
+    requires since { before ≤ length log.now.taken }
+    requires ticks { ticked ≡ false → HasNoTick (drop before log.now.taken) }
+    ensures { let r = outcome M.next M.answers machine.now in result ≡ list_any
+        (λ item. not (stays r.kept r.given (drop before log.now.taken) item)) items.now }
+{
+    for item in items {
+        if !stays(machine, log, before, ticked, *item) {
+            return true;
+        }
+    }
+    false
+}
+
 /// Whether a pending item stays, once what the log took since n actions were taken are the last
-/// that were applied to the machine.
-fn stays<M: Machine>(machine: &Numbered<M>, log: &Log, before: u32, item: RightAction) -> bool
-    requires { before ≤ length log.now.taken }
+/// that were applied to the machine. Where it is `false` that the log took a tick, it took none.
+#[inline(always)]
+fn stays<M: Machine>(
+    machine: &Numbered<M>,
+    log: &Log,
+    before: u32,
+    ticked: bool,
+    item: RightAction,
+) -> bool
+    requires since { before ≤ length log.now.taken }
+    requires ticks { ticked ≡ false → HasNoTick (drop before log.now.taken) }
     ensures { let r = outcome M.next M.answers machine.now in result
         ≡ stays r.kept r.given (drop before log.now.taken) item }
 {
@@ -192,8 +242,30 @@ fn stays<M: Machine>(machine: &Numbered<M>, log: &Log, before: u32, item: RightA
         Action::Noop => false,
         Action::Call { task, number, .. } => machine.is_open(task, number),
         Action::Interrupt { source, occurrence } => machine.last_occurrence(source) < occurrence,
-        Action::Tick { now } => !has_taken(log, before, &Action::Tick { now }),
+        Action::Tick { now } => !(ticked && has_taken(log, before, &Action::Tick { now })),
     }
+}
+
+/// Whether the log took a tick since n actions were taken.
+fn has_taken_a_tick(log: &Log, before: u32) -> bool
+    requires { before ≤ length log.now.taken }
+    ensures { result ≡ list_any is_tick (drop before log.now.taken) }
+{
+    for place in before..log.applied() {
+        if let Some(taken) = log.get(position_at(place + 1)) {
+            if is_tick(&taken) {
+                return true;
+            }
+        }
+    }
+    false
+}
+
+/// Whether the action is a tick.
+fn is_tick(action: &Action) -> bool
+    ensures { result ≡ is_tick action.now }
+{
+    matches!(action, Action::Tick { .. })
 }
 
 /// Whether the log took the action since n actions were taken.

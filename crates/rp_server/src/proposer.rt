@@ -58,7 +58,7 @@ impl<M: Machine> Server<M> {
     }
 
     /// The least free position, if it is within reach. It looks at 64 positions at most: below the
-    /// first unlearned one none is free.
+    /// first unlearned one none is free, nor where proposals run in a row from there on.
     pub fn least_free(&self) -> Option<Position>
         ensures some { IfSome result (λ position. position
             ≡ least_free self.now.config.nodes self.now.records self.now.running.proposals) }
@@ -68,7 +68,8 @@ impl<M: Machine> Server<M> {
     {
         let first = self.log.next_unlearned();
         let end = (first + WINDOW).min(u32::from(self.config.max_positions) + 1);
-        for number in first..end {
+        let begin = first + self.proposer.in_row(first);
+        for number in begin..end {
             let position = position_at(number);
             if self.is_free_position(position) {
                 return Some(position);

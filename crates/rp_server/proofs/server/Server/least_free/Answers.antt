@@ -1,15 +1,24 @@
-use Rattle.std.proofs.Common.{◌≡◌, ◌+◌, ◌≤◌, ℕ, true, false, None, sym, subst, ap, ◌∙◌, arith}
+use Rattle.std.proofs.Common.{◌≡◌, ◌+◌, ◌<◌, ◌≤◌, ℕ, true, false, None, sym, subst, ap, ◌∙◌, arith}
 use Rattle.std.specs.Prelude.{min}
 use Rattle.rp_base.specs.Records.{first_unlearned}
 use Rattle.rp_log.specs.Contents.{ready_of}
 use Rattle.rp_model.specs.Leader.{is_free_position, is_out_of_reach, least_free}
 use Rattle.rp_server.specs.State.{ServerState}
 use Rattle.rp_server.proofs.Beginning.{next_is}
-use Rattle.rp_server.proofs.FreePlaces.{NoneFree, none_below, none_joined, none_more, least_is, least_is_out}
+use Rattle.rp_base.specs.Proposals.{proposal_at}
+use Rattle.rp_proposer.specs.Rows.{IsBusy}
+use Rattle.rp_server.proofs.FreePlaces.{NoneFree, none_in_row, none_below, none_joined, none_more, least_is, least_is_out}
 use Rattle.rp_server.proofs.server.Server.least_free.Goals as goal
 
 pub loop-number-init : goal.loop-number-init
-loop-number-init g c = λ j low below. absurd (omega arith)
+loop-number-init g c =
+    let r = c.self.inside in
+    let first = c.next_unlearned-first.result in
+    let count = c.in_row.result in
+    let busy : (j : ℕ) → first ≤ j → j < first + count → IsBusy r.config.nodes (proposal_at r.proposer.proposals j) =
+    λ j low high. subst (λ (n : ℕ). IsBusy n (proposal_at r.proposer.proposals j)) c.self.invariant.leads.nodes (c.in_row.ensures.busy j low high) in
+    let here = none_in_row r.config.nodes r.acceptor.records r.proposer.proposals first count busy in
+    subst (λ (k : ServerState g.row.M.Denot). NoneFree k.config.nodes k.records k.running.proposals first (first + count)) c.self.view_is here
 
 pub loop-number-preserved : goal.loop-number-preserved
 loop-number-preserved g c =

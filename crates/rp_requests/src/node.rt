@@ -1,6 +1,6 @@
 //! A node that answers requests.
 
-ghost use Rattle.std.specs.Prelude.{◌≡◌, [], length, IfErr, OnErr, OnOk};
+ghost use Rattle.std.specs.Prelude.{◌≡◌, [], ◌∷◌, length, IfErr, OnErr, OnOk};
 ghost use Rattle.rp_replica.specs.Inputs.{input_effect};
 ghost use Rattle.rp_replica.specs.Turning.{StopsIf};
 ghost use Rattle.rp_rules.specs.Inputs.{IsRightInput, given_by};
@@ -30,9 +30,9 @@ const WINDOW: u32 = 64;
 /// A node with a copy of its device.
 #[derive(Drop)]
 pub struct Node<M: Machine> {
-    replica: Replica<M, MemDevice>,
+    pub(crate) replica: Replica<M, MemDevice>,
     /// How many positions the log has.
-    positions: u16,
+    pub(crate) positions: u16,
     /// Where on the device the record of the last step begins.
     last_record: usize,
     /// The packets of the last step.
@@ -111,8 +111,25 @@ impl<M: Machine> Node<M> {
                 Err(needed) => Err(Refusal::ShortAnswer(needed)),
             },
             Some(Request::Left) => put(&self.left().to_be_bytes(), answer),
+            Some(Request::Pending) => self.put_pending(answer),
+            Some(Request::Counted(task)) => self.put_counted(task, answer),
             None => Err(Refusal::BadRequest),
         }
+    }
+
+    /// Answers the request that brings a packet, as `call`, by the packet alone.
+    #[tactic(auto, unfolding(crate::specs::Requests::asked_of, crate::specs::Requests::asked_by))]
+    pub fn receive(
+        &mut self,
+        alloc: Global,
+        packet: &[u8],
+        answer: &mut [u8],
+    ) -> Result<Lengths, Refusal>
+        // claim: A node by handle makes of a packet alone what it makes of the request that brings it
+        ensures { Answers M.next M.answers M.image (asked_of (1 ∷ packet.now)) self.old self.new
+            answer.old answer.new result }
+    {
+        self.step(alloc, &Input::Receive(packet), answer)
     }
 
     /// Makes a step.

@@ -3,3 +3,4 @@ pub mod State
 pub mod Invariant
 pub mod Status
 pub mod Applying
+pub mod Free

@@ -16,12 +16,11 @@ use rp_machine::Machine;
 use rp_patience::{Advice, Patience, Situation};
 
 impl<M: Machine> Node<M> {
-    /// Puts how many pending items are free into the buffer.
-    pub(crate) fn put_pending(&self, answer: &mut [u8]) -> Result<Lengths, Refusal>
-        ensures { PutsOr [] (to_be_bytes w32 (free_at M.next M.answers self.now))
-            answer.old answer.new result }
+    /// How many pending items are free.
+    pub(crate) fn free_pending(&self) -> u32
+        ensures { result ≡ free_at M.next M.answers self.now }
     {
-        put(&(self.replica.free_pending() as u32).to_be_bytes(), answer)
+        self.replica.free_pending() as u32
     }
 
     /// Puts the number of the task's last call that counted into the buffer.
@@ -30,6 +29,19 @@ impl<M: Machine> Node<M> {
             (counted_at M.next M.answers self.now))) answer.old answer.new result }
     {
         put(&self.replica.last_number(task).to_be_bytes(), answer)
+    }
+
+    /// What the node knows that decides what it is to do.
+    fn situation(&self) -> Situation
+        ensures { result ≡ situation_of M.next M.answers self.now }
+    {
+        Situation {
+            node: self.replica.node(),
+            applied: self.replica.applied(),
+            positions: self.positions,
+            is_missing: self.replica.missing_position().is_some(),
+            has_uncounted: self.replica.has_uncounted(),
+        }
     }
 
     /// What the node is to do after quiet turns, by its patience.
@@ -42,13 +54,6 @@ impl<M: Machine> Node<M> {
         ensures patience { patience.new ≡ patience_after turns
             (situation_of M.next M.answers self.now) patience.old }
     {
-        let situation = Situation {
-            node: self.replica.node(),
-            applied: self.replica.applied(),
-            positions: self.positions,
-            is_missing: self.replica.missing_position().is_some(),
-            has_uncounted: self.replica.has_uncounted(),
-        };
-        patience.advise(&situation, turns)
+        patience.advise(&self.situation(), turns)
     }
 }

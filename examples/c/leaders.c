@@ -47,8 +47,8 @@ static void take(const char *name, rp_task *task, const uint8_t *packet, size_t 
   }
 }
 
-/* Delivers all packets but those to one node, which are lost; each where it lies. */
-static void deliver_but_to(uint8_t lost) {
+/* Delivers all packets but those to or from one node, which are lost; each is received where it lies. */
+static void deliver_but(uint8_t lost_to, uint8_t lost_from) {
   for (size_t from = 0; from < queue.length;) {
     const uint8_t *packet = queue.bytes + from;
     size_t length = 0;
@@ -58,7 +58,7 @@ static void deliver_but_to(uint8_t lost) {
       take("guest", &guest, packet, length);
     } else if (packet[3] == RP_TASK_PARTY + 2) {
       take("keeper", &keeper, packet, length);
-    } else if (packet[3] != lost) {
+    } else if (packet[3] != lost_to && packet[2] != lost_from) {
       rp_room room = {answer, sizeof answer, ends, NODES + 1, {0, 0, 0, 0}};
       must(rp_node_take(&nodes[packet[3]], packet, length, &room), "a packet");
       store(packet[3], &room);
@@ -67,7 +67,7 @@ static void deliver_but_to(uint8_t lost) {
   queue.length = 0;
 }
 
-static void deliver(void) { deliver_but_to(0); }
+static void deliver(void) { deliver_but(0, 0); }
 
 static void lead_at(uint8_t number, uint16_t position) {
   rp_room room = {answer, sizeof answer, NULL, 0, {0, 0, 0, 0}};
@@ -122,7 +122,8 @@ static void a_call_waits(void) {
   advise(2, 1000000);
 }
 
-/* The keeper opens the gate through node 1, which leads at once; node 3 gets none of these packets. */
+/* The keeper opens the gate through node 1, which leads at once. Node 3 gets none of these packets, and those that
+ * it sends of itself are lost: it misses position 2, and is advised to ask. */
 static void node_3_misses_a_position(void) {
   rp_call_packet packet = {{0}, 0};
   must(rp_task_procedure(&keeper, 1, 1, 1, 0, &packet), "open");
@@ -130,20 +131,34 @@ static void node_3_misses_a_position(void) {
   deliver();
   advise(1, 0);
   lead_at(1, 2);
-  deliver_but_to(3);
+  deliver_but(3, 0);
   show(1);
   must(rp_task_procedure(&keeper, 1, 1, 1, 0, &packet), "open");
   send_packet(packet.bytes, packet.count);
   deliver();
   advise(1, 0);
   lead_at(1, 3);
-  deliver();
+  deliver_but(0, 3);
   show(3);
   advise(3, 95);
   advise(3, 1);
   advise(3, 95);
+}
+
+/* Nobody answers node 3. The guest calls through it, so it has something to decide, and leads where it asked. */
+static void node_3_leads_where_it_asked(void) {
+  rp_call_packet packet = {{0}, 0};
+  must(rp_task_entry(&guest, 3, 1, 1, 0, &packet), "pass");
+  send_packet(packet.bytes, packet.count);
+  deliver();
+  show(3);
   advise(3, 1);
   lead_at(3, 2);
+  deliver();
+  show(3);
+  advise(3, 95);
+  advise(3, 1);
+  lead_at(3, 4);
   deliver();
   show(3);
   advise(3, 1000000);
@@ -159,12 +174,12 @@ static void the_keeper_restarts(void) {
   must(rp_task_operation(&keeper, 1, 1, RP_CANCEL_TIMER, 1, 0, &packet), "nothing changes");
   send_packet(packet.bytes, packet.count);
   deliver();
-  lead_at(1, 4);
+  lead_at(1, 5);
   deliver();
   must(rp_task_procedure(&keeper, 1, 1, 1, 0, &packet), "open");
   send_packet(packet.bytes, packet.count);
   deliver();
-  lead_at(1, 5);
+  lead_at(1, 6);
   deliver();
   show(1);
 }
@@ -190,6 +205,7 @@ int main(void) {
   open_all();
   a_call_waits();
   node_3_misses_a_position();
+  node_3_leads_where_it_asked();
   the_keeper_restarts();
   refusals();
   for (uint8_t number = 1; number <= NODES; number++) {

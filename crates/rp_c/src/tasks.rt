@@ -37,12 +37,7 @@ fn opened(alloc: Global, number: u8, stub: &mut Handle) -> Option<Refusal>
 /// Opens a task, 1 to 8, which has made n calls, none of which is outstanding; what the handle kept
 /// before is closed. A refusal changes nothing.
 #[unsafe(no_mangle)]
-pub extern "C" fn rp_task_open_after(
-    alloc: Global,
-    number: u8,
-    calls: u32,
-    stub: &mut Handle,
-) -> u8
+pub extern "C" fn rp_task_open_after(alloc: Global, number: u8, calls: u32, stub: &mut Handle) -> u8
     // claim: A C caller gets a handle of a task that goes on after n calls; or the number of the reason
     //   for which there is none, and then nothing has changed
     ensures { (refusal : Option RefusalOf) × (result ≡ opening_code refusal)

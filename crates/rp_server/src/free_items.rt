@@ -34,7 +34,10 @@ impl<M: Machine> Server<M> {
             self.now.running.proposals items.now) }
         ensures within { result ≤ length items.now }
     {
-        items.iter().filter(|item| self.is_unproposed(**item)).count()
+        items
+            .iter()
+            .filter(|item| self.is_unproposed(**item))
+            .count()
     }
 
     /// Whether the item did not count yet, and its equal is the own action of no proposal.

@@ -9,7 +9,9 @@
 --  What a caller owes, for every call:
 --  * An address is that of the first byte of an array of at least as many bytes as are passed with it.
 --  * An array that is written is used by nobody else during the call, and overlaps no other argument.
---  * No byte of a handle (Node, Task_Stub) is changed. It is used by the task that opened it.
+--  * No byte of a handle (Node, Task_Stub) is changed. It may pass to another task between two calls, if
+--    that task sees what the first one wrote (a protected object, a rendezvous). The library keeps nothing
+--    but what handles keep, and nothing of a task of Ada.
 --  * No call is made from a signal handler.
 
 with Interfaces;
@@ -220,6 +222,11 @@ package RP is
                                        --  clock
    Last_Answer : constant Byte := 18;  --  a question: the answer of the last step that was made, again
    Left        : constant Byte := 19;  --  a question: how many positions of the log are not applied. 4 bytes
+   Pending     : constant Byte := 20;  --  a question: how many calls, interrupts and ticks wait for a lead:
+                                       --  they did not count yet, and no proposal that the node runs has
+                                       --  them as its own action. 4 bytes
+   Counted     : constant Byte := 21;  --  a question: the number of the last call of a task that counted at
+                                       --  this node, 0 if none did. The task, 1 to 8 (1). 4 bytes
 
    function Node_Open
      (Deck   : System.Address;
@@ -296,6 +303,54 @@ package RP is
    --  question they are those of the step before. Otherwise nothing is written but Length.Used, as by
    --  Node_Call.
 
+   function Node_Receive
+     (Handle  : in out Node;
+      Packet  : System.Address;
+      Count   : Interfaces.C.size_t;
+      Answer  : System.Address;
+      Size    : Interfaces.C.size_t;
+      Places  : System.Address;
+      Most    : Interfaces.C.size_t;
+      Length  : in out Step_Lengths) return Status;
+   --  As Node_Step of the request Receive, by the Count bytes of the packet alone, which are read where they
+   --  are.
+
+   --  How long a node has waited: of one node, which changes it by Node_Advise alone; as declared before the
+   --  first one, and after the node is opened again.
+
+   type Patience is record
+      Applied : Interfaces.Unsigned_32 := 0;  --  how many actions were applied when the wait began
+      Tries   : Interfaces.Unsigned_32 := 0;  --  how often it was advised to lead or to ask since then
+      Quiet   : Interfaces.Unsigned_64 := 0;  --  how many quiet turns there were since the last try
+   end record
+     with Convention => C;
+
+   --  What a node is to do.
+
+   subtype Advice_Kind is Interfaces.Unsigned_8;
+
+   Advice_Nothing : constant Advice_Kind := 0;
+   Advice_Lead    : constant Advice_Kind := 1;  --  lead at Position, the first that is not applied
+   Advice_Ask     : constant Advice_Kind := 2;  --  ask another node for the positions that are missing below
+                                                --  a learned one
+
+   type Advice is record
+      Kind     : Advice_Kind := Advice_Nothing;
+      Position : Interfaces.Unsigned_16 := 0;  --  where it is to lead; otherwise 0
+   end record
+     with Convention => C;
+
+   function Node_Advise
+     (Handle : in out Node;
+      Wait   : in out Patience;
+      Turns  : Interfaces.Unsigned_64;
+      What   : in out Advice) return Status
+     with Import, Convention => C, External_Name => "rp_node_advise";
+   --  What the node is to do after Turns more quiet turns (docs/C.md, "Who leads"). A turn is a turn of the
+   --  caller's loop, or a millisecond: node K waits 32 K of them before it leads for what is pending, node 1
+   --  not at all, and from the third try on twice as many as before, up to 64 times as many.
+   --  Wrong_Handle: nothing has changed.
+
    procedure Node_Close (Handle : in out Node)
      with Import, Convention => C, External_Name => "rp_handle_close";
    --  Stops a node: the handle is closed, and what the node knew besides its device is gone. A closed
@@ -306,7 +361,7 @@ package RP is
    --  It makes one call at a time, which has a number, and sends it again, also to another node, until its
    --  reply came. What the caller owes: a task that stopped makes no call under the same number again,
    --  since the nodes would take it for the old call. So a task's stub lives as long as its nodes'
-   --  devices.
+   --  devices, or goes on after the calls that it made (Task_Open_After).
 
    Task_Bytes : constant := 40;  --  the least size of the array for the answer of a task
 
@@ -353,9 +408,144 @@ package RP is
    --  Short_Answer: the array has fewer than Task_Bytes bytes; nothing but Length.Used is written.
    --  Wrong_Handle, Bad_Request, Task_Busy, Numbers_Spent, Bad_Packet, Out_Of_Memory: nothing has changed.
 
+   function Task_Open_After
+     (Number : Byte;
+      Calls  : Interfaces.Unsigned_32;
+      Handle : in out Task_Stub) return Status
+     with Import, Convention => C, External_Name => "rp_task_open_after";
+   --  Opens the stub of this task, which has made this many calls: its next one has number Calls + 1. The
+   --  task that stopped may have made that call as well, so its first call here changes nothing and its
+   --  reply is not used (docs/C.md, "A task that restarts"). Otherwise as Task_Open.
+
+   function Task_Receive
+     (Handle  : in out Task_Stub;
+      Packet  : System.Address;
+      Count   : Interfaces.C.size_t;
+      Answer  : System.Address;
+      Size    : Interfaces.C.size_t;
+      Length  : in out Lengths) return Status;
+   --  As Task_Call of the request Take_Packet, by the Count bytes of the packet alone, which are read where
+   --  they are.
+
    procedure Task_Close (Handle : in out Task_Stub)
      with Import, Convention => C, External_Name => "rp_handle_close";
    --  Gives a task's stub back: the handle is closed. A closed handle stays closed.
+
+   --  Typed calls
+   --
+   --  A request each, by its operands; the bytes of its request are put together in the body, and its answer
+   --  and its status are those of Node_Step, Node_Call or Task_Call. An operand that no request has is
+   --  refused by Bad_Request, and nothing has changed. Answer has at least Step_Bytes bytes.
+
+   function Node_Take
+     (Handle : in out Node;
+      Packet : Bytes;
+      Answer : in out Bytes;
+      Places : in out Ends;
+      Length : in out Step_Lengths) return Status;
+   --  A packet came.
+
+   function Node_Lead
+     (Handle : in out Node;
+      Answer : in out Bytes;
+      Places : in out Ends;
+      Length : in out Step_Lengths) return Status;
+   --  The node is to lead at the least free position.
+
+   function Node_Lead_At
+     (Handle   : in out Node;
+      Position : Interfaces.Unsigned_16;
+      Answer   : in out Bytes;
+      Places   : in out Ends;
+      Length   : in out Step_Lengths) return Status;
+   --  The node is to lead at this position.
+
+   function Node_Lead_Range
+     (Handle : in out Node;
+      First  : Interfaces.Unsigned_16;
+      Count  : Byte;
+      Answer : in out Bytes;
+      Places : in out Ends;
+      Length : in out Step_Lengths) return Status;
+   --  The node is to lead at Count positions, 1 to 64, from First on.
+
+   function Node_Interrupt
+     (Handle     : in out Node;
+      Source     : Byte;
+      Occurrence : Interfaces.Unsigned_32;
+      Answer     : in out Bytes;
+      Places     : in out Ends;
+      Length     : in out Step_Lengths) return Status;
+   --  An interrupt of a source, 1 to 8, by the number of its occurrence, from 1.
+
+   function Node_Tick
+     (Handle : in out Node;
+      Now    : Interfaces.Unsigned_32;
+      Answer : in out Bytes;
+      Places : in out Ends;
+      Length : in out Step_Lengths) return Status;
+   --  The clock has this time.
+
+   function Node_Report
+     (Handle : in out Node;
+      First  : Interfaces.Unsigned_16;
+      Answer : in out Bytes;
+      Places : in out Ends;
+      Length : in out Step_Lengths) return Status;
+   --  A report to the audit, from the position First on.
+
+   function Node_Applied (Handle : in out Node; Number : in out Interfaces.Unsigned_32) return Status;
+   --  How many actions are applied. Number is written by Done alone, here and below.
+
+   function Node_Left (Handle : in out Node; Number : in out Interfaces.Unsigned_32) return Status;
+   --  How many positions are not applied yet.
+
+   function Node_Pending (Handle : in out Node; Number : in out Interfaces.Unsigned_32) return Status;
+   --  How many pending items wait for a lead.
+
+   function Node_Counted
+     (Handle : in out Node;
+      Caller : Byte;
+      Number : in out Interfaces.Unsigned_32) return Status;
+   --  The number of the last call of the task Caller that counted.
+
+   --  The packet of a task's call, to send: the first Count bytes of Text, none if Count is 0.
+
+   type Call_Packet is record
+      Text  : Bytes (1 .. Task_Bytes) := (others => 0);
+      Count : Natural := 0;
+   end record;
+
+   function Task_Operation
+     (Handle   : in out Task_Stub;
+      Through  : Byte;
+      Object   : Byte;
+      Kind     : Byte;
+      Index    : Byte;
+      Argument : Interfaces.Integer_64;
+      Packet   : in out Call_Packet) return Status;
+   --  A call through a node of an operation of an object: A_Function, A_Procedure, An_Entry, Set_Timer or
+   --  Cancel_Timer, by its index.
+
+   function Task_Again
+     (Handle  : in out Task_Stub;
+      Through : Byte;
+      Packet  : in out Call_Packet) return Status;
+   --  The call that has no reply yet, again, through a node.
+
+   --  The reply to a task's call: of which kind it is, or 0 if a packet was none; and its value, a Boolean
+   --  as 0 or 1.
+
+   type Call_Reply is record
+      Kind  : Byte := 0;
+      Value : Interfaces.Integer_64 := 0;
+   end record;
+
+   function Task_Take
+     (Handle : in out Task_Stub;
+      Packet : Bytes;
+      Reply  : in out Call_Reply) return Status;
+   --  A packet came: the reply in it, if it is one to the task's call.
 
 private
 

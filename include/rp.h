@@ -14,7 +14,9 @@
  * - malloc, realloc and free are those of one allocator, and align a block to each power of two up to
  *   16 that divides its size. No call is made from a signal handler.
  * - A handle (rp_node, rp_task) is all zero before it is opened: RP_CLOSED. Then the caller changes no
- *   byte of it and uses no copy of it; it may be moved. It is used by the thread that opened it.
+ *   byte of it and uses no copy of it; it may be moved, and it may pass to another thread between two calls,
+ *   if that thread sees what the first one wrote (a lock, a queue, a join). The library keeps nothing but
+ *   what handles keep, and nothing of a thread.
  *
  * Link with liblibc_c.a of the Rattle kit, /opt/rattle/c. */
 #ifndef RP_H
@@ -90,7 +92,8 @@ uint8_t rp_run_deck(const uint8_t *deck, size_t count, bool traced, uint8_t *ans
  * 2. A node or a task receives packets that nodes and tasks of the same deck handed on, byte for byte, early,
  *    late, again or never: a packet that nobody sent may tell of a vote that nobody cast.
  * 3. A node has one open handle at a time, opened over its own device, and a task is opened once: two handles
- *    of one node vote twice, and a task that counts from 1 again gets the first old reply.
+ *    of one node vote twice, and a task that counts from 1 again gets the first old reply
+ *    (rp_task_open_after: what a task that restarts owes, outside of what is proved).
  * None of them can be left out (docs/C.md, proved): for each there are callers who break it alone, and two
  * nodes that have applied different actions then.
  *
@@ -235,7 +238,12 @@ enum rp_node_request {
   RP_NODE_APPLIED = 16,   /* a question: how many actions are applied. The answer has 4 bytes */
   RP_NODE_IMAGE = 17,     /* a question: the lines that `show` prints of the objects and the clock */
   RP_NODE_LAST = 18,      /* a question: the answer of the last step that was made, again */
-  RP_NODE_LEFT = 19       /* a question: how many positions are not applied yet. The answer has 4 bytes */
+  RP_NODE_LEFT = 19,      /* a question: how many positions are not applied yet. The answer has 4 bytes */
+  RP_NODE_PENDING = 20,   /* a question: how many calls, interrupts and ticks wait for a lead: they did not
+                           * count yet, and no proposal that the node runs has them as its own action. A call
+                           * that waits at a closed entry is none of them. The answer has 4 bytes */
+  RP_NODE_COUNTED = 21    /* a question: the number of the last call of a task that counted at this node, 0
+                           * if none did. The task, 1 to 8 (1). The answer has 4 bytes */
 };
 
 /* Opens node `number` of the deck over the `held` bytes of its device, which are copied; the deck's
@@ -288,6 +296,40 @@ static inline uint8_t rp_node_call(rp_node *node, const uint8_t *request, size_t
 uint8_t rp_node_step(rp_node *node, const uint8_t *request, size_t count, uint8_t *answer, size_t size,
                      size_t *ends, size_t most, rp_step *step);
 
+/* As rp_node_step of the request RP_NODE_RECEIVE, by the `count` bytes of the packet alone, which are read
+ * where they are. */
+uint8_t rp_node_receive(rp_node *node, const uint8_t *packet, size_t count, uint8_t *answer, size_t size,
+                        size_t *ends, size_t most, rp_step *step);
+
+/* How long a node has waited; all zero before the first rp_node_advise, and after the node is opened again.
+ * It is the caller's, for one node; the caller changes no byte of it. */
+typedef struct rp_patience {
+  uint32_t applied; /* how many actions were applied when the wait began */
+  uint32_t tries;   /* how often the node was advised to lead or to ask since then */
+  uint64_t quiet;   /* how many quiet turns there were since the last try */
+} rp_patience;
+
+#define RP_NO_WAIT {0, 0, 0}
+
+/* What a node is to do. */
+typedef struct rp_advice {
+  uint8_t kind;      /* by rp_advice_kind */
+  uint16_t position; /* where it is to lead; otherwise 0 */
+} rp_advice;
+
+enum rp_advice_kind {
+  RP_ADVICE_NOTHING = 0,
+  RP_ADVICE_LEAD = 1, /* lead at `position`, the first that is not applied */
+  RP_ADVICE_ASK = 2   /* ask another node for the positions that are missing below a learned one */
+};
+
+/* What the node is to do after `turns` more quiet turns (docs/C.md, "Who leads"). A turn is a turn of the
+ * caller's loop, or a millisecond: node k waits 32 k of them before it leads for what is pending, node 1 not
+ * at all, and from the third try on twice as many as before, up to 64 times as many; so a decision takes less
+ * than 32 turns. It changes the patience and nothing of the node.
+ * RP_WRONG_HANDLE: nothing has changed. */
+uint8_t rp_node_advise(rp_node *node, rp_patience *patience, uint64_t turns, rp_advice *advice);
+
 /* Stops a node: the handle is closed, and what the node knew besides its device is gone. A closed handle
  * stays closed. */
 static inline void rp_node_close(rp_node *node) { rp_handle_close_guarded(node); }
@@ -296,7 +338,8 @@ static inline void rp_node_close(rp_node *node) { rp_handle_close_guarded(node);
  *
  * It makes one call at a time, which has a number, and sends it again, also to another node, until its
  * reply came. What the caller owes: a task that stopped makes no call under the same number again, since
- * the nodes would take it for the old call. So a task's stub lives as long as its nodes' devices. */
+ * the nodes would take it for the old call. So a task's stub lives as long as its nodes' devices, or goes on
+ * after the calls that it made (rp_task_open_after). */
 typedef struct rp_task {
   bool open;
   uint8_t *at;
@@ -330,6 +373,16 @@ enum rp_reply {
 /* Opens the stub of task `number`, 1 to 8, which has made no call; what the handle kept before is closed.
  * RP_BAD_CONFIG, RP_OUT_OF_MEMORY: nothing has changed. */
 uint8_t rp_task_open(uint8_t number, rp_task *task);
+
+/* Opens the stub of task `number`, which has made `calls` calls: its next one has number calls + 1. The task
+ * that stopped may have made that call as well, so its first call here changes nothing and its reply is not
+ * used (docs/C.md, "A task that restarts"). Otherwise as rp_task_open. */
+uint8_t rp_task_open_after(uint8_t number, uint32_t calls, rp_task *task);
+
+/* As rp_task_call of the request RP_TASK_RECEIVE, by the `count` bytes of the packet alone, which are read where
+ * they are. */
+uint8_t rp_task_receive(rp_task *task, const uint8_t *packet, size_t count, uint8_t *answer, size_t size,
+                        rp_lengths *lengths);
 
 /* Answers a request to a task. RP_DONE: the first lengths->used bytes of `answer` are the answer.
  *
@@ -419,11 +472,49 @@ static inline uint8_t rp_node_step_guarded(rp_node *node, const uint8_t *request
   return rp_node_step(node, request, count, answer, size, ends, most, step);
 }
 
+static inline uint8_t rp_node_receive_guarded(rp_node *node, const uint8_t *packet, size_t count,
+                                              uint8_t *answer, size_t size, size_t *ends, size_t most,
+                                              rp_step *step) {
+  static size_t none = 0;
+  packet = rp_bytes_at(packet, count);
+  answer = rp_buffer_at(answer, size);
+  ends = ends == NULL && most == 0 ? &none : ends;
+  if (node == NULL || packet == NULL || answer == NULL || ends == NULL || step == NULL) {
+    return RP_NULL;
+  }
+  return rp_node_receive(node, packet, count, answer, size, ends, most, step);
+}
+
+static inline uint8_t rp_node_advise_guarded(rp_node *node, rp_patience *patience, uint64_t turns,
+                                             rp_advice *advice) {
+  if (node == NULL || patience == NULL || advice == NULL) {
+    return RP_NULL;
+  }
+  return rp_node_advise(node, patience, turns, advice);
+}
+
 static inline uint8_t rp_task_open_guarded(uint8_t number, rp_task *task) {
   if (task == NULL) {
     return RP_NULL;
   }
   return rp_task_open(number, task);
+}
+
+static inline uint8_t rp_task_open_after_guarded(uint8_t number, uint32_t calls, rp_task *task) {
+  if (task == NULL) {
+    return RP_NULL;
+  }
+  return rp_task_open_after(number, calls, task);
+}
+
+static inline uint8_t rp_task_receive_guarded(rp_task *task, const uint8_t *packet, size_t count,
+                                              uint8_t *answer, size_t size, rp_lengths *lengths) {
+  packet = rp_bytes_at(packet, count);
+  answer = rp_buffer_at(answer, size);
+  if (task == NULL || packet == NULL || answer == NULL || lengths == NULL) {
+    return RP_NULL;
+  }
+  return rp_task_receive(task, packet, count, answer, size, lengths);
 }
 
 #define rp_packet_length rp_packet_length_guarded
@@ -433,7 +524,229 @@ static inline uint8_t rp_task_open_guarded(uint8_t number, rp_task *task) {
 #define rp_node_step rp_node_step_guarded
 #define rp_device_open rp_device_open_guarded
 #define rp_device_header rp_device_header_guarded
+#define rp_node_receive rp_node_receive_guarded
+#define rp_node_advise rp_node_advise_guarded
 #define rp_task_open rp_task_open_guarded
+#define rp_task_open_after rp_task_open_after_guarded
+#define rp_task_receive rp_task_receive_guarded
+
+/* ---- Typed calls
+ *
+ * A request each, by its operands; the bytes of its request are put together here, and its answer and its status
+ * are those of rp_node_step, rp_node_call or rp_task_call. An operand that no request has is refused by
+ * RP_BAD_REQUEST, and nothing has changed. */
+
+/* Where a step's answer goes: `answer` has `size` bytes, at least RP_STEP_BYTES; `ends` has room for `most` ends
+ * of packets, and may be null if `most` is 0; `step` is written, as by rp_node_step. */
+typedef struct rp_room {
+  uint8_t *answer;
+  size_t size;
+  size_t *ends;
+  size_t most;
+  rp_step step;
+} rp_room;
+
+/* The bytes of a number, the first of them first. */
+static inline void rp_put_number(uint8_t *bytes, uint64_t number, int count) {
+  for (int at = count - 1; at >= 0; at--) {
+    bytes[at] = (uint8_t)(number & 255);
+    number >>= 8;
+  }
+}
+
+static inline uint32_t rp_number_of(const uint8_t *bytes) {
+  return (uint32_t)bytes[0] << 24 | (uint32_t)bytes[1] << 16 | (uint32_t)bytes[2] << 8 | (uint32_t)bytes[3];
+}
+
+/* A step by the bytes of its request. */
+static inline uint8_t rp_node_step_into(rp_node *node, const uint8_t *request, size_t count, rp_room *room) {
+  if (room == NULL) {
+    return RP_NULL;
+  }
+  return rp_node_step(node, request, count, room->answer, room->size, room->ends, room->most, &room->step);
+}
+
+/* A packet came. */
+static inline uint8_t rp_node_take(rp_node *node, const uint8_t *packet, size_t count, rp_room *room) {
+  if (room == NULL) {
+    return RP_NULL;
+  }
+  return rp_node_receive(node, packet, count, room->answer, room->size, room->ends, room->most, &room->step);
+}
+
+/* The node is to lead at the least free position. */
+static inline uint8_t rp_node_lead(rp_node *node, rp_room *room) {
+  const uint8_t request[1] = {RP_NODE_LEAD};
+  return rp_node_step_into(node, request, sizeof request, room);
+}
+
+/* The node is to lead at this position. */
+static inline uint8_t rp_node_lead_at(rp_node *node, uint16_t position, rp_room *room) {
+  uint8_t request[3] = {RP_NODE_LEAD, 0, 0};
+  rp_put_number(request + 1, position, 2);
+  return rp_node_step_into(node, request, sizeof request, room);
+}
+
+/* The node is to lead at `count` positions, 1 to 64, from `first` on. */
+static inline uint8_t rp_node_lead_range(rp_node *node, uint16_t first, uint8_t count, rp_room *room) {
+  uint8_t request[4] = {RP_NODE_LEAD_RANGE, 0, 0, count};
+  rp_put_number(request + 1, first, 2);
+  return rp_node_step_into(node, request, sizeof request, room);
+}
+
+/* An interrupt of a source, 1 to 8, by the number of its occurrence, from 1. */
+static inline uint8_t rp_node_interrupt(rp_node *node, uint8_t source, uint32_t occurrence, rp_room *room) {
+  uint8_t request[6] = {RP_NODE_INTERRUPT, source, 0, 0, 0, 0};
+  rp_put_number(request + 2, occurrence, 4);
+  return rp_node_step_into(node, request, sizeof request, room);
+}
+
+/* The clock has this time. */
+static inline uint8_t rp_node_tick(rp_node *node, uint32_t now, rp_room *room) {
+  uint8_t request[5] = {RP_NODE_TICK, 0, 0, 0, 0};
+  rp_put_number(request + 1, now, 4);
+  return rp_node_step_into(node, request, sizeof request, room);
+}
+
+/* A report to the audit, from the position `first` on. */
+static inline uint8_t rp_node_report(rp_node *node, uint16_t first, rp_room *room) {
+  uint8_t request[3] = {RP_NODE_REPORT, 0, 0};
+  rp_put_number(request + 1, first, 2);
+  return rp_node_step_into(node, request, sizeof request, room);
+}
+
+/* A question whose answer is a number of 4 bytes, which is written into *number by RP_DONE alone. */
+static inline uint8_t rp_node_number(rp_node *node, const uint8_t *request, size_t count, uint32_t *number) {
+  uint8_t answer[4] = {0, 0, 0, 0};
+  rp_lengths lengths = {0, 0};
+  if (number == NULL) {
+    return RP_NULL;
+  }
+  uint8_t status = rp_node_call(node, request, count, answer, sizeof answer, &lengths);
+  if (status == RP_DONE) {
+    *number = rp_number_of(answer);
+  }
+  return status;
+}
+
+/* How many actions are applied. */
+static inline uint8_t rp_node_applied(rp_node *node, uint32_t *number) {
+  const uint8_t request[1] = {RP_NODE_APPLIED};
+  return rp_node_number(node, request, sizeof request, number);
+}
+
+/* How many positions are not applied yet. */
+static inline uint8_t rp_node_left(rp_node *node, uint32_t *number) {
+  const uint8_t request[1] = {RP_NODE_LEFT};
+  return rp_node_number(node, request, sizeof request, number);
+}
+
+/* How many pending items wait for a lead. */
+static inline uint8_t rp_node_pending(rp_node *node, uint32_t *number) {
+  const uint8_t request[1] = {RP_NODE_PENDING};
+  return rp_node_number(node, request, sizeof request, number);
+}
+
+/* The number of the last call of a task that counted. */
+static inline uint8_t rp_node_counted(rp_node *node, uint8_t task, uint32_t *number) {
+  const uint8_t request[2] = {RP_NODE_COUNTED, task};
+  return rp_node_number(node, request, sizeof request, number);
+}
+
+/* The packet of a task's call, to send. */
+typedef struct rp_call_packet {
+  uint8_t bytes[RP_TASK_BYTES];
+  size_t count; /* 0 if there is no packet */
+} rp_call_packet;
+
+/* A call through a node of an operation (rp_operation) of an object, by their indices. */
+static inline uint8_t rp_task_operation(rp_task *task, uint8_t node, uint8_t object, uint8_t operation,
+                                        uint8_t index, int64_t argument, rp_call_packet *packet) {
+  uint8_t request[13] = {RP_TASK_CALL, node, object, operation, index, 0, 0, 0, 0, 0, 0, 0, 0};
+  rp_lengths lengths = {0, 0};
+  if (packet == NULL) {
+    return RP_NULL;
+  }
+  rp_put_number(request + 5, (uint64_t)argument, 8);
+  uint8_t status = rp_task_call(task, request, sizeof request, packet->bytes, sizeof packet->bytes, &lengths);
+  if (status == RP_DONE) {
+    packet->count = lengths.used;
+  }
+  return status;
+}
+
+static inline uint8_t rp_task_function(rp_task *task, uint8_t node, uint8_t object, uint8_t index,
+                                       int64_t argument, rp_call_packet *packet) {
+  return rp_task_operation(task, node, object, RP_FUNCTION, index, argument, packet);
+}
+
+static inline uint8_t rp_task_procedure(rp_task *task, uint8_t node, uint8_t object, uint8_t index,
+                                        int64_t argument, rp_call_packet *packet) {
+  return rp_task_operation(task, node, object, RP_PROCEDURE, index, argument, packet);
+}
+
+static inline uint8_t rp_task_entry(rp_task *task, uint8_t node, uint8_t object, uint8_t index,
+                                    int64_t argument, rp_call_packet *packet) {
+  return rp_task_operation(task, node, object, RP_ENTRY, index, argument, packet);
+}
+
+static inline uint8_t rp_task_set_timer(rp_task *task, uint8_t node, uint8_t object, uint8_t index, int64_t time,
+                                        rp_call_packet *packet) {
+  return rp_task_operation(task, node, object, RP_SET_TIMER, index, time, packet);
+}
+
+static inline uint8_t rp_task_cancel_timer(rp_task *task, uint8_t node, uint8_t object, uint8_t index,
+                                           rp_call_packet *packet) {
+  return rp_task_operation(task, node, object, RP_CANCEL_TIMER, index, 0, packet);
+}
+
+/* The call that has no reply yet, again, through a node: packet->count is 0 if there is no such call. */
+static inline uint8_t rp_task_again(rp_task *task, uint8_t node, rp_call_packet *packet) {
+  const uint8_t request[2] = {RP_TASK_AGAIN, node};
+  rp_lengths lengths = {0, 0};
+  if (packet == NULL) {
+    return RP_NULL;
+  }
+  uint8_t status = rp_task_call(task, request, sizeof request, packet->bytes, sizeof packet->bytes, &lengths);
+  if (status == RP_DONE) {
+    packet->count = lengths.used;
+  }
+  return status;
+}
+
+/* The reply to a task's call: of which kind it is (rp_reply), or 0 if a packet was none; and its value, a Boolean
+ * as 0 or 1. */
+typedef struct rp_call_reply {
+  uint8_t kind;
+  int64_t value;
+} rp_call_reply;
+
+/* The number whose two's complement these bits are. */
+static inline int64_t rp_signed_of(uint64_t bits) {
+  return bits <= INT64_MAX ? (int64_t)bits : -(int64_t)(UINT64_MAX - bits) - 1;
+}
+
+/* A packet came: the reply in it, if it is one to the task's call. */
+static inline uint8_t rp_task_take(rp_task *task, const uint8_t *packet, size_t count, rp_call_reply *reply) {
+  uint8_t answer[RP_TASK_BYTES];
+  rp_lengths lengths = {0, 0};
+  if (reply == NULL) {
+    return RP_NULL;
+  }
+  uint8_t status = rp_task_receive(task, packet, count, answer, sizeof answer, &lengths);
+  if (status != RP_DONE) {
+    return status;
+  }
+  reply->kind = lengths.used == 0 ? 0 : answer[0];
+  reply->value = 0;
+  if (reply->kind == RP_REPLY_VALUE) {
+    uint64_t bits = (uint64_t)rp_number_of(answer + 1) << 32 | rp_number_of(answer + 5);
+    reply->value = rp_signed_of(bits);
+  } else if (reply->kind == RP_REPLY_TRUTH) {
+    reply->value = answer[1];
+  }
+  return RP_DONE;
+}
 
 #ifdef __cplusplus
 }

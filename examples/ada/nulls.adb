@@ -98,6 +98,24 @@ begin
    Say ("call: request", RP.Node_Call (Node, Null_Place, 1, Answer'Address, Answer'Length, Length));
    Say ("call: answer", RP.Node_Call (Node, Question'Address, 1, Null_Place, Answer'Length, Length));
    Say
+     ("receive: packet",
+      RP.Node_Receive
+        (Node, Null_Place, 14, Answer'Address, Answer'Length, Places'Address, 1, Parts));
+   Say
+     ("receive: answer",
+      RP.Node_Receive
+        (Node, Packet'Address, 14, Null_Place, Answer'Length, Places'Address, 1, Parts));
+   Say
+     ("receive: ends",
+      RP.Node_Receive
+        (Node, Packet'Address, 14, Answer'Address, Answer'Length, Null_Place, 1, Parts));
+   Say
+     ("a task receives: packet",
+      RP.Task_Receive (Stub, Null_Place, 14, Answer'Address, Answer'Length, Length));
+   Say
+     ("a task receives: answer",
+      RP.Task_Receive (Stub, Packet'Address, 14, Null_Place, Answer'Length, Length));
+   Say
      ("call a task: request",
       RP.Task_Call (Stub, Null_Place, 2, Answer'Address, Answer'Length, Length));
    Say

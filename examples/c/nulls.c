@@ -19,6 +19,8 @@ static uint8_t reason;
 static rp_found found;
 static rp_lengths lengths;
 static rp_step step;
+static rp_patience patience;
+static rp_advice advice;
 static size_t ends[4];
 static rp_node node = RP_CLOSED;
 static rp_task task = RP_CLOSED;
@@ -32,13 +34,17 @@ static void fill(void) {
   lengths = (rp_lengths){7, 7};
   step = (rp_step){7, 7, 7, 7};
   ends[0] = 7;
+  patience = (rp_patience){7, 7, 7};
+  advice = (rp_advice){7, 7};
 }
 
 /* Whether it is still so. */
 static bool is_same(void) {
   bool same = used == 7 && reason == 7 && found.records == 7 && found.kept == 7 && found.tail == 7 &&
               found.reason == 7 && found.line == 7 && lengths.stored == 7 && lengths.used == 7 &&
-              step.stored == 7 && step.used == 7 && step.packets == 7 && step.dropped == 7 && ends[0] == 7;
+              step.stored == 7 && step.used == 7 && step.packets == 7 && step.dropped == 7 && ends[0] == 7 &&
+              patience.applied == 7 && patience.tries == 7 && patience.quiet == 7 && advice.kind == 7 &&
+              advice.position == 7;
   for (size_t at = 0; at < sizeof answer; at++) {
     same = same && answer[at] == 7;
   }
@@ -63,6 +69,7 @@ static void opens(size_t count) {
   say("header: deck", rp_device_header(NULL, count, 1, answer, sizeof answer));
   say("header: header", rp_device_header(deck, count, 1, NULL, sizeof answer));
   say("open a task: task", rp_task_open(1, NULL));
+  say("open a task after: task", rp_task_open_after(1, 7, NULL));
 }
 
 /* The calls by an open handle, with a null each. */
@@ -76,6 +83,24 @@ static void calls(void) {
   say("step: answer", rp_node_step(&node, applied, 1, NULL, sizeof answer, ends, 4, &step));
   say("step: ends", rp_node_step(&node, applied, 1, answer, sizeof answer, NULL, 4, &step));
   say("step: step", rp_node_step(&node, applied, 1, answer, sizeof answer, ends, 4, NULL));
+  say("receive: node", rp_node_receive(NULL, packet, 14, answer, sizeof answer, ends, 4, &step));
+  say("receive: packet", rp_node_receive(&node, NULL, 14, answer, sizeof answer, ends, 4, &step));
+  say("receive: answer", rp_node_receive(&node, packet, 14, NULL, sizeof answer, ends, 4, &step));
+  say("receive: ends", rp_node_receive(&node, packet, 14, answer, sizeof answer, NULL, 4, &step));
+  say("receive: step", rp_node_receive(&node, packet, 14, answer, sizeof answer, ends, 4, NULL));
+  say("advise: node", rp_node_advise(NULL, &patience, 7, &advice));
+  say("advise: patience", rp_node_advise(&node, NULL, 7, &advice));
+  say("advise: advice", rp_node_advise(&node, &patience, 7, NULL));
+  say("a task receives: task", rp_task_receive(NULL, packet, 14, answer, sizeof answer, &lengths));
+  say("a task receives: packet", rp_task_receive(&task, NULL, 14, answer, sizeof answer, &lengths));
+  say("a task receives: answer", rp_task_receive(&task, packet, 14, NULL, sizeof answer, &lengths));
+  say("a task receives: lengths", rp_task_receive(&task, packet, 14, answer, sizeof answer, NULL));
+  say("lead: room", rp_node_lead(&node, NULL));
+  say("take: room", rp_node_take(&node, packet, 14, NULL));
+  say("pending: number", rp_node_pending(&node, NULL));
+  say("a procedure: packet", rp_task_procedure(&task, 1, 1, 1, 7, NULL));
+  say("again: packet", rp_task_again(&task, 1, NULL));
+  say("a reply: reply", rp_task_take(&task, packet, 14, NULL));
   say("call a task: task", rp_task_call(NULL, again, 2, answer, sizeof answer, &lengths));
   say("call a task: request", rp_task_call(&task, NULL, 2, answer, sizeof answer, &lengths));
   say("call a task: answer", rp_task_call(&task, again, 2, NULL, sizeof answer, &lengths));

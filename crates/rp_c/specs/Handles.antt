@@ -7,7 +7,7 @@ use Rattle.rp_model.specs.declared.effect.Dropped.TheVariants as drops
 use Rattle.rp_handles.specs.DeckNodes.{OpensNoNode}
 use Rattle.rp_handles.specs.Devices.{HasHeader, OpensDevice, OpensNoDevice, header_bytes}
 use Rattle.rp_handles.specs.Handles.{ChangesNothing, Exchange, HandleAnswers, IsNoTask}
-use Rattle.rp_handles.specs.Handles.{KeepsNode, KeepsTask}
+use Rattle.rp_handles.specs.Handles.{KeepsNode, KeepsTask, KeepsTaskAfter}
 use Rattle.rp_handles.specs.declared.actor.Actor.{Actor}
 use Rattle.rp_handles.specs.declared.actor.Actor.TheVariants as actors
 use Rattle.rp_handles.specs.declared.actor.ActorKind.{ActorKind}
@@ -96,6 +96,11 @@ PutsHeader text number before after (Some refusal) =
 abbrev pub TaskByHandle : ℕ → Option Actor → Option Actor → Option Refusal → Type 0
 TaskByHandle number old new None = KeepsTask number new
 TaskByHandle number old new (Some refusal) = (new ≡ old) × IsNoTask number refusal
+
+-- The same of a task that has made n calls.
+abbrev pub TaskByHandleAfter : ℕ → ℕ → Option Actor → Option Actor → Option Refusal → Type 0
+TaskByHandleAfter number calls old new None = KeepsTaskAfter number calls new
+TaskByHandleAfter number calls old new (Some refusal) = (new ≡ old) × IsNoTask number refusal
 
 -- The answer to a request by a handle to an actor of this kind; none if there is no such kind: then
 -- nothing changed.

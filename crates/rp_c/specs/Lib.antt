@@ -1,4 +1,5 @@
 pub mod Decks
 pub mod Handles
+pub mod Advice
 pub mod Packets
 pub mod Status

@@ -10,8 +10,10 @@
 //! - `tasks`: opens a task's stub by its handle
 //! - `handles`: calls and closes a node or a task by its handle
 //! - `steps`: calls a node by its handle, and returns where the packets of its last step end
+//! - `advice`: what a node is to do next, by its handle
 #![tactic(auto)]
 
+mod advice;
 mod answer;
 mod decks;
 mod handles;
@@ -21,10 +23,11 @@ mod status;
 mod steps;
 mod tasks;
 
+pub use advice::{NodeAdvice, rp_node_advise};
 pub use answer::AnswerLengths;
 pub use decks::rp_run_deck;
 pub use handles::{rp_handle_call, rp_handle_close};
 pub use nodes::{NodeFound, rp_device_header, rp_device_open, rp_node_open};
 pub use packets::{rp_packet_check, rp_packet_length};
-pub use steps::{StepLengths, rp_node_step};
-pub use tasks::rp_task_open;
+pub use steps::{StepLengths, rp_node_receive, rp_node_step};
+pub use tasks::{rp_task_open, rp_task_open_after, rp_task_receive};

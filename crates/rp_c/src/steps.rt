@@ -1,6 +1,6 @@
 //! Calls a node by its handle, and returns where the packets of its last step end.
 
-ghost use Rattle.std.specs.Prelude.{◌≡◌, Option, Result};
+ghost use Rattle.std.specs.Prelude.{◌≡◌, ◌∷◌, Option, Result};
 ghost use Rattle.rp_handles.specs.Handles.{HandleAnswers, exchange_of};
 ghost use Rattle.rp_handles.specs.declared.actor.ActorKind.TheVariants as kinds;
 ghost use Rattle.rp_model.specs.declared.effect.Dropped.TheVariants as drops;
@@ -9,7 +9,7 @@ ghost use Rattle.rp_requests.specs.declared.refusal.Refusal.{Refusal as RefusalO
 ghost use Rattle.rp_c.specs.Handles.{WritesStep, answer_code, dropped_code};
 
 use crate::answer::code_of_answer;
-use rp_handles::{ActorKind, Handle, LastStep, call, last_step};
+use rp_handles::{ActorKind, Handle, LastStep, call, last_step, receive};
 use rp_model::Dropped;
 use rp_requests::{Lengths, Refusal};
 use std::alloc::Global;
@@ -62,6 +62,29 @@ pub extern "C" fn rp_node_step(
         × WritesStep ended handle.new.kept ends.old ends.new step.old step.new }
 {
     let ended = call(alloc, handle, ActorKind::Node, request, answer);
+    write_step(alloc, &ended, handle, ends, step);
+    code_of_answer(&ended)
+}
+
+/// Answers the request that brings a packet to the node of a handle, by the packet alone, which is
+/// read where it is; otherwise as `rp_node_step`.
+#[unsafe(no_mangle)]
+pub extern "C" fn rp_node_receive(
+    alloc: Global,
+    handle: &mut Handle,
+    packet: &[u8],
+    answer: &mut [u8],
+    ends: &mut [usize],
+    step: &mut StepLengths,
+) -> u8
+    // claim: A C caller that gives its handle's node a packet alone gets the answer to the request that
+    //   brings this packet
+    ensures { (ended : Option (Result LengthsOf RefusalOf)) × (result ≡ answer_code ended)
+        × HandleAnswers kinds.Node (exchange_of (1 ∷ packet.now) answer.old answer.new)
+        handle.old.kept handle.new.kept ended
+        × WritesStep ended handle.new.kept ends.old ends.new step.old step.new }
+{
+    let ended = receive(alloc, handle, ActorKind::Node, packet, answer);
     write_step(alloc, &ended, handle, ends, step);
     code_of_answer(&ended)
 }

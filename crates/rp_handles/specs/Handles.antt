@@ -6,6 +6,10 @@ use Rattle.rp_base.specs.Number.{IsTask}
 use Rattle.rp_object.specs.State.{Running}
 use Rattle.rp_object.specs.Step.{objects_next, objects_answers}
 use Rattle.rp_object.specs.Image.{objects_image}
+use Rattle.rp_patience.specs.Advice.{advice_after, patience_after}
+use Rattle.rp_patience.specs.declared.advice.Advice.{Advice}
+use Rattle.rp_patience.specs.declared.patience.Patience.{Patience}
+use Rattle.rp_requests.specs.Advising.{situation_of}
 use Rattle.rp_requests.specs.Buffers.{with_front}
 use Rattle.rp_requests.specs.declared.buffer.Lengths.{Lengths}
 use Rattle.rp_requests.specs.declared.refusal.Refusal.{Refusal}
@@ -14,7 +18,7 @@ use Rattle.rp_requests.specs.Nodes.{Answers, NodeState}
 use Rattle.rp_requests.specs.Requests.{asked_of}
 use Rattle.rp_requests.specs.TaskRequests.{task_asked_of}
 use Rattle.rp_requests.specs.Tasks.{TaskAnswers}
-use Rattle.rp_tasks.specs.Calls.{Calls, no_calls}
+use Rattle.rp_tasks.specs.Calls.{Calls, no_calls, task_after}
 use Rattle.rp_handles.specs.DeckNodes.{OpensNode}
 use Rattle.rp_handles.specs.declared.actor.Actor.{Actor}
 use Rattle.rp_handles.specs.declared.actor.Actor.TheVariants.{Node, Task}
@@ -28,6 +32,11 @@ kind_of number =
     if number == 1 then Some kinds.Node else
     if number == 2 then Some kinds.Task else
     None
+
+-- the byte of the request that brings a packet to an actor of this kind
+abbrev pub receives_byte : ActorKind → ℕ
+receives_byte kinds.Node = 1
+receives_byte kinds.Task = 3
 
 -- A request, and the caller's buffer before and after the answer.
 pub record Exchange : Type 0 where
@@ -88,12 +97,32 @@ HandleShows (Some actor) before after step = ActorShows actor before after step
 HandleShows None before after None = after ≡ before
 HandleShows None before after step = ⊥
 
+-- What a node is advised after quiet turns, and the caller's patience before and after that; nothing
+-- is advised to a task.
+abbrev pub ActorAdvises : Actor → ℕ → Patience → Patience → Option Advice → Type 0
+ActorAdvises (Node node) turns before after (Some advice) =
+    let situation = situation_of objects_next objects_answers node in
+    (advice ≡ advice_after turns situation before) × (after ≡ patience_after turns situation before)
+ActorAdvises (Task task) turns before after None = after ≡ before
+ActorAdvises actor turns before after advice = ⊥
+
+-- the same of the actor that a handle keeps; nothing by a closed handle
+abbrev pub HandleAdvises : Option Actor → ℕ → Patience → Patience → Option Advice → Type 0
+HandleAdvises (Some actor) turns before after advice =
+    ActorAdvises actor turns before after advice
+HandleAdvises None turns before after None = after ≡ before
+HandleAdvises None turns before after advice = ⊥
+
 -- It keeps the node of this number of the deck that the text means, opened over these bytes.
 abbrev pub KeepsNode : List ℕ → ℕ → List ℕ → Option Actor → ℕ → ℕ → Type 0
 KeepsNode text number bytes (Some (Node node)) records kept =
     OpensNode text number bytes node records kept
 KeepsNode text number bytes (Some (Task task)) records kept = ⊥
 KeepsNode text number bytes None records kept = ⊥
+
+-- It keeps the task of this number, which has made n calls, none of which is outstanding.
+abbrev pub KeepsTaskAfter : ℕ → ℕ → Option Actor → Type 0
+KeepsTaskAfter number calls kept = kept ≡ Some (Task (task_after number calls))
 
 -- It keeps the task of this number, which has made no call.
 abbrev pub KeepsTask : ℕ → Option Actor → Type 0

@@ -1,10 +1,11 @@
 //! A node or a task, which answers requests.
 
-ghost use Rattle.std.specs.Prelude.{◌≡◌};
-ghost use Rattle.rp_handles.specs.Handles.{ActorAnswers, ActorShows, exchange_of, kind_of};
+ghost use Rattle.std.specs.Prelude.{◌≡◌, ◌∷◌};
+ghost use Rattle.rp_handles.specs.Handles.{ActorAdvises, ActorAnswers, ActorShows, exchange_of, kind_of, receives_byte};
 
 use rp_model::Dropped;
 use rp_object::Objects;
+use rp_patience::{Advice, Patience};
 use rp_requests::{Lengths, Node, Refusal, Task};
 use std::alloc::Global;
 
@@ -65,6 +66,41 @@ impl Actor {
                 ActorKind::Node => None,
                 ActorKind::Task => Some(task.call(alloc, request, answer)),
             },
+        }
+    }
+
+    /// Answers the request that brings a packet to an actor of this kind, by the packet alone, as
+    /// `Node::receive` or `Task::receive`; `None` if the actor is of the other kind.
+    pub(crate) fn receive(
+        &mut self,
+        alloc: Global,
+        kind: ActorKind,
+        packet: &[u8],
+        answer: &mut [u8],
+    ) -> Option<Result<Lengths, Refusal>>
+        ensures { ActorAnswers kind
+            (exchange_of (receives_byte kind ∷ packet.now) answer.old answer.new)
+            self.old self.new result }
+    {
+        match self {
+            Actor::Node(node) => match kind {
+                ActorKind::Node => Some(node.receive(alloc, packet, answer)),
+                ActorKind::Task => None,
+            },
+            Actor::Task(task) => match kind {
+                ActorKind::Node => None,
+                ActorKind::Task => Some(task.receive(alloc, packet, answer)),
+            },
+        }
+    }
+
+    /// What a node is to do after quiet turns, as `Node::advise`; `None` if the actor is a task.
+    pub(crate) fn advise(&self, patience: &mut Patience, turns: u64) -> Option<Advice>
+        ensures { ActorAdvises self.now turns patience.old patience.new result }
+    {
+        match self {
+            Actor::Node(node) => Some(node.advise(patience, turns)),
+            Actor::Task(_) => None,
         }
     }
 

@@ -1,16 +1,17 @@
 //! Opens, calls and closes an actor by its handle.
 
-ghost use Rattle.std.specs.Prelude.{◌≡◌, ◌<◌, ◌+◌, ◌^◌, drop, length, Some, None, IfOk, IfErr, OnOk, OnErr};
+ghost use Rattle.std.specs.Prelude.{◌≡◌, ◌<◌, ◌+◌, ◌^◌, ◌∷◌, drop, length, Some, None, IfOk, IfErr, OnOk, OnErr};
 ghost use Rattle.rp_base.specs.declared.fault.Fault.TheVariants as faults;
 ghost use Rattle.rp_requests.specs.Tails.{tail_of};
 ghost use Rattle.rp_requests.specs.declared.refusal.Refusal.TheVariants as refusals;
 ghost use Rattle.rp_handles.specs.DeckNodes.{OpensNoNode};
-ghost use Rattle.rp_handles.specs.Handles.{HandleAnswers, HandleShows, IsNoTask, KeepsNode, KeepsTask, exchange_of};
+ghost use Rattle.rp_handles.specs.Handles.{HandleAdvises, HandleAnswers, HandleShows, IsNoTask, KeepsNode, KeepsTask, KeepsTaskAfter, exchange_of, receives_byte};
 
 use crate::actor::{Actor, ActorKind, LastStep};
 use crate::deck_nodes::node_of_deck;
 use crate::handle::{Handle, closed, into_box, of};
 use rp_base::Fault;
+use rp_patience::{Advice, Patience};
 use rp_requests::{Lengths, Refusal, Tail, Task};
 use std::alloc::Global;
 use std::mem::replace;
@@ -72,7 +73,25 @@ pub fn open_task(alloc: Global, number: u8, handle: &mut Handle) -> Result<(), R
     // claim as open_node (same)
     ensures same { OnErr result (handle.new.kept ≡ handle.old.kept) }
 {
-    let task = Task::new(number)?;
+    open_task_after(alloc, number, 0, handle)
+}
+
+/// Opens a task, 1 to 8, which has made n calls, none of which is outstanding: its next call has
+/// number n + 1. What the handle kept before is closed. Refused as `open_task`.
+pub fn open_task_after(
+    alloc: Global,
+    number: u8,
+    calls: u32,
+    handle: &mut Handle,
+) -> Result<(), Refusal>
+    // claim (ok): A handle keeps a task that goes on after n calls
+    ensures ok { OnOk result (KeepsTaskAfter number calls handle.new.kept) }
+    // claim as open_task (err)
+    ensures err { IfErr result (IsNoTask number) }
+    // claim as open_node (same)
+    ensures same { OnErr result (handle.new.kept ≡ handle.old.kept) }
+{
+    let task = Task::after(number, calls)?;
     let actor = boxed(alloc, Actor::Task(task))?;
     keep(alloc, actor, handle);
     Ok(())
@@ -97,6 +116,47 @@ pub fn call(
     let result = actor.call(alloc, kind, request, answer);
     *handle = of(actor);
     result
+}
+
+/// Answers the request that brings a packet to the node or the task of a handle, by the packet alone,
+/// which is read where it is; `None` as `call`.
+pub fn receive(
+    alloc: Global,
+    handle: &mut Handle,
+    kind: ActorKind,
+    packet: &[u8],
+    answer: &mut [u8],
+) -> Option<Result<Lengths, Refusal>>
+    // claim: A packet that is received by a handle is answered as the request that brings it
+    ensures { HandleAnswers kind
+        (exchange_of (receives_byte kind ∷ packet.now) answer.old answer.new)
+        handle.old.kept handle.new.kept result }
+{
+    let taken = replace(handle, closed());
+    let mut actor = into_box(alloc, taken)?;
+    let result = actor.receive(alloc, kind, packet, answer);
+    *handle = of(actor);
+    result
+}
+
+/// What a handle's node is to do after quiet turns, as `Node::advise` of `rp_requests`; `None` if the
+/// handle keeps no node, and then the patience is as it was.
+pub fn advise(
+    alloc: Global,
+    handle: &mut Handle,
+    patience: &mut Patience,
+    turns: u64,
+) -> Option<Advice>
+    // claim (advised): By a node's handle a caller learns whether the node is to lead, and where, or
+    //   to ask for positions that it misses, exactly by its rule of patience; the node stays as it is
+    ensures advised { HandleAdvises handle.old.kept turns patience.old patience.new result }
+    ensures same { handle.new.kept ≡ handle.old.kept }
+{
+    let taken = replace(handle, closed());
+    let actor = into_box(alloc, taken)?;
+    let advised = actor.advise(patience, turns);
+    *handle = of(actor);
+    advised
 }
 
 /// What the last step of a handle's node gave besides the bytes of its answer, and where its packets

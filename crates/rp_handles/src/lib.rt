@@ -20,6 +20,8 @@ mod handle;
 mod loose;
 
 pub use actor::{Actor, ActorKind, LastStep};
-pub use calls::{Found, call, close, last_step, open_node, open_task};
+pub use calls::{
+    Found, advise, call, close, last_step, open_node, open_task, open_task_after, receive,
+};
 pub use device::{HEADER_BYTES, device_header, open_device};
 pub use handle::Handle;

@@ -10,7 +10,7 @@ use Rattle.rp_replica.specs.Inputs.{effect_if_given}
 use Rattle.rp_replica.specs.State.{part_of}
 use Rattle.rp_requests.specs.Nodes.{NodeState, Answers, StepPut, after_step}
 use Rattle.rp_requests.specs.Buffers.{IsPut}
-use Rattle.rp_requests.specs.Requests.{Asked, Step, Applied, Image, LastAnswer, Left}
+use Rattle.rp_requests.specs.Requests.{Asked, Step, Applied, Image, LastAnswer, Left, Pending, Counted}
 use Rattle.rp_requests.specs.declared.buffer.Lengths.{Lengths}
 use Rattle.rp_requests.specs.declared.refusal.Refusal.{Refusal}
 use Rattle.rp_requests.specs.declared.refusal.Refusal.TheVariants as refusals
@@ -42,6 +42,8 @@ module _ {S : Type 0} (next : S → Action → S) (answers : S → Action → Li
   outcome (Some Image) old new before after result a = Unchanged a.0 refl
   outcome (Some LastAnswer) old new before after result a = Unchanged a.0 refl
   outcome (Some Left) old new before after result a = Unchanged a.0 refl
+  outcome (Some Pending) old new before after result a = Unchanged a.0 refl
+  outcome (Some (Counted task)) old new before after result a = Unchanged a.0 refl
 
 -- the effect on the node's part
 pub effect_on_part : {S : Type 0} (s : Setting S) (me : ℕ) (node : NodeState S) (input : NodeInput) (turn : Turn) → IsSetUp s me node → effect_if_given s.next s.answers node.replica (Ok input) ≡ Ok turn

@@ -18,7 +18,7 @@ use Rattle.rp_codec.proofs.Decoded.{whole_again}
 use Rattle.rp_model.specs.Effect as nodes
 use Rattle.rp_model.specs.Effect.{NodeInput}
 use Rattle.rp_rules.specs.Inputs.{packet_given}
-use Rattle.rp_requests.specs.Requests.{Asked, Step, Applied, Image, LastAnswer, Left, given, lead_asked, interrupt_asked, tick_asked, report_asked, range_if, range_asked, question_asked, asked_by, asked_of}
+use Rattle.rp_requests.specs.Requests.{Asked, Step, Applied, Image, LastAnswer, Left, Pending, Counted, given, lead_asked, interrupt_asked, tick_asked, report_asked, range_if, range_asked, counted_asked, question_asked, asked_by, asked_of}
 use Rattle.rp_requests.specs.TaskRequests.{TaskAsked, MakeCall, SendAgain, TakePacket, operation_at, is_party, arg_at, call_with, call_if, call_asked, again_asked, task_asked_by, task_asked_of}
 use Rattle.rp_pending.specs.Pending.{MayCome}
 use Rattle.rp_installations.specs.Moves.{AreBytes, WasHandedOn, node_receives_byte, task_receives_byte}
@@ -133,12 +133,18 @@ module _ (sent : List Message) where
       (λ tests. let both = and_parts (nat_le 1 node) (nat_le node 7) tests in given_comes (nodes.Ask node) (leb-true 1 node both.0, leb-true node 7 both.1)) (λ _. none_comes)
   ask_comes (a ∷ b ∷ rest) bytes = none_comes
 
+  counted_comes : (operands : List ℕ) → ComesIf sent (counted_asked operands)
+  counted_comes [] = none_comes
+  counted_comes (task ∷ []) = if_comes (nat_le 1 task && nat_le task 8) (Some (Counted task)) None (λ _ input e. absurd (cc)) (λ _. none_comes)
+  counted_comes (a ∷ b ∷ rest) = none_comes
+
   question_comes : (kind : ℕ) (operands : List ℕ) → ComesIf sent (question_asked kind operands)
   question_comes kind [] =
       if_comes (kind == 16) (Some Applied) _ (λ _. asks_none Applied (λ input e. cc))
       (λ _. if_comes (kind == 17) (Some Image) _ (λ _. asks_none Image (λ input e. cc))
       (λ _. if_comes (kind == 18) (Some LastAnswer) _ (λ _. asks_none LastAnswer (λ input e. cc))
-      (λ _. if_comes (kind == 19) (Some Left) None (λ _. asks_none Left (λ input e. cc)) (λ _. none_comes))))
+      (λ _. if_comes (kind == 19) (Some Left) _ (λ _. asks_none Left (λ input e. cc))
+      (λ _. if_comes (kind == 20) (Some Pending) None (λ _. asks_none Pending (λ input e. cc)) (λ _. none_comes)))))
     where
       asks_none : (asked : Asked) → ((input : NodeInput) → Some asked ≡ Some (Step (Ok input)) → ⊥) → ComesIf sent (Some asked)
       asks_none asked never input e = absurd (never input e)
@@ -168,7 +174,8 @@ may_come handed sent (kind ∷ operands) all bytes arrived =
     (λ _. if_comes sent (kind == 4) _ _ (λ _. tick_comes sent operands rest)
     (λ _. if_comes sent (kind == 5) _ _ (λ _. report_comes sent operands rest)
     (λ _. if_comes sent (kind == 6) _ _ (λ _. range_comes sent operands rest)
-    (λ _. question_comes sent kind operands))))))
+    (λ _. if_comes sent (kind == 21) _ _ (λ _. counted_comes sent operands)
+    (λ _. question_comes sent kind operands)))))))
 
 -- ---- tasks
 

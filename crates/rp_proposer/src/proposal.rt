@@ -219,14 +219,21 @@ impl Proposal {
         self.ballot == ballot && (self.ranged && self.is_gathering(nodes))
     }
 
+    /// Whether the item is its own action.
+    pub(crate) fn is_own(&self, item: &Action) -> bool
+        ensures { result ≡ is_own item.now self.now }
+    {
+        match &self.own {
+            Some(own) => equal_items(item, own),
+            None => false,
+        }
+    }
+
     /// Whether it runs at another position and the item is its own action.
     pub(crate) fn is_own_elsewhere(&self, position: Position, item: &Action) -> bool
         ensures { result ≡ (is_own item.now self.now && not (nat_eq self.now.position position)) }
     {
-        match &self.own {
-            Some(own) => self.position != position && equal_items(item, own),
-            None => false,
-        }
+        self.position != position && self.is_own(item)
     }
 
     /// What it offers with one promise more.

@@ -11,7 +11,7 @@ ghost use Rattle.rp_base.specs.Ranges.{is_covered};
 ghost use Rattle.rp_base.specs.Sets.{IsSet};
 ghost use Rattle.rp_proposer.specs.Rows.{IsBusy, in_row};
 ghost use Rattle.rp_proposer.specs.Room.{own_count, own_actions_of, Rises, IsLastBelow};
-ghost use Rattle.rp_proposer.specs.Proposing.{counted_by, restored, ballot_at, HasRoom, begins, is_own_elsewhere, index_from, AreInWindow, IsInWindow, progress_in, notes_promise, notes_refusal, settles, most_running, unskipped, begins_range, notes_range, prepared_by, offers};
+ghost use Rattle.rp_proposer.specs.Proposing.{counted_by, restored, ballot_at, HasRoom, begins, is_own, is_own_elsewhere, index_from, AreInWindow, IsInWindow, progress_in, notes_promise, notes_refusal, settles, most_running, unskipped, begins_range, notes_range, prepared_by, offers};
 
 use crate::promise::{HeardPromise, HeardRange};
 use crate::proposal::{Progress, Proposal};
@@ -233,6 +233,15 @@ impl Proposer {
         is_own_elsewhere(front, position, item) || is_own_elsewhere(back, position, item)
     }
 
+    /// Whether the item is the own action of a proposal that runs: a call by its task and number,
+    /// all else whole.
+    pub fn is_own(&self, item: &Action) -> bool
+        ensures { result ≡ list_any (is_own item.now) self.now.proposals }
+    {
+        let (front, back) = self.proposals.as_slices();
+        is_own(front, item) || is_own(back, item)
+    }
+
     /// What a promise of one of the nodes makes of the proposal at the position, were it noted: its
     /// sender counts once, and `last` is the last vote that it reports. It changes nothing.
     #[inline(always)]
@@ -390,6 +399,13 @@ fn is_own_elsewhere(proposals: &[Proposal], position: Position, item: &Action) -
         }
     }
     false
+}
+
+/// Whether the item is the own action of one of these.
+fn is_own(proposals: &[Proposal], item: &Action) -> bool
+    ensures { result ≡ list_any (is_own item.now) proposals.now }
+{
+    proposals.iter().any(|proposal| proposal.is_own(item))
 }
 
 /// How many of these have an action of their own.

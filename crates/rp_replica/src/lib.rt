@@ -2,6 +2,7 @@
 //!
 //! In reading order:
 //! - `replica`: the replica
+//! - `questions`: what it is asked about its pending items and its tasks
 //! - `opening`: a replica that is opened over a device
 //! - `turn`: a step: it decides by the rules (`rp_rules`), and commits
 //! - `delivery`: a packet that is delivered, in which a usual one makes no plan
@@ -24,6 +25,7 @@ mod laws;
 mod missing;
 mod opening;
 mod proposal;
+mod questions;
 mod range_promise;
 mod replica;
 mod report;

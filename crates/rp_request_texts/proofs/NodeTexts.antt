@@ -4,7 +4,7 @@ use Rattle.std.specs.Prelude.{nat_le, nat_lt}
 use Rattle.std.specs.Int.{w16, w32, to_be_bytes, from_be_bytes}
 use Rattle.std.proofs.lemmas.Bool.Decides.{nat_tests}
 use Rattle.std.proofs.lemmas.Nat.{from_be_bytes-to_be_bytes_2, from_be_bytes-to_be_bytes_4}
-use Rattle.rp_base.specs.Number.{IsNode, IsPosition, in_range}
+use Rattle.rp_base.specs.Number.{IsNode, IsPosition, in_range, IsTask}
 use Rattle.rp_base.specs.Action.{IsIndex, IsCount}
 use Rattle.rp_base.specs.Ranges.{Range, IsRange, range_of}
 use Rattle.rp_base.specs.declared.fault.Fault.{Fault}
@@ -16,8 +16,8 @@ use Rattle.rp_codec.proofs.Decoded.{whole_again}
 use Rattle.rp_model.specs.Effect.{NodeInput}
 use Rattle.rp_model.specs.Effect as inputs
 use Rattle.rp_rules.specs.Inputs.{packet_given}
-use Rattle.rp_requests.specs.Requests.{Asked, Step, Applied, Image, LastAnswer, Left, given, lead_at, interrupt_at, tick_asked, report_from, range_if, range_from, ask_to, asked_by, asked_of}
-use Rattle.rp_request_texts.specs.Texts.{step_text, FitsStep, applied_text, image_text, last_answer_text, left_text}
+use Rattle.rp_requests.specs.Requests.{Asked, Step, Applied, Image, LastAnswer, Left, given, lead_at, interrupt_at, tick_asked, report_from, range_if, range_from, ask_to, asked_by, asked_of, Pending, Counted}
+use Rattle.rp_request_texts.specs.Texts.{step_text, FitsStep, applied_text, image_text, last_answer_text, left_text, pending_text, counted_text}
 
 -- ---- tests
 
@@ -104,3 +104,12 @@ last_is = refl
 pub left_is : asked_of left_text ≡ Some Left
 unfolding asked_of asked_by
 left_is = refl
+
+pub pending_is : asked_of pending_text ≡ Some Pending
+unfolding asked_of asked_by
+pending_is = refl
+
+pub counted_is : (task : ℕ) → IsTask task → asked_of (counted_text task) ≡ Some (Counted task)
+unfolding asked_of asked_by
+counted_is task right =
+    ap (λ b. cond {A = Option Asked} b (Some (Counted task)) None) (both (nat_le 1 task) (nat_le task 8) (from_one task right.0) (up_to task 8 right.1))

@@ -38,7 +38,7 @@ FitsStep (inputs.NodeInput.Report first) = IsPosition first
 FitsStep (inputs.NodeInput.LeadRange first count) = IsRange (record { first = first; count = count })
 FitsStep (inputs.NodeInput.Ask node) = IsNode node
 
--- RP_NODE_APPLIED, RP_NODE_IMAGE, RP_NODE_LAST and RP_NODE_LEFT
+-- RP_NODE_APPLIED, RP_NODE_IMAGE, RP_NODE_LAST, RP_NODE_LEFT and RP_NODE_PENDING
 abbrev pub applied_text : List ℕ
 applied_text = 16 ∷ []
 
@@ -50,6 +50,13 @@ last_answer_text = 18 ∷ []
 
 abbrev pub left_text : List ℕ
 left_text = 19 ∷ []
+
+abbrev pub pending_text : List ℕ
+pending_text = 20 ∷ []
+
+-- RP_NODE_COUNTED
+abbrev pub counted_text : ℕ → List ℕ
+counted_text task = 21 ∷ task ∷ []
 
 -- RP_FUNCTION 1, RP_PROCEDURE 2, RP_ENTRY 3, RP_SET_TIMER 4, RP_CANCEL_TIMER 5, and the index
 abbrev pub operation_bytes : Operation → List ℕ

@@ -2,6 +2,7 @@ pub mod Refusals
 pub mod Buffers
 pub mod Requests
 pub mod Nodes
+pub mod Advising
 pub mod Opening
 pub mod Tails
 pub mod TaskRequests

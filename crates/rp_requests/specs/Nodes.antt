@@ -11,7 +11,8 @@ use Rattle.rp_base.specs.declared.fault.Fault.TheVariants as faults
 use Rattle.rp_base.specs.declared.record.Rec.{Rec}
 use Rattle.rp_base.specs.declared.reply.Answer.{Answer}
 use Rattle.rp_codec.specs.Record.{record_text}
-use Rattle.rp_machine.specs.Replay.{replay_state}
+use Rattle.rp_machine.specs.Asked.{last_number}
+use Rattle.rp_machine.specs.Replay.{kept_of, replay_state}
 use Rattle.rp_model.specs.Parts.{Turn}
 use Rattle.rp_model.specs.Effect.{NodeInput}
 use Rattle.rp_model.specs.Effect as inputs
@@ -20,11 +21,13 @@ use Rattle.rp_replica.specs.Inputs.{effect_if_given}
 use Rattle.rp_outbox.specs.Packets.{ends_of, texts_of}
 use Rattle.rp_replica.specs.State.{ReplicaState, after_turn}
 use Rattle.rp_replica.specs.Turning.{StopsIf}
+use Rattle.rp_server.specs.Free.{free_items}
 use Rattle.rp_requests.specs.declared.buffer.Lengths.{Lengths}
 use Rattle.rp_requests.specs.declared.refusal.Refusal.{Refusal}
 use Rattle.rp_requests.specs.declared.refusal.Refusal.TheVariants as refusals
 use Rattle.rp_requests.specs.Buffers.{IsPut, IsTooLong, PutsOr}
-use Rattle.rp_requests.specs.Requests.{Asked, Step, Applied, Image, LastAnswer, Left}
+use Rattle.rp_requests.specs.Requests.{Asked, Step, Applied, Image, LastAnswer, Left, Pending}
+use Rattle.rp_requests.specs.Requests.{Counted}
 
 -- The node, and the answer of its last step: the bytes to be stored, and the packets; where each
 -- packet ends, counted from the first byte of the packets; and what the step did not take.
@@ -130,6 +133,17 @@ ImageAnswers image before after (Err (refusals.Fault fault)) =
     (fault ≡ faults.OutOfMemory) × (after ≡ before)
 ImageAnswers image before after result = PutsOr [] image before after result
 
+module _ {S : Type 0} (next : S → Action → S) (answers : S → Action → List Answer) where
+  -- the actions that counted at a node
+  abbrev pub counted_at : NodeState S → List Action
+  counted_at node = kept_of next answers node.replica.begin (applied_of node.replica.records)
+
+  -- how many of its pending items are free
+  abbrev pub free_at : NodeState S → ℕ
+  free_at node =
+      length (free_items (counted_at node) node.replica.running.proposals
+      node.replica.running.pending)
+
 module _ {S : Type 0} (next : S → Action → S) (answers : S → Action → List Answer)
     (image : S → List ℕ) where
   -- the lines that show the objects of a node
@@ -155,3 +169,8 @@ module _ {S : Type 0} (next : S → Action → S) (answers : S → Action → Li
   Answers (Some Left) old new before after result =
       (new ≡ old)
       × PutsOr [] (to_be_bytes w32 (positions_left old.replica)) before after result
+  Answers (Some Pending) old new before after result =
+      (new ≡ old) × PutsOr [] (to_be_bytes w32 (free_at next answers old)) before after result
+  Answers (Some (Counted task)) old new before after result =
+      (new ≡ old)
+      × PutsOr [] (to_be_bytes w32 (last_number task (counted_at next answers old))) before after result

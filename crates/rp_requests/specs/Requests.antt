@@ -13,14 +13,17 @@ use Rattle.rp_requests.specs.declared.request.Request.{Request}
 use Rattle.rp_requests.specs.declared.request.Request.TheVariants as requests
 
 -- A step, with the node's input, or the reason for which the bytes of its packet are none; how many
--- actions are applied; the lines that show the objects; the answer of the last step; or how many
--- positions are left.
+-- actions are applied; the lines that show the objects; the answer of the last step; how many
+-- positions are left; how many pending items are free; or the number of a task's last call that
+-- counted.
 pub data Asked : Type 0 where
   Step : Result NodeInput Fault → Asked
   Applied : Asked
   Image : Asked
   LastAnswer : Asked
   Left : Asked
+  Pending : Asked
+  Counted : ℕ → Asked
 
 -- what a request asks for
 abbrev pub asked : Request → Asked
@@ -29,6 +32,8 @@ asked requests.Applied = Applied
 asked requests.Image = Image
 asked requests.LastAnswer = LastAnswer
 asked requests.Left = Left
+asked requests.Pending = Pending
+asked (requests.Counted task) = Counted task
 
 abbrev pub IsRightRequest : Request → Type 0
 IsRightRequest (requests.Step input) = IsRightInput input
@@ -36,6 +41,8 @@ IsRightRequest requests.Applied = Unit {0}
 IsRightRequest requests.Image = Unit {0}
 IsRightRequest requests.LastAnswer = Unit {0}
 IsRightRequest requests.Left = Unit {0}
+IsRightRequest requests.Pending = Unit {0}
+IsRightRequest (requests.Counted task) = Unit {0}
 
 abbrev pub given : NodeInput → Option Asked
 given input = Some (Step (Ok input))
@@ -88,12 +95,17 @@ abbrev pub ask_asked : List ℕ → Option Asked
 ask_asked (node ∷ []) = ask_to node
 ask_asked _ = None
 
+abbrev pub counted_asked : List ℕ → Option Asked
+counted_asked (task ∷ []) = if nat_le 1 task && nat_le task 8 then Some (Counted task) else None
+counted_asked _ = None
+
 abbrev pub question_asked : ℕ → List ℕ → Option Asked
 question_asked kind [] =
     if kind == 16 then Some Applied
     else if kind == 17 then Some Image
     else if kind == 18 then Some LastAnswer
     else if kind == 19 then Some Left
+    else if kind == 20 then Some Pending
     else None
 question_asked kind _ = None
 
@@ -107,6 +119,7 @@ asked_by kind operands =
     else if kind == 5 then report_asked operands
     else if kind == 6 then range_asked operands
     else if kind == 7 then ask_asked operands
+    else if kind == 21 then counted_asked operands
     else question_asked kind operands
 
 unfoldable pub asked_of : List ℕ → Option Asked

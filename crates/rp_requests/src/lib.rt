@@ -8,6 +8,7 @@
 //! - `tail`: what a device holds after its whole records
 //! - `opening`: a node that is opened over a caller's bytes
 //! - `node`: a node that answers requests
+//! - `questions`: what it answers about its pending items and its tasks, and what it is to do next
 //! - `task_request`: a caller's request to a task, as bytes
 //! - `task`: a task that answers requests
 #![tactic(auto)]
@@ -15,6 +16,7 @@
 mod buffer;
 mod node;
 mod opening;
+mod questions;
 mod refusal;
 mod request;
 mod tail;

@@ -1,13 +1,13 @@
 //! A node that answers requests.
 
-ghost use Rattle.std.specs.Prelude.{◌≡◌, [], length, IfErr, OnErr, OnOk};
+ghost use Rattle.std.specs.Prelude.{◌≡◌, [], ◌∷◌, length, Some, IfErr, OnErr, OnOk};
 ghost use Rattle.rp_replica.specs.Inputs.{input_effect};
 ghost use Rattle.rp_replica.specs.Turning.{StopsIf};
 ghost use Rattle.rp_rules.specs.Inputs.{IsRightInput, given_by};
 ghost use Rattle.rp_model.specs.declared.effect.Dropped.TheVariants.{No};
 ghost use Rattle.rp_requests.specs.Buffers.{Puts, PutsOr, with_front};
 ghost use Rattle.rp_requests.specs.Nodes.{Answers, ImageAnswers, StepAnswers, StepMade, image_of, is_at_end, positions_left, step_refusal};
-ghost use Rattle.rp_requests.specs.Requests.{asked_of};
+ghost use Rattle.rp_requests.specs.Requests.{IsRightRequest, asked, asked_of};
 
 use crate::buffer::{Lengths, put, put_front, put_parts};
 use crate::refusal::Refusal;
@@ -30,9 +30,9 @@ const WINDOW: u32 = 64;
 /// A node with a copy of its device.
 #[derive(Drop)]
 pub struct Node<M: Machine> {
-    replica: Replica<M, MemDevice>,
+    pub(crate) replica: Replica<M, MemDevice>,
     /// How many positions the log has.
-    positions: u16,
+    pub(crate) positions: u16,
     /// Where on the device the record of the last step begins.
     last_record: usize,
     /// The packets of the last step.
@@ -103,16 +103,49 @@ impl<M: Machine> Node<M> {
             answer.old answer.new result }
     {
         match request_of(request) {
-            Some(Request::Step(input)) => self.step(alloc, &input, answer),
-            Some(Request::Applied) => put(&self.replica.applied().to_be_bytes(), answer),
-            Some(Request::Image) => self.put_image(alloc, answer),
-            Some(Request::LastAnswer) => match self.put_last(answer) {
+            Some(request) => self.serve(alloc, &request, answer),
+            None => Err(Refusal::BadRequest),
+        }
+    }
+
+    /// Answers a request that was read.
+    fn serve(
+        &mut self,
+        alloc: Global,
+        request: &Request<'_>,
+        answer: &mut [u8],
+    ) -> Result<Lengths, Refusal>
+        requires { IsRightRequest request.now }
+        ensures { Answers M.next M.answers M.image (Some (asked request.now)) self.old self.new
+            answer.old answer.new result }
+    {
+        match request {
+            Request::Step(input) => self.step(alloc, input, answer),
+            Request::Applied => put(&self.replica.applied().to_be_bytes(), answer),
+            Request::Image => self.put_image(alloc, answer),
+            Request::LastAnswer => match self.put_last(answer) {
                 Ok(lengths) => Ok(lengths),
                 Err(needed) => Err(Refusal::ShortAnswer(needed)),
             },
-            Some(Request::Left) => put(&self.left().to_be_bytes(), answer),
-            None => Err(Refusal::BadRequest),
+            Request::Left => put(&self.left().to_be_bytes(), answer),
+            Request::Pending => put(&self.free_pending().to_be_bytes(), answer),
+            Request::Counted(task) => self.put_counted(*task, answer),
         }
+    }
+
+    /// Answers the request that brings a packet, as `call`, by the packet alone.
+    #[tactic(auto, unfolding(crate::specs::Requests::asked_of, crate::specs::Requests::asked_by))]
+    pub fn receive(
+        &mut self,
+        alloc: Global,
+        packet: &[u8],
+        answer: &mut [u8],
+    ) -> Result<Lengths, Refusal>
+        // claim: A node by handle makes of a packet alone what it makes of the request that brings it
+        ensures { Answers M.next M.answers M.image (asked_of (1 ∷ packet.now)) self.old self.new
+            answer.old answer.new result }
+    {
+        self.step(alloc, &Input::Receive(packet), answer)
     }
 
     /// Makes a step.

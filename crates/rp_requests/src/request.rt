@@ -4,9 +4,9 @@
 ghost use Rattle.std.specs.Prelude.{◌≡◌, ◌∷◌, [], Some, None, IfSome, IfNone, option_map};
 ghost use Rattle.std.specs.Int.{w16, from_be_bytes};
 ghost use Rattle.rp_base.specs.Number.{IsPosition};
-ghost use Rattle.rp_requests.specs.Requests.{asked, asked_of, lead_asked, interrupt_asked, tick_asked, report_asked, range_asked, ask_asked, IsRightRequest};
+ghost use Rattle.rp_requests.specs.Requests.{asked, asked_of, lead_asked, interrupt_asked, tick_asked, report_asked, range_asked, ask_asked, IsRightRequest, counted_asked};
 
-use rp_base::{MOST_SOURCES, NodeId, Position, PositionRange};
+use rp_base::{MOST_SOURCES, NodeId, Position, PositionRange, TaskId};
 use rp_replica::Input;
 
 /// A caller's request to a node.
@@ -20,6 +20,10 @@ pub(crate) enum Request<'a> {
     Image,
     /// How many positions of the log are left.
     Left,
+    /// How many pending items are free.
+    Pending,
+    /// The number of a task's last call that counted.
+    Counted(TaskId),
     /// The answer of the last step that was made.
     LastAnswer,
 }
@@ -43,6 +47,8 @@ pub(crate) fn request_of(bytes: &[u8]) -> Option<Request<'_>>
         17 if operands.is_empty() => Some(Request::Image),
         18 if operands.is_empty() => Some(Request::LastAnswer),
         19 if operands.is_empty() => Some(Request::Left),
+        20 if operands.is_empty() => Some(Request::Pending),
+        21 => counted_of(operands),
         _ => None,
     }
 }
@@ -129,6 +135,18 @@ fn ask_of(operands: &[u8]) -> Option<Request<'static>>
     };
     let node = NodeId::new(*node)?;
     Some(Request::Step(Input::Ask(node)))
+}
+
+/// The question for a task's last call that counted: the task, 1 to 8, in one byte.
+fn counted_of(operands: &[u8]) -> Option<Request<'static>>
+    ensures asked { option_map asked result ≡ counted_asked operands.now }
+    ensures right { IfSome result IsRightRequest }
+{
+    let [task] = operands else {
+        return None;
+    };
+    let task = TaskId::new(*task)?;
+    Some(Request::Counted(task))
 }
 
 /// The position in these two bytes.

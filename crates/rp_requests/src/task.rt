@@ -8,7 +8,7 @@ ghost use Rattle.rp_base.specs.Number.{IsTask};
 ghost use Rattle.rp_codec.specs.Message.{IsCallOf};
 ghost use Rattle.rp_codec.specs.Text.{text_of, reply_text};
 ghost use Rattle.rp_codec.specs.declared.packet.Party.TheVariants.{Task as TaskParty};
-ghost use Rattle.rp_tasks.specs.Calls.{no_calls};
+ghost use Rattle.rp_tasks.specs.Calls.{no_calls, task_after};
 ghost use Rattle.rp_requests.specs.Buffers.{IsPut};
 ghost use Rattle.rp_requests.specs.TaskRequests.{task_asked, task_asked_of, IsRightTaskRequest, TakePacket};
 ghost use Rattle.rp_requests.specs.Tasks.{TaskAnswers, TaskDoes, again_text, call_packet, is_task, once_taken, reply_taken, taken_text};
@@ -53,10 +53,21 @@ impl Task {
         ensures err { IfErr result (λ refusal. (refusal ≡ refusals.Fault faults.BadConfig)
             × (¬ IsTask number)) }
     {
+        Task::after(number, 0)
+    }
+
+    /// The task of this number, 1 to 8, which has made n calls, none of which is outstanding: its
+    /// next call has number n + 1. `BadConfig` for another number.
+    pub fn after(number: u8, calls: u32) -> Result<Self, Refusal>
+        // claim (ok): A task by handle that goes on after n calls numbers its next one n + 1
+        ensures ok { IfOk result (λ task. task ≡ task_after number calls) }
+        ensures err { IfErr result (λ refusal. (refusal ≡ refusals.Fault faults.BadConfig)
+            × (¬ IsTask number)) }
+    {
         match TaskId::new(number) {
             Some(task) => Ok(Task {
                 task,
-                stub: Stub::new(task),
+                stub: Stub::after(task, calls),
             }),
             None => Err(Refusal::Fault(Fault::BadConfig)),
         }
@@ -87,6 +98,24 @@ impl Task {
         }
     }
 
+    /// Answers the request that brings a packet, as `call`, by the packet alone.
+    #[tactic(auto, unfolding(crate::specs::TaskRequests::task_asked_of, crate::specs::TaskRequests::task_asked_by))]
+    pub fn receive(
+        &mut self,
+        alloc: Global,
+        packet: &[u8],
+        answer: &mut [u8],
+    ) -> Result<Lengths, Refusal>
+        // claim: A task by handle makes of a packet alone what it makes of the request that brings it
+        ensures { TaskAnswers (task_asked_of (3 ∷ packet.now)) self.old self.new
+            answer.old answer.new result }
+    {
+        if answer.len() < TASK_BYTES {
+            return Err(Refusal::ShortAnswer(TASK_BYTES));
+        }
+        self.take_packet(alloc, packet, answer)
+    }
+
     /// Answers a request that was read.
     fn serve(
         &mut self,
@@ -110,7 +139,7 @@ impl Task {
                 Err(fault) => Err(Refusal::Fault(fault)),
             },
             TaskRequest::Again(node) => Ok(self.put_again(*node, answer)),
-            TaskRequest::Receive(packet) => self.receive(alloc, packet, answer),
+            TaskRequest::Receive(packet) => self.take_packet(alloc, packet, answer),
         }
     }
 
@@ -128,7 +157,7 @@ impl Task {
 
     /// Takes the reply of a packet, if it is one to the outstanding call; otherwise the answer is
     /// empty.
-    fn receive(
+    fn take_packet(
         &mut self,
         alloc: Global,
         bytes: &[u8],

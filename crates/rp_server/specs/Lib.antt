@@ -4,3 +4,4 @@ pub mod Invariant
 pub mod Status
 pub mod Applying
 pub mod Ticks
+pub mod Free

@@ -7,6 +7,7 @@
 //! - `acceptor`: what it promised and voted, and how a promise or a vote is written
 //! - `proposer`, `own_action`: the proposals that it leads, the positions at which it may lead, and
 //!   the action that a proposal takes as its own
+//! - `free_items`: the pending items for which it has something to do
 //! - `learner`: votes that are heard
 //! - `learn`, `apply`, `window`, `pending`: an action that is learned, applied in order and
 //!   answered; the learner's window, which follows the log; the items that wait to be proposed
@@ -17,6 +18,7 @@
 
 mod acceptor;
 mod apply;
+mod free_items;
 mod heard;
 mod laws;
 mod learn;

@@ -61,7 +61,7 @@ impl<M: Machine> Server<M> {
     }
 
     /// Whether the item did not count yet, and none above it did.
-    fn is_ahead(&self, item: RightAction) -> bool
+    pub(crate) fn is_ahead(&self, item: RightAction) -> bool
         ensures { result ≡ is_ahead
             (kept_of M.next M.answers self.now.begin (applied_of self.now.records)) item }
     {

@@ -11,9 +11,13 @@ pub record Calls : Type 0 where
   pub made : ℕ
   pub outstanding : Option Action
 
+-- a task that has made n calls, none of which is outstanding
+abbrev pub task_after : ℕ → ℕ → Calls
+task_after task made = record { task = task; made = made; outstanding = None }
+
 -- a task that has made no call
 abbrev pub no_calls : ℕ → Calls
-no_calls task = record { task = task; made = 0; outstanding = None }
+no_calls task = task_after task 0
 
 -- why the next call is refused, if it is: while one is outstanding, and else once the numbers are
 -- exhausted

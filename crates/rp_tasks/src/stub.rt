@@ -4,7 +4,7 @@ ghost use Rattle.std.specs.Prelude.{◌≡◌, IfSome, IfOk, OnErr, if◌then◌
 ghost use Rattle.std.specs.Result.{result_err};
 ghost use Rattle.rp_base.specs.Action.{IsIndex, IsRight, IsRightOperation};
 ghost use Rattle.rp_base.specs.Calls.{next_call, is_reply_to};
-ghost use Rattle.rp_tasks.specs.Calls.{no_calls, refusal_of, with_call, with_reply};
+ghost use Rattle.rp_tasks.specs.Calls.{task_after, no_calls, refusal_of, with_call, with_reply};
 
 use rp_base::{Action, Fault, Operation, Reply, TaskId};
 use std::marker::Model;
@@ -74,6 +74,18 @@ impl Stub {
         Stub {
             task,
             made: 0,
+            outstanding: None,
+        }
+    }
+
+    /// A task that has made n calls, none of which is outstanding: its next call has number n + 1.
+    pub fn after(task: TaskId, calls: u32) -> Self
+        // claim: A task that goes on after n calls numbers its next one n + 1
+        ensures { result ≡ task_after task calls }
+    {
+        Stub {
+            task,
+            made: calls,
             outstanding: None,
         }
     }

@@ -12,10 +12,10 @@ use Rattle.rp_model.specs.Parts.{NodePart, Running}
 use Rattle.rp_boxes.specs.Parts.{Part}
 use Rattle.rp_boxes.specs.Seats.{SeatState, HasApplied, IsRunning, IsStopped}
 use Rattle.rp_threads.specs.Loops.{is_idle, is_to_lead, sender_at}
-use Rattle.rp_threads.specs.Patience.{waits, is_over, after_quiet}
+use Rattle.rp_patience.specs.Patience.{waits, is_over, after_quiet}
 use Rattle.rp_threads.specs.Rounds.{NodeAt, HasPending, HasWaited, IsToLeadAt, NeedNotLead, still_waits, no_position_left, CountsQuiet, IsLeadAnew, WorkerAt, IsMade, IsUnmade}
 use Rattle.rp_threads.specs.Turns.{IsEventBy, IsLost, IsStopBy, IsNodeTurn, IsStoppedTurn}
-use Rattle.rp_threads.specs.declared.patience.Patience.{Patience}
+use Rattle.rp_patience.specs.declared.patience.Patience.{Patience}
 use Rattle.rp_threads.specs.declared.turns.Turn.{Turn}
 use Rattle.rp_threads.specs.declared.turns.Turn.TheVariants.{Received, Led, Idle}
 use Rattle.rp_threads.specs.declared.turns.TurnResult.{TurnResult}
@@ -66,15 +66,15 @@ module _ {P : Type 0} (seat : SeatState P) (old : Patience) where
   uncounted new same none = record { quiet = λ applied has pending. absurd (none pending); other = λ fails. same }
 
   module _ (number applied : ℕ) (is : number ≡ seat.number) (has : HasApplied seat.part applied) where
-    pub quiet_counted : (new : Patience) → HasPending seat.part → new ≡ after_quiet number applied old → CountsQuiet seat old new
+    pub quiet_counted : (new : Patience) → HasPending seat.part → new ≡ after_quiet 1 number applied old → CountsQuiet seat old new
     quiet_counted new pending after = record {
-      quiet = λ n also some. after ∙ ap (λ k. after_quiet k applied old) is ∙ ap (λ k. after_quiet seat.number k old) (one_applied seat.part applied n has also);
+      quiet = λ n also some. after ∙ ap (λ k. after_quiet 1 k applied old) is ∙ ap (λ k. after_quiet 1 seat.number k old) (one_applied seat.part applied n has also);
       other = λ none. absurd (none pending);
     }
 
-    module _ (over : Bool) (answer : over ≡ is_over number (waits applied old)) where
-      at_seat : over ≡ is_over seat.number (waits applied old)
-      at_seat = answer ∙ ap (λ k. is_over k (waits applied old)) is
+    module _ (over : Bool) (answer : over ≡ is_over number (waits 1 applied old)) where
+      at_seat : over ≡ is_over seat.number (waits 1 applied old)
+      at_seat = answer ∙ ap (λ k. is_over k (waits 1 applied old)) is
 
       pub has_waited : over ≡ true → (result : Option ℕ) → OnSome result (HasWaited seat old)
       has_waited holds None = tt

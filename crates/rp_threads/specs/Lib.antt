@@ -6,4 +6,3 @@ pub mod Tasks
 pub mod TaskRounds
 pub mod Threads
 pub mod Runs
-pub mod Patience

@@ -15,11 +15,11 @@ use Rattle.rp_tasks.specs.Line.{Line}
 use Rattle.rp_boxes.specs.Parts.{Part, OfNode}
 use Rattle.rp_boxes.specs.Seats.{SeatState, HasApplied, IsRunning, IsStopped}
 use Rattle.rp_threads.specs.Loops.{sender_at, is_to_lead, is_refusal, is_uneventful, no_turns, counted}
-use Rattle.rp_threads.specs.Patience.{fresh_wait, waits, is_over, after_quiet}
+use Rattle.rp_patience.specs.Patience.{fresh_wait, waits, is_over, after_quiet}
 use Rattle.rp_threads.specs.Turns.{IsLost, IsEventBy, IsStopBy, IsNodeTurn, IsStoppedTurn}
 use Rattle.rp_threads.specs.declared.loops.Counts.{Counts}
 use Rattle.rp_threads.specs.declared.loops.Worker.{Worker}
-use Rattle.rp_threads.specs.declared.patience.Patience.{Patience}
+use Rattle.rp_patience.specs.declared.patience.Patience.{Patience}
 use Rattle.rp_threads.specs.declared.turns.PacketCounts.{PacketCounts}
 use Rattle.rp_threads.specs.declared.turns.Turn.TheVariants.{Led, Idle}
 use Rattle.rp_threads.specs.declared.turns.TurnResult.{TurnResult}
@@ -43,21 +43,21 @@ pub record IsToLeadAt (part : Part) (position : ℕ) : Type 0 where
 abbrev pub HasWaited : {P : Type 0} → SeatState P → Patience → Type 0
 HasWaited seat patience =
     (applied : ℕ) × HasApplied seat.part applied
-    × (is_over seat.number (waits applied patience) ≡ true)
+    × (is_over seat.number (waits 1 applied patience) ≡ true)
 
 -- Why a node does not lead after an idle turn: nothing is pending, as at a stopped node; by its
 -- patience it is not to lead yet; or it has applied an action at the last position.
 pub data NeedNotLead {P : Type 0} (seat : SeatState P) (patience : Patience) : Type 0 where
   nothing_pending : ¬ HasPending seat.part → NeedNotLead seat patience
   still_waits : (applied : ℕ) → HasApplied seat.part applied
-      → is_over seat.number (waits applied patience) ≡ false → NeedNotLead seat patience
+      → is_over seat.number (waits 1 applied patience) ≡ false → NeedNotLead seat patience
   no_position_left : (applied : ℕ) → HasApplied seat.part applied → 65535 ≤ applied
       → NeedNotLead seat patience
 
 -- An idle turn is counted by the node's patience if something is pending, and only then.
 pub record CountsQuiet {P : Type 0} (seat : SeatState P) (old new : Patience) : Type 0 where
   pub quiet : (applied : ℕ) → HasApplied seat.part applied → HasPending seat.part
-      → new ≡ after_quiet seat.number applied old
+      → new ≡ after_quiet 1 seat.number applied old
   pub other : ¬ HasPending seat.part → new ≡ old
 
 -- the command to lead there

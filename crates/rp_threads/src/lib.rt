@@ -6,7 +6,6 @@
 //! - `gate`: decides which turns a node makes
 //! - `options`: what the loops of a run share
 //! - `rotation`: whose box a loop empties, and in which turns a node is to lead
-//! - `patience`: when a node leads with a new ballot
 //! - `loops`: a node's turns, one after the other
 //! - `tasks`: a task's calls, one after the other
 //! - `crossing`: seats may be moved to other threads
@@ -18,7 +17,6 @@ mod crossing;
 mod gate;
 mod loops;
 mod options;
-mod patience;
 mod rotation;
 mod sends;
 mod starts;

@@ -10,13 +10,13 @@ ghost use Rattle.rp_threads.specs.Turns.{IsEventBy, IsStopBy};
 
 use crate::gate::Gate;
 use crate::options::LoopOptions;
-use crate::patience::Patience;
 use crate::rotation::{is_to_lead, sender};
 use crate::turns::{Turn, TurnResult, node_step, node_turn};
 use rp_base::{Fault, Position};
 use rp_boxes::NodeSeat;
 use rp_codec::Party;
 use rp_machine::Machine;
+use rp_patience::Patience;
 use rp_replica::Input;
 use rp_store::Device;
 use rp_tasks::FaultLine;
@@ -132,7 +132,7 @@ fn position_to_lead<M: Machine, D: Device>(
     if !seat.has_pending() {
         return None;
     }
-    if !patience.is_over(seat.number(), applied) {
+    if !patience.is_over(seat.number(), applied, 1) {
         return None;
     }
     position_after(applied)

@@ -3,7 +3,7 @@ use Rattle.std.proofs.Common.{◌≡◌, ℕ, ◌+◌, false, true, inl, inr, re
 use Rattle.rp_threads.specs.Loops.{no_turns, total_of}
 use Rattle.rp_threads.specs.Rounds.{NodeAt, AreTurns, IsTurnOf, IsTurnUnmade, before_turns, worker_at}
 use Rattle.rp_threads.specs.Threads.{IsLooped}
-use Rattle.rp_threads.specs.declared.patience.Patience.{Patience}
+use Rattle.rp_patience.specs.declared.patience.Patience.{Patience}
 use Rattle.rp_threads.proofs.Chains.{looped, ended_by}
 use Rattle.rp_threads.proofs.Leads.{asked_at}
 use Rattle.rp_threads.proofs.Rounds.{counted_more}

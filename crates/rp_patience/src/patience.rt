@@ -1,0 +1,92 @@
+//! How long a node has waited.
+
+ghost use Rattle.std.specs.Prelude.{◌≡◌};
+ghost use Rattle.rp_patience.specs.Patience.{fresh_wait, waits, after_quiet, has_waited, is_over, tried};
+
+use rp_base::NodeId;
+
+/// After how many quiet turns node 1 leads again; node k waits k times as many.
+const QUIET_TURNS: u64 = 32;
+
+/// At most how often a wait is doubled.
+const MOST_DOUBLINGS: u32 = 6;
+
+/// How long a node has waited for something new to be applied, and how often it has led since then.
+/// The waits differ, so that one node leads while the others wait. Node 1 leads as soon as it has
+/// something to decide, and node k after 32 k quiet turns. A node that led in vain waits as long
+/// again, and from its third try on twice as long as before, up to 64 times as long. Once something
+/// new is applied, the wait and the tries start again from 0. It has the layout that a C caller
+/// reads, and is all zero at first.
+#[repr(C)]
+#[derive(Clone, Copy, Debug, PartialEq, Eq)]
+pub struct Patience {
+    /// How many actions were applied when the wait began.
+    pub applied: u32,
+    /// How often the node has led, or asked, since then.
+    pub tries: u32,
+    /// How many quiet turns there were since the last try.
+    pub quiet: u64,
+}
+
+impl Patience {
+    /// Nothing is applied yet, and no turn was quiet.
+    pub fn new() -> Patience
+        ensures { result ≡ fresh_wait 0 }
+    {
+        Patience {
+            applied: 0,
+            tries: 0,
+            quiet: 0,
+        }
+    }
+
+    /// Counts quiet turns of the node of this number, which has applied n actions and has something
+    /// to decide. Returns whether the node is to lead now; if so, its wait starts again.
+    pub fn is_over(&mut self, node: NodeId, applied: u32, turns: u64) -> bool
+        ensures answer { result ≡ is_over node (waits turns applied self.old) }
+        ensures after { self.new ≡ after_quiet turns node applied self.old }
+    {
+        self.wait(applied, turns);
+        let over = self.is_to_lead(node);
+        if over {
+            self.try_again();
+        }
+        over
+    }
+
+    /// Counts quiet turns of a node that has applied n actions.
+    pub(crate) fn wait(&mut self, applied: u32, turns: u64)
+        ensures { self.new ≡ waits turns applied self.old }
+    {
+        if applied != self.applied {
+            *self = Patience {
+                applied,
+                ..Patience::new()
+            };
+        }
+        self.quiet = self.quiet.saturating_add(turns);
+    }
+
+    /// Whether the node has waited as long as it waits.
+    pub(crate) fn has_waited(&self, node: NodeId) -> bool
+        ensures { result ≡ has_waited node self.now }
+    {
+        let doublings = self.tries.saturating_sub(1).min(MOST_DOUBLINGS);
+        (QUIET_TURNS * u64::from(node.get())) << doublings <= self.quiet
+    }
+
+    /// Whether the node, which has something to decide, is to lead now.
+    pub(crate) fn is_to_lead(&self, node: NodeId) -> bool
+        ensures { result ≡ is_over node self.now }
+    {
+        (node.get() == 1 && self.tries == 0) || self.has_waited(node)
+    }
+
+    /// Counts a try: the wait starts again.
+    pub(crate) fn try_again(&mut self)
+        ensures { self.new ≡ tried self.old }
+    {
+        self.quiet = 0;
+        self.tries = self.tries.saturating_add(1);
+    }
+}

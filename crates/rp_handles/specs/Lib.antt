@@ -3,3 +3,4 @@ pub mod DeclaredParts
 pub mod Devices
 pub mod Handles
 pub mod Owning
+pub mod Stations

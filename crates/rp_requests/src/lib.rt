@@ -9,11 +9,13 @@
 //! - `opening`: a node that is opened over a caller's bytes
 //! - `node`: a node that answers requests
 //! - `questions`: what it answers about its pending items and its tasks, and what it is to do next
+//! - `ended`: what a station asks of a node whose log has ended
 //! - `task_request`: a caller's request to a task, as bytes
 //! - `task`: a task that answers requests
 #![tactic(auto)]
 
 mod buffer;
+mod ended;
 mod node;
 mod opening;
 mod questions;

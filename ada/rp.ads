@@ -217,6 +217,10 @@ package RP is
    Report      : constant Byte := 5;   --  a step: a report to the audit. The first position (2)
    Lead_Range  : constant Byte := 6;   --  a step: the node is to lead at a range. Its first position (2),
                                        --  its length, 1 to 64 (1)
+   Ask         : constant Byte := 7;   --  a step: the node asks another one for the positions that it has
+                                       --  not learned, of the 64 from its first unlearned one on: a packet
+                                       --  for each, and no record. The node that is asked (1); Bad_Config
+                                       --  if that is no node of the deck, or the node itself
    Applied     : constant Byte := 16;  --  a question: how many actions are applied. 4 bytes
    Image       : constant Byte := 17;  --  a question: the lines that `show` prints of the objects and the
                                        --  clock

@@ -41,7 +41,7 @@ enum rp_status {
   RP_TASK_BUSY = 9,      /* the task's last call has no reply yet */
   RP_NUMBERS_SPENT = 10, /* the task made its last call */
   RP_BAD_DECK = 11,      /* the deck is bad */
-  RP_BAD_CONFIG = 12,    /* the deck has no such node, or no deck has such a task */
+  RP_BAD_CONFIG = 12,    /* the deck has no such node, or a node is to ask itself, or no deck has such a task */
   RP_IO = 13,            /* the deck has more than 1,048,576 bytes; nothing has changed */
   RP_SHORT_ANSWER = 64,  /* the answer is longer than its buffer; nothing but its length is written */
   RP_BAD_REQUEST = 65,   /* the bytes are no request; nothing has changed */
@@ -235,6 +235,10 @@ enum rp_node_request {
   RP_NODE_REPORT = 5,     /* a step: a report to the audit. The first position (2) */
   RP_NODE_LEAD_RANGE = 6, /* a step: the node is to lead at a range. Its first position (2), its length,
                            * 1 to 64 (1) */
+  RP_NODE_ASK = 7,        /* a step: the node asks another one for the positions that it has not learned, of the
+                           * 64 from its first unlearned one on: a packet for each, and no record. The node
+                           * that is asked (1); RP_BAD_CONFIG if that is no node of the deck, or the node
+                           * itself */
   RP_NODE_APPLIED = 16,   /* a question: how many actions are applied. The answer has 4 bytes */
   RP_NODE_IMAGE = 17,     /* a question: the lines that `show` prints of the objects and the clock */
   RP_NODE_LAST = 18,      /* a question: the answer of the last step that was made, again */
@@ -282,7 +286,7 @@ uint8_t rp_device_open(const uint8_t *deck, size_t count, uint8_t number, const 
  * RP_SHORT_ANSWER: the buffer has fewer than lengths->used bytes. A step needs RP_STEP_BYTES and is not made.
  * RP_LONG_ANSWER: the step was made, its answer has lengths->used bytes, and `answer` is as it was:
  *   RP_NODE_LAST gives it into a longer buffer. No step is known to need that.
- * RP_WRONG_HANDLE, RP_BAD_REQUEST, RP_BAD_PACKET, RP_BALLOTS_SPENT, RP_LOG_FULL, RP_TOO_FAR,
+ * RP_WRONG_HANDLE, RP_BAD_REQUEST, RP_BAD_PACKET, RP_BAD_CONFIG, RP_BALLOTS_SPENT, RP_LOG_FULL, RP_TOO_FAR,
  * RP_OUT_OF_MEMORY: nothing has changed. */
 static inline uint8_t rp_node_call(rp_node *node, const uint8_t *request, size_t count, uint8_t *answer,
                                    size_t size, rp_lengths *lengths) {

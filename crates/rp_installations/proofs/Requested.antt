@@ -18,7 +18,7 @@ use Rattle.rp_codec.proofs.Decoded.{whole_again}
 use Rattle.rp_model.specs.Effect as nodes
 use Rattle.rp_model.specs.Effect.{NodeInput}
 use Rattle.rp_rules.specs.Inputs.{packet_given}
-use Rattle.rp_requests.specs.Requests.{Asked, Step, Applied, Image, LastAnswer, Left, Pending, Counted, given, lead_asked, interrupt_asked, tick_asked, report_asked, range_if, range_asked, counted_asked, question_asked, asked_by, asked_of}
+use Rattle.rp_requests.specs.Requests.{Asked, Step, Applied, Image, LastAnswer, Left, Pending, Counted, given, lead_asked, interrupt_asked, tick_asked, report_asked, range_if, range_asked, counted_asked, question_asked, asked_by, asked_of, ask_asked}
 use Rattle.rp_requests.specs.TaskRequests.{TaskAsked, MakeCall, SendAgain, TakePacket, operation_at, is_party, arg_at, call_with, call_if, call_asked, again_asked, task_asked_by, task_asked_of}
 use Rattle.rp_pending.specs.Pending.{MayCome}
 use Rattle.rp_installations.specs.Moves.{AreBytes, WasHandedOn, node_receives_byte, task_receives_byte}
@@ -174,8 +174,9 @@ may_come handed sent (kind ∷ operands) all bytes arrived =
     (λ _. if_comes sent (kind == 4) _ _ (λ _. tick_comes sent operands rest)
     (λ _. if_comes sent (kind == 5) _ _ (λ _. report_comes sent operands rest)
     (λ _. if_comes sent (kind == 6) _ _ (λ _. range_comes sent operands rest)
+    (λ _. if_comes sent (kind == 7) _ _ (λ _. ask_comes sent operands rest)
     (λ _. if_comes sent (kind == 21) _ _ (λ _. counted_comes sent operands)
-    (λ _. question_comes sent kind operands)))))))
+    (λ _. question_comes sent kind operands))))))))
 
 -- ---- tasks
 

@@ -30,7 +30,7 @@ use Rattle.rp_model.specs.Events.{Event, Submit, Again, Makes, Deliver, IsRightE
 use Rattle.rp_model.specs.Parts.{TaskPart}
 use Rattle.rp_model.specs.Tasks as tasks
 use Rattle.rp_model.specs.Tasks.{may_call, calls_if, asks, asks_again, takes_reply, task_hears, task_effect}
-use Rattle.rp_model.specs.World.{World, part_at, event_effect, task_done, task_done_if, task_takes, task_receives, arrives, delivers}
+use Rattle.rp_model.specs.World.{World, part_at, event_effect, task_done, task_done_if, task_takes, reaches_task, reaches, delivers, chosen_effect}
 use Rattle.rp_agreement.specs.Answered.{calls_so_far}
 use Rattle.rp_agreement.specs.History.{IsHistory}
 use Rattle.rp_agreement.specs.Order.{AllSent}
@@ -278,7 +278,7 @@ module _ {S : Type 0} (s : Setting S) (events : List Event) (w : World) (history
         let made : calls_so_far part_is ≡ length (answered ++ answer ∷ []) = ap (λ (b : Bool). cond b (suc (length answered)) (length answered)) (number_some number outstanding is) ∙ omega (arith, length-append answered (answer ∷ [])) in
         let text : Answer → List ℕ = λ a. reply_text a.reply in
         happens s events w history t part_is here (Makes (Deliver (suc found.0))) done_is (after_answer exchange before (Some (TakePacket packet)) new) given refl tt
-        (ap (delivers s w) found.1 ∙ ap (arrives s w m) to ∙ ap (task_receives s.config w t m) here ∙ ap (λ (d : Done TaskPart). task_done_if w t (Ok d)) hears)
+        (ap (chosen_effect s w) (ap (delivers w) found.1 ∙ ap (reaches w m) to ∙ ap (reaches_task t m) here) ∙ ap (λ (d : Done TaskPart). task_done_if w t (Ok d)) hears)
         (record {
           unopened = λ e. absurd (cc);
           opened = λ known e. let k : new ≡ known = cc in sym k ∙ goes ∙ (λ i. (let c : Calls = record { task = t; made = made i; outstanding = None } in c));

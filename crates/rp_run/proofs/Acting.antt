@@ -25,11 +25,11 @@ use Rattle.rp_model.specs.Effect.{Setting, Done, NodeInput, turn_done_if, runnin
 use Rattle.rp_model.specs.Events.{event_of, step_of}
 use Rattle.rp_model.specs.Parts.{NodePart, Running, TaskPart, Turn}
 use Rattle.rp_model.specs.Tasks.{TaskInput, Submit, Again, Take, next_call, may_call, calls_if, asks_again, takes, takes_reply, task_hears, task_effect, asks}
-use Rattle.rp_model.specs.World.{World, Transition, part_at, nothing_happens, task_done, node_done_if, task_done_if, task_takes, task_receives, node_takes, node_hears, node_receives, arrives, delivers, stops, restarts, step_effect, cut_step, delivery_is_cut, arrival_is_cut, hearing_is_cut, node_is_cut, event_effect}
+use Rattle.rp_model.specs.World.{World, Transition, part_at, nothing_happens, task_done, node_done_if, task_done_if, task_takes, stops, restarts, step_effect, cut_step, event_effect, chosen_effect, chosen_cut}
+use Rattle.rp_model.proofs.Choosing.{any_given, gives_any, by_chosen}
 use Rattle.rp_model.specs.declared.event.Event.{Event}
 use Rattle.rp_model.specs.declared.event.Event.TheVariants as events
 use Rattle.rp_model.specs.declared.event.Step.{Step}
-use Rattle.rp_model.specs.declared.event.Step.TheVariants.{Deliver, Lead, LeadRange, Interrupt, Tick, Report}
 use Rattle.rp_agreement.specs.Answered.{calls_so_far}
 use Rattle.rp_run.specs.Agreeing.{call_for}
 use Rattle.rp_run.specs.Items.{Item, Called, Asked}
@@ -101,67 +101,21 @@ module _ {S : Type 0} (s : Setting S) (event : Event) (no_call : called_by event
   nothing_for : (w : World) → IsFor s.config w event (Ok (nothing_happens w))
   nothing_for w = inl (record { tasks = refl; taken = refl; called = no_call })
 
-  takes_for : (w : World) (me : ℕ) (input : NodeInput) (part : Option NodePart) → IsFor s.config w event (node_takes s w me input part)
-  takes_for w me input None = tt
-  takes_for w me input (Some part) = node_for w me (node_effect s me part input) (input_takes_none me part input part.running)
-
-  hears_for : (w : World) (me : ℕ) (message : Message) (part : NodePart) (running : Option Running) → IsFor s.config w event (node_hears s w me message part running)
-  hears_for w me message part None = nothing_for w
-  hears_for w me message part (Some running) = node_for w me (node_effect s me part (nodes.Receive message)) (input_takes_none me part (nodes.Receive message) part.running)
-
-  received_for : (w : World) (me : ℕ) (message : Message) (part : Option NodePart) → IsFor s.config w event (node_receives s w me message part)
-  received_for w me message None = nothing_for w
-  received_for w me message (Some part) = hears_for w me message part part.running
-
-  -- a message that arrives at a task
-  task_received_for : (w : World) (t : ℕ) (message : Message) (part : Option TaskPart) → part_at w.tasks t ≡ part → IsFor s.config w event (task_receives s.config w t message part)
-  task_received_for w t message None there = nothing_for w
-  task_received_for w t message (Some part) there =
-      inr (record { t = t; part = part; input = Take message; done = task_hears t part message.body; there = there; resulted = refl; is = refl; called = no_call })
-
-  arrival_for : (w : World) (message : Message) (party : Party) → IsFor s.config w event (arrives s w message party)
-  arrival_for w message (Node me) = received_for w me message (part_at w.nodes me)
-  arrival_for w message (Task t) = task_received_for w t message (part_at w.tasks t) refl
-  arrival_for w message Audit = nothing_for w
-
-  delivery_for : (w : World) (message : Option Message) → IsFor s.config w event (delivers s w message)
-  delivery_for w None = tt
-  delivery_for w (Some message) = arrival_for w message message.to
-
+  -- a step, whole or cut
   step_for : (w : World) (step : Step) → IsFor s.config w event (step_effect s w (step_of step))
-  step_for w (Deliver number) = delivery_for w (part_at w.sent number)
-  step_for w (Lead me choice) = takes_for w me (nodes.Lead choice) (part_at w.nodes me)
-  step_for w (LeadRange me first count) = takes_for w me (nodes.LeadRange first count) (part_at w.nodes me)
-  step_for w (Interrupt me interrupt) = takes_for w me (nodes.Interrupt interrupt.source interrupt.occurrence) (part_at w.nodes me)
-  step_for w (Tick me now) = takes_for w me (nodes.Tick now) (part_at w.nodes me)
-  step_for w (Report me first) = takes_for w me (nodes.Report first) (part_at w.nodes me)
-
-  -- ---- stops and restarts
-
-  cuts_for : (w : World) (me : ℕ) (input : NodeInput) (kept : ℕ) (part : Option NodePart) → IsFor s.config w event (node_is_cut s w me input kept part)
-  cuts_for w me input kept None = tt
-  cuts_for w me input kept (Some part) = node_for w me (cut_effect s me part input kept) (cut_takes_none kept part (node_effect s me part input))
-
-  hearing_cut_for : (w : World) (message : Message) (me : ℕ) (part : Option NodePart) (kept : ℕ) → IsFor s.config w event (hearing_is_cut s w message me part kept)
-  hearing_cut_for w message me None kept = tt
-  hearing_cut_for w message me (Some part) kept = node_for w me (cut_effect s me part (nodes.Receive message) kept) (cut_takes_none kept part (node_effect s me part (nodes.Receive message)))
-
-  arrival_cut_for : (w : World) (message : Message) (party : Party) (kept : ℕ) → IsFor s.config w event (arrival_is_cut s w message party kept)
-  arrival_cut_for w message (Node me) kept = hearing_cut_for w message me (part_at w.nodes me) kept
-  arrival_cut_for w message (Task t) kept = tt
-  arrival_cut_for w message Audit kept = tt
-
-  delivery_cut_for : (w : World) (message : Option Message) (kept : ℕ) → IsFor s.config w event (delivery_is_cut s w message kept)
-  delivery_cut_for w None kept = tt
-  delivery_cut_for w (Some message) kept = arrival_cut_for w message message.to kept
+  step_for w step =
+      by_chosen w any_given (λ c. IsFor s.config w event (chosen_effect s w c))
+      (λ me part input here _. node_for w me (node_effect s me part input) (input_takes_none me part input part.running))
+      (λ t part message here _. inr (record { t = t; part = part; input = Take message; done = task_hears t part message.body; there = here; resulted = refl; is = refl; called = no_call }))
+      (λ whom. nothing_for w) tt (λ me none. tt) (step_of step) (gives_any w (step_of step))
 
   cut_step_for : (w : World) (step : Step) (kept : ℕ) → IsFor s.config w event (cut_step s w (step_of step) kept)
-  cut_step_for w (Deliver number) kept = delivery_cut_for w (part_at w.sent number) kept
-  cut_step_for w (Lead me choice) kept = cuts_for w me (nodes.Lead choice) kept (part_at w.nodes me)
-  cut_step_for w (LeadRange me first count) kept = cuts_for w me (nodes.LeadRange first count) kept (part_at w.nodes me)
-  cut_step_for w (Interrupt me interrupt) kept = cuts_for w me (nodes.Interrupt interrupt.source interrupt.occurrence) kept (part_at w.nodes me)
-  cut_step_for w (Tick me now) kept = cuts_for w me (nodes.Tick now) kept (part_at w.nodes me)
-  cut_step_for w (Report me first) kept = cuts_for w me (nodes.Report first) kept (part_at w.nodes me)
+  cut_step_for w step kept =
+      by_chosen w any_given (λ c. IsFor s.config w event (chosen_cut s w kept c))
+      (λ me part input here _. node_for w me (cut_effect s me part input kept) (cut_takes_none kept part (node_effect s me part input)))
+      (λ t part message here _. tt) (λ whom. tt) tt (λ me none. tt) (step_of step) (gives_any w (step_of step))
+
+  -- ---- stops and restarts
 
   stops_for : (w : World) (me : ℕ) (part : Option NodePart) → IsFor s.config w event (stops w me part)
   stops_for w me None = tt

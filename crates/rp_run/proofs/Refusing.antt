@@ -18,7 +18,7 @@ use Rattle.rp_codec.specs.declared.packet.Party.TheVariants.{Node, Task, Audit}
 use Rattle.rp_model.specs.declared.event.Event.{Event}
 use Rattle.rp_model.specs.declared.event.Event.TheVariants.{Submit, Again, Node as NodeStep, Cut, Stop, Restart}
 use Rattle.rp_model.specs.declared.event.Step.{Step}
-use Rattle.rp_model.specs.declared.event.Step.TheVariants.{Deliver, Lead, LeadRange, Interrupt, Tick, Report}
+use Rattle.rp_model.specs.declared.event.Step.TheVariants.{Deliver, Lead, LeadRange, Interrupt, Tick, Report, Ask}
 use Rattle.rp_model.specs.Parts.{NodePart}
 use Rattle.rp_model.specs.Parts.{Running}
 use Rattle.rp_model.specs.Parts.{TaskPart}
@@ -28,7 +28,7 @@ use Rattle.rp_model.specs.Effect.{Setting, Done, NodeInput, turn_done, turn_done
 use Rattle.rp_model.specs.Tasks as tasks
 use Rattle.rp_model.specs.Tasks.{next_call, may_call, calls_if, asks_again, task_hears}
 use Rattle.rp_model.specs.Events.{event_of, step_of}
-use Rattle.rp_model.specs.World.{World, Transition, part_at, with_part, nothing_happens, node_done, task_done, node_done_if, task_done_if, task_takes, task_receives, node_takes, node_hears, node_receives, arrives, delivers, stops, restarts, step_effect, cut_step, delivery_is_cut, arrival_is_cut, hearing_is_cut, node_is_cut, event_effect}
+use Rattle.rp_model.specs.World.{World, Transition, part_at, with_part, nothing_happens, node_done, task_done, node_done_if, task_done_if, task_takes, stops, restarts, step_effect, cut_step, event_effect, Chosen, NodeTakes, LostFor, commanded, reaches_node, reaches_number, reaches_task, reaches, delivers, chosen, chosen_effect, chosen_cut}
 use Rattle.rp_deck.specs.Script.{IsUpTo, IsStepWithin, IsEventWithin}
 use Rattle.rp_base.specs.Proposals.{Proposal, proposal_at, is_prepared}
 use Rattle.rp_base.specs.Ranges.{Range}
@@ -143,9 +143,10 @@ cut_allowed : (kept : ℕ) (part : NodePart) (answer : Result (Done NodePart) Fa
 cut_allowed kept part (Ok done) allowed = tt
 cut_allowed kept part (Err fault) allowed = allowed
 
--- a range to lead at has 1 to 64 positions
+-- a range to lead at has 1 to 64 positions, and nobody is to be asked
 abbrev pub HasCount : NodeInput → Type 0
 HasCount (nodes.LeadRange first count) = IsUpTo 64 count
+HasCount (nodes.Ask to) = ⊥
 HasCount _ = Unit {0}
 
 module _ {S : Type 0} (s : Setting S) where
@@ -165,7 +166,7 @@ module _ {S : Type 0} (s : Setting S) where
   running_allowed : (me : ℕ) (part : NodePart) (input : NodeInput) (running : Running) → HasCount input → IsAllowed (effect_while s me part input (Some running))
   running_allowed me part input running counted =
       let node = running_node s me part.records running in
-      turned_allowed part node (plan_of node input) (plan_refused node input IsNumbered (omega arith, omega arith) (omega arith, omega arith) (λ first count is.
+      turned_allowed part node (plan_of node input) (plan_refused node input IsNumbered (omega arith, omega arith) (omega arith, omega arith) (λ to is. absurd (subst HasCount is counted)) (λ first count is.
       range_found (not (in_range 1 64 count)) (nat_lt (2 ^ 16) (first + count)) (record { first = first; count = count }) (count_right count (subst HasCount is counted))))
 
   input_allowed : (me : ℕ) (part : NodePart) (input : NodeInput) (running : Option Running) → HasCount input → IsAllowed (effect_while s me part input running)
@@ -177,69 +178,61 @@ module _ {S : Type 0} (s : Setting S) where
   nothing_keeps : (w : World) → Keeps w (Ok (nothing_happens w))
   nothing_keeps w = (refl, refl)
 
-  hears_keep : (w : World) (me : ℕ) (message : Message) (part : NodePart) (running : Option Running) → Keeps w (node_hears s w me message part running)
-  hears_keep w me message part None = nothing_keeps w
-  hears_keep w me message part (Some running) = allowed_keeps w me _ (input_allowed me part (nodes.Receive message) part.running tt)
+  -- what is chosen, whole and cut
+  abbrev KeepsChosen : World → Chosen → Type 0
+  KeepsChosen w c = Keeps w (chosen_effect s w c) × ((kept : ℕ) → Keeps w (chosen_cut s w kept c))
 
-  received_keeps : (w : World) (me : ℕ) (message : Message) (part : Option NodePart) → Keeps w (node_receives s w me message part)
-  received_keeps w me message None = nothing_keeps w
+  node_chosen_keeps : (w : World) (me : ℕ) (part : NodePart) (input : NodeInput) → HasCount input → KeepsChosen w (NodeTakes me part input)
+  node_chosen_keeps w me part input counted =
+      let allowed = input_allowed me part input part.running counted in
+      (allowed_keeps w me _ allowed, λ kept. allowed_keeps w me _ (cut_allowed kept part _ allowed))
+
+  lost_keeps : (w : World) (whom : Option ℕ) → KeepsChosen w (LostFor whom)
+  lost_keeps w whom = (nothing_keeps w, λ kept. (omega arith, omega arith))
+
+  hears_keep : (w : World) (me : ℕ) (message : Message) (part : NodePart) (running : Option Running) → KeepsChosen w (reaches_node me message part running)
+  hears_keep w me message part None = lost_keeps w (Some me)
+  hears_keep w me message part (Some running) = node_chosen_keeps w me part (nodes.Receive message) tt
+
+  received_keeps : (w : World) (me : ℕ) (message : Message) (part : Option NodePart) → KeepsChosen w (reaches_number me message part)
+  received_keeps w me message None = lost_keeps w (Some me)
   received_keeps w me message (Some part) = hears_keep w me message part part.running
 
-  task_received_keeps : (w : World) (task : ℕ) (message : Message) (part : Option TaskPart) → Keeps w (task_receives s.config w task message part)
-  task_received_keeps w task message None = nothing_keeps w
-  task_received_keeps w task message (Some part) = task_keeps w task (task_hears task part message.body)
+  task_received_keeps : (w : World) (task : ℕ) (message : Message) (part : Option TaskPart) → KeepsChosen w (reaches_task task message part)
+  task_received_keeps w task message None = lost_keeps w None
+  task_received_keeps w task message (Some part) = (task_keeps w task (task_hears task part message.body), λ kept. (omega arith, omega arith))
 
-  arrival_keeps : (w : World) (message : Message) (party : Party) → Keeps w (arrives s w message party)
+  arrival_keeps : (w : World) (message : Message) (party : Party) → KeepsChosen w (reaches w message party)
   arrival_keeps w message (Node me) = received_keeps w me message (part_at w.nodes me)
   arrival_keeps w message (Task task) = task_received_keeps w task message (part_at w.tasks task)
-  arrival_keeps w message Audit = nothing_keeps w
+  arrival_keeps w message Audit = lost_keeps w None
 
-  delivery_keeps : (w : World) (message : Option Message) → Keeps w (delivers s w message)
-  delivery_keeps w None = (omega arith, omega arith)
+  delivery_keeps : (w : World) (message : Option Message) → KeepsChosen w (delivers w message)
+  delivery_keeps w None = ((omega arith, omega arith), λ kept. (omega arith, omega arith))
   delivery_keeps w (Some message) = arrival_keeps w message message.to
 
-  -- ---- a node's step, whole or cut
+  -- a command to a node that there is
+  commanded_keeps : (w : World) (me : ℕ) (input : NodeInput) → length w.nodes ≡ s.config.nodes → IsUpTo s.config.nodes me → HasCount input → KeepsChosen w (commanded me input (part_at w.nodes me))
+  commanded_keeps w me input many fits counted =
+      let there = part_there w.nodes me fits.0 (omega (arith, fits.1, many)) in
+      subst (λ (o : Option NodePart). KeepsChosen w (commanded me input o)) (sym there.1) (node_chosen_keeps w me there.0 input counted)
 
-  takes_keep : (w : World) (me : ℕ) (input : NodeInput) (part : Option NodePart) (found : NodePart) → HasCount input → part ≡ Some found → Keeps w (node_takes s w me input part)
-  takes_keep w me input None found counted there = absurd (cc)
-  takes_keep w me input (Some part) found counted there = allowed_keeps w me _ (input_allowed me part input part.running counted)
+  -- ---- a step, whole or cut
 
-  cut_keeps : (w : World) (me : ℕ) (input : NodeInput) (kept : ℕ) (part : Option NodePart) (found : NodePart) → HasCount input → part ≡ Some found → Keeps w (node_is_cut s w me input kept part)
-  cut_keeps w me input kept None found counted there = absurd (cc)
-  cut_keeps w me input kept (Some part) found counted there = allowed_keeps w me _ (cut_allowed kept part _ (input_allowed me part input part.running counted))
-
-  hearing_cut_keeps : (w : World) (message : Message) (me kept : ℕ) (part : Option NodePart) → Keeps w (hearing_is_cut s w message me part kept)
-  hearing_cut_keeps w message me kept None = (omega arith, omega arith)
-  hearing_cut_keeps w message me kept (Some part) = allowed_keeps w me _ (cut_allowed kept part _ (input_allowed me part (nodes.Receive message) part.running tt))
-
-  arrival_cut_keeps : (w : World) (message : Message) (kept : ℕ) (party : Party) → Keeps w (arrival_is_cut s w message party kept)
-  arrival_cut_keeps w message kept (Node me) = hearing_cut_keeps w message me kept (part_at w.nodes me)
-  arrival_cut_keeps w message kept (Task task) = (omega arith, omega arith)
-  arrival_cut_keeps w message kept Audit = (omega arith, omega arith)
-
-  delivery_cut_keeps : (w : World) (kept : ℕ) (message : Option Message) → Keeps w (delivery_is_cut s w message kept)
-  delivery_cut_keeps w kept None = (omega arith, omega arith)
-  delivery_cut_keeps w kept (Some message) = arrival_cut_keeps w message kept message.to
+  chosen_keeps : (w : World) (step : Step) → length w.nodes ≡ s.config.nodes → IsStepWithin s.config.nodes step → KeepsChosen w (chosen w (step_of step))
+  chosen_keeps w (Deliver message) many fits = delivery_keeps w (part_at w.sent message)
+  chosen_keeps w (Lead node position) many fits = commanded_keeps w node (nodes.Lead position) many fits tt
+  chosen_keeps w (LeadRange node first count) many fits = commanded_keeps w node (nodes.LeadRange first count) many fits.0 fits.1
+  chosen_keeps w (Interrupt node interrupt) many fits = commanded_keeps w node (nodes.Interrupt interrupt.source interrupt.occurrence) many fits tt
+  chosen_keeps w (Tick node now) many fits = commanded_keeps w node (nodes.Tick now) many fits tt
+  chosen_keeps w (Report node first) many fits = commanded_keeps w node (nodes.Report first) many fits tt
+  chosen_keeps w (Ask node to) many fits = absurd fits
 
   step_keeps : (w : World) (step : Step) → length w.nodes ≡ s.config.nodes → IsStepWithin s.config.nodes step → Keeps w (step_effect s w (step_of step))
-  step_keeps w (Deliver message) many fits = delivery_keeps w (part_at w.sent message)
-  step_keeps w (Lead node position) many fits = let there = part_there w.nodes node fits.0 (omega arith) in takes_keep w node (nodes.Lead position) (part_at w.nodes node) there.0 tt there.1
-  step_keeps w (LeadRange node first count) many fits =
-      let there = part_there w.nodes node fits.0.0 (omega arith) in
-      takes_keep w node (nodes.LeadRange first count) (part_at w.nodes node) there.0 fits.1 there.1
-  step_keeps w (Interrupt node interrupt) many fits = let there = part_there w.nodes node fits.0 (omega arith) in takes_keep w node (nodes.Interrupt interrupt.source interrupt.occurrence) (part_at w.nodes node) there.0 tt there.1
-  step_keeps w (Tick node now) many fits = let there = part_there w.nodes node fits.0 (omega arith) in takes_keep w node (nodes.Tick now) (part_at w.nodes node) there.0 tt there.1
-  step_keeps w (Report node first) many fits = let there = part_there w.nodes node fits.0 (omega arith) in takes_keep w node (nodes.Report first) (part_at w.nodes node) there.0 tt there.1
+  step_keeps w step many fits = (chosen_keeps w step many fits).0
 
   cut_step_keeps : (w : World) (step : Step) (kept : ℕ) → length w.nodes ≡ s.config.nodes → IsStepWithin s.config.nodes step → Keeps w (cut_step s w (step_of step) kept)
-  cut_step_keeps w (Deliver message) kept many fits = delivery_cut_keeps w kept (part_at w.sent message)
-  cut_step_keeps w (Lead node position) kept many fits = let there = part_there w.nodes node fits.0 (omega arith) in cut_keeps w node (nodes.Lead position) kept (part_at w.nodes node) there.0 tt there.1
-  cut_step_keeps w (LeadRange node first count) kept many fits =
-      let there = part_there w.nodes node fits.0.0 (omega arith) in
-      cut_keeps w node (nodes.LeadRange first count) kept (part_at w.nodes node) there.0 fits.1 there.1
-  cut_step_keeps w (Interrupt node interrupt) kept many fits = let there = part_there w.nodes node fits.0 (omega arith) in cut_keeps w node (nodes.Interrupt interrupt.source interrupt.occurrence) kept (part_at w.nodes node) there.0 tt there.1
-  cut_step_keeps w (Tick node now) kept many fits = let there = part_there w.nodes node fits.0 (omega arith) in cut_keeps w node (nodes.Tick now) kept (part_at w.nodes node) there.0 tt there.1
-  cut_step_keeps w (Report node first) kept many fits = let there = part_there w.nodes node fits.0 (omega arith) in cut_keeps w node (nodes.Report first) kept (part_at w.nodes node) there.0 tt there.1
+  cut_step_keeps w step kept many fits = (chosen_keeps w step many fits).1 kept
 
   -- ---- stops and restarts
 

@@ -13,17 +13,18 @@ use Rattle.rp_codec.specs.declared.packet.Party.{Party}
 use Rattle.rp_codec.specs.declared.packet.Party.TheVariants.{Node, Task, Audit}
 use Rattle.rp_model.specs.Effect as nodes
 use Rattle.rp_model.specs.Effect.{Setting, NodeInput, node_effect, effect_while, turn_done_if, cut_if}
-use Rattle.rp_model.specs.Events.{Step, Deliver, Lead, LeadRange, Interrupt, Tick, Report, Ask}
+use Rattle.rp_model.specs.declared.event.Step.{Step as Taken}
+use Rattle.rp_model.specs.Events.{Deliver, LeadRange, step_of}
 use Rattle.rp_model.specs.Effect.{turn_if}
 use Rattle.rp_model.specs.Leader.{on_lead_range}
 use Rattle.rp_model.specs.Node.{running_node}
 use Rattle.rp_model.specs.Parts.{NodePart, TaskPart, Running}
 use Rattle.rp_model.specs.World.{World, part_at, commanded, reaches_task, reaches, delivers, chosen, node_chosen, chosen_effect, chosen_cut, chosen_record, cut_step, stepping, node_done_if}
-use Rattle.rp_rules.specs.Inputs.{IsLong, IsRightInput, given_by}
+use Rattle.rp_rules.specs.Inputs.{given_by}
 use Rattle.rp_rules.specs.declared.input.Input.{Input}
 use Rattle.rp_rules.specs.declared.input.Input.TheVariants as inputs
 use Rattle.rp_store.specs.Disk.{Disk}
-use Rattle.rp_world.specs.Choosing.{AreNodesOf, Commands, IsOf, IsOfNone, IsRefused}
+use Rattle.rp_world.specs.Choosing.{AreNodesOf, IsOf, IsOfNone, IsRefused}
 use Rattle.rp_world.specs.Nodes.{Represents, member_of}
 use Rattle.rp_world.specs.Shape.{part_by}
 use Rattle.rp_world.specs.declared.node.Node.{Node as OneNode}
@@ -51,51 +52,34 @@ pub no_text : (p : Option Message) → (let o : Option (List ℕ) = None in o �
 no_text None is = refl
 no_text (Some m) is = absurd cc
 
+-- a command is a step of that node, if there is one or not
+pub its_node : (me : ℕ) (given : NodeInput) (o : Option NodePart) → node_chosen (commanded me given o) ≡ Some me
+its_node me given None = refl
+its_node me given (Some part) = refl
+
 -- the node of this number is to make a step that is no delivery
-module _ {S : Type 0} (s : Setting S) (w : World) {step : Step} {me : ℕ} {input : Input} (told : Commands step me input) where
-  cut_so : (kept : ℕ) → cut_step s w step kept ≡ chosen_cut s w kept (commanded me told.given (part_at w.nodes me))
-  cut_so kept = ap (chosen_cut s w kept) (told.chosen w)
-
+module _ {S : Type 0} (s : Setting S) (w : World) {step taken : Taken} {node : ℕ × Input} {me : ℕ} {input : Input} (step_is : step ≡ taken) (node_is : node ≡ (me, input)) (given : NodeInput)
+    (told : chosen w (step_of taken) ≡ commanded me given (part_at w.nodes me)) where
   -- there is none
-  pub none_chosen : length w.nodes < me → IsOfNone s w step BadConfig
-  none_chosen past = record { cut = λ kept. cut_so kept ∙ ap (λ o. chosen_cut s w kept (commanded me told.given o)) (part_past w.nodes me past); reason = λ same. cc }
-
-  whose : (o : Option NodePart) → node_chosen (commanded me told.given o) ≡ Some me
-  whose None = refl
-  whose (Some part) = refl
-
-  pub its_node : stepping w step ≡ Some me
-  its_node = ap node_chosen (told.chosen w) ∙ whose (part_at w.nodes me)
+  pub none_chosen : length w.nodes < node.0 → IsOfNone s w (step_of step) BadConfig
+  none_chosen past =
+      let none = part_past w.nodes me (subst (λ (pair : ℕ × Input). length w.nodes < pair.0) node_is past) in
+      subst (λ (x : Taken). IsOfNone s w (step_of x) BadConfig) (sym step_is)
+      (record { cut = λ kept. ap (chosen_cut s w kept) (told ∙ ap (commanded me given) none); reason = λ same. cc })
 
   -- it is one of these
-  pub one_chosen : me ≤ length w.nodes → IsOf s w step me input
-  one_chosen within = record {
-    given = told.given;
-    gives = told.gives;
-    within = within;
-    cut = cut_so;
-    writes = ap (chosen_record s) (told.chosen w);
-    node = its_node;
-  }
-
--- the commands
-pub leads : (me : ℕ) (choice : Option ℕ) → Commands (Lead me choice) me (inputs.Lead choice)
-leads me choice = record { right = tt; short = λ long. long; given = nodes.Lead choice; gives = refl; chosen = λ w. refl }
-
-pub leads_range : (me first count : ℕ) (range : Range) → given_by (inputs.LeadRange range) ≡ Ok (nodes.LeadRange first count) → Commands (LeadRange me first count) me (inputs.LeadRange range)
-leads_range me first count range gives = record { right = tt; short = λ long. long; given = nodes.LeadRange first count; gives = gives; chosen = λ w. refl }
-
-pub interrupts : (me source occurrence : ℕ) (input : Input) → IsRightInput input → (¬ IsLong input) → given_by input ≡ Ok (nodes.Interrupt source occurrence) → Commands (Interrupt me source occurrence) me input
-interrupts me source occurrence input right short gives = record { right = right; short = short; given = nodes.Interrupt source occurrence; gives = gives; chosen = λ w. refl }
-
-pub ticks : (me now : ℕ) → Commands (Tick me now) me (inputs.Tick now)
-ticks me now = record { right = tt; short = λ long. long; given = nodes.Tick now; gives = refl; chosen = λ w. refl }
-
-pub reports : (me first : ℕ) → Commands (Report me first) me (inputs.Report first)
-reports me first = record { right = tt; short = λ long. long; given = nodes.Report first; gives = refl; chosen = λ w. refl }
-
-pub asks : (me to : ℕ) → Commands (Ask me to) me (inputs.Ask to)
-asks me to = record { right = tt; short = λ long. long; given = nodes.Ask to; gives = refl; chosen = λ w. refl }
+  pub one_chosen : given_by input ≡ Ok given → node.0 ≤ length w.nodes → IsOf s w (step_of step) node.0 node.1
+  one_chosen gives within =
+      subst (λ (pair : ℕ × Input). IsOf s w (step_of step) pair.0 pair.1) (sym node_is)
+      (subst (λ (x : Taken). IsOf s w (step_of x) me input) (sym step_is)
+      (record {
+        given = given;
+        gives = gives;
+        within = subst (λ (pair : ℕ × Input). pair.0 ≤ length w.nodes) node_is within;
+        cut = λ kept. ap (chosen_cut s w kept) told;
+        writes = ap (chosen_record s) told;
+        node = ap node_chosen told ∙ its_node me given (part_at w.nodes me);
+      }))
 
 module _ {S : Type 0} (s : Setting S) (w : World) (number : ℕ) where
   -- there is no such message

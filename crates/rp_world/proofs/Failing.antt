@@ -14,6 +14,7 @@ use Rattle.rp_model.specs.Effect.{Setting, NodeInput}
 use Rattle.rp_model.specs.Parts.{Turn}
 use Rattle.rp_codec.specs.declared.packet.Party.{Party}
 use Rattle.rp_model.specs.declared.effect.Dropped.{Dropped}
+use Rattle.rp_model.specs.Events.{Deliver}
 use Rattle.rp_model.specs.World.{World, part_at, with_part, written_by, commanded, chosen_record, step_writes, stepping}
 use Rattle.rp_model.proofs.Devices.{NoDevice, input_is, turn_is}
 use Rattle.rp_replica.specs.declared.cut.NotCut.{NotCut}
@@ -31,6 +32,7 @@ use Rattle.rp_world.specs.Going.{Counts}
 use Rattle.rp_world.specs.Nodes.{NotTaken, failures_in, IsCounted, node_step}
 use Rattle.rp_world.specs.declared.node.Node.{Node}
 use Rattle.rp_world.proofs.Fields.{Fields, counts_of, member, setting, world}
+use Rattle.rp_world.proofs.Hearing.{heard_record, heard_stepping}
 use Rattle.rp_world.proofs.Lists.{get_map, set_map, set_same}
 use Rattle.rp_world.proofs.Messages.{SentTo}
 use Rattle.rp_world.proofs.Moving.{part, is_here, represents_now}

@@ -6,7 +6,7 @@ use Rattle.rp_model.specs.declared.effect.Dropped.{Dropped}
 use Rattle.rp_model.specs.declared.effect.Effect.{Effect}
 use Rattle.rp_model.specs.Effect.{Done, NodeInput, cut_if}
 use Rattle.rp_model.specs.Parts.{NodePart}
-use Rattle.rp_model.specs.World.{World, Transition, part_at, node_takes, node_is_cut, node_done, node_done_if}
+use Rattle.rp_model.specs.World.{World, Transition, part_at, commanded, chosen_effect, chosen_cut, node_done, node_done_if}
 use Rattle.rp_outbox.specs.Packets.{Sending}
 use Rattle.rp_world.specs.declared.node.Node.{Node}
 use Rattle.rp_world.specs.Going.{Goes, Answers}
@@ -68,8 +68,8 @@ module _ {S D P : Type 0} (f : Fields S D P) (at : Found f.nodes) (new : Node S 
         answered f at new later step whole cut (node_done_if w at.me) whole_is cut_is (λ g. refl) (λ done. (node_done w at.me done, refl)) same fault by
 
   -- both, of what the world says of a node that is given this
-  pub takes_is : Results (node_takes (setting f) w at.me input (part_at w.nodes at.me))
-  takes_is = ap (node_takes (setting f) w at.me input) (is_here f at)
+  pub takes_is : Results (chosen_effect (setting f) w (commanded at.me input (part_at w.nodes at.me)))
+  takes_is = ap (λ o. chosen_effect (setting f) w (commanded at.me input o)) (is_here f at)
 
-  pub cut_is : CutResults (λ kept. node_is_cut (setting f) w at.me input kept (part_at w.nodes at.me))
-  cut_is kept = ap (node_is_cut (setting f) w at.me input kept) (is_here f at)
+  pub cut_is : CutResults (λ kept. chosen_cut (setting f) w kept (commanded at.me input (part_at w.nodes at.me)))
+  cut_is kept = ap (λ o. chosen_cut (setting f) w kept (commanded at.me input o)) (is_here f at)

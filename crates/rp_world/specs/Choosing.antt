@@ -4,17 +4,15 @@ use Rattle.rp_base.specs.declared.config.Config.{Config}
 use Rattle.rp_base.specs.declared.fault.Fault.{Fault}
 use Rattle.rp_base.specs.declared.fault.Fault.TheVariants.{Device}
 use Rattle.rp_model.specs.Effect.{Setting, NodeInput}
-use Rattle.rp_model.specs.Events.{Step, Deliver}
-use Rattle.rp_model.specs.World.{World, part_at, commanded, chosen, chosen_cut, chosen_record}
+use Rattle.rp_model.specs.Events.{Step}
+use Rattle.rp_model.specs.World.{World, part_at, commanded, chosen_cut, chosen_record}
 use Rattle.rp_model.specs.World.{step_effect, cut_step, step_writes, stepping}
-use Rattle.rp_rules.specs.Inputs.{IsLong, IsRightInput, given_by}
+use Rattle.rp_rules.specs.Inputs.{given_by}
 use Rattle.rp_rules.specs.declared.input.Input.{Input}
 use Rattle.rp_store.specs.Disk.{Disk}
 use Rattle.rp_world.specs.Callers.{Caller}
 use Rattle.rp_world.specs.Shape.{IsWorld, part_by}
 use Rattle.rp_world.specs.declared.node.Node.{Node}
-use Rattle.rp_world.specs.declared.steps.Choice.{Choice}
-use Rattle.rp_world.specs.declared.steps.Choice.TheVariants.{Delivery, Command}
 
 -- the nodes are those of the world, in a cluster whose machine starts so
 pub record AreNodesOf {S D P : Type 0} (disk : D → Disk) (begin : S) (nodes : List (Node S D P))
@@ -51,16 +49,3 @@ module _ {S : Type 0} (s : Setting S) (w : World) (step : Step) where
   abbrev pub IsMaker : Result (ℕ × Input) Fault → Type 0
   IsMaker (Ok maker) = IsOf maker.0 maker.1
   IsMaker (Err fault) = IsOfNone fault
-
--- the step commands the node of this number, which is given this input
-pub record Commands (step : Step) (me : ℕ) (input : Input) : Type 0 where
-  pub right : IsRightInput input
-  pub short : ¬ IsLong input
-  pub given : NodeInput
-  pub gives : given_by input ≡ Ok given
-  pub chosen : (w : World) → chosen w step ≡ commanded me given (part_at w.nodes me)
-
--- what a step is: the delivery of a message, or a command
-abbrev pub IsChoice : Step → Choice → Type 0
-IsChoice step (Delivery number) = step ≡ Deliver number
-IsChoice step (Command node input) = Commands step node input

@@ -17,7 +17,7 @@ ghost use Rattle.rp_model.specs.World as worlds;
 ghost use Rattle.rp_model.specs.World.{part_at, commanded, chosen_effect, chosen_cut, chosen_record, step_effect, cut_step, stepping, step_writes};
 ghost use Rattle.rp_agreement.specs.Ranges.{IsRangedWorld};
 ghost use Rattle.rp_rules.specs.Inputs.{IsLong, IsRightInput, given_by};
-ghost use Rattle.rp_world.specs.Choosing.{AreNodesOf, IsChoice, IsMaker, IsRefused};
+ghost use Rattle.rp_world.specs.Choosing.{AreNodesOf, IsMaker, IsRefused};
 ghost use Rattle.rp_world.specs.Going.{Answers, AnswersDelivery, Counts, CountsDelivery, reply_read, stated};
 ghost use Rattle.rp_world.specs.Nodes.{IsLight};
 ghost use Rattle.rp_world.specs.Steps.{IsLightStep, IsStep, IsSameSetup, setting_of};
@@ -96,16 +96,9 @@ fn write_effect(answer: Result<Effect, Fault>, effect: &mut Effect) -> Result<()
     }
 }
 
-/// What a step is: the delivery of the message of a number, or a command that gives a node an input.
-enum Choice {
-    Delivery(u64),
-    Command(NodeId, Input<'static>),
-}
-
 /// An interrupt as the input of a node.
 fn input_of(interrupt: Interrupt) -> Input<'static>
     ensures right { IsRightInput result }
-    ensures short { ¬ IsLong result }
     ensures given { given_by result
         ≡ Ok (NodeInput.Interrupt interrupt.source interrupt.occurrence) }
 {
@@ -133,33 +126,31 @@ impl<M: Machine, D: CutDevice> World<M, D> {
             (step_of step) → IsOk result }
     {
         events_keep_ranges::<M>();
-        match Self::choice_of(&self.nodes, step) {
-            Ok(Choice::Delivery(number)) => self.deliver(alloc, number, effect),
-            Ok(Choice::Command(node, input)) => self.give_input(alloc, node, &input, effect),
-            Err(fault) => Err(fault),
-        }
-    }
-
-    /// What a step is. A command to lead at a range is refused as `range_for`.
-    fn choice_of(nodes: &[node::Node<M, D>], step: Step) -> Result<Choice, Fault>
-        ensures choice { IfOk result (λ choice. IsChoice (step_of step) choice) }
-        ensures err { IfErr result (λ fault. (setting : Setting M) (w : worlds.World)
-            → AreNodesOf D.disk setting.begin nodes.now w
-            → IsRefused setting w (step_of step) fault) }
-    {
         match step {
-            Step::Deliver(number) => Ok(Choice::Delivery(number)),
-            Step::Lead { node, position } => Ok(Choice::Command(node, Input::Lead(position))),
+            Step::Deliver(number) => self.deliver(alloc, number, effect),
+            Step::Lead { node, position } => self.give_input(
+                alloc,
+                node,
+                &Input::Lead(position),
+                effect,
+            ),
             Step::LeadRange { node, first, count } => {
-                match Self::range_for(nodes, node, first, count) {
-                    Ok(range) => Ok(Choice::Command(node, Input::LeadRange(range))),
+                match Self::range_for(&self.nodes, node, first, count) {
+                    Ok(range) => self.give_input(alloc, node, &Input::LeadRange(range), effect),
                     Err(fault) => Err(fault),
                 }
             }
-            Step::Interrupt { node, interrupt } => Ok(Choice::Command(node, input_of(interrupt))),
-            Step::Tick { node, now } => Ok(Choice::Command(node, Input::Tick { now })),
-            Step::Report { node, first } => Ok(Choice::Command(node, Input::Report(first))),
-            Step::Ask { node, to } => Ok(Choice::Command(node, Input::Ask(to))),
+            Step::Interrupt { node, interrupt } => {
+                self.give_input(alloc, node, &input_of(interrupt), effect)
+            }
+            Step::Tick { node, now } => self.give_input(alloc, node, &Input::Tick { now }, effect),
+            Step::Report { node, first } => self.give_input(
+                alloc,
+                node,
+                &Input::Report(first),
+                effect,
+            ),
+            Step::Ask { node, to } => self.give_input(alloc, node, &Input::Ask(to), effect),
         }
     }
 
@@ -204,40 +195,36 @@ impl<M: Machine, D: CutDevice> World<M, D> {
         ensures maker { (setting : Setting M) (w : worlds.World) → w.sent ≡ messages.now.sent
             → AreNodesOf D.disk setting.begin nodes.now w → IsMaker setting w (step_of step) result }
     {
-        let (node, input) = match Self::choice_of(nodes, step) {
-            Ok(Choice::Command(node, input)) => (node, input),
-            Ok(Choice::Delivery(number)) => return Self::delivery_to_cut(messages, nodes, number),
-            Err(fault) => return Err(fault),
+        let (node, input) = match step {
+            Step::Deliver(number) => {
+                texts_are_packets();
+                let Some(text) = text_of_number(messages, number) else {
+                    return Err(Fault::NoSuchMessage);
+                };
+                let Party::Node(node) = receiver_of(text) else {
+                    return Err(Fault::NotRunning);
+                };
+                if usize::from(node.get()) > nodes.len() {
+                    return Err(Fault::NotRunning);
+                }
+                return Ok((node, Input::Receive(text)));
+            }
+            Step::Lead { node, position } => (node, Input::Lead(position)),
+            Step::LeadRange { node, first, count } => {
+                match Self::range_for(nodes, node, first, count) {
+                    Ok(range) => (node, Input::LeadRange(range)),
+                    Err(fault) => return Err(fault),
+                }
+            }
+            Step::Interrupt { node, interrupt } => (node, input_of(interrupt)),
+            Step::Tick { node, now } => (node, Input::Tick { now }),
+            Step::Report { node, first } => (node, Input::Report(first)),
+            Step::Ask { node, to } => (node, Input::Ask(to)),
         };
         if usize::from(node.get()) > nodes.len() {
             return Err(Fault::BadConfig);
         }
         Ok((node, input))
-    }
-
-    /// The same for the delivery of the message of this number.
-    fn delivery_to_cut<'a>(
-        messages: &'a Outbox,
-        nodes: &[node::Node<M, D>],
-        number: u64,
-    ) -> Result<(NodeId, Input<'a>), Fault>
-        requires packets { (m : Message) → Has m messages.now.sent → IsPacket m }
-        ensures right { IfOk result (λ maker. IsRightInput maker.1) }
-        ensures maker { (setting : Setting M) (w : worlds.World) → w.sent ≡ messages.now.sent
-            → AreNodesOf D.disk setting.begin nodes.now w
-            → IsMaker setting w (events.Deliver number) result }
-    {
-        texts_are_packets();
-        let Some(text) = text_of_number(messages, number) else {
-            return Err(Fault::NoSuchMessage);
-        };
-        let Party::Node(node) = receiver_of(text) else {
-            return Err(Fault::NotRunning);
-        };
-        if usize::from(node.get()) > nodes.len() {
-            return Err(Fault::NotRunning);
-        }
-        Ok((node, Input::Receive(text)))
     }
 
     /// The range at which one of these nodes is to lead. `BadConfig` above the last node,

@@ -9,6 +9,8 @@ mod damaged;
 #[cfg(test)]
 mod failing;
 #[cfg(test)]
+mod missing;
+#[cfg(test)]
 mod ranges;
 #[cfg(test)]
 mod replica;

@@ -59,6 +59,17 @@ package body RP is
          What   : in out Found) return Status
         with Import, Convention => C, External_Name => "rp_device_open";
 
+      function Next_Deck
+        (Deck   : System.Address;
+         Count  : Interfaces.C.size_t;
+         Number : Byte;
+         Device : System.Address;
+         Held   : Interfaces.C.size_t;
+         Answer : System.Address;
+         Size   : Interfaces.C.size_t;
+         Used   : in out Interfaces.C.size_t) return Status
+        with Import, Convention => C, External_Name => "rp_next_deck";
+
       function Node_Step
         (Handle  : in out Node;
          Request : System.Address;
@@ -177,6 +188,19 @@ package body RP is
       What   : in out Found) return Status is
      (if Is_Null (Deck, Count) or else Is_Null (Device, Held) then Null_Pointer
       else Library.Device_Open (Place (Deck), Count, Number, Place (Device), Held, Handle, What));
+
+   function Next_Deck
+     (Deck   : System.Address;
+      Count  : Interfaces.C.size_t;
+      Number : Byte;
+      Device : System.Address;
+      Held   : Interfaces.C.size_t;
+      Answer : System.Address;
+      Size   : Interfaces.C.size_t;
+      Used   : in out Interfaces.C.size_t) return Status is
+     (if Is_Null (Deck, Count) or else Is_Null (Device, Held) or else Is_Null (Answer, Size) then Null_Pointer
+      else Library.Next_Deck
+        (Place (Deck), Count, Number, Place (Device), Held, Place (Answer), Size, Used));
 
    --  The call of both kinds, unless an address is null.
    function Handle_Call
@@ -321,6 +345,14 @@ package body RP is
      (Step_By
         (Handle, Lead_Range & Text_Of (Interfaces.Unsigned_64 (First), 2) & Count, Answer, Places,
          Length));
+
+   function Node_Ask
+     (Handle : in out Node;
+      Whom   : Byte;
+      Answer : in out Bytes;
+      Places : in out Ends;
+      Length : in out Step_Lengths) return Status is
+     (Step_By (Handle, Ask & Whom, Answer, Places, Length));
 
    function Node_Interrupt
      (Handle     : in out Node;

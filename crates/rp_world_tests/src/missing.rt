@@ -43,7 +43,7 @@ fn a_node_that_was_stopped_asks_for_two_decisions(rt: HostRuntime) {
     // Node 3 sends 64 questions, and gets two answers.
     let left = Left {
         messages: 94,
-        stored: [144, 124, 46],
+        stored: [144, 124, 42],
         applied: 2,
         image: b"tally o1=7\n",
     };

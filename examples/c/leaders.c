@@ -164,7 +164,7 @@ static void node_3_leads_where_it_asked(void) {
   advise(3, 1000000);
 }
 
-/* The keeper restarts. It stored the number of each call before it sent it, 2; its first call changes nothing. */
+/* The keeper restarts. It had the replies to its two calls; its first call changes nothing. */
 static void the_keeper_restarts(void) {
   rp_call_packet packet = {{0}, 0};
   rp_task_close(&keeper);

@@ -1,7 +1,7 @@
 -- What follows the first word, by what it declares.
-use Rattle.std.proofs.Common.{◌≡◌, ℕ, Option, Some, None, List, [], ◌∷◌, ◌++◌, ap, ◌∙◌, sym, subst, refl, append_assoc}
+use Rattle.std.proofs.Common.{◌≡◌, ℕ, Option, List, [], ◌∷◌, ◌++◌, ap, ◌∙◌, sym, subst, refl, append_assoc}
 use Rattle.rp_words.specs.Words.{unread}
-use Rattle.rp_next_deck.specs.NextLines.{IsNextRest, words_before_value}
+use Rattle.rp_next_deck.specs.NextLines.{IsNextRest}
 use Rattle.rp_next_deck.proofs.Putting.{line_joined}
 use Rattle.rp_next_deck.proofs.lines.put_line.Goals as goal
 use Rattle.rp_next_deck.proofs.lines.put_line.Goals.{in-Some+in_ok-name-in-Some+in_ok-put_word-in-Some, in-None+in_ok-name-in-None}

@@ -3,7 +3,7 @@ use Rattle.std.proofs.Common.{◌≡◌, ℕ, List, ◌++◌, ap, ◌∙◌, sym
 use Rattle.std.specs.Prelude.{codes}
 use Rattle.std.specs.Str.{bytes_eq}
 use Rattle.rp_words.specs.Ahead.{ahead, text_of}
-use Rattle.rp_words.specs.Lines.{LineText, lines_of, texts_from}
+use Rattle.rp_words.specs.Lines.{lines_of, texts_from}
 use Rattle.rp_next_deck.specs.NextLines.{AreNextLines}
 use Rattle.rp_next_deck.proofs.Putting.{no_line, one_line}
 use Rattle.rp_next_deck.proofs.lines.put_lines.Goals as goal
@@ -15,17 +15,21 @@ pub loop-next-preserved-then-is_word-2 : goal.loop-next-preserved-then-is_word-2
 loop-next-preserved-then-is_word-2 c =
     let i = c.loop-next.invariant in
     let here = c.in_ok-name.ensures in
-    let other : bytes_eq c.in-Some.line.first.now (codes "script") ≡ false = sym c.if-is_word.ensures in
-    (i.0 ++ here.0, here.2 ∙ ap (λ (l : List ℕ). l ++ here.0) i.1 ∙ append_assoc c.args.next.now.items i.0 here.0,
-    one_line (All c.args.deck.now) (ahead c.loop-next.lines) i.0 i.2 (text_of c.in-Some.line) (ahead c.next.new.self) here.0 c.in-Some.ensures.next other here.1)
+    let other : bytes_eq c.in-Some.line.first.now (codes "script") ≡ false = sym c.if-is_word.ensures in (
+      i.0 ++ here.0,
+      here.2 ∙ ap (λ (l : List ℕ). l ++ here.0) i.1 ∙ append_assoc c.args.next.now.items i.0 here.0,
+      one_line (All c.args.deck.now) (ahead c.loop-next.lines) i.0 i.2 (text_of c.in-Some.line) (ahead c.next.new.self) here.0 c.in-Some.ensures.next other here.1,
+    )
 
 pub loop-next-preserved : goal.loop-next-preserved
 loop-next-preserved c =
     let i = c.loop-next.invariant in
     let here = c.in_ok-name.ensures in
-    let other : bytes_eq c.in-Some.line.first.now (codes "script") ≡ false = sym c.if-is_word.ensures in
-    (i.0 ++ here.0, here.2 ∙ ap (λ (l : List ℕ). l ++ here.0) i.1 ∙ append_assoc c.args.next.now.items i.0 here.0,
-    one_line (All c.args.deck.now) (ahead c.loop-next.lines) i.0 i.2 (text_of c.in-Some.line) (ahead c.next.new.self) here.0 c.in-Some.ensures.next other here.1)
+    let other : bytes_eq c.in-Some.line.first.now (codes "script") ≡ false = sym c.if-is_word.ensures in (
+      i.0 ++ here.0,
+      here.2 ∙ ap (λ (l : List ℕ). l ++ here.0) i.1 ∙ append_assoc c.args.next.now.items i.0 here.0,
+      one_line (All c.args.deck.now) (ahead c.loop-next.lines) i.0 i.2 (text_of c.in-Some.line) (ahead c.next.new.self) here.0 c.in-Some.ensures.next other here.1,
+    )
 
 pub returns : goal.returns
 returns c =

@@ -17,11 +17,14 @@ loop-preserved c =
     let i = c.loop.invariant in
     let word : List ℕ = c.in-Some.word.now in
     let is : word_at (unread c.loop.words) ≡ Ok (word, unread c.take_next.new.self) = c.in-Some.ensures.word in
-    let left : c.args.count - c.loop.counter ≡ suc (c.args.count - (c.loop.counter + 1)) = omega (arith, c.loop-test.true) in
-    (i.0 ++ (32 ∷ word), c.in_ok-put_word.ensures ∙ ap (λ (l : List ℕ). l ++ (32 ∷ word)) i.1 ∙ append_assoc c.args.next.now.items i.0 (32 ∷ word), λ after words.
-    subst (λ (t : List ℕ). AreFirstWords c.args.count (unread c.args.words.now) t) (sym (append_assoc i.0 (32 ∷ word) after))
-    (i.2 (32 ∷ word ++ after)
-    (one_more (c.args.count - c.loop.counter) (c.args.count - (c.loop.counter + 1)) (unread c.loop.words) word (unread c.take_next.new.self) after left is words)))
+    let left : c.args.count - c.loop.counter ≡ suc (c.args.count - (c.loop.counter + 1)) = omega (arith, c.loop-test.true) in (
+      i.0 ++ (32 ∷ word),
+      c.in_ok-put_word.ensures ∙ ap (λ (l : List ℕ). l ++ (32 ∷ word)) i.1 ∙ append_assoc c.args.next.now.items i.0 (32 ∷ word),
+      λ after words.
+          subst (λ (t : List ℕ). AreFirstWords c.args.count (unread c.args.words.now) t) (sym (append_assoc i.0 (32 ∷ word) after))
+          (i.2 (32 ∷ word ++ after)
+          (one_more (c.args.count - c.loop.counter) (c.args.count - (c.loop.counter + 1)) (unread c.loop.words) word (unread c.take_next.new.self) after left is words)),
+    )
 
 pub returns : goal.returns
 returns c =

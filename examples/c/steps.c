@@ -1,5 +1,6 @@
 /* What a step gives besides its bytes: where its packets end, and what it did not take; what a lead says at the
- * end of the log, and before it. Three nodes of a deck of 70 positions, over byte arrays. */
+ * end of the log, and before it; how a node asks for what it misses. Three nodes of a deck of 70 positions, over
+ * byte arrays. */
 #include <stdio.h>
 #include <string.h>
 
@@ -37,6 +38,34 @@ static void left(rp_node *node) {
   rp_lengths lengths = {0, 0};
   uint8_t status = rp_node_call(node, question, 1, answer, sizeof answer, &lengths);
   printf("left: status %d, %u\n", status, (unsigned)answer[2] << 8 | answer[3]);
+}
+
+/* Node 1 hears of a decision that node 3 missed; node 3 asks node 1 for what it misses, and learns it. */
+static void catch_up(void) {
+  const uint8_t *text = (const uint8_t *)deck;
+  rp_node one = RP_CLOSED;
+  rp_node three = RP_CLOSED;
+  rp_found found;
+  printf("open node 1: status %d\n", rp_node_open(text, sizeof deck - 1, 1, NULL, 0, &one, &found));
+  printf("open node 3: status %d\n", rp_node_open(text, sizeof deck - 1, 3, NULL, 0, &three, &found));
+
+  /* from node 2: at position 1 nothing was decided to happen */
+  const uint8_t decided[8] = {RP_NODE_RECEIVE, 2, 6, 2, 1, 0, 1, 0};
+  ask("a decision for node 1", &one, decided, sizeof decided);
+  const uint8_t missing[2] = {RP_NODE_ASK, 1};
+  ask("node 3 asks node 1", &three, missing, sizeof missing);
+  uint8_t packet[1 + MOST_ENDS] = {RP_NODE_RECEIVE};
+  size_t length = ends[0];
+  memcpy(packet + 1, answer + step.stored, length);
+  ask("its first question", &one, packet, 1 + length);
+  length = ends[0];
+  memcpy(packet + 1, answer + step.stored, length);
+  ask("the answer", &three, packet, 1 + length);
+  left(&three);
+  const uint8_t itself[2] = {RP_NODE_ASK, 3};
+  ask("node 3 asks itself", &three, itself, sizeof itself);
+  rp_node_close(&one);
+  rp_node_close(&three);
 }
 
 int main(void) {
@@ -88,5 +117,6 @@ int main(void) {
   uint8_t status = rp_node_step(&one, lead, 1, answer, sizeof answer, ends, 2, &step);
   printf("two ends: status %d, %zu packets, %zu %zu %zu\n", status, step.packets, ends[0], ends[1], ends[2]);
   rp_node_close(&one);
+  catch_up();
   return 0;
 }

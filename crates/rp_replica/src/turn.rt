@@ -49,10 +49,10 @@ impl<M: Machine, D: Device> Replica<M, D> {
 
     /// One step of the node: at most one record is written, and the packets are given out once it
     /// is stable. Refused with `BadPacket` if the bytes are no packet's text, with `BallotsSpent`
-    /// or `LogFull` if the node cannot lead, or with `OutOfMemory`: then nothing has changed. A
-    /// step that sends no packet, writes no record, counts no vote and reads no long packet is
-    /// never out of memory. After `Device` the device has failed, and each further step is refused
-    /// with `Failed`.
+    /// or `LogFull` if the node cannot lead, with `BadConfig` if it is to ask itself or no node of
+    /// the configuration, or with `OutOfMemory`: then nothing has changed. A step that sends no
+    /// packet, writes no record, counts no vote and reads no long packet is never out of memory.
+    /// After `Device` the device has failed, and each further step is refused with `Failed`.
     pub fn turn(&mut self, alloc: Global, input: &Input) -> Result<Sent, Fault>
         requires right { IsRightInput input.now }
         ensures answer { Answers (input_effect M.next M.answers self.old input.now)

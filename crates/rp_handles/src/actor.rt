@@ -82,14 +82,14 @@ impl Actor {
             (exchange_of (receives_byte kind ∷ packet.now) answer.old answer.new)
             self.old self.new result }
     {
-        match self {
-            Actor::Node(node) => match kind {
-                ActorKind::Node => Some(node.receive(alloc, packet, answer)),
-                ActorKind::Task => None,
+        match kind {
+            ActorKind::Node => match self {
+                Actor::Node(node) => Some(node.receive(alloc, packet, answer)),
+                Actor::Task(_) => None,
             },
-            Actor::Task(task) => match kind {
-                ActorKind::Node => None,
-                ActorKind::Task => Some(task.receive(alloc, packet, answer)),
+            ActorKind::Task => match self {
+                Actor::Node(_) => None,
+                Actor::Task(task) => Some(task.receive(alloc, packet, answer)),
             },
         }
     }

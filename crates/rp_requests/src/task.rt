@@ -110,10 +110,11 @@ impl Task {
         ensures { TaskAnswers (task_asked_of (3 ∷ packet.now)) self.old self.new
             answer.old answer.new result }
     {
-        if answer.len() < TASK_BYTES {
-            return Err(Refusal::ShortAnswer(TASK_BYTES));
+        if answer.len() >= TASK_BYTES {
+            self.take_packet(alloc, packet, answer)
+        } else {
+            Err(Refusal::ShortAnswer(TASK_BYTES))
         }
-        self.take_packet(alloc, packet, answer)
     }
 
     /// Answers a request that was read.

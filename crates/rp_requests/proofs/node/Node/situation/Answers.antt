@@ -1,7 +1,6 @@
 -- Field by field, each by what is asked of the replica.
 use Rattle.std.proofs.Common.{ap, ◌∙◌}
 use Rattle.std.specs.Prelude.{is_some}
-use Rattle.rp_patience.specs.declared.advice.Situation.{Situation}
 use Rattle.rp_requests.specs.Advising.{situation_of}
 use Rattle.rp_requests.proofs.node.Node.situation.Goals as goal
 

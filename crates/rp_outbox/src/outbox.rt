@@ -89,6 +89,29 @@ impl Outbox {
         (bytes, ends)
     }
 
+    /// No packet any more. The room stays, and grows by what they took.
+    pub fn clear(&mut self)
+        ensures { self.new.sent ≡ [] }
+    {
+        self.used = 0;
+        self.ends.clear();
+    }
+
+    /// The texts, joined in order, in place.
+    pub fn texts(&self) -> &[u8]
+        ensures { result.now ≡ texts_of self.now.sent }
+    {
+        let (texts, _) = self.bytes.split_at(self.used);
+        texts
+    }
+
+    /// Where each text ends, in place.
+    pub fn ends(&self) -> &[usize]
+        ensures { result.now ≡ ends_of 0 self.now.sent }
+    {
+        &self.ends
+    }
+
     /// How many packets there are.
     #[inline(always)]
     pub fn count(&self) -> usize

@@ -20,6 +20,7 @@ use rp_replica::{Input, Replica};
 use rp_store::MemDevice;
 use std::alloc::Global;
 use std::marker::Model;
+use std::mem::swap;
 
 /// The fewest bytes of a buffer for the answer of a step.
 pub const STEP_BYTES: usize = 8192;
@@ -36,15 +37,16 @@ pub struct Node<M: Machine> {
     /// Where on the device the record of the last step begins.
     last_record: usize,
     /// The packets of the last step.
-    last_packets: Vec<u8>,
-    /// Where each packet of the last step ends, counted from the first byte of its packets.
-    last_ends: Vec<usize>,
+    last_packets: Outbox,
     /// What the node did not take in the last step.
     last_dropped: Dropped,
+    /// Where the packets of the next step are put, in the memory of those of an earlier one.
+    next_packets: Outbox,
 }
 
 impl<M: Machine> Model for Node<M> {
     ghost use Rattle.std.specs.Prelude.{◌≡◌, ◌≤◌, drop, length};
+    ghost use Rattle.rp_outbox.specs.Packets.{ends_of, texts_of};
     ghost use Rattle.rp_requests.specs.Nodes.{NodeState};
 
     ghost Value = { NodeState M };
@@ -52,8 +54,8 @@ impl<M: Machine> Model for Node<M> {
     ghost view = { λ n. record {
       replica = n.replica;
       stored = drop n.last_record n.replica.disk.contents;
-      packets = n.last_packets.items;
-      ends = n.last_ends.items;
+      packets = texts_of n.last_packets.sent;
+      ends = ends_of 0 n.last_packets.sent;
       dropped = n.last_dropped;
     } };
 
@@ -78,9 +80,9 @@ impl<M: Machine> Node<M> {
             replica,
             positions: config.max_positions,
             last_record,
-            last_packets: Vec::new(alloc),
-            last_ends: Vec::new(alloc),
+            last_packets: Outbox::new(alloc),
             last_dropped: Dropped::No,
+            next_packets: Outbox::new(alloc),
         }
     }
 
@@ -183,15 +185,13 @@ impl<M: Machine> Node<M> {
             self.old.replica self.old.replica fault) }
     {
         let before = self.replica.stored() as usize;
-        let mut out = Outbox::new(alloc);
-        let turned = self.replica.turn_into(alloc, &mut out, input);
+        self.next_packets.clear();
+        let turned = self.replica.turn_into(alloc, &mut self.next_packets, input);
         self.replica.never_failed();
         match turned {
             Ok(dropped) => {
-                let (packets, ends) = out.into_parts();
+                swap(&mut self.last_packets, &mut self.next_packets);
                 self.last_record = before;
-                self.last_packets = packets;
-                self.last_ends = ends;
                 self.last_dropped = dropped;
                 Ok(())
             }
@@ -225,8 +225,9 @@ impl<M: Machine> Node<M> {
         ensures ends { ends.new ≡ with_front self.now.ends ends.old }
         ensures count { result ≡ length self.now.ends }
     {
-        put_front(&self.last_ends, ends);
-        self.last_ends.len()
+        let last = self.last_packets.ends();
+        put_front(last, ends);
+        last.len()
     }
 
     /// What the node did not take in the last step.
@@ -242,7 +243,7 @@ impl<M: Machine> Node<M> {
         ensures { Puts self.now.stored self.now.packets answer.old answer.new result }
     {
         let (_, record) = device_bytes(&self.replica).split_at(self.last_record);
-        put_parts(record, &self.last_packets, answer)
+        put_parts(record, self.last_packets.texts(), answer)
     }
 
     /// Puts the lines that show the objects into the buffer, if they fit.

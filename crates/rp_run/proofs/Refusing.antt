@@ -1,5 +1,5 @@
 -- What the effects of the events of a right deck keep, and what they are refused by.
-use Rattle.std.proofs.Common.{length-set, ◌≡◌, ℕ, zero, suc, ◌+◌, ◌-◌, ◌<◌, ◌≤◌, ◌^◌, Bool, true, false, not, cond, ◌&&◌, ◌||◌, ℤ, Result, Ok, Err, Option, Some, None, List, [], ◌∷◌, length, arith, refl, ap, subst, ◌∙◌}
+use Rattle.std.proofs.Common.{length-set, ◌≡◌, ℕ, zero, suc, ◌+◌, ◌-◌, ◌<◌, ◌≤◌, ◌^◌, Bool, true, false, not, cond, ◌&&◌, ◌||◌, ℤ, Result, Ok, Err, Option, Some, None, List, [], ◌∷◌, length, arith, refl, ap, subst, ◌∙◌, sym}
 use Rattle.std.specs.Prelude.{slice_get, nat_lt, nat_le}
 use Rattle.std.proofs.lemmas.Bool.{le-leb}
 use Rattle.std.proofs.lemmas.Bool.Decides.{nat_tests}

@@ -4,6 +4,7 @@ use Rattle.std.specs.Prelude.{decimal, map}
 use Rattle.std.specs.Io.KnownBytes.{Appends}
 use Rattle.std.specs.List.{slice_split}
 use Rattle.indexmap.specs.IndexMap.{index_map_len}
+use Rattle.rp_chart.specs.declared.chart.ChartRequest.{ChartRequest}
 use Rattle.rp_chart.specs.declared.chart.Outcome.{Outcome}
 use Rattle.rp_chart.specs.declared.chart.Outcome.TheVariants.{Drawn, TooLong}
 use Rattle.rp_chart_run.specs.ScriptHistory.{DrawnRun, script_happens}
@@ -12,7 +13,8 @@ use Rattle.rp_deck.specs.declared.deck.Mode.TheVariants.{Script}
 use Rattle.rp_deck_declarations.specs.declared.deck_program.DeckProgram.{DeckProgram}
 use Rattle.rp_deck_declarations.specs.declared.deck_program.DeckProgram.TheVariants.{Tally, Objects}
 use Rattle.rp_drawing.specs.Words.{fitted_text}
-use Rattle.rp_history.specs.Histories.{IsDrawnIfShort, LaneText}
+use Rattle.rp_history.specs.Histories.{LaneText}
+use Rattle.rp_page.specs.Pages.{IsDrawnAs}
 use Rattle.rp_history.specs.declared.stage.Stage.{Stage}
 use Rattle.rp_history.specs.declared.view.View.{View}
 use Rattle.rp_machine.specs.Replay.{one_to}
@@ -42,47 +44,53 @@ abbrev pub stage_of : Deck → View → Stage
 stage_of deck view = record { tasks = index_map_len deck.tasks; view = view }
 
 -- the run of a deck of these lines, as it is drawn
-abbrev pub drawn_run_of : {S : Type 0} → Deck → List (List ℕ) → View → RunSetting S → DrawnRun S
-drawn_run_of deck lines view s = record { run = s; deck = lines; stage = stage_of deck view }
+abbrev pub drawn_run_of : {S : Type 0} → Deck → List (List ℕ) → ChartRequest → RunSetting S
+    → DrawnRun S
+drawn_run_of deck lines request s = record {
+  run = s;
+  deck = lines;
+  stage = stage_of deck request.view;
+  form = request.form;
+}
 
 -- The drawing of the history in which the lines of the deck's script happen, in order, or none if
 -- it is too long. It is to the byte the page of a sketch of that history under the lanes of the
 -- deck's tasks and nodes. It has the messages of that history as its arrows, and no others, each
 -- from where it was sent down to where it was settled, and each moment has the label that the run
--- gives it.
-abbrev pub IsChartAt : {S : Type 0} → Deck → List (List ℕ) → View → Option (List ℕ)
+-- gives it. Or its page, with the same drawing, and a section for each moment.
+abbrev pub IsChartAt : {S : Type 0} → Deck → List (List ℕ) → ChartRequest → Option (List ℕ)
     → RunSetting S → Type 0
-IsChartAt deck lines view page s =
-    IsDrawnIfShort s.setting (stage_of deck view)
+IsChartAt deck lines request page s =
+    IsDrawnAs request.form s.setting (stage_of deck request.view)
     (lanes_of (names_of deck.tasks) deck.config.nodes)
-    (script_happens (drawn_run_of deck lines view s) drain_limit deck.script.items)
+    (script_happens (drawn_run_of deck lines request s) drain_limit deck.script.items)
     (run_said s drain_limit deck.script.items).play.world page
 
-abbrev pub IsChartBy : Deck → List (List ℕ) → View → Option (List ℕ)
+abbrev pub IsChartBy : Deck → List (List ℕ) → ChartRequest → Option (List ℕ)
     → DeckProgram → Type 0
-IsChartBy deck lines view page (Tally objects) =
-    IsChartAt deck lines view page (tally_run false deck objects)
-IsChartBy deck lines view page (Objects program) =
-    IsChartAt deck lines view page (objects_run false deck program)
+IsChartBy deck lines request page (Tally objects) =
+    IsChartAt deck lines request page (tally_run false deck objects)
+IsChartBy deck lines request page (Objects program) =
+    IsChartAt deck lines request page (objects_run false deck program)
 
-abbrev pub IsChartIfShort : Deck → List (List ℕ) → View → Option (List ℕ) → Type 0
-IsChartIfShort deck lines view page = IsChartBy deck lines view page deck.program
+abbrev pub IsChartIfShort : Deck → List (List ℕ) → ChartRequest → Option (List ℕ) → Type 0
+IsChartIfShort deck lines request page = IsChartBy deck lines request page deck.program
 
 -- a chart of the deck that the reader's bytes mean, of which these are all lines
-pub record ChartsBytes (view : View) (given page : Option (List ℕ)) : Type 0 where
+pub record ChartsBytes (request : ChartRequest) (given page : Option (List ℕ)) : Type 0 where
   pub deck : Deck
   pub means : MeansDeck Script given deck
-  pub chart : IsChartIfShort deck (deck_lines means.meant.bytes) view page
+  pub chart : IsChartIfShort deck (deck_lines means.meant.bytes) request page
 
 -- what is written without a fault: the chart of the deck that the reader's bytes mean, or nothing
 -- if it is too long
-abbrev pub Draws : Outcome → View → Option (List ℕ) → Option (List ℕ) → Option (List ℕ) → Type 0
-Draws Drawn view given old new =
-    (text : List ℕ) × Appends old new text × ChartsBytes view given (Some text)
-Draws TooLong view given old new = (new ≡ old) × ChartsBytes view given None
+abbrev pub Draws : Outcome → ChartRequest → Option (List ℕ) → Option (List ℕ) → Option (List ℕ) → Type 0
+Draws Drawn request given old new =
+    (text : List ℕ) × Appends old new text × ChartsBytes request given (Some text)
+Draws TooLong request given old new = (new ≡ old) × ChartsBytes request given None
 
 -- what is written if a fault ends it: nothing, or a prefix of such a chart
-abbrev pub DrawingBegins : View → Option (List ℕ) → Option (List ℕ) → Option (List ℕ) → Type 0
-DrawingBegins view given old new =
+abbrev pub DrawingBegins : ChartRequest → Option (List ℕ) → Option (List ℕ) → Option (List ℕ) → Type 0
+DrawingBegins request given old new =
     (new ≡ old)
-    ⊎ ((text : List ℕ) × ChartsBytes view given (Some text) × Begins old new text)
+    ⊎ ((text : List ℕ) × ChartsBytes request given (Some text) × Begins old new text)

@@ -16,27 +16,36 @@ use rp_drawing::{Lane, Words};
 use rp_history::{Stage, View};
 use rp_machine::Tally;
 use rp_object::Objects;
+use rp_page::Form;
 use rp_script::{DRAIN_LIMIT, RunOptions, read_whole, write_out, write_whole};
 use rp_store::MemDevice;
 use std::alloc::{AllocError, Global};
 use std::io::{Read, Write};
 
-/// What became of a drawing.
+/// What is made of a run: which part of it, and whether that is drawn or made a page.
+#[derive(Clone, Copy)]
+pub struct ChartRequest {
+    pub view: View,
+    pub form: Form,
+}
+
+/// What became of a drawing or a page.
 #[derive(Clone, Copy, Debug, PartialEq, Eq)]
 pub enum Outcome {
     /// It was written.
     Drawn,
-    /// It has more than 2,000 lines, and no part of the run is chosen: nothing was written.
+    /// The drawing has more than 2,000 lines, and no part of the run is chosen: nothing was written.
     TooLong,
 }
 
-/// Draws the run of the script of the deck that the reader holds. If its bytes mean no deck,
-/// nothing is written, and the fault has the first bad line and the first reason on it. Any other
-/// fault is `OutOfMemory` or `Io`, after which nothing or a prefix of the drawing was written.
+/// Draws the run of the script of the deck that the reader holds, or makes its page. If its bytes
+/// mean no deck, nothing is written, and the fault has the first bad line and the first reason on
+/// it. Any other fault is `OutOfMemory` or `Io`, after which nothing or a prefix of the drawing or of
+/// the page was written.
 pub fn draw_script<R: Read, W: Write>(
     alloc: Global,
     reader: &mut R,
-    view: View,
+    request: ChartRequest,
     writer: &mut W,
 ) -> Result<Outcome, Fault>
     // claim: From bytes to a drawing: what is written is the drawing of the run of the deck that all
@@ -46,18 +55,20 @@ pub fn draw_script<R: Read, W: Write>(
     //   moments have the texts and the marks that the run gives them, under a lane for each task and
     //   each node, with its name and its colour. If it is too long, or the bytes mean none, nothing is
     //   written; in the latter case the fault has the first bad line and the first reason on it. After
-    //   every other fault nothing was written, or a prefix of that drawing
-    ensures drawing { IfOk result (λ outcome. Draws outcome view (R.remaining reader.old)
+    //   every other fault nothing was written, or a prefix of that drawing. A page has this drawing, and
+    //   a section for each moment that has a line of it, with the packets of the moment's event and the
+    //   state of each node and task after it
+    ensures drawing { IfOk result (λ outcome. Draws outcome request (R.remaining reader.old)
         (W.contents writer.old) (W.contents writer.new)) }
     ensures fault { IfErr result (FailsRun Mode.Script (R.remaining reader.old)
         (W.contents writer.old) (W.contents writer.new)) }
-    ensures begun { OnErr result (DrawingBegins view (R.remaining reader.old)
+    ensures begun { OnErr result (DrawingBegins request (R.remaining reader.old)
         (W.contents writer.old) (W.contents writer.new)) }
 {
     let text = read_whole(alloc, reader)?;
     let deck = read_deck(alloc, &text, Mode::Script)?;
     let lines = lines_of(alloc, &text)?;
-    let Ok(drawing) = draw_deck(alloc, deck, view, &lines) else {
+    let Ok(drawing) = draw_deck(alloc, deck, request, &lines) else {
         return Err(Fault::OutOfMemory);
     };
     let Some(drawing) = drawing else {
@@ -68,15 +79,15 @@ pub fn draw_script<R: Read, W: Write>(
     Ok(Outcome::Drawn)
 }
 
-/// The drawing of the run of a deck, of which these are the lines.
+/// The drawing of the run of a deck, of which these are the lines, or its page.
 fn draw_deck(
     alloc: Global,
     deck: Deck,
-    view: View,
+    request: ChartRequest,
     lines: &[&[u8]],
 ) -> Result<Option<String>, Fault>
     requires { IsRightDeck deck }
-    ensures { IfOk result (λ page. IsChartIfShort deck (map (λ line. line.now) lines.now) view
+    ensures { IfOk result (λ page. IsChartIfShort deck (map (λ line. line.now) lines.now) request
         (option_map string_bytes page)) }
 {
     let Deck {
@@ -100,9 +111,10 @@ fn draw_deck(
         deck: lines,
         stage: Stage {
             tasks: tasks.len() as u8,
-            view,
+            view: request.view,
         },
         lanes: &lanes,
+        form: request.form,
     };
     match program {
         DeckProgram::Tally(program) => {

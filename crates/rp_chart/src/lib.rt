@@ -6,4 +6,4 @@
 
 mod chart;
 
-pub use chart::{Outcome, draw_script};
+pub use chart::{ChartRequest, Outcome, draw_script};

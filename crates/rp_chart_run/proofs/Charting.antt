@@ -10,7 +10,8 @@ use Rattle.rp_history.specs.declared.chart.Chart.{Chart}
 use Rattle.rp_model.specs.Effect.{Setting}
 use Rattle.rp_model.specs.World.{World, part_at}
 use Rattle.rp_run.specs.Output.{Play, Said}
-use Rattle.rp_run.specs.Runs.{Follows, Says}
+use Rattle.rp_run.specs.Runs.{Follows, Says, run_setting}
+use Rattle.rp_run.specs.declared.options.RunOptions.{RunOptions}
 use Rattle.rp_output.specs.Stream.{Writes}
 use Rattle.rp_run.specs.declared.settled.Settled.{Settled}
 use Rattle.rp_output.proofs.Writing.{begins_nothing}
@@ -23,6 +24,12 @@ pub one_setting : {S P : Type 0} (next : S → Action → S) (answers : S → Ac
 one_setting next answers start old new same =
     ap (λ c. setting_of next answers start (record new { config = c })) same.config
     ∙ ap (λ p. setting_of next answers start (record new { config = old.config; program = p })) same.program
+
+-- and one run
+pub one_run : {S P : Type 0} (next : S → Action → S) (answers : S → Action → List Answer) (start : P → S) (image : S → List ℕ) (old new : Setup P) (options : RunOptions) → IsSameSetup old new
+    → run_setting next answers start image new options ≡ run_setting next answers start image old options
+one_run next answers start image old new options same =
+    ap (λ (t : Setting _). record (run_setting next answers start image old options) { setting = t }) (one_setting next answers start old new same)
 
 -- the chart of a cluster after a step, by the setting before it
 pub charted_by : {S P : Type 0} (next : S → Action → S) (answers : S → Action → List Answer) (start : P → S) (old new : Setup P) (chart : Chart) (happened : List Happening) (answer : Result Unit Fault)

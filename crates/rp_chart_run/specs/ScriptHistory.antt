@@ -1,6 +1,6 @@
 -- What happens in the lines of a script, in order, and what is drawn beside each moment.
-use Rattle.std.specs.Prelude.{ℕ, zero, suc, ◌-◌, ◌^◌, ◌&&◌, min, not, nat_le, Bool, true, Option}
-use Rattle.std.specs.Prelude.{Some, None, Result, Ok, Err, List, [], ◌∷◌, ◌++◌, length, map, filter}
+use Rattle.std.specs.Prelude.{ℕ, zero, suc, ◌+◌, ◌-◌, ◌^◌, ◌&&◌, min, not, nat_le, Bool, true}
+use Rattle.std.specs.Prelude.{Option, Some, None, Result, Ok, Err, List, [], ◌∷◌, ◌++◌, length, map, filter}
 use Rattle.std.specs.Prelude.{if◌then◌else◌, codes}
 use Rattle.rp_base.specs.Records.{applied_of}
 use Rattle.rp_base.specs.declared.action.Action.{Action}
@@ -27,6 +27,9 @@ use Rattle.rp_model.specs.declared.event.Event.{Event}
 use Rattle.rp_model.specs.declared.event.Event.TheVariants.{Node}
 use Rattle.rp_model.specs.declared.event.Step.TheVariants.{Deliver}
 use Rattle.rp_output.specs.Printed.{applied_line_of, stopped_line_of}
+use Rattle.rp_details.specs.Details.{details_text}
+use Rattle.rp_page.specs.declared.page.Form.{Form}
+use Rattle.rp_page.specs.declared.page.Form.TheVariants.{Drawing, Page}
 use Rattle.rp_run.specs.Output.{RunSetting, Play, effect_of, event_said, command_said, from_to}
 use Rattle.rp_run.specs.Output.{is_among, least_unsettled, opening_play}
 use Rattle.rp_run.specs.Runs.{run_setting}
@@ -36,11 +39,13 @@ use Rattle.rp_chart_run.specs.Effects.{effect_text, refusal_text}
 use Rattle.rp_chart_run.specs.Prospects.{happened_in}
 use Rattle.rp_chart_run.specs.declared.scene.Scene.{Scene}
 
--- A run that is drawn: what is constant in it, the lines of its deck, and what is drawn where.
+-- A run that is drawn: what is constant in it, the lines of its deck, what is drawn where, and what
+-- is made of it.
 pub record DrawnRun (S : Type 0) : Type 0 where
   pub run : RunSetting S
   pub deck : List (List ℕ)
   pub stage : Stage
+  pub form : Form
 
 -- the lines of a scene's deck
 abbrev pub deck_of : Scene → List (List ℕ)
@@ -53,6 +58,7 @@ drawn_run next answers start image cluster scene = record {
   run = run_setting next answers start image cluster scene.options.now;
   deck = deck_of scene;
   stage = scene.stage;
+  form = scene.form;
 }
 
 -- the text of an image, as it is drawn
@@ -60,13 +66,14 @@ abbrev pub image_text : List ℕ → List ℕ
 image_text image = whole_text image
 
 -- What is drawn beside an event: what was delivered, or the line of the deck, and what the actor
--- did.
-abbrev pub event_label : List (List ℕ) → List ℕ → Stage → Happened → LabelText
-event_label names line stage h = record {
+-- did; and what a page says of it.
+abbrev pub event_label : List (List ℕ) → List ℕ → Stage → Happened → List ℕ → LabelText
+event_label names line stage h details = record {
   cause = fitted_text (cause_text names line (delivered_by h.event) h.packet);
   effect = whole_text (effect_text h h.event);
   mark = mark_of stage h;
   is_drawn = is_event_drawn stage.view.position h.packet;
+  details = details;
 }
 
 -- beside a line of the deck in which nothing happened
@@ -76,6 +83,7 @@ line_label line effect is_drawn = record {
   effect = effect;
   mark = None;
   is_drawn = is_drawn;
+  details = [];
 }
 
 -- beside a message that was lost
@@ -85,6 +93,7 @@ lost_label names stage number packet = record {
   effect = whole_text (codes "lost");
   mark = None;
   is_drawn = is_event_drawn stage.view.position packet;
+  details = [];
 }
 
 -- beside a node that is shown
@@ -94,6 +103,7 @@ shown_label stage node cause effect = record {
   effect = effect;
   mark = Some (record { lane = lane_of stage.tasks (parties.Node node); colour = 0; kind = State });
   is_drawn = true;
+  details = [];
 }
 
 abbrev pub stopped_label : Stage → ℕ → LabelText
@@ -150,12 +160,20 @@ module _ {S : Type 0} (d : DrawnRun S) where
   abbrev pub node_shown : World → ℕ → Happening
   node_shown w node = under (part_label node (part_at w.nodes node))
 
+  -- What a page says of an event, in which the first packet that is sent has this number, by the
+  -- world after it. A drawing says nothing.
+  abbrev pub details_as : Form → Event → ℕ → World → List ℕ
+  details_as Drawing event first after = []
+  details_as Page event first after =
+      details_text d.run d.stage.tasks (delivered_by event) first after
+
   -- an event of the line of this number happens, or is refused, and then nothing happens
   abbrev pub happening_of : ℕ → World → Event → Result Transition Fault → Happening
   happening_of line w event (Ok transition) = record {
     item = EventHappened event;
     label = event_label d.run.names (line_text d.deck line) d.stage
-        (happened_in w event transition);
+        (happened_in w event transition)
+        (details_as d.form event (length w.sent + 1) transition.world);
   }
   happening_of line w event (Err refusal) = refused line refusal
 

@@ -5,7 +5,8 @@ ghost use Rattle.rp_chart_run.specs.Charts.{Charts, ChartsPlay, HasWays, IsSettl
 ghost use Rattle.rp_chart_run.specs.ScriptHistory.{command_happens, drain_ended, drain_happens, drawn_run, event_happens, lose_happens, message_lost, lost_nothing, node_shown, nodes_shown, refused, script_happens, unsettled_in};
 ghost use Rattle.rp_deck.specs.Script.{FitsIn, IsEventWithin};
 ghost use Rattle.rp_drawing.specs.Ways.{IsEndingWithin};
-ghost use Rattle.rp_history.specs.Histories.{IsDrawnIfShort, label_text, lane_text, loss_of, lost_of};
+ghost use Rattle.rp_history.specs.Histories.{label_text, lane_text, loss_of, lost_of};
+ghost use Rattle.rp_page.specs.Pages.{IsDrawnAs};
 ghost use Rattle.rp_run.specs.Output.{event_said, lost, drained, command_said, run_said};
 ghost use Rattle.rp_run.specs.Runs.{run_setting, opening_setup, HasParts};
 ghost use Rattle.rp_run.specs.Settled.{is_settled};
@@ -21,13 +22,14 @@ use rp_history::Chart;
 use rp_machine::Machine;
 use rp_model::{Event, Step, worlds_grow};
 use rp_output::is_refusal;
+use rp_page::draw_as;
 use rp_run::{Settled, sent_packet, settled_by};
 use rp_store::CutDevice;
 use rp_world::Cluster;
 use std::alloc::Global;
 
-/// The drawing of the lines of a script, over a cluster of new devices; `None` if it has more than
-/// 2,000 lines and no part of the run is chosen.
+/// The drawing of the lines of a script, over a cluster of new devices, or its page; `None` if the
+/// drawing has more than 2,000 lines and no part of the run is chosen.
 pub fn draw_lines<M: Machine, D: CutDevice>(
     alloc: Global,
     scene: &Scene<'_>,
@@ -46,11 +48,13 @@ pub fn draw_lines<M: Machine, D: CutDevice>(
     //   a line loses and that was not settled. No other message is drawn as lost. Each moment of that
     //   history has the texts and the mark that the run gives it: what was delivered or the line of the
     //   deck, and what the actor did, why a line was refused, that a line lost nothing, or the state of a
-    //   node. There is none exactly if it is too long
+    //   node. There is none exactly if it is too long. A page has this drawing, and the section of
+    //   each event says the packet that it delivered and those that it sent, and the state of each
+    //   node and task, as `rp_details` says it of the world after the event
     ensures drawing { IfOk result (λ page. let options = scene.now.options.now in
         let d = drawn_run M.next M.answers M.begin M.image
         (opening_setup options.config program) scene.now in
-        IsDrawnIfShort d.run.setting scene.now.stage (map lane_text scene.now.lanes.now)
+        IsDrawnAs scene.now.form d.run.setting scene.now.stage (map lane_text scene.now.lanes.now)
         (script_happens d options.most options.lines.now)
         (run_said d.run options.most options.lines.now).play.world
         (option_map string_bytes page)) }
@@ -64,7 +68,7 @@ pub fn draw_lines<M: Machine, D: CutDevice>(
     for line in scene.options.lines {
         walk.take(scene, line)?;
     }
-    walk.chart.draw::<M>(alloc, scene.lanes)
+    draw_as::<M>(alloc, &walk.chart, scene.lanes, scene.form)
 }
 
 /// A run of a script, and the chart of what happened in it.
@@ -134,7 +138,8 @@ impl<M: Machine, D: CutDevice> Walk<M, D> {
                     event,
                     &effect,
                 )?;
-                let label = scene.event_label(self.alloc, line, &happened)?;
+                let details = scene.details(self.alloc, &self.cluster, event, effect.first)?;
+                let label = scene.event_label(self.alloc, line, &happened, details)?;
                 let packets = packets_from(self.alloc, &self.cluster, effect.first)?;
                 self.chart
                     .happen::<M>(self.alloc, &packets, prospect.ending, label)
@@ -343,6 +348,6 @@ impl<M: Machine, D: CutDevice> Walk<M, D> {
             }
             Err(_) => (stopped_words(self.alloc, node)?, Words::none(self.alloc)),
         };
-        self.stay(None, scene.shown_label(node, cause, effect))
+        self.stay(None, scene.shown_label(self.alloc, node, cause, effect))
     }
 }

@@ -15,7 +15,8 @@ use Rattle.clap.specs.declared.parser.matches.ArgMatches.{ArgMatches}
 use Rattle.clap.specs.declared.parser.matches.ArgMatches.TheViews.{out-ArgMatches}
 use Rattle.rp_explore_run.specs.declared.answer.ExploreRequest.{ExploreRequest}
 use Rattle.rp_history.specs.declared.view.View.{View}
-use Rattle.rp_console.specs.CommandLine.{console, option_of, IsRequest, IsView, ReadsAs}
+use Rattle.rp_chart.specs.declared.chart.ChartRequest.{ChartRequest}
+use Rattle.rp_console.specs.CommandLine.{console, option_of, IsChartRequest, IsRequest, IsView, ReadsAs}
 
 or_else_second : (first second : Kinds) → or_else first second ≡ [] → second ≡ []
 or_else_second [] second e = e
@@ -132,6 +133,14 @@ module _ (one other : Text → Option Text) (same : (option : Text) → one opti
     from = λ number reads. is.from number (read_by 32 (codes "from") number reads);
     to_end = λ e. is.to_end (same (codes "to") ∙ e);
     to = λ number reads. is.to number (read_by 32 (codes "to") number reads);
+  }
+
+  -- and make the same of it
+  pub is_chart_by : (request : ChartRequest) → IsChartRequest one request → IsChartRequest other request
+  is_chart_by request is = record {
+    view = is_view_by request.view is.view;
+    page = λ e. is.page (same (codes "html") ∙ e);
+    drawing = λ e. is.drawing (same (codes "html") ∙ e);
   }
 
   -- and they ask for the same search

@@ -10,6 +10,8 @@ use Rattle.clap.specs.declared.builder.action.ArgAction.TheVariants.{SetTrue}
 use Rattle.clap.specs.declared.builder.value_parser.ValueParser.TheVariants.{Signed}
 use Rattle.rp_explore_run.specs.declared.answer.ExploreRequest.{ExploreRequest}
 use Rattle.rp_history.specs.declared.view.View.{View}
+use Rattle.rp_chart.specs.declared.chart.ChartRequest.{ChartRequest}
+use Rattle.rp_page.specs.declared.page.Form.TheVariants.{Drawing, Page}
 use Rattle.rp_console.specs.declared.args.Args.{Args}
 use Rattle.rp_console.specs.declared.args.Args.TheVariants.{Script, Live, Chart, Explore}
 
@@ -74,10 +76,18 @@ count_option name = record (new_rule name) {
 abbrev pub chart_of_whole : App
 chart_of_whole = with_rule (with_rule (new_app (codes "chart")) position_option) hide_self_option
 
--- the subcommand `chart`, with its four options
-abbrev pub chart : App
-chart =
+-- with its first four options
+abbrev pub chart_of_part : App
+chart_of_part =
     with_rule (with_rule chart_of_whole (count_option (codes "from"))) (count_option (codes "to"))
+
+-- the option `--html`
+abbrev pub html_option : Rule
+html_option = record (new_rule (codes "html")) { long = Some (codes "html"); action = Some SetTrue }
+
+-- the subcommand `chart`, with its five options
+abbrev pub chart : App
+chart = with_rule chart_of_part html_option
 
 -- the option `--states`
 abbrev pub states : Rule
@@ -157,6 +167,12 @@ pub record IsView (value : Text → Option Text) (view : View) : Type 0 where
   pub from : (number : ℕ) → ReadsAs 32 (value (codes "from")) number → view.from ≡ Some number
   pub to_end : value (codes "to") ≡ None → view.to ≡ None
   pub to : (number : ℕ) → ReadsAs 32 (value (codes "to")) number → view.to ≡ Some number
+
+-- What the values of these options make of a run: that part of it, as a page or as a drawing.
+pub record IsChartRequest (value : Text → Option Text) (request : ChartRequest) : Type 0 where
+  pub view : IsView value request.view
+  pub page : value (codes "html") ≡ Some (codes "true") → request.form ≡ Page
+  pub drawing : value (codes "html") ≡ Some (codes "false") → request.form ≡ Drawing
 
 -- The search that the values of these options ask for: at most how many states it finds, and the
 -- outcome of which a deck is printed, if one is.

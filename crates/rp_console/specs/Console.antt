@@ -14,10 +14,11 @@ use Rattle.rp_explore_run.specs.Explores.{ExploreBegins, Explores, FailsExplore}
 use Rattle.rp_explore_run.specs.declared.answer.ExploreRequest.{ExploreRequest}
 use Rattle.rp_explore_run.specs.declared.answer.Verdict.{Verdict}
 use Rattle.rp_explore_run.specs.declared.answer.Verdict.TheVariants as verdicts
-use Rattle.rp_history.specs.declared.view.View.{View}
+use Rattle.rp_chart.specs.declared.chart.ChartRequest.{ChartRequest}
 use Rattle.rp_script.specs.Agreeing.{ScriptBegins, ScriptPrints}
 use Rattle.rp_console.specs.CommandLine.{chart_option, console, explore_option, live_args, name_of}
-use Rattle.rp_console.specs.CommandLine.{seed_of, trace_of, turns_of, IsRequest, IsView, ReadsAs}
+use Rattle.rp_console.specs.CommandLine.{seed_of, trace_of, turns_of, IsChartRequest, IsRequest}
+use Rattle.rp_console.specs.CommandLine.{ReadsAs}
 use Rattle.rp_script.specs.Figures.{figures_line_of}
 use Rattle.rp_script.specs.Given.{FailsRun}
 use Rattle.rp_script.specs.LiveRun.{LiveBegins, LivePrints}
@@ -42,7 +43,8 @@ pub record AsksFor (words : List Text) (args : Args) : Type 0 where
   pub quiet : trace_of words ≡ Some (codes "false") → args ≡ Script false
   pub live : (seed turns : ℕ) → ReadsAs 32 (seed_of words) seed
       → ReadsAs 32 (turns_of words) turns → args ≡ live_args seed turns
-  pub chart : (view : View) → args ≡ Chart view → IsView (chart_option words) view
+  pub chart : (request : ChartRequest) → args ≡ Chart request
+      → IsChartRequest (chart_option words) request
   pub explore : (request : ExploreRequest) → args ≡ Explore request
       → IsRequest (explore_option words) request
 
@@ -53,8 +55,8 @@ abbrev pub Prints : Args → Content → Content → Content → Report → Type
 Prints (Script traced) given old new Nothing = ScriptPrints traced given old new
 Prints (Live request) given old new (Figures line) =
     LivePrints request.seed request.turns given old new line.figures
-Prints (Chart view) given old new Nothing = Draws Drawn view given old new
-Prints (Chart view) given old new TooLong = Draws outcomes.TooLong view given old new
+Prints (Chart request) given old new Nothing = Draws Drawn request given old new
+Prints (Chart request) given old new TooLong = Draws outcomes.TooLong request given old new
 Prints (Explore request) given old new (Searched verdict) = Explores request given old new verdict
 Prints args given old new report = ⊥
 
@@ -62,14 +64,14 @@ Prints args given old new report = ⊥
 abbrev pub HasBegun : Args → Content → Content → Content → Type 0
 HasBegun (Script traced) given old new = ScriptBegins traced given old new
 HasBegun (Live request) given old new = LiveBegins request.seed request.turns given old new
-HasBegun (Chart view) given old new = DrawingBegins view given old new
+HasBegun (Chart request) given old new = DrawingBegins request given old new
 HasBegun (Explore request) given old new = ExploreBegins request given old new
 
 -- the fault of what was asked for, by the deck as it is read for that
 abbrev pub Fails : Args → Content → Content → Content → Fault → Type 0
 Fails (Script traced) given old new fault = FailsRun modes.Script given old new fault
 Fails (Live request) given old new fault = FailsRun modes.Live given old new fault
-Fails (Chart view) given old new fault = FailsRun modes.Script given old new fault
+Fails (Chart request) given old new fault = FailsRun modes.Script given old new fault
 Fails (Explore request) given old new fault = FailsExplore given old new fault
 
 -- why there is no drawing of a whole run that is too long

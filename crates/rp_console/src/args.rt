@@ -3,13 +3,15 @@
 ghost use Rattle.std.specs.Prelude.{◌≡◌, ℕ, None, Some, true, false, codes, IfOk, map, option_map};
 ghost use Rattle.clap.specs.Words.{app_of, rule_of, subcommand_of, fault_of, found_of, one_text, FailsBy};
 ghost use Rattle.clap.specs.declared.builder.command.Command.TheViews.{out-Command};
-ghost use Rattle.rp_console.specs.CommandLine.{chart, chart_option, console, count_option, explore, explore_option, hide_self_option, live, live_args, name_of, position_option, script, seed_of, states, trace_of, turns_of, IsRequest, IsView, ReadsAs};
+ghost use Rattle.rp_console.specs.CommandLine.{chart, chart_option, console, count_option, explore, explore_option, hide_self_option, html_option, live, live_args, name_of, position_option, script, seed, seed_of, states, trace_of, turns, turns_of, IsChartRequest, IsRequest, IsView, ReadsAs};
 
 use clap::{Arg, ArgAction, ArgMatches, Command, Error, value_parser};
 use rp_base::Position;
+use rp_chart::ChartRequest;
 use rp_explore_run::ExploreRequest;
 use rp_history::View;
 use rp_output::VERSION;
+use rp_page::Form;
 use rp_script::LiveRequest;
 use std::alloc::{AllocError, Global};
 use std::convert::AsStr;
@@ -24,8 +26,8 @@ pub enum Args {
     },
     /// Runs the deck on standard input in threads.
     Live(LiveRequest),
-    /// Draws this part of the run of the script of the deck on standard input.
-    Chart(View),
+    /// Draws this part of the run of the script of the deck on standard input, or makes its page.
+    Chart(ChartRequest),
     /// Explores every order of the program of the deck on standard input.
     Explore(ExploreRequest),
 }
@@ -61,6 +63,7 @@ fn script_command<'a>(alloc: Global) -> Result<Command<'a>, AllocError>
         .action(ArgAction::SetTrue);
     Command::new(alloc, "script")
         .about("Reads a deck from standard input and runs its script")
+        .override_usage("rp_console script [OPTIONS] < DECK")
         .arg(trace)
 }
 
@@ -69,24 +72,11 @@ fn live_command<'a>(alloc: Global) -> Result<Command<'a>, AllocError>
     ensures app { IfOk result (λ command. app_of command ≡ live) }
     ensures local { IfOk result (λ command. (out-Command command).has_globals ≡ false) }
 {
-    let seed = Arg::new(alloc, "seed")
-        .long("seed")
-        .value_name("S")
-        .help(
-            "Seed that determines which packets are lost, duplicated and reordered, 0 to 4294967295",
-        )
-        .value_parser(value_parser!(u32))
-        .default_value("0");
-    let turns = Arg::new(alloc, "turns")
-        .long("turns")
-        .value_name("T")
-        .help("At most how many turns each node and each task makes, 1 to 1000000")
-        .value_parser(value_parser!(u32).range(1..=1_000_000))
-        .default_value("10000");
     Command::new(alloc, "live")
         .about("Reads a deck from standard input and runs its nodes and tasks as threads")
-        .arg(seed)?
-        .arg(turns)
+        .override_usage("rp_console live [OPTIONS] < DECK")
+        .arg(seed_option(alloc))?
+        .arg(turns_option(alloc))
 }
 
 /// The subcommand `chart`.
@@ -98,6 +88,7 @@ fn chart_command<'a>(alloc: Global) -> Result<Command<'a>, AllocError>
         .about(
             "Reads a deck from standard input, runs its script and prints a drawing of what happens",
         )
+        .override_usage("rp_console chart [OPTIONS] < DECK")
         .arg(position_option(alloc))?
         .arg(hide_self_option(alloc))?
         .arg(count_option(
@@ -109,7 +100,8 @@ fn chart_command<'a>(alloc: Global) -> Result<Command<'a>, AllocError>
             alloc,
             "to",
             "Draws only the moments up to number N, 1 to 4294967295",
-        ))
+        ))?
+        .arg(html_option(alloc))
 }
 
 /// The subcommand `explore`.
@@ -121,12 +113,41 @@ fn explore_command<'a>(alloc: Global) -> Result<Command<'a>, AllocError>
         .about(
             "Reads a deck from standard input and explores every order of what its script asks for",
         )
+        .override_usage("rp_console explore [OPTIONS] < DECK")
         .arg(states_option(alloc))?
         .arg(count_option(
             alloc,
             "deck",
             "Prints a deck for script that shows outcome N, 1 to 4294967295",
         ))
+}
+
+/// The option `--seed`.
+fn seed_option<'a>(alloc: Global) -> Arg<'a>
+    ensures rule { rule_of result ≡ seed }
+    ensures local { result.global ≡ false }
+{
+    Arg::new(alloc, "seed")
+        .long("seed")
+        .value_name("S")
+        .help(
+            "Seed that determines which packets are lost, duplicated and reordered, 0 to 4294967295",
+        )
+        .value_parser(value_parser!(u32))
+        .default_value("0")
+}
+
+/// The option `--turns`.
+fn turns_option<'a>(alloc: Global) -> Arg<'a>
+    ensures rule { rule_of result ≡ turns }
+    ensures local { result.global ≡ false }
+{
+    Arg::new(alloc, "turns")
+        .long("turns")
+        .value_name("T")
+        .help("At most how many turns each node and each task makes, 1 to 1000000")
+        .value_parser(value_parser!(u32).range(1..=1_000_000))
+        .default_value("10000")
 }
 
 /// The option `--states`.
@@ -165,6 +186,17 @@ fn hide_self_option<'a>(alloc: Global) -> Arg<'a>
         .action(ArgAction::SetTrue)
 }
 
+/// The option `--html`.
+fn html_option<'a>(alloc: Global) -> Arg<'a>
+    ensures rule { rule_of result ≡ html_option }
+    ensures local { result.global ≡ false }
+{
+    Arg::new(alloc, "html")
+        .long("html")
+        .help("Prints a page with the drawing and the state after each moment")
+        .action(ArgAction::SetTrue)
+}
+
 /// An option that takes a number from 1 on.
 fn count_option<'a>(alloc: Global, name: &'a str, help: &'a str) -> Arg<'a>
     ensures rule { rule_of result ≡ count_option name.now }
@@ -182,7 +214,8 @@ fn count_option<'a>(alloc: Global, name: &'a str, help: &'a str) -> Arg<'a>
 pub fn read_args<S: AsStr>(alloc: Global, words: &[S]) -> Result<Args, Error>
     // claim: The words of the command line name a subcommand and its options, or are refused as
     //   clap's rules say. For a drawing they choose a position, whether packets from a node to
-    //   itself are drawn, and the first and the last moment that is drawn; for a search how many
+    //   itself are drawn, the first and the last moment that is drawn, and whether a page is made of
+    //   it; for a search how many
     //   states it may find, and whether it is to print the deck of an outcome, and of which
     ensures named { IfOk result (λ args. option_map (λ found. found.0)
         (subcommand_of console (map S.text words.now)) ≡ Some (name_of args)) }
@@ -194,8 +227,8 @@ pub fn read_args<S: AsStr>(alloc: Global, words: &[S]) -> Result<Args, Error>
         → ReadsAs 32 (seed_of (map S.text words.now)) seed
         → ReadsAs 32 (turns_of (map S.text words.now)) turns
         → args ≡ live_args seed turns) }
-    ensures chart { IfOk result (λ args. (view : View) → args ≡ Args.Chart view
-        → IsView (chart_option (map S.text words.now)) view) }
+    ensures chart { IfOk result (λ args. (request : ChartRequest) → args ≡ Args.Chart request
+        → IsChartRequest (chart_option (map S.text words.now)) request) }
     ensures explore { IfOk result (λ args. (request : ExploreRequest)
         → args ≡ Args.Explore request
         → IsRequest (explore_option (map S.text words.now)) request) }
@@ -213,11 +246,26 @@ pub fn read_args<S: AsStr>(alloc: Global, words: &[S]) -> Result<Args, Error>
         }));
     }
     if let Some(found) = matches.subcommand_matches("chart") {
-        return Ok(Args::Chart(view_of(found)));
+        return Ok(Args::Chart(chart_of(found)));
     }
     match matches.subcommand_matches("explore") {
         Some(found) => Ok(Args::Explore(request_of(found))),
         None => unreachable!(),
+    }
+}
+
+/// What the options of `chart` ask for.
+fn chart_of(found: &ArgMatches<'_>) -> ChartRequest
+    ensures { IsChartRequest (one_text (found_of found.now)) result }
+{
+    let form = if found.get_flag("html") {
+        Form::Page
+    } else {
+        Form::Drawing
+    };
+    ChartRequest {
+        view: view_of(found),
+        form,
     }
 }
 

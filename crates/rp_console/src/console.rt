@@ -104,7 +104,7 @@ fn run_as<T: Threads + Wait + Clock + Sync, R: Read, W: Write>(
             Ok(figures) => Ok(Report::Figures(figures)),
             Err(fault) => Err(fault),
         },
-        Args::Chart(view) => match draw_script(alloc, reader, view, writer) {
+        Args::Chart(request) => match draw_script(alloc, reader, request, writer) {
             Ok(Outcome::Drawn) => Ok(Report::Nothing),
             Ok(Outcome::TooLong) => Ok(Report::TooLong),
             Err(fault) => Err(fault),

@@ -4,6 +4,8 @@ ghost use Rattle.std.specs.Prelude.{◌≡◌, ◌+◌, ◌*◌, ◌++◌, ◌�
 ghost use Rattle.std.specs.List.{sum_by};
 ghost use Rattle.rp_drawing.specs.Drawings.{end_kind, page_text, way_curve, way_text, IsDrawnBy};
 ghost use Rattle.rp_drawing.specs.Lines.{effect_line, effect_text, head_text, lane_text, lanes_text, mark_kind, mark_text, name_text, names_from, names_text, row_bytes, row_element, row_text, text_point};
+ghost use Rattle.rp_drawing.specs.Pages.{line_y};
+ghost use Rattle.rp_drawing.specs.Stops.{within_page};
 ghost use Rattle.rp_drawing.specs.Ways.{IsDown, AreDown};
 
 use crate::elements::{
@@ -274,6 +276,16 @@ fn end_kind(end: End) -> u8
         End::Unheard => 1,
         End::Lost => 2,
     }
+}
+
+/// Where the line of a moment begins in a drawing with n lanes.
+pub fn moment_y(lanes: u32, row: &Row) -> u64
+    requires { lanes ≤ 16 }
+    // claim: A moment begins in the drawing where its line does
+    ensures { result ≡ line_y lanes (within_page row.now.line) }
+{
+    let page = Page { lanes };
+    page.line_y(within_page(row.line))
 }
 
 /// Writes the moments that are drawn.

@@ -20,6 +20,6 @@ mod stops;
 mod style;
 mod words;
 
-pub use drawing::{Lane, draw};
+pub use drawing::{Lane, draw, moment_y};
 pub use sketch::{Arrival, End, Ending, Kind, Label, Mark, Moment, Row, Sending, Sketch, Way};
 pub use words::Words;

@@ -84,6 +84,8 @@ pub struct Label {
     pub mark: Option<Mark>,
     /// Whether it has a line, also where no packet's way is drawn from it.
     pub is_drawn: bool,
+    /// What a page says of the moment beside its drawing, in lines. It is not drawn.
+    pub details: Vec<u8>,
 }
 
 impl Label {

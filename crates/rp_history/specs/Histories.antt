@@ -108,12 +108,14 @@ item_ending w NothingHappened = lost_of None
 -- ---- the texts of a drawing
 
 -- What is drawn of a moment beside the ways of packets: the texts at the left and at the right, the
--- mark, and whether the moment has a line also where no packet's way is drawn from it.
+-- mark, and whether the moment has a line also where no packet's way is drawn from it; and what a
+-- page says of the moment, which is not drawn.
 pub record LabelText : Type 0 where
   pub cause : List ℕ
   pub effect : List ℕ
   pub mark : Option Mark
   pub is_drawn : Bool
+  pub details : List ℕ
 
 -- the bytes of a label
 abbrev pub label_text : Label → LabelText
@@ -122,6 +124,7 @@ label_text label = record {
   effect = string_bytes label.effect.text;
   mark = label.mark;
   is_drawn = label.is_drawn;
+  details = label.details.items;
 }
 
 -- A lane: its name and its colour.

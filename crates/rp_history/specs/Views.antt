@@ -1,7 +1,8 @@
 -- Which packets are drawn, on which lanes, and in which colour; and what is drawn of an event
 -- beside the ways of packets.
 use Rattle.std.specs.Prelude.{ℕ, ◌+◌, ◌-◌, ◌%◌, Bool, true, false, ◌&&◌, ◌||◌, nat_eq}
-use Rattle.std.specs.Prelude.{nat_le, nat_lt, if◌then◌else◌, is_some, Option, Some, None}
+use Rattle.std.specs.Prelude.{nat_le, nat_lt, if◌then◌else◌, is_some, Option, Some, None, Vec}
+use Rattle.std.specs.declared.alloc.Global.{Global}
 use Rattle.rp_base.specs.Ballot.{owner_of, round_of}
 use Rattle.rp_base.specs.Ranges.{is_covered}
 use Rattle.rp_codec.specs.Message.{Message}
@@ -193,11 +194,13 @@ mark_on stage colour (Some kind) (Some actor) =
 abbrev pub mark_of : Stage → Happened → Option Mark
 mark_of stage h = mark_on stage (packet_colour h.packet) (kind_of h h.event) h.actor
 
--- what is drawn of an event, with the words for it and for what its actor did
-abbrev pub label_of : Stage → Happened → Words → Words → Label
-label_of stage h cause effect = record {
+-- what is drawn of an event, with the words for it and for what its actor did, and what a page says
+-- of it
+abbrev pub label_of : Stage → Happened → Words → Words → Vec ℕ Global → Label
+label_of stage h cause effect details = record {
   cause = cause;
   effect = effect;
   mark = mark_of stage h;
   is_drawn = is_event_drawn stage.view.position h.packet;
+  details = details;
 }

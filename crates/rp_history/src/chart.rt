@@ -165,7 +165,7 @@ impl Chart {
     }
 
     /// Whether the drawing has more than 2,000 lines, and no part of the run is chosen.
-    fn is_too_long(&self) -> bool
+    pub fn is_too_long(&self) -> bool
         ensures { result ≡ is_too_long self.now.stage self.now.sketch }
     {
         !self.stage.view.is_part() && self.lines() > MOST_LINES

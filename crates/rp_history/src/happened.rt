@@ -84,21 +84,22 @@ impl Happened {
     }
 
     /// The label that is drawn beside the ways of packets, with the words for the event and for
-    /// what its actor then did.
-    pub fn label(&self, stage: &Stage, cause: Words, effect: Words) -> Label
+    /// what its actor then did, and with what a page says of it.
+    pub fn label(&self, stage: &Stage, cause: Words, effect: Words, details: Vec<u8>) -> Label
         // claim: The label of an event has the words that it is given, and its mark is on the lane of
         //   who acted, in the colour of its packet's ballot. The mark is that of a record exactly if more
         //   bytes of the device are noted after a node's step than before it, and that of a torn one
         //   exactly if they are after a step within which the node was stopped. A packet that a stopped
         //   node does not hear and a restart of a running node have no mark. The label is drawn, also
         //   where no arrow is, exactly if no position is chosen or its packet names the one that is
-        ensures { result ≡ label_of stage.now self.now cause effect }
+        ensures { result ≡ label_of stage.now self.now cause effect details }
     {
         Label {
             cause,
             effect,
             mark: self.mark(stage),
             is_drawn: stage.view.shows_event(&self.packet),
+            details,
         }
     }
 

@@ -9,23 +9,23 @@ use Rattle.rp_deck.specs.DeckViews.{deck_text}
 use Rattle.rp_deck.specs.Meaning.{meaning_of}
 use Rattle.rp_deck.specs.declared.deck.Deck.{Deck}
 use Rattle.rp_deck.specs.declared.deck.Mode.TheVariants.{Script}
-use Rattle.rp_history.specs.declared.view.View.{View}
 use Rattle.rp_output.specs.Stream.{Begins}
 use Rattle.rp_output.proofs.Writing.{appends_kept, begins_all}
 use Rattle.rp_script.proofs.Failing.{on_err}
 use Rattle.rp_script.specs.Given.{FailsRun, most_bytes}
+use Rattle.rp_chart.specs.declared.chart.ChartRequest.{ChartRequest}
 use Rattle.rp_chart.specs.Charts.{ChartsBytes, IsChartIfShort, deck_lines}
 use Rattle.rp_chart.proofs.chart.draw_script.Goals as goal
 
 -- the bytes that were read mean the deck, the lines are theirs, and the page is what was found
-charts : (view : View) (given : Option (List ℕ)) (deck : Deck) (bytes read shown : List ℕ) (lines named : List (List ℕ)) (page found : Option (List ℕ))
+charts : (request : ChartRequest) (given : Option (List ℕ)) (deck : Deck) (bytes read shown : List ℕ) (lines named : List (List ℕ)) (page found : Option (List ℕ))
     → IfSome given (λ whole. bytes ≡ whole) → length bytes ≤ most_bytes → IsRightDeck deck → meaning_of Script read ≡ Ok (deck_text deck) → read ≡ bytes
-    → lines ≡ deck_lines shown → shown ≡ bytes → named ≡ lines → found ≡ page → IsChartIfShort deck named view found → ChartsBytes view given page
-charts view given deck bytes read shown lines named page found all short right meaning same lines_are shown_is named_is found_is chart = record {
+    → lines ≡ deck_lines shown → shown ≡ bytes → named ≡ lines → found ≡ page → IsChartIfShort deck named request found → ChartsBytes request given page
+charts request given deck bytes read shown lines named page found all short right meaning same lines_are shown_is named_is found_is chart = record {
   deck = deck;
   means = record { right = right; meant = record { bytes = bytes; all = all; short = short; meaning_is = subst (λ (b : List ℕ). meaning_of Script b ≡ Ok (deck_text deck)) same meaning } };
-  chart = subst (λ (p : Option (List ℕ)). IsChartIfShort deck (deck_lines bytes) view p) found_is
-      (subst (λ (l : List (List ℕ)). IsChartIfShort deck l view found) (named_is ∙ lines_are ∙ ap deck_lines shown_is) chart);
+  chart = subst (λ (p : Option (List ℕ)). IsChartIfShort deck (deck_lines bytes) request p) found_is
+      (subst (λ (l : List (List ℕ)). IsChartIfShort deck l request found) (named_is ∙ lines_are ∙ ap deck_lines shown_is) chart);
 }
 
 faulted : {A : Type 0} (Q : Fault → Type 0) (fault : Fault) (answer : Result A Fault) → IsErrAnd answer (λ e. e ≡ fault) → Q fault → IfErr answer Q
@@ -50,8 +50,8 @@ returns-in_default-drawing-clause-drawing g c =
     let lines = map (λ line. line.now) c.in_ok-lines.lines.items in
     let named = map (λ line. line.now) c.deref-3.result.now in
     let named_is : named ≡ lines = ap (map (λ line. line.now)) c.deref-3.ensures.value in
-    let chart : ChartsBytes c.args.view given (None) =
-    charts c.args.view given deck bytes c.deref.result.now c.deref-2.result.now lines named (None) (option_map string_bytes c.in-Ok.drawing) all c.in_ok-text.ensures.size
+    let chart : ChartsBytes c.args.request given (None) =
+    charts c.args.request given deck bytes c.deref.result.now c.deref-2.result.now lines named (None) (option_map string_bytes c.in-Ok.drawing) all c.in_ok-text.ensures.size
     c.in_ok-deck.ensures.deck meaning c.deref.ensures.value c.in_ok-lines.ensures c.deref-2.ensures.value named_is (ap (option_map string_bytes) c.in_default-drawing.is) c.in-Ok.ensures in
     (refl, chart)
 
@@ -66,8 +66,8 @@ returns-in_err-write_whole-clause-begun g c =
     let lines = map (λ line. line.now) c.in_ok-lines.lines.items in
     let named = map (λ line. line.now) c.deref-3.result.now in
     let named_is : named ≡ lines = ap (map (λ line. line.now)) c.deref-3.ensures.value in
-    let chart : ChartsBytes c.args.view given (Some (string_bytes c.in-Some.drawing)) =
-    charts c.args.view given deck bytes c.deref.result.now c.deref-2.result.now lines named (Some (string_bytes c.in-Some.drawing)) (option_map string_bytes c.in-Ok.drawing) all c.in_ok-text.ensures.size
+    let chart : ChartsBytes c.args.request given (Some (string_bytes c.in-Some.drawing)) =
+    charts c.args.request given deck bytes c.deref.result.now c.deref-2.result.now lines named (Some (string_bytes c.in-Some.drawing)) (option_map string_bytes c.in-Ok.drawing) all c.in_ok-text.ensures.size
     c.in_ok-deck.ensures.deck meaning c.deref.ensures.value c.in_ok-lines.ensures c.deref-2.ensures.value named_is (ap (option_map string_bytes) c.in-Some.is) c.in-Ok.ensures in
     let text = string_bytes c.in-Some.drawing in
     let same : c.as_bytes.result.now ≡ text = c.as_bytes.ensures.value in
@@ -85,8 +85,8 @@ returns-in_err-write_out-clause-begun g c =
     let lines = map (λ line. line.now) c.in_ok-lines.lines.items in
     let named = map (λ line. line.now) c.deref-3.result.now in
     let named_is : named ≡ lines = ap (map (λ line. line.now)) c.deref-3.ensures.value in
-    let chart : ChartsBytes c.args.view given (Some (string_bytes c.in-Some.drawing)) =
-    charts c.args.view given deck bytes c.deref.result.now c.deref-2.result.now lines named (Some (string_bytes c.in-Some.drawing)) (option_map string_bytes c.in-Ok.drawing) all c.in_ok-text.ensures.size
+    let chart : ChartsBytes c.args.request given (Some (string_bytes c.in-Some.drawing)) =
+    charts c.args.request given deck bytes c.deref.result.now c.deref-2.result.now lines named (Some (string_bytes c.in-Some.drawing)) (option_map string_bytes c.in-Ok.drawing) all c.in_ok-text.ensures.size
     c.in_ok-deck.ensures.deck meaning c.deref.ensures.value c.in_ok-lines.ensures c.deref-2.ensures.value named_is (ap (option_map string_bytes) c.in-Some.is) c.in-Ok.ensures in
     let text = string_bytes c.in-Some.drawing in
     let same : c.as_bytes.result.now ≡ text = c.as_bytes.ensures.value in
@@ -106,8 +106,8 @@ returns-clause-drawing g c =
     let lines = map (λ line. line.now) c.in_ok-lines.lines.items in
     let named = map (λ line. line.now) c.deref-3.result.now in
     let named_is : named ≡ lines = ap (map (λ line. line.now)) c.deref-3.ensures.value in
-    let chart : ChartsBytes c.args.view given (Some (string_bytes c.in-Some.drawing)) =
-    charts c.args.view given deck bytes c.deref.result.now c.deref-2.result.now lines named (Some (string_bytes c.in-Some.drawing)) (option_map string_bytes c.in-Ok.drawing) all c.in_ok-text.ensures.size
+    let chart : ChartsBytes c.args.request given (Some (string_bytes c.in-Some.drawing)) =
+    charts c.args.request given deck bytes c.deref.result.now c.deref-2.result.now lines named (Some (string_bytes c.in-Some.drawing)) (option_map string_bytes c.in-Ok.drawing) all c.in_ok-text.ensures.size
     c.in_ok-deck.ensures.deck meaning c.deref.ensures.value c.in_ok-lines.ensures c.deref-2.ensures.value named_is (ap (option_map string_bytes) c.in-Some.is) c.in-Ok.ensures in
     let text = string_bytes c.in-Some.drawing in
     let same : c.as_bytes.result.now ≡ text = c.as_bytes.ensures.value in

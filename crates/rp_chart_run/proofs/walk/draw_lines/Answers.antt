@@ -6,7 +6,8 @@ use Rattle.rp_model.specs.Effect.{Setting}
 use Rattle.rp_model.specs.World.{World, opening_world}
 use Rattle.rp_run.specs.Output.{Play, command_said, opening_play, script_said}
 use Rattle.rp_run.specs.Runs.{Follows, opening_setup, run_setting}
-use Rattle.rp_history.specs.Histories.{IsSketchOf, IsDrawnIfShort, lane_text}
+use Rattle.rp_history.specs.Histories.{IsSketchOf, lane_text}
+use Rattle.rp_page.specs.Pages.{IsDrawnAs}
 use Rattle.rp_history.specs.declared.stage.Stage.{Stage}
 use Rattle.rp_run.proofs.RunParts.{sets_out, ends, no_line, line_goes_on}
 use Rattle.rp_run.proofs.Stepping.{same_setting, same_trans, opening_parts}
@@ -87,8 +88,8 @@ returns g c =
     (none_left d most c.loop-line.invariant.charted.play lines c.loop-line.line-index (omega arith)) in
     let charted = subst (λ (t : Setting _). IsSketchOf t walk.chart.stage walk.chart.sketch happened walk.cluster.world) setting drawn in
     record {
-      drawing = IfOk-weaker c.draw.result _ _
-          (λ page drawn. subst (λ (w : World). IsDrawnIfShort s.setting c.args.scene.now.stage lanes happened w (option_map string_bytes page)) done.0.world_is
-          (subst (λ (stage : Stage). IsDrawnIfShort s.setting stage lanes happened walk.cluster.world (option_map string_bytes page)) c.loop-line.invariant.stage drawn))
-          (c.draw.ensures.drawn s.setting happened walk.cluster.world charted);
+      drawing = IfOk-weaker c.draw_as.result _ _
+          (λ page drawn. subst (λ (w : World). IsDrawnAs c.args.scene.now.form s.setting c.args.scene.now.stage lanes happened w (option_map string_bytes page)) done.0.world_is
+          (subst (λ (stage : Stage). IsDrawnAs c.args.scene.now.form s.setting stage lanes happened walk.cluster.world (option_map string_bytes page)) c.loop-line.invariant.stage drawn))
+          (c.draw_as.ensures.drawn s.setting happened walk.cluster.world charted);
     }

@@ -1,9 +1,9 @@
 use Rattle.std.proofs.Common.{◌≡◌, ◌∙◌, [], map, inl, inr, rules, true, false, codes, ap, ap₂, sym, subst, refl, Option, Some}
 use Rattle.clap.specs.Words.{Text, fault_of, found_of, one_text, subcommand_name_of}
 use Rattle.rp_explore_run.specs.declared.answer.ExploreRequest.{ExploreRequest}
-use Rattle.rp_history.specs.declared.view.View.{View}
-use Rattle.rp_console.specs.CommandLine.{chart_option, console, explore_option, live_args, option_of, trace_of, IsRequest, IsView, ReadsAs}
-use Rattle.rp_console.proofs.CommandLineLemmas.{no_fault, has_fault, is_request_by, is_view_by, met_name, met_one, option_read}
+use Rattle.rp_chart.specs.declared.chart.ChartRequest.{ChartRequest}
+use Rattle.rp_console.specs.CommandLine.{chart_option, console, explore_option, live_args, option_of, trace_of, IsChartRequest, IsRequest, ReadsAs}
+use Rattle.rp_console.proofs.CommandLineLemmas.{no_fault, has_fault, is_chart_by, is_request_by, met_name, met_one, option_read}
 use Rattle.rp_console.specs.declared.args.Args.TheVariants.{Script}
 use Rattle.rp_console.proofs.args.read_args.Given as given
 use Rattle.rp_console.proofs.args.read_args.Goals as goal
@@ -68,13 +68,13 @@ pub returns-in-Some-subcommand_matches-2-clause-refused : goal.returns-in-Some-s
 returns-in-Some-subcommand_matches-2-clause-refused g c = taken g (goal.at.returns-in-Some-subcommand_matches-2-clause-refused g c).In_ok-matches
 
 pub returns-in-Some-subcommand_matches-2-clause-chart : goal.returns-in-Some-subcommand_matches-2-clause-chart
-returns-in-Some-subcommand_matches-2-clause-chart g c view is =
+returns-in-Some-subcommand_matches-2-clause-chart g c request is =
     let found = c.in-Some-subcommand_matches-2.found.now in
     let named : subcommand_name_of c.in_ok-matches.matches ≡ Some (codes "chart") = c.in-Some-subcommand_matches-2.ensures.found.0 refl in
     let text : (option : Text) → one_text (found_of found) option ≡ chart_option (map g.S.AsStr.text c.args.words.now) option = λ option.
     option_read _ _ c.in_ok-matches.matches _ c.in_ok-command.ensures c.in_ok-matches.ensures.matches (codes "chart") option found named refl c.in-Some-subcommand_matches-2.ensures.rows in
-    let same : view ≡ c.view_of.result = cc in
-    subst (λ (v : View). IsView (chart_option (map g.S.AsStr.text c.args.words.now)) v) (sym same) (is_view_by _ _ text c.view_of.result c.view_of.ensures)
+    let same : request ≡ c.chart_of.result = cc in
+    subst (λ (r : ChartRequest). IsChartRequest (chart_option (map g.S.AsStr.text c.args.words.now)) r) (sym same) (is_chart_by _ _ text c.chart_of.result c.chart_of.ensures)
 
 pub returns-clause-explore : goal.returns-clause-explore
 returns-clause-explore g c request is =

@@ -1,5 +1,5 @@
 -- By what the step of the cluster was.
-use Rattle.std.proofs.Common.{◌≡◌, ◌∙◌, ◌+◌, ◌-◌, ◌^◌, min, ℕ, ◌≤◌, Option, None, Ok, [], ◌∷◌, ◌++◌, length, length-append, drop, arith, sym, ap, subst}
+use Rattle.std.proofs.Common.{◌≡◌, ◌∙◌, ◌+◌, ◌-◌, ◌^◌, min, ℕ, ◌≤◌, Option, None, Ok, List, [], ◌∷◌, ◌++◌, length, length-append, drop, arith, sym, ap, subst}
 use Rattle.std.proofs.lemmas.List.{length-drop}
 use Rattle.rp_base.specs.Fault.{code_of}
 use Rattle.rp_drawing.specs.Ways.{IsEndingWithin}
@@ -16,15 +16,15 @@ use Rattle.rp_base.specs.declared.reply.Answer.{Answer}
 use Rattle.rp_model.specs.declared.effect.Dropped.{Dropped}
 use Rattle.rp_model.specs.declared.effect.Effect.{Effect}
 use Rattle.rp_model.specs.declared.event.Event.{Event}
-use Rattle.rp_run.specs.Output.{event_said}
+use Rattle.rp_run.specs.Output.{RunSetting, event_said}
 use Rattle.rp_run.specs.Runs.{run_setting}
 use Rattle.rp_run.proofs.Taken.{settled_alike}
 use Rattle.rp_run.proofs.RunParts.{happened, was_refused}
 use Rattle.rp_run.proofs.Stepping.{always_ok, parts_stay, refused_of}
 use Rattle.rp_chart_run.specs.Causes.{line_text}
 use Rattle.rp_chart_run.specs.Prospects.{actor_at, actor_state, effect_after, happened_in, packet_number}
-use Rattle.rp_chart_run.specs.ScriptHistory.{drawn_run, event_happens, event_label, refused}
-use Rattle.rp_chart_run.proofs.Charting.{charted_as, charted_by, follows_of, has_ways, writes_none}
+use Rattle.rp_chart_run.specs.ScriptHistory.{details_as, drawn_run, event_happens, event_label, refused}
+use Rattle.rp_chart_run.proofs.Charting.{charted_as, charted_by, follows_of, has_ways, one_run, writes_none}
 use Rattle.rp_chart_run.proofs.ScriptHistory.{event_happened, event_refused}
 use Rattle.rp_chart_run.proofs.walk.Walk.step.Goals as goal
 
@@ -41,6 +41,12 @@ packets_from-requires-clause-high g c =
     let grown = ap (λ (w : World). length w.sent) done.world ∙ ap length grows.sent in
     let longer = length-append old.world.sent done.transition.sends in
     omega (arith, done.describes.first, grown, longer)
+
+pub details-requires-clause-first : goal.details-requires-clause-first
+details-requires-clause-first g c = omega (arith, c.in-Ok.ensures.step.world.describes.first)
+
+pub details-requires-clause-nodes : goal.details-requires-clause-nodes
+details-requires-clause-nodes g c = ap (λ k. k.nodes) c.in-Ok.ensures.step.setup.config ∙ c.requires.parts.config
 
 pub happen-requires-clause-ending : goal.happen-requires-clause-ending
 happen-requires-clause-ending g c =
@@ -127,9 +133,17 @@ returns-in_ok-packets-in-Ok-clause-charted g c = λ play happened follows charte
     let prospect = c.in_ok-prospect.prospect in
     let is = c.in_ok-happened-in-Ok.ensures
     ∙ happened_is old.world event new.world done.transition c.in-Ok.effect prospect.actor prospect.before done.world done.describes c.in_ok-prospect.ensures.actor c.in_ok-prospect.ensures.before in
-    let label : LabelText = event_label d.run.names (line_text d.deck line) d.stage (happened_in old.world event done.transition) in
+    let first : c.in-Ok.effect.first ≡ length old.world.sent + 1 = done.describes.first in
+    let said : List ℕ = details_as d d.form event (length old.world.sent + 1) done.transition.world in
+    let details_are = c.in_ok-details-in-Ok.ensures
+    ∙ ap (λ (r : RunSetting _). details_as (record d { run = r }) d.form event c.in-Ok.effect.first new.world) (one_run m.next m.answers m.begin m.image old new c.args.scene.now.options.now c.in-Ok.ensures.step.setup)
+    ∙ ap (λ (n : ℕ). details_as d d.form event n new.world) first
+    ∙ ap (λ (w : World). details_as d d.form event (length old.world.sent + 1) w) done.world in
+    let label : LabelText = event_label d.run.names (line_text d.deck line) d.stage (happened_in old.world event done.transition) said in
     let labelled : label_text c.in_ok-label-in-Ok.label ≡ label =
-    c.in_ok-label-in-Ok.ensures ∙ ap (λ (h : Happened). event_label d.run.names (line_text d.deck line) d.stage h) is in
+    c.in_ok-label-in-Ok.ensures
+    ∙ ap (λ (h : Happened). event_label d.run.names (line_text d.deck line) d.stage h c.in_ok-details-in-Ok.details.items) is
+    ∙ ap (λ (l : List ℕ). event_label d.run.names (line_text d.deck line) d.stage (happened_in old.world event done.transition) l) details_are in
     let here : Happening = record { item = EventHappened event; label = label_text c.in_ok-label-in-Ok.label } in
     charted_as m.next m.answers m.begin new c.happen.new.self (happened ++ here ∷ []) (happened ++ event_happens d line play event ∷ []) c.happen.result
     (ap (λ (l : LabelText). happened ++ record { item = EventHappened event; label = l } ∷ []) labelled

@@ -1,0 +1,17 @@
+//! What a page says of an event, in lines: its packets, and the state of each node and each task.
+//!
+//! In reading order:
+//! - `event`: what is said of an event
+//! - `packets`: packets, each with its fields
+//! - `states`: the state of each node and of each task
+//! - `fields`: the fields of a packet, in words
+//! - `lines`: one line more of a text
+#![tactic(auto)]
+
+mod event;
+mod fields;
+mod lines;
+mod packets;
+mod states;
+
+pub use event::{Told, details};

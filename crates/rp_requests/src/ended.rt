@@ -20,7 +20,7 @@ impl<M: Machine> Node<M> {
 
     /// The lines that show the objects.
     pub fn image(&self, alloc: Global) -> Result<Vec<u8>, Fault>
-        // claim as Node::call (image)
+        // claim: A node by handle gives the lines that show its objects
         ensures image { IfOk result (λ image. image.items
             ≡ image_of M.next M.answers M.image self.now) }
         ensures only { IsOkUnless result faults.OutOfMemory }

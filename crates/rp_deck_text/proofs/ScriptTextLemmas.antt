@@ -11,7 +11,7 @@ use Rattle.std.proofs.lemmas.Slice.Eq.{bytes_eq-Decides}
 use Rattle.rp_base.specs.declared.action.Operation.{Operation}
 use Rattle.rp_base.specs.declared.action.Operation.TheVariants as operations
 use Rattle.rp_base.specs.declared.fault.DeckReason.{DeckReason}
-use Rattle.rp_model.specs.Events.{Event, Step, Submit, Again, Makes, Cut, Stop, Restart, Deliver, Lead, LeadRange, Interrupt, Tick, Report}
+use Rattle.rp_model.specs.Events.{Event, Step, Submit, Again, Makes, Cut, Stop, Restart, Deliver, Lead, LeadRange, Interrupt, Tick, Report, Ask}
 use Rattle.rp_deck.specs.declared.deck.Mode.TheVariants.{Script}
 use Rattle.rp_deck.specs.declared.verbs.Verb.{Verb}
 use Rattle.rp_deck.specs.declared.verbs.Verb.TheVariants as verbs
@@ -335,6 +335,7 @@ step_back d number (Interrupt node source occurrence) right is =
     line_back d number (codes "irq") (decimal node ∷ name_numbered d.interrupts source ∷ decimal occurrence ∷ []) verbs.Interrupt _ refl (ap made (interrupt_back d node source occurrence right is.0 is.1 is.2))
 step_back d number (Tick node now) right is = line_back d number (codes "tick") (decimal node ∷ decimal now ∷ []) verbs.Tick _ refl (ap made (tick_back d node now right is.0 is.1))
 step_back d number (Report node first) right is = absurd is
+step_back d number (Ask node to) right is = absurd is
 
 cut_line : (d : DeclaredNames) (number kept : ℕ) (step : Step) → AreDeclared d → IsStepOf d step → MayBeCut step → kept < 2 ^ 63 → command_line Script d (line_of number (codes "cut" ∷ decimal kept ∷ step_words d step)) ≡ Ok (Take (Cut step kept))
 cut_line d number kept (Deliver message) right is may small =
@@ -351,6 +352,7 @@ cut_line d number kept (LeadRange node first count) right is may small =
 cut_line d number kept (Interrupt node source occurrence) right is may small = absurd may
 cut_line d number kept (Tick node now) right is may small = absurd may
 cut_line d number kept (Report node first) right is may small = absurd may
+cut_line d number kept (Ask node to) right is may small = absurd may
 
 call_line : (d : DeclaredNames) (number task node object : ℕ) (operation : Operation) (arg : ℤ) → AreDeclared d → IsUpTo (length d.tasks) task → IsUpTo d.nodes node → IsSubmitOf d object operation arg
     → command_line Script d (line_of number (submit_words d task node object operation arg)) ≡ Ok (Take (Submit task node object operation arg))

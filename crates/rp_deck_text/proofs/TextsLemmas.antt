@@ -9,7 +9,7 @@ use Rattle.std.proofs.lemmas.Bool.{leb-true, le-leb, eq-eqb}
 use Rattle.std.proofs.lemmas.Bool.Decides.{nat_tests}
 use Rattle.rp_base.specs.declared.action.Operation.TheVariants as operations
 use Rattle.rp_base.specs.declared.action.Operation.{Operation}
-use Rattle.rp_model.specs.Events.{Event, Step, Submit, Again, Makes, Cut, Stop, Restart, Deliver, Lead, LeadRange, Interrupt, Tick, Report}
+use Rattle.rp_model.specs.Events.{Event, Step, Submit, Again, Makes, Cut, Stop, Restart, Deliver, Lead, LeadRange, Interrupt, Tick, Report, Ask}
 use Rattle.rp_deck.specs.declared.deck.Mode.TheVariants.{Script}
 use Rattle.rp_deck.specs.Script.{IsUpTo}
 use Rattle.rp_deck_declarations.specs.ScriptNames.{DeclaredNames}
@@ -143,6 +143,7 @@ step_line d (Interrupt node source occurrence) right is =
     (refl, refl, (small_node d node right is.0, (name_solid (name_numbered d.interrupts source) (numbered d.interrupts source right.interrupts is.1).name, (decimal_solid occurrence (omega (arith, is.2.1)), tt))))
 step_line d (Tick node now) right is = (refl, refl, (small_node d node right is.0, (decimal_solid now (omega (arith, is.1)), tt)))
 step_line d (Report node first) right is = absurd is
+step_line d (Ask node to) right is = absurd is
 
 step_solid : (d : DeclaredNames) (step : Step) → AreDeclared d → IsStepOf d step → AreSolid (step_words d step)
 step_solid d step right is = by (step_words d step) (step_line d step right is)

@@ -10,7 +10,7 @@ use Rattle.rp_base.specs.declared.action.Operation.{Operation}
 use Rattle.rp_base.specs.declared.action.Operation.TheVariants as operations
 use Rattle.rp_object.specs.declared.program.Handler.{Handler}
 use Rattle.rp_model.specs.Events.{Event, Step, Submit, Again, Makes, Cut, Stop, Restart, Deliver}
-use Rattle.rp_model.specs.Events.{Lead, LeadRange, Interrupt, Tick, Report}
+use Rattle.rp_model.specs.Events.{Lead, LeadRange, Interrupt, Tick, Report, Ask}
 use Rattle.rp_words.specs.Lines.{LineText}
 use Rattle.rp_deck.specs.Script.{IsUpTo, IsMessage}
 use Rattle.rp_deck_objects.specs.ObjectViews.{OperationsText}
@@ -70,6 +70,7 @@ step_words d (Interrupt node source occurrence) =
     codes "irq" ∷ decimal node ∷ name_numbered d.interrupts source ∷ decimal occurrence ∷ []
 step_words d (Tick node now) = codes "tick" ∷ decimal node ∷ decimal now ∷ []
 step_words d (Report node first) = []
+step_words d (Ask node to) = []
 
 abbrev pub submit_words : DeclaredNames → ℕ → ℕ → ℕ → Operation → ℤ → List (List ℕ)
 submit_words d task node object (operations.SetTimer timer) arg =
@@ -180,6 +181,7 @@ IsStepOf d (Interrupt node source occurrence) =
     IsUpTo d.nodes node × IsUpTo (length d.interrupts) source × IsUpTo (2 ^ 32 - 1) occurrence
 IsStepOf d (Tick node now) = IsUpTo d.nodes node × (now < 2 ^ 32)
 IsStepOf d (Report node first) = ⊥
+IsStepOf d (Ask node to) = ⊥
 
 -- a step that `cut` may name
 abbrev pub MayBeCut : Step → Type 0

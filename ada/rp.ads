@@ -54,10 +54,6 @@ package RP is
                                            --  nothing has changed
    Wrong_Device  : constant Status := 71;  --  the device begins with no header, or with another node's or
                                            --  deck's; nothing has changed
-   Not_Ended     : constant Status := 72;  --  positions of the log are left: there is no next deck yet;
-                                           --  nothing has changed
-   At_Work       : constant Status := 73;  --  the log has ended, and a call waits or a timing event is set:
-                                           --  there is no next deck; nothing has changed
 
    --  Why bytes are no packet. Exactly one of these is so of bytes that are none.
 
@@ -279,23 +275,6 @@ package RP is
    --  As Node_Open, over a device that begins with this node's header. What.Kept counts the bytes after the
    --  header alone: the caller truncates its device to Header_Bytes + What.Kept bytes.
    --  Wrong_Device: the device begins with no header, or with that of another node or another deck.
-
-   function Next_Deck
-     (Deck   : System.Address;
-      Count  : Interfaces.C.size_t;
-      Number : Byte;
-      Device : System.Address;
-      Held   : Interfaces.C.size_t;
-      Answer : System.Address;
-      Size   : Interfaces.C.size_t;
-      Used   : in out Interfaces.C.size_t) return Status;
-   --  Puts the text of the next deck of a station into Answer, and its length into Used: by the device of
-   --  one of its nodes, which begins with the node's header, and whose log has ended. It is the deck's text
-   --  up to `script`, each component with what it is now as its first value, after a comment with the digest
-   --  of the deck from which it goes on. Each node gives the same bytes. The station goes on with this deck
-   --  over fresh devices: clocks start at 0 again, and calls and interrupts at number 1.
-   --  Short_Answer: the text has Used bytes, more than Size.
-   --  Not_Ended, At_Work, and as Device_Open: nothing has changed.
 
    function Node_Call
      (Handle  : in out Node;

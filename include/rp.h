@@ -51,11 +51,8 @@ enum rp_status {
   RP_NULL = 69,          /* a pointer is null; nothing has changed */
   RP_TOO_FAR = 70,       /* a lead is in the log, but 64 or more above the first unlearned position: lead at
                           * that one, or wait for it; nothing has changed */
-  RP_WRONG_DEVICE = 71,  /* the device begins with no header, or with another node's or deck's; nothing has
+  RP_WRONG_DEVICE = 71   /* the device begins with no header, or with another node's or deck's; nothing has
                           * changed */
-  RP_NOT_ENDED = 72,     /* positions of the log are left: there is no next deck yet; nothing has changed */
-  RP_AT_WORK = 73        /* the log has ended, and a call waits or a timing event is set: there is no next deck;
-                          * nothing has changed */
 };
 
 /* Why bytes are no packet. If they are not one, exactly one of these applies. */
@@ -282,17 +279,6 @@ uint8_t rp_device_header(const uint8_t *deck, size_t count, uint8_t number, uint
 uint8_t rp_device_open(const uint8_t *deck, size_t count, uint8_t number, const uint8_t *device, size_t held,
                        rp_node *node, rp_found *found);
 
-/* Puts the text of the next deck of a station into `answer`, and its length into *used: by the device of one of its
- * nodes, which begins with the node's header, and whose log has ended. It is the deck's text up to `script`, each
- * component with what it is now as its first value, after a comment with the digest of the deck from which it goes
- * on. Each node gives the same bytes. The station goes on with this deck over fresh devices: clocks start at 0
- * again, and calls and interrupts at number 1 (docs/C.md, "The end of the log").
- *
- * RP_SHORT_ANSWER: the text has *used bytes, more than `size`.
- * RP_NOT_ENDED, RP_AT_WORK, and as rp_device_open: nothing has changed. */
-uint8_t rp_next_deck(const uint8_t *deck, size_t count, uint8_t number, const uint8_t *device, size_t held,
-                     uint8_t *answer, size_t size, size_t *used);
-
 /* Answers a request to a node.
  *
  * RP_DONE: the first lengths->used bytes of `answer` are the answer, and its first lengths->stored bytes
@@ -477,18 +463,6 @@ static inline uint8_t rp_device_header_guarded(const uint8_t *deck, size_t count
   return rp_device_header(deck, count, number, header, size);
 }
 
-static inline uint8_t rp_next_deck_guarded(const uint8_t *deck, size_t count, uint8_t number,
-                                           const uint8_t *device, size_t held, uint8_t *answer, size_t size,
-                                           size_t *used) {
-  deck = rp_bytes_at(deck, count);
-  device = rp_bytes_at(device, held);
-  answer = rp_buffer_at(answer, size);
-  if (deck == NULL || device == NULL || answer == NULL || used == NULL) {
-    return RP_NULL;
-  }
-  return rp_next_deck(deck, count, number, device, held, answer, size, used);
-}
-
 static inline uint8_t rp_node_step_guarded(rp_node *node, const uint8_t *request, size_t count,
                                            uint8_t *answer, size_t size, size_t *ends, size_t most,
                                            rp_step *step) {
@@ -554,7 +528,6 @@ static inline uint8_t rp_task_receive_guarded(rp_task *task, const uint8_t *pack
 #define rp_node_step rp_node_step_guarded
 #define rp_device_open rp_device_open_guarded
 #define rp_device_header rp_device_header_guarded
-#define rp_next_deck rp_next_deck_guarded
 #define rp_node_receive rp_node_receive_guarded
 #define rp_node_advise rp_node_advise_guarded
 #define rp_task_open rp_task_open_guarded

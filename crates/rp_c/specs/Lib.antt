@@ -3,4 +3,3 @@ pub mod Handles
 pub mod Advice
 pub mod Packets
 pub mod Status
-pub mod Stations

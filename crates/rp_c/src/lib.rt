@@ -11,7 +11,6 @@
 //! - `handles`: calls and closes a node or a task by its handle
 //! - `steps`: calls a node by its handle, and returns where the packets of its last step end
 //! - `advice`: what a node is to do next, by its handle
-//! - `stations`: the deck with which a station goes on once its log has ended
 #![tactic(auto)]
 
 mod advice;
@@ -20,7 +19,6 @@ mod decks;
 mod handles;
 mod nodes;
 mod packets;
-mod stations;
 mod status;
 mod steps;
 mod tasks;
@@ -31,6 +29,5 @@ pub use decks::rp_run_deck;
 pub use handles::{rp_handle_call, rp_handle_close};
 pub use nodes::{NodeFound, rp_device_header, rp_device_open, rp_node_open};
 pub use packets::{rp_packet_check, rp_packet_length};
-pub use stations::{NextEnding, rp_next_deck};
 pub use steps::{StepLengths, rp_node_receive, rp_node_step};
 pub use tasks::{rp_task_open, rp_task_open_after, rp_task_receive};

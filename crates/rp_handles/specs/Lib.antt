@@ -3,4 +3,3 @@ pub mod DeclaredParts
 pub mod Devices
 pub mod Handles
 pub mod Owning
-pub mod Stations

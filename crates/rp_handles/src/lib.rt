@@ -9,7 +9,6 @@
 //! - `calls`: opens, calls and closes an actor by its handle
 //! - `declared`: the part of a deck's text that declares
 //! - `device`: the header of a device, which says whose it is
-//! - `station`: the deck with which a station goes on once its log has ended
 #![tactic(auto)]
 
 mod actor;
@@ -19,7 +18,6 @@ mod declared;
 mod device;
 mod handle;
 mod loose;
-mod station;
 
 pub use actor::{Actor, ActorKind, LastStep};
 pub use calls::{
@@ -27,4 +25,3 @@ pub use calls::{
 };
 pub use device::{HEADER_BYTES, device_header, open_device};
 pub use handle::Handle;
-pub use station::{NoNextDeck, next_deck_of};

@@ -133,7 +133,7 @@ procedure Node with Priority => 10 is
    end Ask_Another;
 
    Window         : constant := 64;
-   Asked_At       : Time := Time_First;
+   Asked_At       : Time := Clock - Seconds (1);
    Applied_Before : Interfaces.Unsigned_32 := 0;
 
    --  Whether it is time to ask, though the node may not know that it misses something: it was away, or the last

@@ -14,7 +14,7 @@ package body Udp is
       Text   : RP.Bytes (1 .. 2**20);
       Length : Natural := 0;
    begin
-      Byte_IO.Open (File, Byte_IO.In_File, Name);
+      Byte_IO.Open (File, Byte_IO.In_File, Name, Form => "shared=no");  --  each task of a program opens it
       while not Byte_IO.End_Of_File (File) loop
          Length := Length + 1;
          Byte_IO.Read (File, Text (Length));

@@ -4,6 +4,7 @@ ghost use Rattle.std.specs.Prelude.{◌≡◌, ◌≤◌, ◌<◌, ◌-◌, ℕ,
 ghost use Rattle.rp_acceptor.specs.Levels.{IsPromised};
 ghost use Rattle.rp_acceptor.specs.First.{IsFirstPromise, IsFirstVote};
 ghost use Rattle.rp_acceptor.specs.Slots.{HasSlot, HasFirstBound};
+ghost use Rattle.rp_base.specs.Ballot.{number_of};
 ghost use Rattle.rp_base.specs.declared.action.Action.{Action};
 ghost use Rattle.rp_base.specs.declared.record.Rec.TheVariants.{Promised, Voted};
 ghost use Rattle.rp_base.specs.Records.{bound_at, last_vote_at};
@@ -233,6 +234,20 @@ impl Acceptor {
                 last: None,
             },
         }
+    }
+
+    /// The bound at a position: the greatest ballot that is promised or voted in there.
+    pub fn bound(&self, position: Position) -> Option<Ballot>
+        ensures { number_of result ≡ bound_at self.now.records position }
+    {
+        ballot_of(self.slot(position).bound)
+    }
+
+    /// The last vote at a position.
+    pub fn last_vote(&self, position: Position) -> Option<Vote>
+        ensures { result ≡ last_vote_at self.now.records position }
+    {
+        self.slot(position).last.copied()
     }
 
     /// What is answered to a `Prepare` of the ballot at the position (section 2.2, phase 1b). The

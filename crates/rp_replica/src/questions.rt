@@ -6,11 +6,13 @@ ghost use Rattle.rp_machine.specs.Asked.{last_number};
 ghost use Rattle.rp_machine.specs.Replay.{kept_of};
 ghost use Rattle.rp_model.specs.Learner.{missing_position};
 ghost use Rattle.rp_model.specs.Pending.{most_pending};
+ghost use Rattle.rp_replica.specs.State.{server_of};
 ghost use Rattle.rp_server.specs.Free.{free_items, has_uncounted};
 
 use crate::replica::Replica;
 use rp_base::{NodeId, Position, TaskId};
 use rp_machine::Machine;
+use rp_server::Server;
 use rp_store::Device;
 
 impl<M: Machine, D: Device> Replica<M, D> {
@@ -19,6 +21,13 @@ impl<M: Machine, D: Device> Replica<M, D> {
         ensures { result ≡ self.now.me }
     {
         self.server.me()
+    }
+
+    /// Its server, which answers what it promised and voted, and what is pending.
+    pub fn server(&self) -> &Server<M>
+        ensures { result.now ≡ server_of self.now }
+    {
+        &self.server
     }
 
     /// How many pending items did not count yet and are the own action of no proposal that runs: a

@@ -6,7 +6,8 @@ ghost use Rattle.rp_acceptor.specs.Noted.{HasRoom};
 ghost use Rattle.rp_acceptor.specs.Comparing.{compared};
 ghost use Rattle.rp_base.specs.PlacedVotes.{last_votes};
 ghost use Rattle.rp_base.specs.Ranges.{positions_of};
-ghost use Rattle.rp_base.specs.Records.{bound_at};
+ghost use Rattle.rp_base.specs.Ballot.{number_of};
+ghost use Rattle.rp_base.specs.Records.{bound_at, last_vote_at};
 ghost use Rattle.rp_base.specs.Right.{IsRightRecord};
 ghost use Rattle.rp_base.specs.Voting.{prepare_answer, accept_answer};
 ghost use Rattle.rp_base.specs.WriteFaults.{fault_of};
@@ -19,7 +20,7 @@ ghost use Rattle.rp_server.specs.State.{server_after};
 use crate::server::Server;
 use rp_acceptor::{Acceptor, Comparison};
 use rp_base::{
-    AcceptAnswer, Action, Ballot, PlacedVote, Position, PositionRange, PrepareAnswer, Rec,
+    AcceptAnswer, Action, Ballot, PlacedVote, Position, PositionRange, PrepareAnswer, Rec, Vote,
     WriteFault,
 };
 use rp_machine::Machine;
@@ -27,6 +28,20 @@ use rp_store::{Device, Store};
 use std::alloc::{AllocError, Global};
 
 impl<M: Machine> Server<M> {
+    /// The bound at a position: the greatest ballot that it promised or voted in there.
+    pub fn bound(&self, position: Position) -> Option<Ballot>
+        ensures { number_of result ≡ bound_at self.now.records position }
+    {
+        self.acceptor.bound(position)
+    }
+
+    /// Its last vote at a position.
+    pub fn last_vote(&self, position: Position) -> Option<Vote>
+        ensures { result ≡ last_vote_at self.now.records position }
+    {
+        self.acceptor.last_vote(position)
+    }
+
     /// What is answered to a `Prepare` of the ballot at the position.
     #[inline(always)]
     pub fn prepare(&self, position: Position, ballot: Ballot) -> PrepareAnswer

@@ -1,6 +1,6 @@
 //! The server, and what it may be asked.
 
-ghost use Rattle.std.specs.Prelude.{◌≡◌, ◌<◌, ◌≤◌, length, nat_lt, IfOk, IsOkUnless};
+ghost use Rattle.std.specs.Prelude.{◌≡◌, ◌<◌, ◌≤◌, ◌++◌, length, nat_lt, IfOk, IsOkUnless};
 ghost use Rattle.std.specs.List.{AllByRecursion, list_any};
 ghost use Rattle.rp_base.specs.declared.fault.Fault.TheVariants as faults;
 ghost use Rattle.rp_base.specs.Action.{IsIndex};
@@ -19,6 +19,7 @@ use rp_codec::Header;
 use rp_learner::Learner;
 use rp_log::Log;
 use rp_machine::{Machine, Numbered};
+use rp_model::RightAction;
 use rp_proposer::Proposer;
 use std::alloc::Global;
 use std::marker::Model;
@@ -98,6 +99,13 @@ impl<M: Machine> Server<M> {
         ensures within { result ≤ most_pending }
     {
         self.pending.len()
+    }
+
+    /// The pending items in order of arrival, in two runs.
+    pub fn pending(&self) -> (&[RightAction], &[RightAction])
+        ensures { result.0.now ++ result.1.now ≡ self.now.running.pending }
+    {
+        self.pending.as_slices()
     }
 
     /// Whether the item is a call that is pending.

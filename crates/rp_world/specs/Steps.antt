@@ -21,6 +21,7 @@ use Rattle.rp_model.specs.World.{World, Transition, node_of, part_at, step_effec
 use Rattle.rp_model.specs.World.{stepping}
 use Rattle.rp_model.specs.Answers.{Steps}
 use Rattle.rp_replica.specs.State.{ReplicaState}
+use Rattle.rp_server.specs.State.{ServerState}
 use Rattle.rp_world.specs.Failures.{AreCounted}
 use Rattle.rp_world.specs.Nodes.{heard_while, stored_length}
 
@@ -114,3 +115,16 @@ abbrev pub IsReplicaOf : {S : Type 0} → Config → S → Result (Bor (ReplicaS
 IsReplicaOf config begin answer part =
     IsQueryAnswer answer (λ replica records. (replica.now.begin ≡ begin)
     × (replica.now.records ≡ records)) part
+
+-- the same of a part that runs or is stopped: the server has its records, and knows what it knows
+abbrev pub IsRunningServerOf : {S : Type 0} → Result (Bor (ServerState S)) Fault → List Rec
+    → Option Running
+    → Type 0
+IsRunningServerOf answer records None = answer ≡ Err NotRunning
+IsRunningServerOf answer records (Some running) =
+    IsOkAnd answer (λ server. (server.now.records ≡ records) × (server.now.running ≡ running))
+
+-- the server of a node that runs, refused as above
+abbrev pub IsServerOf : {S : Type 0} → Result (Bor (ServerState S)) Fault → Option NodePart → Type 0
+IsServerOf answer None = answer ≡ Err BadConfig
+IsServerOf answer (Some part) = IsRunningServerOf answer part.records part.running

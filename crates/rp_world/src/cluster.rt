@@ -28,7 +28,7 @@ ghost use Rattle.rp_world.specs.Failures.{SomeHasFailed};
 ghost use Rattle.rp_world.specs.Going.{stated};
 ghost use Rattle.rp_world.specs.Runs.{IsRun};
 ghost use Rattle.rp_world.specs.Shape.{IsCluster};
-ghost use Rattle.rp_world.specs.Steps.{IsLightStep, IsStep, IsStored, IsQueryAnswer, IsQueryAnswerUnlessMemory, setting_of};
+ghost use Rattle.rp_world.specs.Steps.{IsLightStep, IsStep, IsStored, IsQueryAnswer, IsQueryAnswerUnlessMemory, IsServerOf, setting_of};
 
 use crate::effect::{Refused, no_effect};
 use crate::world::World;
@@ -38,9 +38,10 @@ use rp_agreement::{
     offers_follow_decisions, only_made_calls_count, packets_say_so,
     replies_answer_calls_that_count, replies_follow_the_order, states_are_alike, the_order_exists,
 };
-use rp_base::{Answer, Config, Fault, NodeId, TaskId};
+use rp_base::{Action, Answer, Config, Fault, NodeId, TaskId};
 use rp_machine::{Machine, a_call_has_one_place};
 use rp_model::{Effect, Event, Step, worlds_grow};
+use rp_server::Server;
 use rp_store::{CutDevice, Device, InfallibleDevice};
 use std::alloc::Global;
 use std::marker::Model;
@@ -334,6 +335,24 @@ impl<M: Machine, D: CutDevice> Cluster<M, D> {
             × (result.now ≡ part.replies) }
     {
         self.world.replies(task)
+    }
+
+    /// The call that a task waits for, if it waits.
+    pub fn outstanding(&self, task: TaskId) -> Option<Action>
+        // claim: The call that a task waits for is returned
+        ensures { (part : TaskPart) × (part_at self.now.world.tasks task ≡ Some part)
+            × (result ≡ part.outstanding) }
+    {
+        self.world.outstanding(task)
+    }
+
+    /// The server of a node that runs, which answers what it promised and voted and what is pending.
+    /// `NotRunning` where the node is stopped, `BadConfig` above the last node.
+    pub fn server(&self, node: NodeId) -> Result<&Server<M>, Fault>
+        // claim: The server of a node that runs is returned: its records, and what it knows
+        ensures { IsServerOf result (part_at self.now.world.nodes node) }
+    {
+        self.world.server(node)
     }
 
     /// How many actions a node has applied. `NotRunning` where it is stopped, `BadConfig` above the

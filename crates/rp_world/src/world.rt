@@ -9,17 +9,18 @@ ghost use Rattle.rp_model.specs.World.{opening_world, part_at};
 ghost use Rattle.rp_world.specs.Failures.{SomeHasFailed};
 ghost use Rattle.rp_world.specs.Nodes.{failures_in};
 ghost use Rattle.rp_world.specs.Shape.{AreFresh, AreFreshTasks};
-ghost use Rattle.rp_world.specs.Steps.{IsStored, IsQueryAnswer, IsQueryAnswerUnlessMemory, IsReplicaOf};
+ghost use Rattle.rp_world.specs.Steps.{IsStored, IsQueryAnswer, IsQueryAnswerUnlessMemory, IsReplicaOf, IsServerOf};
 ghost use Rattle.rp_base.specs.Records.{applied_of};
 ghost use Rattle.rp_machine.specs.Replay.{replay_state};
 
 use crate::node::Node;
 use crate::steps::text_of_number;
 use crate::task::Task;
-use rp_base::{Answer, Config, Fault, NodeId, TaskId};
+use rp_base::{Action, Answer, Config, Fault, NodeId, TaskId};
 use rp_machine::Machine;
 use rp_outbox::Outbox;
 use rp_replica::Replica;
+use rp_server::Server;
 use rp_store::{CutDevice, InfallibleDevice};
 use std::alloc::{AllocError, Global};
 use std::marker::Model;
@@ -161,6 +162,14 @@ impl<M: Machine, D: CutDevice> World<M, D> {
         self.tasks[usize::from(task.get()) - 1].replies()
     }
 
+    /// The call that a task waits for.
+    pub(crate) fn outstanding(&self, task: TaskId) -> Option<Action>
+        ensures { (part : TaskPart) × (part_at self.now.world.tasks task ≡ Some part)
+            × (result ≡ part.outstanding) }
+    {
+        self.tasks[usize::from(task.get()) - 1].outstanding()
+    }
+
     /// How many actions a node has applied. `NotRunning` where it is stopped, `BadConfig` above the
     /// last node.
     pub(crate) fn applied(&self, node: NodeId) -> Result<u16, Fault>
@@ -191,6 +200,20 @@ impl<M: Machine, D: CutDevice> World<M, D> {
             return Err(Fault::BadConfig);
         };
         node.replica().ok_or(Fault::NotRunning)
+    }
+
+    /// The server of a node that runs. `NotRunning` where it is stopped, `BadConfig` above the last
+    /// node.
+    pub(crate) fn server(&self, node: NodeId) -> Result<&Server<M>, Fault>
+        ensures { IsServerOf result (part_at self.now.world.nodes node) }
+    {
+        let Some(node) = self.nodes.get(usize::from(node.get()) - 1) else {
+            return Err(Fault::BadConfig);
+        };
+        match node.replica() {
+            Some(replica) => Ok(replica.server()),
+            None => Err(Fault::NotRunning),
+        }
     }
 
     /// How many bytes a node's device holds. `BadConfig` above the last node.

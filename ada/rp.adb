@@ -59,6 +59,15 @@ package body RP is
          What   : in out Found) return Status
         with Import, Convention => C, External_Name => "rp_device_open";
 
+      function Next_Deck
+        (Handle : in out Node;
+         Deck   : System.Address;
+         Count  : Interfaces.C.size_t;
+         Answer : System.Address;
+         Size   : Interfaces.C.size_t;
+         Used   : in out Interfaces.C.size_t) return Status
+        with Import, Convention => C, External_Name => "rp_next_deck";
+
       function Node_Step
         (Handle  : in out Node;
          Request : System.Address;
@@ -177,6 +186,16 @@ package body RP is
       What   : in out Found) return Status is
      (if Is_Null (Deck, Count) or else Is_Null (Device, Held) then Null_Pointer
       else Library.Device_Open (Place (Deck), Count, Number, Place (Device), Held, Handle, What));
+
+   function Next_Deck
+     (Handle : in out Node;
+      Deck   : System.Address;
+      Count  : Interfaces.C.size_t;
+      Answer : System.Address;
+      Size   : Interfaces.C.size_t;
+      Used   : in out Interfaces.C.size_t) return Status is
+     (if Is_Null (Deck, Count) or else Is_Null (Answer, Size) then Null_Pointer
+      else Library.Next_Deck (Handle, Place (Deck), Count, Place (Answer), Size, Used));
 
    --  The call of both kinds, unless an address is null.
    function Handle_Call

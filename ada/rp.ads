@@ -54,6 +54,10 @@ package RP is
                                            --  nothing has changed
    Wrong_Device  : constant Status := 71;  --  the device begins with no header, or with another node's or
                                            --  deck's; nothing has changed
+   Not_Ended     : constant Status := 72;  --  positions of the log are left: there is no next deck yet;
+                                           --  nothing has changed
+   At_Work       : constant Status := 73;  --  the log has ended, and a call waits or a timing event is set:
+                                           --  there is no next deck; nothing has changed
 
    --  Why bytes are no packet. Exactly one of these is so of bytes that are none.
 
@@ -354,6 +358,23 @@ package RP is
    --  caller's loop, or a millisecond: node K waits 32 K of them before it leads for what is pending, node 1
    --  not at all, and from the third try on twice as many as before, up to 64 times as many.
    --  Wrong_Handle: nothing has changed.
+
+   function Next_Deck
+     (Handle : in out Node;
+      Deck   : System.Address;
+      Count  : Interfaces.C.size_t;
+      Answer : System.Address;
+      Size   : Interfaces.C.size_t;
+      Used   : in out Interfaces.C.size_t) return Status;
+   --  Puts the text of the next deck of a station into Answer, and its length into Used, by a node of this deck
+   --  whose log has ended (docs/C.md, "The end of the log"). It is the deck's text up to `script`, each component
+   --  with what it is now as its first value, after a comment with the digest of the deck. The station goes on
+   --  with it over fresh devices: clocks start at 0 again, and calls and interrupts at number 1. The node stays
+   --  as it is.
+   --  Short_Answer: the text has Used bytes, more than Size; nothing else has changed.
+   --  At_Work: a call waits, a timing event is set, or the deck is not the node's.
+   --  Not_Ended, At_Work, Wrong_Handle, Out_Of_Memory, and Io if the deck has more than 1_048_576 bytes: nothing
+   --  has changed.
 
    procedure Node_Close (Handle : in out Node)
      with Import, Convention => C, External_Name => "rp_handle_close";

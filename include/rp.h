@@ -51,8 +51,11 @@ enum rp_status {
   RP_NULL = 69,          /* a pointer is null; nothing has changed */
   RP_TOO_FAR = 70,       /* a lead is in the log, but 64 or more above the first unlearned position: lead at
                           * that one, or wait for it; nothing has changed */
-  RP_WRONG_DEVICE = 71   /* the device begins with no header, or with another node's or deck's; nothing has
+  RP_WRONG_DEVICE = 71,  /* the device begins with no header, or with another node's or deck's; nothing has
                           * changed */
+  RP_NOT_ENDED = 72,     /* positions of the log are left: there is no next deck yet; nothing has changed */
+  RP_AT_WORK = 73        /* the log has ended, and a call waits or a timing event is set: there is no next
+                          * deck; nothing has changed */
 };
 
 /* Why bytes are no packet. If they are not one, exactly one of these applies. */
@@ -334,6 +337,19 @@ enum rp_advice_kind {
  * RP_WRONG_HANDLE: nothing has changed. */
 uint8_t rp_node_advise(rp_node *node, rp_patience *patience, uint64_t turns, rp_advice *advice);
 
+/* Puts the text of the next deck of a station into `answer`, and its length into *used, by a node of this
+ * deck whose log has ended (docs/C.md, "The end of the log"). It is the deck's text up to `script`, each
+ * component with what it is now as its first value, after a comment with the digest of the deck. The station
+ * goes on with it over fresh devices: clocks start at 0 again, and calls and interrupts at number 1. The node
+ * stays as it is.
+ *
+ * RP_SHORT_ANSWER: the text has *used bytes, more than `size`; nothing else has changed.
+ * RP_AT_WORK: a call waits, a timing event is set, or the deck is not the node's.
+ * RP_NOT_ENDED, RP_AT_WORK, RP_WRONG_HANDLE, RP_OUT_OF_MEMORY, and RP_IO if the deck has more than 1,048,576
+ * bytes: nothing has changed. */
+uint8_t rp_next_deck(rp_node *node, const uint8_t *deck, size_t count, uint8_t *answer, size_t size,
+                     size_t *used);
+
 /* Stops a node: the handle is closed, and what the node knew besides its device is gone. A closed handle
  * stays closed. */
 static inline void rp_node_close(rp_node *node) { rp_handle_close_guarded(node); }
@@ -463,6 +479,16 @@ static inline uint8_t rp_device_header_guarded(const uint8_t *deck, size_t count
   return rp_device_header(deck, count, number, header, size);
 }
 
+static inline uint8_t rp_next_deck_guarded(rp_node *node, const uint8_t *deck, size_t count, uint8_t *answer,
+                                           size_t size, size_t *used) {
+  deck = rp_bytes_at(deck, count);
+  answer = rp_buffer_at(answer, size);
+  if (node == NULL || deck == NULL || answer == NULL || used == NULL) {
+    return RP_NULL;
+  }
+  return rp_next_deck(node, deck, count, answer, size, used);
+}
+
 static inline uint8_t rp_node_step_guarded(rp_node *node, const uint8_t *request, size_t count,
                                            uint8_t *answer, size_t size, size_t *ends, size_t most,
                                            rp_step *step) {
@@ -530,6 +556,7 @@ static inline uint8_t rp_task_receive_guarded(rp_task *task, const uint8_t *pack
 #define rp_device_header rp_device_header_guarded
 #define rp_node_receive rp_node_receive_guarded
 #define rp_node_advise rp_node_advise_guarded
+#define rp_next_deck rp_next_deck_guarded
 #define rp_task_open rp_task_open_guarded
 #define rp_task_open_after rp_task_open_after_guarded
 #define rp_task_receive rp_task_receive_guarded

@@ -91,6 +91,10 @@ static void calls(void) {
   say("advise: node", rp_node_advise(NULL, &patience, 7, &advice));
   say("advise: patience", rp_node_advise(&node, NULL, 7, &advice));
   say("advise: advice", rp_node_advise(&node, &patience, 7, NULL));
+  say("next deck: node", rp_next_deck(NULL, deck, 1, answer, sizeof answer, &used));
+  say("next deck: deck", rp_next_deck(&node, NULL, 1, answer, sizeof answer, &used));
+  say("next deck: answer", rp_next_deck(&node, deck, 1, NULL, 1, &used));
+  say("next deck: used", rp_next_deck(&node, deck, 1, answer, sizeof answer, NULL));
   say("a task receives: task", rp_task_receive(NULL, packet, 14, answer, sizeof answer, &lengths));
   say("a task receives: packet", rp_task_receive(&task, NULL, 14, answer, sizeof answer, &lengths));
   say("a task receives: answer", rp_task_receive(&task, packet, 14, NULL, sizeof answer, &lengths));

@@ -1,5 +1,6 @@
 -- How contracts see a seat, and the results of its calls.
-use Rattle.std.specs.Prelude.{◌≡◌, ℕ, ◌<◌, ◌^◌, Option, Some, None, IfSome, IsSome, Result, Ok, Err}
+use Rattle.std.specs.Prelude.{◌≡◌, ℕ, ◌<◌, ◌^◌, true, Option, Some, None, IfSome, IsSome, Result}
+use Rattle.std.specs.Prelude.{Ok, Err}
 use Rattle.std.specs.Prelude.{List, [], ◌∷◌}
 use Rattle.std.specs.Prelude.{length}
 use Rattle.atomic_table.specs.Seated.{TableId}
@@ -18,11 +19,13 @@ use Rattle.rp_codec.specs.declared.packet.Party.{Party}
 use Rattle.rp_model.specs.Effect.{Setting, Done, NodeInput, node_effect}
 use Rattle.rp_model.specs.Plans.{report_of}
 use Rattle.rp_model.specs.declared.effect.Dropped.TheVariants.{No}
+use Rattle.rp_machine.specs.Replay.{kept_of}
 use Rattle.rp_machine.specs.declared.machine.Machine.{Ghosts}
 use Rattle.rp_model.specs.Parts.{NodePart, Running}
 use Rattle.rp_agreement.specs.Answered.{setting_for}
 use Rattle.rp_agreement.specs.Sound.{IsMember}
 use Rattle.rp_replica.specs.State.{ReplicaState}
+use Rattle.rp_server.specs.Free.{has_uncounted}
 use Rattle.rp_rules.specs.Inputs.{IsLong, given_by}
 use Rattle.rp_rules.specs.declared.input.Input.{Input}
 use Rattle.rp_rules.specs.declared.input.Input.TheVariants.{Receive, Lead, LeadRange, Interrupt}
@@ -166,6 +169,15 @@ module _ {S P : Type 0} (next : S → Action → S) (answers : S → Action → 
     pub was : old.part.role ≡ OfNode node
     pub why : IsReason node.running
         (node_effect (setting_at next answers begin old) old.number node given) fault
+
+  -- The seat's node runs, and something is pending at it that did not count yet.
+  pub record HasUncounted (seat : SeatState P) : Type 0 where
+    pub node : NodePart
+    pub is : seat.part.role ≡ OfNode node
+    pub running : Running
+    pub runs : node.running ≡ Some running
+    pub uncounted : has_uncounted
+        (kept_of next answers (begin seat.program) (applied_of node.records)) running.pending ≡ true
 
 -- ---- packets
 

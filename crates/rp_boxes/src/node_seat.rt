@@ -1,6 +1,6 @@
 //! The seat of a node.
 
-ghost use Rattle.std.specs.Prelude.{◌≡◌, ◌⊎◌, [], nat_lt, length, false, IfOk, IfErr, IfSome, IfNone, OnOk, IsOk, IsOkUnless};
+ghost use Rattle.std.specs.Prelude.{◌≡◌, ◌⊎◌, [], nat_lt, length, false, IfOk, IfErr, IfSome, IfNone, OnOk, IsOk, IsOkUnless, IsTrue};
 ghost use Rattle.rp_base.specs.Sets.{Has};
 ghost use Rattle.rp_base.specs.declared.fault.Fault.TheVariants as faults;
 ghost use Rattle.rp_codec.specs.Message.{Message, IsPacket};
@@ -10,7 +10,7 @@ ghost use Rattle.rp_rules.specs.Inputs.{IsRightInput};
 ghost use Rattle.rp_rules.specs.declared.input.Input.TheVariants.{Report};
 ghost use Rattle.rp_boxes.specs.Looks.{WasSent};
 ghost use Rattle.rp_boxes.specs.Moments.{WasInUse, WasNotFull, WasPut};
-ghost use Rattle.rp_boxes.specs.Seats.{IsGot, IsTurn, IsCutTurn, IsLightTurn, IsNoTurn, IsSentText, IsPut, IsFetched, HasApplied, IsRunning, IsStopped, IsReport};
+ghost use Rattle.rp_boxes.specs.Seats.{IsGot, IsTurn, IsCutTurn, IsLightTurn, IsNoTurn, IsSentText, IsPut, IsFetched, HasApplied, HasUncounted, IsRunning, IsStopped, IsReport};
 
 use crate::actors::{actor_of, receiver};
 use crate::board::{Board, Place};
@@ -230,6 +230,17 @@ impl<M: Machine, D: Device> NodeSeat<M, D> {
         ensures stopped { IsStopped self.now.part → result ≡ false }
     {
         !self.replica.has_failed() && self.replica.has_pending()
+    }
+
+    /// Whether something is pending at the node that did not count yet. A call that waits at a closed
+    /// entry counted. Nothing is pending once its device has failed.
+    pub fn has_uncounted(&self) -> bool
+        // claim: Whether something is pending at a node that did not count yet is returned; if the
+        //   node is stopped, nothing is
+        ensures some { IsTrue result → HasUncounted M.next M.answers M.begin self.now }
+        ensures none { result ≡ false → ¬ HasUncounted M.next M.answers M.begin self.now }
+    {
+        !self.replica.has_failed() && self.replica.has_uncounted()
     }
 
     /// Makes a step as `turn` does, in which the node sends a report to the audit: the actions that

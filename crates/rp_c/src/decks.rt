@@ -52,7 +52,7 @@ fn run(alloc: Global, deck: &[u8], traced: bool, answer: &mut [u8], used: &mut u
 
 /// Puts a text into the answer, if it fits, and its length into `used`. The status is then the one
 /// given, and otherwise `ShortAnswer`.
-fn put(text: &[u8], answer: &mut [u8], used: &mut usize, done: Status) -> Status
+pub(crate) fn put(text: &[u8], answer: &mut [u8], used: &mut usize, done: Status) -> Status
     ensures { PutsText text.now answer.old answer.new used.new done result }
 {
     *used = text.len();

@@ -11,12 +11,14 @@
 //! - `handles`: calls and closes a node or a task by its handle
 //! - `steps`: calls a node by its handle, and returns where the packets of its last step end
 //! - `advice`: what a node is to do next, by its handle
+//! - `next`: the deck with which a station goes on once the log of its node has ended
 #![tactic(auto)]
 
 mod advice;
 mod answer;
 mod decks;
 mod handles;
+mod next;
 mod nodes;
 mod packets;
 mod status;
@@ -27,6 +29,7 @@ pub use advice::{NodeAdvice, rp_node_advise};
 pub use answer::AnswerLengths;
 pub use decks::rp_run_deck;
 pub use handles::{rp_handle_call, rp_handle_close};
+pub use next::rp_next_deck;
 pub use nodes::{NodeFound, rp_device_header, rp_device_open, rp_node_open};
 pub use packets::{rp_packet_check, rp_packet_length};
 pub use steps::{StepLengths, rp_node_receive, rp_node_step};

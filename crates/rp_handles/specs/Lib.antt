@@ -2,4 +2,5 @@ pub mod DeckNodes
 pub mod DeclaredParts
 pub mod Devices
 pub mod Handles
+pub mod NextDecks
 pub mod Owning

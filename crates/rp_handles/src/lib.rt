@@ -9,6 +9,7 @@
 //! - `calls`: opens, calls and closes an actor by its handle
 //! - `declared`: the part of a deck's text that declares
 //! - `device`: the header of a device, which says whose it is
+//! - `next`: the deck with which a station goes on once the log of its node has ended
 #![tactic(auto)]
 
 mod actor;
@@ -18,6 +19,7 @@ mod declared;
 mod device;
 mod handle;
 mod loose;
+mod next;
 
 pub use actor::{Actor, ActorKind, LastStep};
 pub use calls::{
@@ -25,3 +27,4 @@ pub use calls::{
 };
 pub use device::{HEADER_BYTES, device_header, open_device};
 pub use handle::Handle;
+pub use next::{NoNextDeck, next_deck_of};

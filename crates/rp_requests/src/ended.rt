@@ -5,11 +5,18 @@ ghost use Rattle.rp_base.specs.declared.fault.Fault.TheVariants as faults;
 ghost use Rattle.rp_requests.specs.Nodes.{image_of, positions_left};
 
 use crate::node::Node;
-use rp_base::Fault;
+use rp_base::{Config, Fault};
 use rp_machine::Machine;
 use std::alloc::Global;
 
 impl<M: Machine> Node<M> {
+    /// How many nodes there are, and how many positions the log has.
+    pub fn config(&self) -> Config
+        ensures { result ≡ self.now.replica.config }
+    {
+        self.replica.server().config()
+    }
+
     /// Whether every position of the log is applied.
     pub fn has_ended(&self) -> bool
         // claim: A caller learns whether the log of its node has ended

@@ -180,7 +180,7 @@ module _ {S P : Type 0} (next : S → Action → S) (answers : S → Action → 
     made_later turned (inr anew) =
         let led = anew.1 in
         subst (λ (u : Turn). IsLater old.seat new.seat (events_of u)) (sym anew.0)
-        (then_later old.seat led.between new.seat 1 (first_later led.between led.first) (event_later (IsLeadAnew led.between.part) led.between new.seat turned.packets led.leads))
+        (then_later old.seat led.between new.seat 1 (first_later led.between led.first) (event_later (IsLeadAnew next answers begin led.between) led.between new.seat turned.packets led.leads))
 
     own_left : (fault : Fault) → IsOwnUnmade next answers begin from lead old new fault → IsLeft old.seat new.seat fault
     own_left fault (inl lost) =
@@ -194,7 +194,7 @@ module _ {S P : Type 0} (next : S → Action → S) (answers : S → Action → 
     unmade_left fault (inl own) = own_left fault own.0
     unmade_left fault (inr anew) =
         left_on old.seat anew.between new.seat fault (first_later anew.between anew.first)
-        (stop_left (IsLeadAnew anew.between.part) anew.between new.seat fault (λ input is. lead_no_range (Some is.0) input is.2) anew.stops)
+        (stop_left (IsLeadAnew next answers begin anew.between) anew.between new.seat fault (λ input is. lead_no_range (Some is.0) input is.2) anew.stops)
 
     -- a turn that is made or skipped
     pub turned_later : (heard : ℕ → Type 0) (passes : Bool) (made : Option TurnResult) → IsMadeOrSkipped next answers begin from lead old new heard passes made → IsLater old.seat new.seat (events_made made)

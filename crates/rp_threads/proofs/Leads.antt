@@ -10,10 +10,10 @@ use Rattle.rp_codec.specs.declared.packet.Party.{Party}
 use Rattle.rp_codec.specs.declared.packet.Party.TheVariants.{Node}
 use Rattle.rp_model.specs.Parts.{NodePart, Running}
 use Rattle.rp_boxes.specs.Parts.{Part}
-use Rattle.rp_boxes.specs.Seats.{SeatState, HasApplied, IsRunning, IsStopped}
+use Rattle.rp_boxes.specs.Seats.{SeatState, HasApplied, HasUncounted, IsStopped}
 use Rattle.rp_threads.specs.Loops.{is_idle, is_to_lead, sender_at}
 use Rattle.rp_patience.specs.Patience.{waits, is_over, after_quiet}
-use Rattle.rp_threads.specs.Rounds.{NodeAt, HasPending, HasWaited, IsToLeadAt, NeedNotLead, still_waits, no_position_left, CountsQuiet, IsLeadAnew, WorkerAt, IsMade, IsUnmade}
+use Rattle.rp_threads.specs.Rounds.{NodeAt, HasWaited, IsToLeadAt, NeedNotLead, still_waits, no_position_left, CountsQuiet, IsLeadAnew, WorkerAt, IsMade, IsUnmade}
 use Rattle.rp_threads.specs.Turns.{IsEventBy, IsLost, IsStopBy, IsNodeTurn, IsStoppedTurn}
 use Rattle.rp_patience.specs.declared.patience.Patience.{Patience}
 use Rattle.rp_threads.specs.declared.turns.Turn.{Turn}
@@ -31,29 +31,9 @@ busy_of turn busy idle = let clash : true ≡ false = sym (ap is_idle idle) ∙ 
 
 -- ---- what is pending, and what is applied
 
-some_wait : (n : ℕ) → nat_lt 0 n ≡ true → 0 < n
-some_wait n is = grind (arith, common_steps)
-
-none_wait : (n : ℕ) → nat_lt 0 n ≡ false → 0 < n → ⊥
-none_wait n is less = let some : nat_lt 0 n ≡ true = grind (arith, common_steps) in let clash : true ≡ false = sym some ∙ is in absurd (cc)
-
-module _ (part : Part) (answer : Bool) (stated : (running : Running) → IsRunning part running → answer ≡ nat_lt 0 (length running.pending)) where
-  pub has_pending : answer ≡ true → (applied : ℕ) → HasApplied part applied → HasPending part
-  has_pending holds applied has =
-      let waiting : (running : Option Running) → has.0.running ≡ running → IsSome running → HasPending part =
-      λ running is some. elim running as (λ (o : Option Running). has.0.running ≡ o → IsSome o → HasPending part) [
-        | None ↦ λ is some. let clash : false ≡ true = some in absurd (cc)
-        | Some r ↦ λ is some. let runs : IsRunning part r = (has.0, has.1, is) in (r, runs, some_wait (length r.pending) (sym (stated r runs) ∙ holds))
-      ] is some in
-      waiting has.0.running refl has.2
-
-  pub not_pending : answer ≡ false → ¬ HasPending part
-  not_pending fails pending = none_wait (length pending.0.pending) (sym (stated pending.0 pending.1) ∙ fails) pending.2
-
-pub stopped_idles : (part : Part) → IsStopped part → ¬ HasPending part
-stopped_idles part stopped pending =
-    let is = pending.1 in
-    not_stopped part (is.0, is.1, subst (λ (o : Option Running). IsSome o) (sym is.2) refl) stopped
+pub stopped_idles : {S P : Type 0} (next : S → Action → S) (answers : S → Action → List Answer) (begin : P → S) (seat : SeatState P) → IsStopped seat.part → ¬ HasUncounted next answers begin seat
+stopped_idles next answers begin seat stopped pending =
+    not_stopped seat.part (pending.node, pending.is, subst (λ (o : Option Running). IsSome o) (sym pending.runs) refl) stopped
 
 one_applied : (part : Part) (a b : ℕ) → HasApplied part a → HasApplied part b → a ≡ b
 one_applied part a b has also =
@@ -61,12 +41,12 @@ one_applied part a b has also =
 
 -- ---- after an idle turn
 
-module _ {P : Type 0} (seat : SeatState P) (old : Patience) where
-  pub uncounted : (new : Patience) → new ≡ old → ¬ HasPending seat.part → CountsQuiet seat old new
+module _ {S P : Type 0} (next : S → Action → S) (answers : S → Action → List Answer) (begin : P → S) (seat : SeatState P) (old : Patience) where
+  pub uncounted : (new : Patience) → new ≡ old → ¬ HasUncounted next answers begin seat → CountsQuiet next answers begin seat old new
   uncounted new same none = record { quiet = λ applied has pending. absurd (none pending); other = λ fails. same }
 
   module _ (number applied : ℕ) (is : number ≡ seat.number) (has : HasApplied seat.part applied) where
-    pub quiet_counted : (new : Patience) → HasPending seat.part → new ≡ after_quiet 1 number applied old → CountsQuiet seat old new
+    pub quiet_counted : (new : Patience) → HasUncounted next answers begin seat → new ≡ after_quiet 1 number applied old → CountsQuiet next answers begin seat old new
     quiet_counted new pending after = record {
       quiet = λ n also some. after ∙ ap (λ k. after_quiet 1 k applied old) is ∙ ap (λ k. after_quiet 1 seat.number k old) (one_applied seat.part applied n has also);
       other = λ none. absurd (none pending);
@@ -80,16 +60,17 @@ module _ {P : Type 0} (seat : SeatState P) (old : Patience) where
       has_waited holds None = tt
       has_waited holds (Some position) = (applied, has, sym at_seat ∙ holds)
 
-      pub waits_still : over ≡ false → NeedNotLead seat old
+      pub waits_still : over ≡ false → NeedNotLead next answers begin seat old
       waits_still fails = still_waits applied has (sym at_seat ∙ fails)
 
-    pub none_left : (result : Option ℕ) → (result ≡ None → 65535 ≤ applied) → IfNone result (NeedNotLead seat old)
+    pub none_left : (result : Option ℕ) → (result ≡ None → 65535 ≤ applied) → IfNone result (NeedNotLead next answers begin seat old)
     none_left None full = no_position_left applied has (full refl)
     none_left (Some position) full = tt
 
-pub to_lead : (part : Part) (applied : ℕ) (result : Option ℕ) → HasApplied part applied → HasPending part → IfSome result (λ position. position ≡ applied + 1) → IfSome result (IsToLeadAt part)
-to_lead part applied None has pending at = tt
-to_lead part applied (Some position) has pending at = record { applied = applied; has = has; next = at; pending = pending }
+pub to_lead : {S P : Type 0} (next : S → Action → S) (answers : S → Action → List Answer) (begin : P → S) (seat : SeatState P) (applied : ℕ) (result : Option ℕ) → HasApplied seat.part applied → HasUncounted next answers begin seat
+    → IfSome result (λ position. position ≡ applied + 1) → IfSome result (IsToLeadAt next answers begin seat)
+to_lead next answers begin seat applied None has pending at = tt
+to_lead next answers begin seat applied (Some position) has pending at = record { applied = applied; has = has; follows = at; pending = pending }
 
 -- ---- the turn of a worker
 
@@ -103,20 +84,20 @@ module _ {S P : Type 0} (next : S → Action → S) (answers : S → Action → 
     pub busy_turn : IsNodeTurn next answers begin from lead old.seat new.seat old.line new.line turned → is_idle turned.turn ≡ false → new.patience ≡ old.patience → IsMade next answers begin from lead old new turned
     busy_turn turn busy same = inl (record { turn = turn; busy = λ other. same; idle = λ idle. absurd (busy_of turned.turn busy idle) })
 
-    pub idle_turn : IsNodeTurn next answers begin from lead old.seat new.seat old.line new.line turned → turned.turn ≡ Idle → NeedNotLead new.seat old.patience → CountsQuiet new.seat old.patience new.patience
+    pub idle_turn : IsNodeTurn next answers begin from lead old.seat new.seat old.line new.line turned → turned.turn ≡ Idle → NeedNotLead next answers begin new.seat old.patience → CountsQuiet next answers begin new.seat old.patience new.patience
         → IsMade next answers begin from lead old new turned
     idle_turn turn idle need counts = inl (record { turn = turn; busy = λ busy. absurd (busy idle); idle = λ is. (need, counts) })
 
     module _ (between : SeatState P) (turn : IsNodeTurn next answers begin from lead old.seat between old.line new.line turned) (idle : turned.turn ≡ Idle) (waited : HasWaited between old.patience)
-        (counts : CountsQuiet between old.patience new.patience) where
+        (counts : CountsQuiet next answers begin between old.patience new.patience) where
       pub led_anew : (result : Result TurnResult Fault)
-          → IfOk result (λ made. (made.turn ≡ Led) × IsEventBy next answers begin (IsLeadAnew between.part) between new.seat made.packets)
+          → IfOk result (λ made. (made.turn ≡ Led) × IsEventBy next answers begin (IsLeadAnew next answers begin between) between new.seat made.packets)
           → IfOk result (IsMade next answers begin from lead old new)
       led_anew (Ok made) ok = inr (ok.0, record { between = between; first = record { turned = turned; turn = turn; idle = idle; waited = waited; counts = counts }; leads = ok.1 })
       led_anew (Err fault) ok = tt
 
       pub not_led_anew : (result : Result TurnResult Fault)
-          → IfErr result (λ fault. IsStopBy next answers begin (IsLeadAnew between.part) between new.seat fault)
+          → IfErr result (λ fault. IsStopBy next answers begin (IsLeadAnew next answers begin between) between new.seat fault)
           → IfErr result (IsUnmade next answers begin from lead old new)
       not_led_anew (Ok made) err = tt
       not_led_anew (Err fault) err = inr (record { between = between; first = record { turned = turned; turn = turn; idle = idle; waited = waited; counts = counts }; stops = err })

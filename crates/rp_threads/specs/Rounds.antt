@@ -13,8 +13,9 @@ use Rattle.rp_rules.specs.declared.input.Input.{Input}
 use Rattle.rp_rules.specs.declared.input.Input.TheVariants.{Lead}
 use Rattle.rp_tasks.specs.Line.{Line}
 use Rattle.rp_boxes.specs.Parts.{Part, OfNode}
-use Rattle.rp_boxes.specs.Seats.{SeatState, HasApplied, IsRunning, IsStopped}
-use Rattle.rp_threads.specs.Loops.{sender_at, is_to_lead, is_refusal, is_uneventful, no_turns, counted}
+use Rattle.rp_boxes.specs.Seats.{SeatState, HasApplied, HasUncounted, IsRunning, IsStopped}
+use Rattle.rp_threads.specs.Loops.{sender_at, is_to_lead, is_refusal, is_uneventful, no_turns}
+use Rattle.rp_threads.specs.Loops.{counted}
 use Rattle.rp_patience.specs.Patience.{fresh_wait, waits, is_over, after_quiet}
 use Rattle.rp_threads.specs.Turns.{IsLost, IsEventBy, IsStopBy, IsNodeTurn, IsStoppedTurn}
 use Rattle.rp_threads.specs.declared.loops.Counts.{Counts}
@@ -28,41 +29,47 @@ use Rattle.rp_threads.specs.declared.turns.TurnResult.{TurnResult}
 abbrev pub Runs : Part → Type 0
 Runs part = (node : NodePart) × (part.role ≡ OfNode node) × IsSome node.running
 
--- something is pending at the node, to be proposed or decided
-abbrev pub HasPending : Part → Type 0
-HasPending part = (running : Running) × IsRunning part running × (0 < length running.pending)
-
--- The node has something pending, and this is the first position that it has not applied.
-pub record IsToLeadAt (part : Part) (position : ℕ) : Type 0 where
-  pub applied : ℕ
-  pub has : HasApplied part applied
-  pub next : position ≡ applied + 1
-  pub pending : HasPending part
-
 -- by its patience the node is to lead now
 abbrev pub HasWaited : {P : Type 0} → SeatState P → Patience → Type 0
 HasWaited seat patience =
     (applied : ℕ) × HasApplied seat.part applied
     × (is_over seat.number (waits 1 applied patience) ≡ true)
 
--- Why a node does not lead after an idle turn: nothing is pending, as at a stopped node; by its
--- patience it is not to lead yet; or it has applied an action at the last position.
-pub data NeedNotLead {P : Type 0} (seat : SeatState P) (patience : Patience) : Type 0 where
-  nothing_pending : ¬ HasPending seat.part → NeedNotLead seat patience
-  still_waits : (applied : ℕ) → HasApplied seat.part applied
-      → is_over seat.number (waits 1 applied patience) ≡ false → NeedNotLead seat patience
-  no_position_left : (applied : ℕ) → HasApplied seat.part applied → 65535 ≤ applied
-      → NeedNotLead seat patience
+-- The node has something pending that did not count yet, and this is the first position that it has
+-- not applied.
+pub record IsToLeadAt {S P : Type 0} (next : S → Action → S) (answers : S → Action → List Answer)
+    (begin : P → S) (seat : SeatState P) (position : ℕ) : Type 0 where
+  pub applied : ℕ
+  pub has : HasApplied seat.part applied
+  pub follows : position ≡ applied + 1
+  pub pending : HasUncounted next answers begin seat
 
--- An idle turn is counted by the node's patience if something is pending, and only then.
-pub record CountsQuiet {P : Type 0} (seat : SeatState P) (old new : Patience) : Type 0 where
-  pub quiet : (applied : ℕ) → HasApplied seat.part applied → HasPending seat.part
+-- Why a node does not lead after an idle turn: nothing is pending that did not count yet, as at a
+-- stopped node; by its patience it is not to lead yet; or it has applied an action at the last
+-- position.
+pub data NeedNotLead {S P : Type 0} (next : S → Action → S) (answers : S → Action → List Answer)
+    (begin : P → S) (seat : SeatState P) (patience : Patience) : Type 0 where
+  nothing_pending : ¬ HasUncounted next answers begin seat
+      → NeedNotLead next answers begin seat patience
+  still_waits : (applied : ℕ) → HasApplied seat.part applied
+      → is_over seat.number (waits 1 applied patience) ≡ false
+      → NeedNotLead next answers begin seat patience
+  no_position_left : (applied : ℕ) → HasApplied seat.part applied → 65535 ≤ applied
+      → NeedNotLead next answers begin seat patience
+
+-- An idle turn is counted by the node's patience if something is pending that did not count yet,
+-- and only then.
+pub record CountsQuiet {S P : Type 0} (next : S → Action → S) (answers : S → Action → List Answer)
+    (begin : P → S) (seat : SeatState P) (old new : Patience) : Type 0 where
+  pub quiet : (applied : ℕ) → HasApplied seat.part applied → HasUncounted next answers begin seat
       → new ≡ after_quiet 1 seat.number applied old
-  pub other : ¬ HasPending seat.part → new ≡ old
+  pub other : ¬ HasUncounted next answers begin seat → new ≡ old
 
 -- the command to lead there
-abbrev pub IsLeadAnew : Part → Input → Type 0
-IsLeadAnew part input = (position : ℕ) × IsToLeadAt part position × (input ≡ Lead (Some position))
+abbrev pub IsLeadAnew : {S P : Type 0} → (S → Action → S) → (S → Action → List Answer) → (P → S)
+    → SeatState P → Input → Type 0
+IsLeadAnew next answers begin seat input =
+    (position : ℕ) × IsToLeadAt next answers begin seat position × (input ≡ Lead (Some position))
 
 -- the state of a node in its loop: its seat, its link and its patience
 pub record WorkerAt (P : Type 0) : Type 0 where
@@ -80,8 +87,9 @@ module _ {S P : Type 0} (next : S → Action → S) (answers : S → Action → 
     pub record IsOwnTurn (turned : TurnResult) : Type 0 where
       pub turn : IsNodeTurn next answers begin from lead old.seat new.seat old.line new.line turned
       pub busy : turned.turn ≢ Idle → new.patience ≡ old.patience
-      pub idle : turned.turn ≡ Idle → NeedNotLead new.seat old.patience
-          × CountsQuiet new.seat old.patience new.patience
+      pub idle : turned.turn ≡ Idle
+          → NeedNotLead next answers begin new.seat old.patience
+          × CountsQuiet next answers begin new.seat old.patience new.patience
 
     -- The turn of the node was idle, after which it was at this seat, and by its patience it was to
     -- lead with a new ballot.
@@ -90,20 +98,22 @@ module _ {S P : Type 0} (next : S → Action → S) (answers : S → Action → 
       pub turn : IsNodeTurn next answers begin from lead old.seat between old.line new.line turned
       pub idle : turned.turn ≡ Idle
       pub waited : HasWaited between old.patience
-      pub counts : CountsQuiet between old.patience new.patience
+      pub counts : CountsQuiet next answers begin between old.patience new.patience
 
     -- It then led with a new ballot, and sent and lost these packets.
     pub record IsLedAnew (packets : PacketCounts) : Type 0 where
       pub between : SeatState P
       pub first : IsIdleTurn between
-      pub leads : IsEventBy next answers begin (IsLeadAnew between.part) between new.seat packets
+      pub leads : IsEventBy next answers begin (IsLeadAnew next answers begin between) between
+          new.seat packets
 
     -- The step in which it was then to lead was cut, or was no event, or not all of its packets
     -- were offered.
     pub record IsStoppedAnew (fault : Fault) : Type 0 where
       pub between : SeatState P
       pub first : IsIdleTurn between
-      pub stops : IsStopBy next answers begin (IsLeadAnew between.part) between new.seat fault
+      pub stops : IsStopBy next answers begin (IsLeadAnew next answers begin between) between
+          new.seat fault
 
     -- the turn that was made: the node's own, or one in which it led with a new ballot
     abbrev pub IsMade : TurnResult → Type 0

@@ -115,21 +115,22 @@ fn position_after(applied: u32) -> Option<Position>
 }
 
 /// The position at which a node leads with a new ballot after an idle turn: the first position that
-/// it has not applied, if something is pending at the node and its patience is over. The patience
-/// counts the turn if something is pending.
+/// it has not applied, if something is pending at the node that did not count yet and its patience is
+/// over. The patience counts the turn if something is. For a call that waits at a closed entry, which
+/// counted, nobody leads.
 fn position_to_lead<M: Machine, D: Device>(
     seat: &NodeSeat<M, D>,
     patience: &mut Patience,
 ) -> Option<Position>
-    ensures some { IfSome result (IsToLeadAt seat.now.part) }
+    ensures some { IfSome result (IsToLeadAt M.next M.answers M.begin seat.now) }
     ensures waited { OnSome result (HasWaited seat.now patience.old) }
-    ensures none { IfNone result (NeedNotLead seat.now patience.old) }
-    ensures counts { CountsQuiet seat.now patience.old patience.new }
+    ensures none { IfNone result (NeedNotLead M.next M.answers M.begin seat.now patience.old) }
+    ensures counts { CountsQuiet M.next M.answers M.begin seat.now patience.old patience.new }
 {
     let Ok(applied) = seat.applied() else {
         return None;
     };
-    if !seat.has_pending() {
+    if !seat.has_uncounted() {
         return None;
     }
     if !patience.is_over(seat.number(), applied, 1) {
@@ -144,13 +145,13 @@ fn lead_at<M: Machine, D: Device>(
     alloc: Global,
     position: Position,
 ) -> Result<TurnResult, Fault>
-    requires { IsToLeadAt seat.old.part position }
+    requires { IsToLeadAt M.next M.answers M.begin seat.old position }
     ensures got { seat.new.part.got ≡ seat.old.part.got }
     ensures ok { IfOk result (λ turned. (turned.turn ≡ Turn.Led)
-        × IsEventBy M.next M.answers M.begin (IsLeadAnew seat.old.part)
-        seat.old seat.new turned.packets) }
+        × IsEventBy M.next M.answers M.begin
+        (IsLeadAnew M.next M.answers M.begin seat.old) seat.old seat.new turned.packets) }
     ensures err { IfErr result (λ fault. IsStopBy M.next M.answers M.begin
-        (IsLeadAnew seat.old.part) seat.old seat.new fault) }
+        (IsLeadAnew M.next M.answers M.begin seat.old) seat.old seat.new fault) }
 {
     let packets = node_step(seat, alloc, &Input::Lead(Some(position)))?;
     Ok(TurnResult {
@@ -242,8 +243,9 @@ impl<M: Machine, D: Device> Worker<M, D> {
 
 /// Makes the turns of a node, as many as the options say, or those before the gate says that the
 /// run is over. They empty the boxes of the nodes 1 to `nodes` and of the tasks, in rotation. Node n is to lead in the turns whose number is divisible
-/// by 8 + n. If a turn is idle while something is pending, the node leads with a new ballot at the
-/// first position that it has not applied, once it has waited long enough (`Patience`). A fault
+/// by 8 + n. If a turn is idle while something is pending that did not count yet, the node leads with
+/// a new ballot at the first position that it has not applied, once it has waited long enough
+/// (`Patience`). A fault
 /// ends the loop, unless it only means that the node cannot lead: `OutOfMemory`, `Device` if its
 /// device failed, or `Failed` if it had failed before the first turn. The loop never blocks, unless
 /// the gate does.
@@ -260,8 +262,8 @@ pub fn node_loop<M: Machine, D: Device, G: Gate>(
     //   new ballot at the first position that it has not applied; a turn is skipped if the gate
     //   says so, or if the node is refused to lead
     // claim (result): After an idle turn a node leads with a new ballot exactly if something is
-    //   pending, it has waited as many quiet turns as its patience says, and a position is left. A
-    //   turn is quiet if it is idle and something is pending
+    //   pending that did not count yet, it has waited as many quiet turns as its patience says, and a
+    //   position is left. A turn is quiet if it is idle and something is pending that did not count
     // claim (result): The gate is called after each turn of a node that it lets pass, with that
     //   node, that turn and the number of packets sent in it, 0 if the node was refused to lead
     // claim (result): Before each turn of a node the gate is asked whether the run is over, with

@@ -7,6 +7,7 @@ package body Device is
    use type Interfaces.C.int;
    use type Interfaces.C.long;
    use type Interfaces.C.size_t;
+   use type Interfaces.Unsigned_32;
    use type RP.Status;
 
    subtype Count is Interfaces.C.size_t;
@@ -27,8 +28,9 @@ package body Device is
    function C_Seek (File : Int; Place : Long; From : Int) return Long
      with Import, Convention => C, External_Name => "lseek";
 
-   Read_Write_Create : constant := 8#2000102#;  --  with close on exec
-   Exclusive         : constant := 2;
+   Read_Write_Create  : constant := 8#2000102#;  --  with close on exec
+   Write_Create_Empty : constant := 8#2001101#;
+   Exclusive          : constant := 2;
 
    File : Int := -1;
    Held : RP.Bytes (1 .. 2**24);
@@ -76,5 +78,35 @@ package body Device is
       Must (C_Truncate (File, Length) = 0 and then C_Seek (File, Length, 0) = Length, "truncate");
       Sync;  --  RULE 3: what is after the last whole record is gone before the first step
    end Open;
+
+   function C_Rename (From, To : Interfaces.C.Strings.chars_ptr) return Int
+     with Import, Convention => C, External_Name => "rename";
+
+   Is_Put : Boolean := False;
+
+   procedure Put_Next_Deck (Node : in out RP.Node; Deck : RP.Bytes; Name : String) is
+      Part   : Interfaces.C.Strings.chars_ptr;
+      Left   : Interfaces.Unsigned_32 := 0;
+      Used   : Count := 0;
+      Result : RP.Status;
+      Next   : Int;
+   begin
+      Result := RP.Node_Left (Node, Left);
+      if Is_Put or else Result /= RP.Done or else Left > 0 then
+         return;
+      end if;
+      Is_Put := True;
+      Result := RP.Next_Deck (Node, Deck'Address, Deck'Length, Held'Address, Held'Length, Used);
+      if Result /= RP.Done then
+         Ada.Text_IO.Put_Line (Ada.Text_IO.Standard_Error, "no next deck:" & Result'Image);
+         return;
+      end if;
+      Part := Interfaces.C.Strings.New_String (Name & ".part");
+      Next := C_Open (Part, Write_Create_Empty, 8#644#);
+      Must
+        (Next >= 0 and then C_Write (Next, Held'Address, Used) = Long (Used) and then C_Sync (Next) = 0
+         and then C_Rename (Part, Interfaces.C.Strings.New_String (Name & ".deck")) = 0,
+         "its next deck");
+   end Put_Next_Deck;
 
 end Device;

@@ -12,4 +12,8 @@ package Device is
    procedure Sync;
    --  The program ends where the device fails: no packet of what was not synced leaves it.
 
+   procedure Put_Next_Deck (Node : in out RP.Node; Deck : RP.Bytes; Name : String);
+   --  Once the log of the node has ended: the deck with which the station goes on over fresh devices (docs/C.md, "The
+   --  end of the log"), in the file Name & ".deck", which is there whole or not at all.
+
 end Device;

@@ -37,6 +37,8 @@ procedure Node with Priority => 10 is
    Me    : constant RP.Byte := RP.Byte (Number (2));
    Nodes : constant RP.Byte := RP.Byte (Number (3));
 
+   Deck : constant RP.Bytes := Udp.Deck_Text (Argument (1));
+
    Handle   : RP.Node;
    Patience : RP.Patience;
    Link     : Udp.Link;
@@ -173,13 +175,14 @@ procedure Node with Priority => 10 is
    end Lead_Or_Ask;
 
 begin
-   Device.Open (Udp.Deck_Text (Argument (1)), Me, Argument (4), Handle);
+   Device.Open (Deck, Me, Argument (4), Handle);
    Udp.Open (Link, Argument (1), Me, Number (5), Number (if Argument_Count > 5 then 6 else 5));
    loop
       Receive_Packets;
       Lead_Or_Ask;
       Store_Records;    --  RULE 1: what the steps gave is synced ..
       Hand_On_Packets;  --  .. before a packet of theirs leaves
+      Device.Put_Next_Deck (Handle, Deck, Argument (4));
    end loop;
 exception
    when Fault : others =>  --  under Ravenscar a program whose main procedure has ended would stand still

@@ -125,6 +125,28 @@ static void lead_or_ask(void) {
   if (advice.kind == RP_ADVICE_ASK) ask_another();
 }
 
+/* Once the log has ended: the deck with which the station goes on over fresh devices (docs/C.md, "The end of the log"), in
+ * the file DEVICE.deck, which is there whole or not at all. The node stays, since others may still ask it. */
+static void put_next_deck(const uint8_t *deck, size_t count, const char *name) {
+  static uint8_t next[MOST_DECK];
+  static bool is_put;
+  char part[4096], whole[4096];
+  uint32_t left = 0;
+  size_t used = 0;
+  if (is_put || rp_node_left(&node, &left) != RP_DONE || left > 0) return;
+  is_put = true;
+  uint8_t result = rp_next_deck(&node, deck, count, next, sizeof next, &used);
+  if (result != RP_DONE) {
+    fprintf(stderr, "node %d: no next deck: %d\n", me, result);
+    return;
+  }
+  snprintf(part, sizeof part, "%s.part", name);
+  snprintf(whole, sizeof whole, "%s.deck", name);
+  int file = open(part, O_WRONLY | O_CREAT | O_TRUNC | O_CLOEXEC, 0644);
+  if (file < 0 || write(file, next, used) != (ssize_t)used || fdatasync(file) != 0 || close(file) != 0) stop(part);
+  if (rename(part, whole) != 0) stop(whole);
+}
+
 /* Opens the node over its device, which gets a header if it is fresh. */
 static void open_node(const uint8_t *deck, size_t count, const uint8_t *header, const char *name) {
   static uint8_t held[1 << 24];
@@ -164,5 +186,6 @@ int main(int count, char **words) {
     lead_or_ask();
     store_records();   /* RULE 1: what the steps gave is synced .. */
     hand_on_packets(); /* .. before a packet of theirs leaves */
+    put_next_deck(deck, length, words[4]);
   }
 }

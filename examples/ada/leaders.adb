@@ -110,6 +110,14 @@ procedure Leaders is
          & Pending'Image & ", counted" & Counted'Image);
    end Show;
 
+   --  Whether node 3 may lead there.
+   procedure Say_Lead (Position : Interfaces.Unsigned_16) is
+   begin
+      Put_Line
+        ("a lead at" & Position'Image & ": status"
+         & RP.Status'Image (RP.Node_Lead_At (Nodes (3), Position, Answer, Places, Parts)));
+   end Say_Lead;
+
    What : RP.Found;
 begin
    for Node in Number loop
@@ -132,6 +140,15 @@ begin
    Follow (1, 0);
    Show (1);
    Put_Line ("task 9: status" & RP.Status'Image (RP.Task_Open_After (9, 2, Writer)));
+
+   --  Position 4 is the first that is not learned, and the log has 1,000.
+   Say_Lead (67);
+   Say_Lead (68);
+   Say_Lead (1_001);
+   Must (RP.Node_Ask (Nodes (2), 1, Answer, Places, Parts));
+   Put_Line ("node 2 asks node 1: stored" & Parts.Stored'Image & ", packets" & Parts.Packets'Image);
+   Put_Line
+     ("node 2 asks itself: status" & RP.Status'Image (RP.Node_Ask (Nodes (2), 2, Answer, Places, Parts)));
    for Node in Number loop
       RP.Node_Close (Nodes (Node));
    end loop;

@@ -21,3 +21,4 @@ pub mod Joining
 pub mod AuditOrder
 pub mod OneWorld
 pub mod Carrying
+mod Uncounted

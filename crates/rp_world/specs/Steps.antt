@@ -116,15 +116,18 @@ IsReplicaOf config begin answer part =
     IsQueryAnswer answer (λ replica records. (replica.now.begin ≡ begin)
     × (replica.now.records ≡ records)) part
 
--- the same of a part that runs or is stopped: the server has its records, and knows what it knows
-abbrev pub IsRunningServerOf : {S : Type 0} → Result (Bor (ServerState S)) Fault → List Rec
+-- the same of a part that runs or is stopped: the server has its configuration and its records, and
+-- knows what it knows
+abbrev pub IsRunningServerOf : {S : Type 0} → Config → Result (Bor (ServerState S)) Fault → List Rec
     → Option Running
     → Type 0
-IsRunningServerOf answer records None = answer ≡ Err NotRunning
-IsRunningServerOf answer records (Some running) =
-    IsOkAnd answer (λ server. (server.now.records ≡ records) × (server.now.running ≡ running))
+IsRunningServerOf config answer records None = answer ≡ Err NotRunning
+IsRunningServerOf config answer records (Some running) =
+    IsOkAnd answer (λ server. (server.now.config ≡ config) × (server.now.records ≡ records)
+    × (server.now.running ≡ running))
 
 -- the server of a node that runs, refused as above
-abbrev pub IsServerOf : {S : Type 0} → Result (Bor (ServerState S)) Fault → Option NodePart → Type 0
-IsServerOf answer None = answer ≡ Err BadConfig
-IsServerOf answer (Some part) = IsRunningServerOf answer part.records part.running
+abbrev pub IsServerOf : {S : Type 0} → Config → Result (Bor (ServerState S)) Fault → Option NodePart
+    → Type 0
+IsServerOf config answer None = answer ≡ Err BadConfig
+IsServerOf config answer (Some part) = IsRunningServerOf config answer part.records part.running

@@ -349,8 +349,9 @@ impl<M: Machine, D: CutDevice> Cluster<M, D> {
     /// The server of a node that runs, which answers what it promised and voted and what is pending.
     /// `NotRunning` where the node is stopped, `BadConfig` above the last node.
     pub fn server(&self, node: NodeId) -> Result<&Server<M>, Fault>
-        // claim: The server of a node that runs is returned: its records, and what it knows
-        ensures { IsServerOf result (part_at self.now.world.nodes node) }
+        // claim: The server of a node that runs is returned: its configuration, its records, and
+        //   what it knows
+        ensures { IsServerOf self.now.config result (part_at self.now.world.nodes node) }
     {
         self.world.server(node)
     }

@@ -205,7 +205,7 @@ impl<M: Machine, D: CutDevice> World<M, D> {
     /// The server of a node that runs. `NotRunning` where it is stopped, `BadConfig` above the last
     /// node.
     pub(crate) fn server(&self, node: NodeId) -> Result<&Server<M>, Fault>
-        ensures { IsServerOf result (part_at self.now.world.nodes node) }
+        ensures { IsServerOf self.now.config result (part_at self.now.world.nodes node) }
     {
         let Some(node) = self.nodes.get(usize::from(node.get()) - 1) else {
             return Err(Fault::BadConfig);

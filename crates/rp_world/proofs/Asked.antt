@@ -39,7 +39,7 @@ module _ {S : Type 0} (member : Member S) (part : NodePart) where
       → IsRunningServerOf member.config (let r : Result (Bor (ServerState S)) Fault = Ok server in r) part.records part.running
   served_running replica runs server is_server =
       subst (λ (p : NodePart). IsRunningServerOf member.config (let r : Result (Bor (ServerState S)) Fault = Ok server in r) p.records p.running) (sym runs.known)
-      (ap (λ (v : ServerState S). v.config) is_server ∙ runs.config, (ap (λ (v : ServerState S). v.records) is_server, ap (λ (v : ServerState S). v.running) is_server))
+      (ap (λ (v : ServerState S). v.config) is_server ∙ runs.config, ap (λ (v : ServerState S). v.records) is_server, ap (λ (v : ServerState S). v.running) is_server)
 
   served_resting : part.running ≡ None → IsRunningServerOf member.config (let r : Result (Bor (ServerState S)) Fault = Err NotRunning in r) part.records part.running
   served_resting rests =

@@ -1,0 +1,11 @@
+pub mod Playing
+pub mod Calling
+pub mod Cases
+pub mod Twice
+pub mod Lost
+pub mod Served
+pub mod Parts
+pub mod Tests
+pub mod Asked
+pub mod Refused
+pub mod Answering

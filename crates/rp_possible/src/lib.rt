@@ -1,0 +1,20 @@
+//! Tasks get replies: whatever the task, however many nodes there are, and whichever leads.
+//!
+//! Each law is the contract of a function that does nothing. They say what has to be possible, so
+//! that a system in which nothing is ever decided or answered is refused.
+//!
+//! In reading order:
+//! - `replies`: histories in which calls get their replies
+//! - `tasks`: what a task can do, in every world
+//! - `nodes`: what a node sends, in every state
+#![tactic(auto)]
+
+mod nodes;
+mod replies;
+mod tasks;
+
+pub use nodes::{a_refusal_ends_a_proposal, a_waiting_caller_is_answered, all_nodes_are_asked};
+pub use replies::{
+    a_lost_call_is_asked_for_again, a_served_caller_gets_its_reply, each_task_gets_its_replies,
+};
+pub use tasks::{a_task_asks_again, a_task_makes_its_next_call, a_task_takes_its_reply};

@@ -117,6 +117,15 @@ begin
    Ask ("one position is left");
    Call (7);
    Ask ("the log has ended");
+   declare
+      task Other;  --  a handle may pass from one task of this program to another between calls
+      task body Other is
+      begin
+         Ask ("asked by another task");
+      end Other;
+   begin
+      null;
+   end;
    for Each of Nodes loop
       RP.Node_Close (Each);
    end loop;

@@ -3,6 +3,7 @@
 #include <stdio.h>
 #include <stdlib.h>
 #include <string.h>
+#include <threads.h>
 
 #include "rp.h"
 
@@ -96,8 +97,13 @@ static uint8_t next_deck(struct run *next) {
   return status;
 }
 
+/* The same by another thread: a handle may pass from one to another between calls. */
+static int next_deck_by_thread(void *next) { return next_deck(next); }
+
 int main(void) {
   static struct run next;
+  thrd_t other;
+  int status = 0;
   append(&deck, (const uint8_t *)first_deck, sizeof first_deck - 1);
   begin();
   call(RP_PROCEDURE, 3);
@@ -116,6 +122,8 @@ int main(void) {
   printf("taken: %d\n", call(RP_ENTRY, 0));
   printf("waits: %d\n", !call(RP_ENTRY, 0));
   printf("a call waits: status %d\n", next_deck(&next));
+  must(thrd_create(&other, next_deck_by_thread, &next) == thrd_success && thrd_join(other, &status) == thrd_success, "no thread");
+  printf("by another thread: status %d\n", status);
   for (uint8_t number = 1; number <= NODES; number++) {
     rp_node_close(&nodes[number]);
   }

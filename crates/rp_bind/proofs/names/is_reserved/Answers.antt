@@ -1,0 +1,6 @@
+use Rattle.rp_bind.specs.Names.{is_among, is_reserved}
+use Rattle.rp_bind.proofs.names.is_reserved.Goals as goal
+
+pub returns : goal.returns
+unfolding is_reserved is_among
+returns c = c.is_word_among.ensures

@@ -1,0 +1,9 @@
+use Rattle.std.proofs.Common.{◌≡◌, ◌+◌, ◌++◌, drop, string_bytes}
+use Rattle.rp_bind.specs.Packages.{numbered, object_text, objects_text}
+use Rattle.rp_bind.proofs.packages.write_objects.Given as goal
+
+-- the objects before this one are written, and the others are left
+abbrev pub invariant-loop-place : goal.invariant-loop-place
+invariant-loop-place l =
+    string_bytes l.text ++ numbered (λ number name. object_text l.language l.declared number (string_bytes name)) (l.place + 1) (drop l.place l.names)
+    ≡ string_bytes l.initial.text ++ objects_text l.language l.declared

@@ -1,0 +1,54 @@
+-- What a deck is bound by.
+use Rattle.std.specs.Prelude.{◌≡◌, ℕ, ◌+◌, List, [], ◌∷◌, length, option_map, Option, Some, None}
+use Rattle.std.specs.Prelude.{Result, Ok, String, string_bytes}
+use Rattle.indexmap.specs.IndexMap.{IndexMap}
+use Rattle.rp_words.specs.LineFaults.{BadLine}
+use Rattle.rp_words.specs.Lines.{LineText, lines_of, texts_from}
+use Rattle.rp_words.specs.Tables.{key_names, set_names}
+use Rattle.rp_deck_objects.specs.declared.names.OperationName.{OperationName}
+use Rattle.rp_deck_declarations.specs.declared.declarations.Declared.{Declared}
+use Rattle.rp_deck_declarations.specs.DeclaredTexts.{DeclaredText, known}
+use Rattle.rp_deck_declarations.specs.DeclaredViews.{declared_text, names_of}
+use Rattle.rp_deck_declarations.specs.Declaring.{declarations_of}
+use Rattle.rp_deck_declarations.specs.ScriptNames.{DeclaredNames}
+use Rattle.rp_bind.specs.declared.deck_binding.Binding.{Binding}
+use Rattle.rp_bind.specs.declared.deck_binding.Binding.TheVariants.{Packages, Refused}
+use Rattle.rp_bind.specs.declared.lines.Language.{Language}
+use Rattle.rp_bind.specs.Names.{BadNameText, bad_line, first_bad}
+use Rattle.rp_bind.specs.Packages.{packages_text}
+
+-- the first of two, if it is there
+abbrev pub or_else : {X : Type 0} → Option X → Option X → Option X
+or_else None other = other
+or_else (Some x) other = Some x
+
+module _ {Y S : Type 0} where
+  -- the first name among the operations of these objects that is none of Ada
+  abbrev pub first_bad_among : List (IndexMap (String Y) OperationName S) → Option BadNameText
+  first_bad_among [] = None
+  first_bad_among (operations ∷ rest) =
+      or_else (first_bad (key_names operations)) (first_bad_among rest)
+
+-- the first name of a deck that is none of Ada: a task's, an object's, or an operation's
+abbrev pub first_bad_of : Declared → Option BadNameText
+first_bad_of declared =
+    or_else (first_bad (key_names declared.tasks))
+    (or_else (first_bad (set_names declared.objects)) (first_bad_among declared.operations.items))
+
+-- the packages, or the line that says which name is bad and why
+abbrev pub Binds : Language → Declared → Binding → Type 0
+Binds language declared (Packages text) =
+    (first_bad_of declared ≡ None) × (string_bytes text ≡ packages_text language declared)
+Binds language declared (Refused text) =
+    option_map bad_line (first_bad_of declared) ≡ Some (string_bytes text)
+
+-- what the lines of a text up to `script` declare, or the first bad line
+abbrev pub declared_in : List ℕ → Result (DeclaredNames × DeclaredText × List LineText) BadLine
+declared_in text = known (declarations_of (length (lines_of text) + 1) (texts_from 1 (lines_of text)))
+
+-- the text declares this, by which it is bound
+pub record BindsText (language : Language) (text : List ℕ) (binding : Binding) : Type 0 where
+  pub declared : Declared
+  pub rest : List LineText
+  pub declares : declared_in text ≡ Ok (names_of declared, declared_text declared, rest)
+  pub binds : Binds language declared binding

@@ -1,0 +1,4 @@
+pub mod Names
+pub mod Texts
+pub mod Packages
+pub mod Binds

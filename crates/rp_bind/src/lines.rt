@@ -1,0 +1,273 @@
+//! The lines of packages.
+
+ghost use Rattle.std.specs.Prelude.{Some};
+ghost use Rattle.rp_bind.specs.Texts.{inline_body, inline_function, inline_head, object_end, object_head, operation_lines, subprogram, task_line};
+
+use std::fmt;
+
+/// The language of packages.
+#[derive(Clone, Copy, Debug, PartialEq, Eq)]
+pub enum Language {
+    Ada,
+    C,
+}
+
+/// What an operation is, and what a function returns.
+#[derive(Clone, Copy, Debug, PartialEq, Eq)]
+pub enum Kind {
+    /// A function that returns a number.
+    Value,
+    /// A function that returns a Boolean.
+    Truth,
+    Procedure,
+    Entry,
+}
+
+/// A task or an object, by its name and its number.
+#[derive(Clone, Copy, Debug)]
+pub struct Party<'a> {
+    pub language: Language,
+    pub name: &'a str,
+    pub number: usize,
+}
+
+/// The number of a task.
+#[derive(Clone, Copy, Debug)]
+pub struct TaskLine<'a> {
+    pub task: Party<'a>,
+}
+
+impl fmt::Display for TaskLine<'_> {
+    ghost output = { λ l. Some (task_line l.task.language l.task.name.now l.task.number) };
+
+    fn fmt<W: fmt::Write>(&self, f: &mut fmt::Formatter<W>) -> fmt::Result {
+        let Party { name, number, .. } = self.task;
+        match self.task.language {
+            Language::Ada => writeln!(f, "      {name} : constant := {number};"),
+            Language::C => writeln!(f, "  task__{name} = {number},"),
+        }
+    }
+}
+
+/// What begins an object.
+#[derive(Clone, Copy, Debug)]
+pub struct ObjectHead<'a> {
+    pub object: Party<'a>,
+}
+
+impl fmt::Display for ObjectHead<'_> {
+    ghost output = { λ l. Some (object_head l.object.language l.object.name.now) };
+
+    fn fmt<W: fmt::Write>(&self, f: &mut fmt::Formatter<W>) -> fmt::Result {
+        let name = self.object.name;
+        match self.object.language {
+            Language::Ada => write!(f, "\n   package {name} is\n"),
+            Language::C => write!(f, "\n/* The object {name}. */\n"),
+        }
+    }
+}
+
+/// What ends an object.
+#[derive(Clone, Copy, Debug)]
+pub struct ObjectEnd<'a> {
+    pub object: Party<'a>,
+}
+
+impl fmt::Display for ObjectEnd<'_> {
+    ghost output = { λ l. Some (object_end l.object.language l.object.name.now) };
+
+    fn fmt<W: fmt::Write>(&self, f: &mut fmt::Formatter<W>) -> fmt::Result {
+        let name = self.object.name;
+        match self.object.language {
+            Language::Ada => writeln!(f, "   end {name};"),
+            Language::C => Ok(()),
+        }
+    }
+}
+
+/// An operation of an object.
+#[derive(Clone, Copy, Debug)]
+pub struct OperationLines<'a> {
+    pub object: Party<'a>,
+    pub name: &'a str,
+    pub kind: Kind,
+    pub index: u8,
+}
+
+impl fmt::Display for OperationLines<'_> {
+    ghost output = { λ l. Some (operation_lines l.object.language l.object.name.now l.object.number
+        l.name.now l.kind l.index) };
+
+    fn fmt<W: fmt::Write>(&self, f: &mut fmt::Formatter<W>) -> fmt::Result {
+        let operation = *self;
+        match (self.object.language, self.kind) {
+            (Language::Ada, Kind::Value) => {
+                let function = Subprogram {
+                    word: "function",
+                    calls: "Value_Function",
+                    operation,
+                };
+                write!(f, "{function}")
+            }
+            (Language::Ada, Kind::Truth) => {
+                let function = Subprogram {
+                    word: "function",
+                    calls: "Truth_Function",
+                    operation,
+                };
+                write!(f, "{function}")
+            }
+            (Language::Ada, Kind::Procedure) => {
+                let whole = Subprogram {
+                    word: "procedure",
+                    calls: "A_Procedure",
+                    operation,
+                };
+                let alone = Subprogram {
+                    word: "procedure",
+                    calls: "A_Procedure_Alone",
+                    operation,
+                };
+                write!(f, "{whole}{alone}")
+            }
+            (Language::Ada, Kind::Entry) => {
+                let whole = Subprogram {
+                    word: "procedure",
+                    calls: "An_Entry",
+                    operation,
+                };
+                let alone = Subprogram {
+                    word: "procedure",
+                    calls: "An_Entry_Alone",
+                    operation,
+                };
+                write!(f, "{whole}{alone}")
+            }
+            (Language::C, Kind::Value) => {
+                let function = Inline {
+                    result: "int64_t",
+                    calls: "rp_call_value_function",
+                    operation,
+                };
+                write!(f, "{function}")
+            }
+            (Language::C, Kind::Truth) => {
+                let function = Inline {
+                    result: "bool",
+                    calls: "rp_call_truth_function",
+                    operation,
+                };
+                write!(f, "{function}")
+            }
+            (Language::C, Kind::Procedure) => {
+                let function = Inline {
+                    result: "int64_t",
+                    calls: "rp_call_procedure",
+                    operation,
+                };
+                write!(f, "{function}")
+            }
+            (Language::C, Kind::Entry) => {
+                let function = Inline {
+                    result: "int64_t",
+                    calls: "rp_call_entry",
+                    operation,
+                };
+                write!(f, "{function}")
+            }
+        }
+    }
+}
+
+/// A subprogram of a package of Ada: an instance of this generic one.
+#[derive(Clone, Copy, Debug)]
+struct Subprogram<'a> {
+    word: &'a str,
+    calls: &'a str,
+    operation: OperationLines<'a>,
+}
+
+impl fmt::Display for Subprogram<'_> {
+    ghost output = { λ l. Some (subprogram l.word.now l.calls.now l.operation.object.number
+        l.operation.name.now l.operation.index) };
+
+    fn fmt<W: fmt::Write>(&self, f: &mut fmt::Formatter<W>) -> fmt::Result {
+        let Subprogram {
+            word,
+            calls,
+            operation,
+        } = *self;
+        let OperationLines {
+            object,
+            name,
+            index,
+            ..
+        } = operation;
+        let number = object.number;
+        writeln!(
+            f,
+            "      {word} {name} is new Calls_Of_This_Deck.{calls} (Object => {number}, Index => {index});"
+        )
+    }
+}
+
+/// An inline function of C, which calls this one.
+#[derive(Clone, Copy, Debug)]
+struct Inline<'a> {
+    result: &'a str,
+    calls: &'a str,
+    operation: OperationLines<'a>,
+}
+
+impl fmt::Display for Inline<'_> {
+    ghost output = { λ l. Some (inline_function l.result.now l.calls.now l.operation.object.name.now
+        l.operation.object.number l.operation.name.now l.operation.index) };
+
+    fn fmt<W: fmt::Write>(&self, f: &mut fmt::Formatter<W>) -> fmt::Result {
+        let head = InlineHead { inline: *self };
+        let body = InlineBody { inline: *self };
+        write!(f, "{head} {{\n{body}\n}}\n")
+    }
+}
+
+/// What it is called with.
+#[derive(Clone, Copy, Debug)]
+struct InlineHead<'a> {
+    inline: Inline<'a>,
+}
+
+impl fmt::Display for InlineHead<'_> {
+    ghost output = { λ l. Some (inline_head l.inline.result.now
+        l.inline.operation.object.name.now l.inline.operation.name.now) };
+
+    fn fmt<W: fmt::Write>(&self, f: &mut fmt::Formatter<W>) -> fmt::Result {
+        let result = self.inline.result;
+        let name = self.inline.operation.name;
+        let owner = self.inline.operation.object.name;
+        write!(
+            f,
+            "static inline uint8_t {owner}__{name}(const rp_caller *caller, int64_t argument, {result} *result)"
+        )
+    }
+}
+
+/// What it calls.
+#[derive(Clone, Copy, Debug)]
+struct InlineBody<'a> {
+    inline: Inline<'a>,
+}
+
+impl fmt::Display for InlineBody<'_> {
+    ghost output = { λ l. Some (inline_body l.inline.calls.now
+        l.inline.operation.object.number l.inline.operation.index) };
+
+    fn fmt<W: fmt::Write>(&self, f: &mut fmt::Formatter<W>) -> fmt::Result {
+        let calls = self.inline.calls;
+        let number = self.inline.operation.object.number;
+        let index = self.inline.operation.index;
+        write!(
+            f,
+            "  return {calls}(caller, {number}, {index}, argument, result);"
+        )
+    }
+}

@@ -48,10 +48,17 @@ last_vote_words (Some vote) =
     codes "last vote in ballot " ++ (decimal vote.ballot
     ++ (codes ", for " ++ action_words vote.action))
 
--- a position, and a ballot there
+-- a position
 abbrev pub position_words : ℕ → List ℕ
 position_words position = codes "position " ++ decimal position
 
+-- the bound of a node at a position, and its last vote there
+abbrev pub bound_words : ℕ → ℕ → Option Vote → List ℕ
+bound_words position bound last =
+    position_words position ++ (codes ": bound " ++ (decimal bound
+    ++ (codes ", " ++ last_vote_words last)))
+
+-- a position, and a ballot there
 abbrev pub ballot_words : ℕ → ℕ → List ℕ
 ballot_words position ballot = position_words position ++ (codes ", ballot " ++ decimal ballot)
 

@@ -5,8 +5,9 @@ ghost use Rattle.rp_details.specs.Details.{details_text};
 ghost use Rattle.rp_run.specs.Runs.{run_setting};
 
 use crate::lines::add_line;
+use crate::nodes::add_nodes;
 use crate::packets::{add_delivered, add_packets};
-use crate::states::{add_nodes, add_tasks};
+use crate::tasks::add_tasks;
 use rp_base::Fault;
 use rp_machine::Machine;
 use rp_run::RunOptions;
@@ -36,8 +37,10 @@ pub fn details<M: Machine, D: CutDevice>(
 ) -> Result<Vec<u8>, Fault>
     requires { cluster.now.config.nodes ≡ options.now.config.nodes }
     // claim: What a page says of an event is, line by line: the packet that was delivered and those
-    //   that were sent, each by its line of the trace and by its fields; each node as `show` prints it
-    //   after the event; and for each task how many replies it got, and the last one
+    //   that were sent, each by its line of the trace and by its fields; each node after the event: as
+    //   `show` prints it, how many bytes its device holds and, where it runs, its bound and its last
+    //   vote at each position of its window that has a bound, and each item that is pending; and for
+    //   each task how many replies it got, the last one, and the call that it waits for
     ensures { IfOk result (λ text. text.items ≡ details_text
         (run_setting M.next M.answers M.begin M.image cluster.now options.now)
         told.now.tasks told.now.delivered told.now.first cluster.now.world) }

@@ -1,7 +1,7 @@
 //! The fields of a packet, in words.
 
 ghost use Rattle.std.specs.Prelude.{Some};
-ghost use Rattle.rp_details.specs.Fields.{action_words, asked_words, ballot_words, call_words, fields_words, last_vote_words, operation_words, position_words, range_words};
+ghost use Rattle.rp_details.specs.Fields.{action_words, asked_words, ballot_words, bound_words, call_words, fields_words, last_vote_words, operation_words, position_words, range_words};
 
 use rp_base::{Action, Ballot, Operation, Position, PositionRange, TaskId, Vote};
 use rp_codec::Body;
@@ -30,10 +30,10 @@ impl fmt::Display for OperationWords {
 
 /// What a call asks for: `procedure 1 of object 1, argument 5`.
 #[derive(Clone, Copy)]
-struct AskedWords {
-    object: u8,
-    operation: Operation,
-    arg: i64,
+pub struct AskedWords {
+    pub object: u8,
+    pub operation: Operation,
+    pub arg: i64,
 }
 
 impl fmt::Display for AskedWords {
@@ -68,8 +68,8 @@ impl fmt::Display for CallWords {
 
 /// An action: `call 1 of task 1: procedure 1 of object 1, argument 5`.
 #[derive(Clone, Copy)]
-struct ActionWords {
-    action: Action,
+pub struct ActionWords {
+    pub action: Action,
 }
 
 impl fmt::Display for ActionWords {
@@ -134,6 +134,27 @@ impl fmt::Display for PositionWords {
     fn fmt<W: fmt::Write>(&self, f: &mut fmt::Formatter<W>) -> fmt::Result {
         let position = self.position.get();
         write!(f, "position {position}")
+    }
+}
+
+/// The bound of a node at a position, and its last vote there: `position 1: bound 9, no vote before`.
+#[derive(Clone, Copy)]
+pub struct BoundWords {
+    pub position: Position,
+    pub bound: u64,
+    pub last: Option<Vote>,
+}
+
+impl fmt::Display for BoundWords {
+    ghost output = { λ l. Some (bound_words l.position l.bound l.last) };
+
+    fn fmt<W: fmt::Write>(&self, f: &mut fmt::Formatter<W>) -> fmt::Result {
+        let position = PositionWords {
+            position: self.position,
+        };
+        let bound = self.bound;
+        let last = LastVoteWords { last: self.last };
+        write!(f, "{position}: bound {bound}, {last}")
     }
 }
 

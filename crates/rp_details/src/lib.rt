@@ -3,15 +3,19 @@
 //! In reading order:
 //! - `event`: what is said of an event
 //! - `packets`: packets, each with its fields
-//! - `states`: the state of each node and of each task
+//! - `nodes`: the state of each node
+//! - `known`: what a node that runs knows
+//! - `tasks`: the state of each task
 //! - `fields`: the fields of a packet, in words
 //! - `lines`: one line more of a text
 #![tactic(auto)]
 
 mod event;
 mod fields;
+mod known;
 mod lines;
+mod nodes;
 mod packets;
-mod states;
+mod tasks;
 
 pub use event::{Told, details};

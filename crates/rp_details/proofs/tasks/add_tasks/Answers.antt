@@ -6,7 +6,7 @@ use Rattle.rp_output.specs.Trace.{party_text_of}
 use Rattle.rp_run.specs.Output.{names_of}
 use Rattle.rp_details.specs.Details.{task_lines, tasks_lines}
 use Rattle.rp_details.proofs.Texts.{tasks_more}
-use Rattle.rp_details.proofs.states.add_tasks.Goals as goal
+use Rattle.rp_details.proofs.tasks.add_tasks.Goals as goal
 
 pub loop-place-init : goal.loop-place-init
 loop-place-init g c = sym (append-nil c.args.text.now.items)

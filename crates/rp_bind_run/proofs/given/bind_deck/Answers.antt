@@ -33,43 +33,43 @@ returns-in_err-binding-clause-fault g c =
     faulted (FailsBinding given output output) fault c.from_residual-in_err-binding.result c.from_residual-in_err-binding.ensures.1
     (fails_deck given output bytes fault (record { all = c.in_ok-text.ensures.whole; short = c.in_ok-text.ensures.size }) refused c.in_err-binding.ensures.known)
 
-pub returns-in_err-write_whole-clause-fault : goal.returns-in_err-write_whole-clause-fault
-returns-in_err-write_whole-clause-fault g c =
+pub returns-in_err-write_whole-in-Packages-clause-fault : goal.returns-in_err-write_whole-in-Packages-clause-fault
+returns-in_err-write_whole-in-Packages-clause-fault g c =
     let given = g.R.Read.remaining c.args.reader.now in
     let old = g.W.Write.contents c.args.writer.now in
     let new = g.W.Write.contents c.write_whole.new.writer in
-    let fault = c.in_err-write_whole.field-0.0 in
-    faulted (FailsBinding given old new) fault c.from_residual-in_err-write_whole.result c.from_residual-in_err-write_whole.ensures.1
-    (fails_run given old new fault (ends_run fault c.in_err-write_whole.ensures.fault))
+    let fault = c.in_err-write_whole-in-Packages.field-0.0 in
+    faulted (FailsBinding given old new) fault c.from_residual-in_err-write_whole-in-Packages.result c.from_residual-in_err-write_whole-in-Packages.ensures.1
+    (fails_run given old new fault (ends_run fault c.in_err-write_whole-in-Packages.ensures.fault))
 
-pub returns-in_err-write_out-clause-fault : goal.returns-in_err-write_out-clause-fault
-returns-in_err-write_out-clause-fault g c =
+pub returns-in_err-write_out-in-Packages-clause-fault : goal.returns-in_err-write_out-in-Packages-clause-fault
+returns-in_err-write_out-in-Packages-clause-fault g c =
     let given = g.R.Read.remaining c.args.reader.now in
     let old = g.W.Write.contents c.args.writer.now in
     let new = g.W.Write.contents c.write_out.new.writer in
-    let fault = c.in_err-write_out.field-0.0 in
-    faulted (FailsBinding given old new) fault c.from_residual-in_err-write_out.result c.from_residual-in_err-write_out.ensures.1 (fails_run given old new fault c.in_err-write_out.ensures.fault)
+    let fault = c.in_err-write_out-in-Packages.field-0.0 in
+    faulted (FailsBinding given old new) fault c.from_residual-in_err-write_out-in-Packages.result c.from_residual-in_err-write_out-in-Packages.ensures.1 (fails_run given old new fault c.in_err-write_out-in-Packages.ensures.fault)
 
-pub returns-in_err-write_whole-clause-begun : goal.returns-in_err-write_whole-clause-begun
-returns-in_err-write_whole-clause-begun g c =
+pub returns-in_err-write_whole-in-Packages-clause-begun : goal.returns-in_err-write_whole-in-Packages-clause-begun
+returns-in_err-write_whole-in-Packages-clause-begun g c =
     let given = g.R.Read.remaining c.args.reader.now in
     let old = g.W.Write.contents c.args.writer.now in
     let new = g.W.Write.contents c.write_whole.new.writer in
     let text = c.in-Packages.packages in
     let bound = binds c.args.language given c.in_ok-text.text.items c.deref.result.now c.in_ok-binding.binding (Packages text) c.in_ok-text.ensures.whole c.in_ok-text.ensures.size c.deref.ensures.value c.in_ok-binding.ensures.bound c.in-Packages.is in
-    on_err c.from_residual-in_err-write_whole.result _
-    (inr (text, bound, subst (λ (b : List ℕ). Begins old new b) c.as_bytes.ensures.value c.in_err-write_whole.ensures.written))
+    on_err c.from_residual-in_err-write_whole-in-Packages.result _
+    (inr (text, bound, subst (λ (b : List ℕ). Begins old new b) c.as_bytes.ensures.value c.in_err-write_whole-in-Packages.ensures.written))
 
-pub returns-in_err-write_out-clause-begun : goal.returns-in_err-write_out-clause-begun
-returns-in_err-write_out-clause-begun g c =
+pub returns-in_err-write_out-in-Packages-clause-begun : goal.returns-in_err-write_out-in-Packages-clause-begun
+returns-in_err-write_out-in-Packages-clause-begun g c =
     let given = g.R.Read.remaining c.args.reader.now in
     let old = g.W.Write.contents c.args.writer.now in
     let written = g.W.Write.contents c.write_whole.new.writer in
     let new = g.W.Write.contents c.write_out.new.writer in
     let text = c.in-Packages.packages in
     let bound = binds c.args.language given c.in_ok-text.text.items c.deref.result.now c.in_ok-binding.binding (Packages text) c.in_ok-text.ensures.whole c.in_ok-text.ensures.size c.deref.ensures.value c.in_ok-binding.ensures.bound c.in-Packages.is in
-    let wrote = subst (λ (b : List ℕ). Appends old written b) c.as_bytes.ensures.value c.in_ok-write_whole.ensures.written in
-    on_err c.from_residual-in_err-write_out.result _ (inr (text, bound, begins_all old new (string_bytes text) (appends_kept old written new (string_bytes text) wrote c.in_err-write_out.ensures.kept)))
+    let wrote = subst (λ (b : List ℕ). Appends old written b) c.as_bytes.ensures.value c.in_ok-write_whole-in-Packages.ensures.written in
+    on_err c.from_residual-in_err-write_out-in-Packages.result _ (inr (text, bound, begins_all old new (string_bytes text) (appends_kept old written new (string_bytes text) wrote c.in_err-write_out-in-Packages.ensures.kept)))
 
 pub returns-in-Packages-clause-bound : goal.returns-in-Packages-clause-bound
 returns-in-Packages-clause-bound g c =
@@ -79,10 +79,10 @@ returns-in-Packages-clause-bound g c =
     let new = g.W.Write.contents c.write_out.new.writer in
     let text = c.in-Packages.packages in
     let bound = binds c.args.language given c.in_ok-text.text.items c.deref.result.now c.in_ok-binding.binding (Packages text) c.in_ok-text.ensures.whole c.in_ok-text.ensures.size c.deref.ensures.value c.in_ok-binding.ensures.bound c.in-Packages.is in
-    let wrote = subst (λ (b : List ℕ). Appends old written b) c.as_bytes.ensures.value c.in_ok-write_whole.ensures.written in
-    (text, appends_kept old written new (string_bytes text) wrote c.in_ok-write_out.ensures.kept, bound)
+    let wrote = subst (λ (b : List ℕ). Appends old written b) c.as_bytes.ensures.value c.in_ok-write_whole-in-Packages.ensures.written in
+    (text, appends_kept old written new (string_bytes text) wrote c.in_ok-write_out-in-Packages.ensures.kept, bound)
 
-pub returns-in-Refused-clause-bound : goal.returns-in-Refused-clause-bound
-returns-in-Refused-clause-bound g c =
+pub returns-clause-bound : goal.returns-clause-bound
+returns-clause-bound g c =
     let given = g.R.Read.remaining c.args.reader.now in
     (refl, binds c.args.language given c.in_ok-text.text.items c.deref.result.now c.in_ok-binding.binding (Refused c.in-Refused.line) c.in_ok-text.ensures.whole c.in_ok-text.ensures.size c.deref.ensures.value c.in_ok-binding.ensures.bound c.in-Refused.is)

@@ -108,7 +108,11 @@ procedure Stations is
       end loop;
       Ada.Text_IO.Put_Line (What & ": status" & Result'Image);
       for Each of Next (1).Bytes (1 .. Next (1).Length) loop
-         Ada.Text_IO.Put (Character'Val (Each));
+         if Character'Val (Each) = LF then
+            Ada.Text_IO.New_Line;
+         else
+            Ada.Text_IO.Put (Character'Val (Each));
+         end if;
       end loop;
    end Ask;
 

@@ -109,7 +109,8 @@ int main(void) {
   call(RP_PROCEDURE, 3);
   printf("one position is left: status %d\n", next_deck(&next));
   call(RP_PROCEDURE, 4);
-  printf("the log has ended: status %d\n%.*s", next_deck(&next), (int)next.length, (char *)next.bytes);
+  printf("the log has ended: status %d\n", next_deck(&next));
+  printf("%.*s", (int)next.length, (char *)next.bytes);
   uint8_t small[8] = {0};
   size_t used = 0;
   printf("a buffer of 8 bytes: status %d", rp_next_deck(&nodes[1], deck.bytes, deck.length, small, sizeof small, &used));

@@ -105,18 +105,21 @@ procedure Node with Priority => 10 is
       Waiting.Count := 0;
    end Hand_On_Packets;
 
-   --  Receives what came. RULE 2: the only bytes that the node is given as packets are those of datagrams with this
-   --  installation's mark, and its own.
+   --  Receives what came: at first a wait, unless there are packets of its own. RULE 2: the only bytes that the node is
+   --  given as packets are those of datagrams with this installation's mark, and its own.
    procedure Receive_Packets is
       Arrived : RP.Bytes (1 .. RP.Step_Bytes);
       Last    : Natural;
+      Waits   : Boolean := Own.Count = 0;
    begin
       for Place in 1 .. Own.Count loop
          Keep (RP.Node_Take (Handle, Packet (Own, Place), Answer, Ends, Made));
       end loop;
       Own.Count := 0;
       for Got in 1 .. Batch loop
+         exit when not Waits and then not Udp.Is_Ready (Link);
          Udp.Receive (Link, Arrived, Last);
+         Waits := False;
          exit when Last = 0;
          Keep (RP.Node_Take (Handle, Arrived (1 .. Last), Answer, Ends, Made));
       end loop;
@@ -152,6 +155,27 @@ procedure Node with Priority => 10 is
       return True;
    end Is_To_Ask;
 
+   Led : Interfaces.Unsigned_32 := 0;  --  where this node led last
+
+   procedure Lead (Position : Interfaces.Unsigned_32) is
+   begin
+      Keep (RP.Node_Lead_At (Handle, Interfaces.Unsigned_16 (Position), Answer, Ends, Made));
+      Led := Position;
+   end Lead;
+
+   --  A node that led last, and whose position was decided, leads at once for what is pending: it need not wait.
+   function Leads_On return Boolean is
+      Applied, Pending : Interfaces.Unsigned_32 := 0;
+      Known            : constant Boolean :=
+        RP.Node_Applied (Handle, Applied) = RP.Done and then RP.Node_Pending (Handle, Pending) = RP.Done;
+   begin
+      if not Known or else Led = 0 or else Applied < Led or else Pending = 0 then
+         return False;
+      end if;
+      Lead (Applied + 1);
+      return True;
+   end Leads_On;
+
    Before : Time := Clock;
 
    --  Leads or asks, if it is time to; a turn of the node's patience is a millisecond.
@@ -164,11 +188,14 @@ procedure Node with Priority => 10 is
       if Is_To_Ask (Now) then
          Ask_Another;
       end if;
+      if Leads_On then
+         return;
+      end if;
       if RP.Node_Advise (Handle, Patience, Interfaces.Unsigned_64 (Passed), Advice) /= RP.Done then
          return;
       end if;
       case Advice.Kind is
-         when RP.Advice_Lead => Keep (RP.Node_Lead_At (Handle, Advice.Position, Answer, Ends, Made));
+         when RP.Advice_Lead => Lead (Interfaces.Unsigned_32 (Advice.Position));
          when RP.Advice_Ask  => Ask_Another;
          when others         => null;
       end case;

@@ -51,6 +51,13 @@ package body Udp is
       when Socket_Error => null;  --  a process that is down: the packet is lost
    end Send;
 
+   function Is_Ready (Each : Link) return Boolean is
+      Bytes : Request_Type (N_Bytes_To_Read);
+   begin
+      Control_Socket (Each.Socket, Bytes);
+      return Bytes.Size > 0;
+   end Is_Ready;
+
    procedure Receive (Each : Link; Packet : in out RP.Bytes; Last : out Natural) is
       Got   : Datagram (1 .. Most_Datagram);
       Bytes : RP.Bytes (1 .. Most_Datagram) with Import, Address => Got'Address;

@@ -23,6 +23,9 @@ package Udp is
    procedure Send (Each : Link; Packet : RP.Bytes);
    --  Sends a packet to its receiver, which may lose it.
 
+   function Is_Ready (Each : Link) return Boolean;
+   --  Whether a datagram is there, so that Receive does not wait.
+
    procedure Receive (Each : Link; Packet : in out RP.Bytes; Last : out Natural);
    --  Waits for a datagram of this installation, at most two milliseconds, and puts its packet into
    --  Packet (Packet'First .. Last); Last is 0 if none came.

@@ -113,6 +113,23 @@ static bool is_to_ask(uint64_t now) {
   return true;
 }
 
+static uint32_t led; /* where this node led last */
+
+static void lead(uint32_t position) {
+  keep(rp_node_lead_at(&node, (uint16_t)position, &room));
+  led = position;
+}
+
+/* A node that led last, and whose position was decided, leads at once for what is pending: it need not wait. */
+static bool leads_on(void) {
+  uint32_t applied = 0, pending = 0;
+  (void)rp_node_applied(&node, &applied);
+  (void)rp_node_pending(&node, &pending);
+  if (led == 0 || applied < led || pending == 0) return false;
+  lead(applied + 1);
+  return true;
+}
+
 /* Leads or asks, if it is time to; a turn of the node's patience is a millisecond. */
 static void lead_or_ask(void) {
   static uint64_t before;
@@ -120,8 +137,9 @@ static void lead_or_ask(void) {
   rp_advice advice;
   before = now;
   if (is_to_ask(now)) ask_another();
+  if (leads_on()) return;
   if (rp_node_advise(&node, &patience, passed, &advice) != RP_DONE) return;
-  if (advice.kind == RP_ADVICE_LEAD) keep(rp_node_lead_at(&node, advice.position, &room));
+  if (advice.kind == RP_ADVICE_LEAD) lead(advice.position);
   if (advice.kind == RP_ADVICE_ASK) ask_another();
 }
 

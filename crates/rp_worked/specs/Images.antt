@@ -7,11 +7,18 @@ use Rattle.rp_object.specs.State.{ProgramState}
 use Rattle.rp_object.specs.Image.{objects_image}
 use Rattle.rp_worked.specs.Memory.{Unread, listed}
 
--- the whole number, the Boolean and the entries are called so
+-- the whole number is called so
+abbrev pub number_named : Unread → String Global → Unread
+number_named unread number = record unread {
+  ints = listed unread (number ∷ []) (lit< tt);
+  bools = listed unread [] (lit< tt);
+  entries = listed unread [] (lit< tt);
+}
+
+-- and the Boolean and the entries so
 abbrev pub named : Unread → String Global → String Global → (entries : List (String Global))
     → length entries < 2 ^ 63 → Unread
-named unread number boolean entries few = record unread {
-  ints = listed unread (number ∷ []) (lit< tt);
+named unread number boolean entries few = record (number_named unread number) {
   bools = listed unread (boolean ∷ []) (lit< tt);
   entries = listed unread entries few;
 }

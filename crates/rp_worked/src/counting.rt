@@ -1,6 +1,6 @@
 //! Actions that do not count (`rp_worked` Gate and Box).
 
-ghost use Rattle.std.specs.Prelude.{◌≡◌, pos, false, None, List, [], ◌∷◌};
+ghost use Rattle.std.specs.Prelude.{◌≡◌, pos, true, false, None, List, [], ◌∷◌};
 ghost use Rattle.rp_base.specs.declared.action.Action.TheVariants.{Noop, Interrupt, Tick};
 ghost use Rattle.rp_base.specs.declared.reply.Reply.TheVariants.{Value};
 ghost use Rattle.rp_machine.specs.Replay.{kept_of};
@@ -26,9 +26,9 @@ pub fn calls_count_in_turn()
         → LeadTo (gate unread 5 5 (pos 0)) (passes 1 ∷ lifts_next 1 ∷ [])
         [] (gate_is unread (pos 0) false (first_call 1 ∷ [])) }
     ensures in_turn { (unread : Unread)
-        → LeadTo (gate unread 5 5 (pos 0)) (passes 1 ∷ lifts 2 ∷ lifts_next 2 ∷ [])
-        (gets 2 1 (Value (pos 0)) ∷ gets 1 1 (Value (pos 1)) ∷ gets 2 2 (Value (pos 0)) ∷ [])
-        (gate_is unread (pos 1) true []) }
+        → LeadTo (gate unread 5 5 (pos 0)) (lifts 1 ∷ lifts_next 1 ∷ [])
+        (gets 1 1 (Value (pos 0)) ∷ gets 1 2 (Value (pos 0)) ∷ [])
+        (gate_is unread (pos 0) true []) }
 {}
 
 /// An occurrence of an interrupt that is decided twice runs its handler once, a later one runs it

@@ -13,7 +13,7 @@ ghost use Rattle.rp_worked.specs.Box.{box, box_is};
 
 /// A call that is decided twice takes effect once; one whose task has not made the call before it, or
 /// waits for an answer, takes none.
-pub fn calls_count_in_turn()
+pub fn calls_out_of_turn_change_nothing()
     // claim: Worked: a call that comes again, before its turn, or of a task that waits changes nothing
     ensures again { (unread : Unread)
         → LeadTo (gate unread 5 5 (pos 0)) (lifts 2 ∷ passes 1 ∷ passes 1 ∷ [])

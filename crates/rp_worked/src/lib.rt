@@ -17,7 +17,7 @@ mod handlers;
 mod images;
 mod numbers;
 
-pub use counting::{calls_count_in_turn, occurrences_and_ticks_count};
+pub use counting::{calls_out_of_turn_change_nothing, occurrences_and_ticks_count};
 pub use gate::{
     a_barrier_left_true_by_an_exception_lets_the_caller_pass,
     a_caller_above_the_ceiling_is_refused, a_full_queue_refuses_a_further_call,

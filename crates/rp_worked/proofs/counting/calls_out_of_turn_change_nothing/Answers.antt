@@ -1,6 +1,5 @@
 -- By computing.
-use Rattle.std.proofs.Common.{◌≡◌, pos, false, List, [], ◌∷◌, refl, ap, ◌∙◌}
-use Rattle.rp_base.specs.declared.action.Action.{Action}
+use Rattle.std.proofs.Common.{◌≡◌, pos, false, [], ◌∷◌, refl, ap, ◌∙◌}
 use Rattle.rp_machine.specs.Replay.{Replayed, replay_step, replay_of}
 use Rattle.rp_object.specs.declared.program.Declarations.{Declarations}
 use Rattle.rp_object.specs.State.{Running, first_state}
@@ -8,7 +7,7 @@ use Rattle.rp_object.specs.Step.{objects_next, objects_answers}
 use Rattle.rp_worked.specs.Memory.{Unread}
 use Rattle.rp_worked.specs.Gate.{gate, gate_is, passes, lifts_next, first_call}
 use Rattle.rp_worked.proofs.Computing.{works}
-use Rattle.rp_worked.proofs.counting.calls_count_in_turn.Goals as goal
+use Rattle.rp_worked.proofs.counting.calls_out_of_turn_change_nothing.Goals as goal
 
 -- the caller waits, and another call of its task changes nothing
 module _ (unread : Unread) where

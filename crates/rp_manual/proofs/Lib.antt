@@ -3,3 +3,4 @@ pub mod Assigning
 pub mod Acting
 pub mod Serving
 pub mod Calling
+pub mod Turns

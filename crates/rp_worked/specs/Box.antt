@@ -1,19 +1,21 @@
--- A box with two timing events and an interrupt.
+-- A box with two timing events and two interrupts.
 --
 --     object box 10
 --     int n 0 1000 0
 --     procedure inc    set n add n 1
 --     procedure dbl    set n add n n
+--     procedure raise  set n add n arg
 --     timer x box.inc
 --     timer y box.dbl
 --     interrupt i box.inc
+--     interrupt j box.raise
 use Rattle.std.specs.Prelude.{ℕ, ℤ, pos, Option, List, [], ◌∷◌}
 use Rattle.std.proofs.Common.{lit<}
 use Rattle.std.specs.FinMap.{empty}
 use Rattle.rp_base.specs.declared.action.Action.{Action}
 use Rattle.rp_base.specs.declared.action.Action.TheVariants.{Call}
-use Rattle.rp_base.specs.declared.action.Operation.TheVariants.{SetTimer, CancelTimer}
-use Rattle.rp_body.specs.declared.expression.Expr.TheVariants.{Number, Int, Add'}
+use Rattle.rp_base.specs.declared.action.Operation.TheVariants.{Procedure, SetTimer, CancelTimer}
+use Rattle.rp_body.specs.declared.expression.Expr.TheVariants.{Number, Arg, Int, Add'}
 use Rattle.rp_body.specs.declared.statement.Stmt.{Stmt}
 use Rattle.rp_body.specs.declared.statement.Stmt.TheVariants.{Set}
 use Rattle.rp_body.specs.Store.{Store, by_place}
@@ -30,6 +32,9 @@ inc_body unread = Set 0 (Add' unread.box (Int 0) unread.box (Number (pos 1))) �
 abbrev pub dbl_body : Unread → List Stmt
 dbl_body unread = Set 0 (Add' unread.box (Int 0) unread.box (Int 0)) ∷ []
 
+abbrev pub raise_body : Unread → List Stmt
+raise_body unread = Set 0 (Add' unread.box (Int 0) unread.box Arg) ∷ []
+
 -- n, from 0 to 1000
 abbrev pub box_components : ℤ → Store
 box_components n = record {
@@ -42,12 +47,15 @@ box_operations unread = record {
   functions = listed unread [] (lit< tt);
   procedures =
       listed unread
-      (listed unread (inc_body unread) (lit< tt) ∷ listed unread (dbl_body unread) (lit< tt) ∷ [])
+      (listed unread (inc_body unread) (lit< tt)
+      ∷ listed unread (dbl_body unread) (lit< tt)
+      ∷ listed unread (raise_body unread) (lit< tt)
+      ∷ [])
       (lit< tt);
   entries = listed unread [] (lit< tt);
 }
 
--- a task of priority 5, the box, timing events x and y, and the interrupt i
+-- a task of priority 5, the box, timing events x and y, and the interrupts i and j
 abbrev pub box : Unread → Declarations
 box unread = record {
   profile = Ravenscar;
@@ -55,7 +63,9 @@ box unread = record {
   objects =
       listed unread (object_with unread (box_components (pos 0)) (box_operations unread) ∷ [])
       (lit< tt);
-  interrupts = listed unread (record { object = 1; procedure = 1 } ∷ []) (lit< tt);
+  interrupts =
+      listed unread
+      (record { object = 1; procedure = 1 } ∷ record { object = 1; procedure = 3 } ∷ []) (lit< tt);
   timers =
       listed unread
       (record { name = unread.name; handler = record { object = 1; procedure = 1 } }
@@ -75,3 +85,7 @@ sets number timer time = Call 1 number 1 (SetTimer timer) time
 
 abbrev pub cancels : ℕ → ℕ → Action
 cancels number timer = Call 1 number 1 (CancelTimer timer) (pos 0)
+
+-- the task's call of this number raises n by this
+abbrev pub raises : ℕ → ℤ → Action
+raises number by = Call 1 number 1 (Procedure 3) by

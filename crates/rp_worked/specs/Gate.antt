@@ -6,6 +6,11 @@
 --     procedure lift     put up true
 --     procedure burst    put up true, set n 9
 --     entry pass when up    put up false, set n add n 1, out n
+--
+-- and, where it is said so, with two interrupts:
+--
+--     interrupt up      gate.lift
+--     interrupt broken  gate.burst
 use Rattle.std.specs.Prelude.{Bool, ℕ, ℤ, pos, true, false, List, [], ◌∷◌}
 use Rattle.std.proofs.Common.{lit<}
 use Rattle.rp_base.specs.declared.action.Action.{Action}
@@ -68,6 +73,14 @@ gate unread first second n = record {
   timers = listed unread [] (lit< tt);
 }
 
+-- the same with the two interrupts
+abbrev pub gate_with_interrupts : Unread → Declarations
+gate_with_interrupts unread = record (gate unread 5 5 (pos 0)) {
+  interrupts =
+      listed unread
+      (record { object = 1; procedure = 1 } ∷ record { object = 1; procedure = 2 } ∷ []) (lit< tt);
+}
+
 -- the gate with this n, up or not, and these calls waiting
 abbrev pub gate_is : Unread → ℤ → Bool → List Waiting → ProgramState
 gate_is unread n up queue =
@@ -86,3 +99,7 @@ bursts task = Call task 1 1 (Procedure 2) (pos 0)
 -- the task's first call, as it waits
 abbrev pub first_call : ℕ → Waiting
 first_call task = record { task = task; number = 1; arg = pos 0 }
+
+-- the task's second call, of lift
+abbrev pub lifts_next : ℕ → Action
+lifts_next task = Call task 2 1 (Procedure 1) (pos 0)

@@ -4,3 +4,4 @@ pub mod Gate
 pub mod Gates
 pub mod Box
 pub mod Sums
+pub mod Images

@@ -1,0 +1,6 @@
+pub mod Names
+pub mod Named
+pub mod NamedTexts
+pub mod NamedMeanings
+pub mod RightDecks
+pub mod Tallies

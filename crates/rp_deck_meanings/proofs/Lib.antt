@@ -7,3 +7,5 @@ mod DeckLemmas
 mod CommandLemmas
 mod WholeLemmas
 mod TallyLemmas
+mod EffectLemmas
+mod ProgramLemmas

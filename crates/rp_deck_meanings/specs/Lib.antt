@@ -4,3 +4,5 @@ pub mod NamedTexts
 pub mod NamedMeanings
 pub mod RightDecks
 pub mod Tallies
+pub mod NamedEffects
+pub mod NamedPrograms

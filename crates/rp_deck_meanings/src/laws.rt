@@ -1,13 +1,19 @@
 //! Laws of what a deck means, said by its names: each function does nothing, and promises the law.
 
 ghost use Rattle.std.specs.Prelude.{◌≡◌, Ok};
+ghost use Rattle.std.specs.Arc.{arc_value};
+ghost use Rattle.rp_deck.specs.DeckViews.{deck_text};
 ghost use Rattle.rp_deck.specs.Meaning.{meaning_of};
+ghost use Rattle.rp_deck.specs.declared.deck.Deck.{Deck};
 ghost use Rattle.rp_deck.specs.declared.deck.Mode.TheVariants.{Script};
 ghost use Rattle.rp_deck_meanings.specs.Named.{NamedDeck};
 ghost use Rattle.rp_deck_meanings.specs.NamedMeanings.{deck_meant};
+ghost use Rattle.rp_deck_meanings.specs.NamedPrograms.{IsProgramOf};
 ghost use Rattle.rp_deck_meanings.specs.NamedTexts.{text_of};
 ghost use Rattle.rp_deck_meanings.specs.RightDecks.{IsRight};
 ghost use Rattle.rp_deck_meanings.specs.Tallies.{IsRightTally, NamedTally, tally_meant, tally_text};
+ghost use Rattle.rp_deck_readings.specs.Readings.{IsDeckOfObjects};
+ghost use Rattle.rp_object.specs.declared.program.Program.{Program};
 
 use rp_deck_text::{object_decks_are_read_back, tally_decks_are_read_back};
 
@@ -33,3 +39,13 @@ pub fn tallies_mean_what_they_say()
 {
     tally_decks_are_read_back();
 }
+
+/// The program in memory of a deck that means what one says is the program that it says.
+pub fn programs_are_as_declared()
+    // claim: The program of a deck that means what one says by its names has in memory the
+    //   priorities, ceilings, first values, barriers, queues and handlers that it says, as the
+    //   rules of protected objects read them, and its functions and bodies do what it says
+    ensures { (deck : Deck) (program : Program) (named : NamedDeck)
+        → IsDeckOfObjects deck program → deck_text deck ≡ deck_meant named
+        → IsProgramOf named (arc_value program.declarations) }
+{}

@@ -1,6 +1,6 @@
 -- The lines of a right script are right for the reader, and have the words that they are written as.
-use Rattle.std.proofs.Common.{◌≡◌, ◌⊎◌, ℕ, zero, suc, ◌+◌, ◌-◌, ◌<◌, ◌≤◌, List, [], ◌∷◌, ◌++◌, Bool, true, false, length, map, Option, Some, None, arith, inl, inr, ap, refl, sym, subst, ◌∙◌}
-use Rattle.std.specs.Prelude.{ℤ, pos, codes, slice_get, slice_index_or, option_map, FitsSigned}
+use Rattle.std.proofs.Common.{◌≡◌, ℕ, zero, suc, ◌+◌, ◌-◌, List, [], ◌∷◌, ◌++◌, Bool, true, false, length, map, Some, None, arith, inl, inr, ap, refl, sym, subst, ◌∙◌}
+use Rattle.std.specs.Prelude.{ℤ, codes, slice_get, option_map, FitsSigned}
 use Rattle.std.specs.Fmt.{decimal, signed_decimal}
 use Rattle.std.specs.Int.{w64}
 use Rattle.std.specs.List.{AllByRecursion}
@@ -8,8 +8,6 @@ use Rattle.std.specs.Str.{bytes_eq}
 use Rattle.std.proofs.lemmas.Bool.{cases_Bool, cond-true, cond-false}
 use Rattle.std.proofs.lemmas.Option.{slice_get-map, get_or_from_slice_get}
 use Rattle.rp_base.specs.declared.action.Operation.{Operation}
-use Rattle.rp_base.specs.declared.action.Operation.TheVariants as operations
-use Rattle.rp_object.specs.declared.program.Handler.{Handler}
 use Rattle.rp_object.specs.declared.program.Profile.{Profile}
 use Rattle.rp_deck_declarations.specs.ScriptNames.{DeclaredNames, declared_names}
 use Rattle.rp_deck_objects.specs.ObjectViews.{OperationsText, object_operations}
@@ -23,9 +21,8 @@ use Rattle.rp_deck_meanings.specs.Named.{NamedCommand as commands}
 use Rattle.rp_deck_meanings.specs.NamedTexts as written
 use Rattle.rp_deck_meanings.specs.NamedMeanings.{parts_named, handler_meant, object_handling, operation_meant, step_meant, command_meant}
 use Rattle.rp_deck_meanings.specs.RightDecks.{IsRightObject, IsRightStep, MayBeCut, IsRightCommand, IsRight}
-use Rattle.rp_deck_meanings.proofs.NameLemmas.{same_name, among_rest, place_here, place_later, place_below, numbered_is}
-use Rattle.rp_deck_meanings.proofs.ObjectLemmas.{operations_from, long_map}
-use Rattle.rp_deck_meanings.proofs.OperationLemmas.{chosen, same_chosen, operation_from, from_first, operation_is, even_operations}
+use Rattle.rp_deck_meanings.proofs.NameLemmas.{among_rest, place_here, place_later, place_below, numbered_is}
+use Rattle.rp_deck_meanings.proofs.OperationLemmas.{chosen, operation_from, from_first, operation_is, even_operations}
 use Rattle.rp_deck_meanings.proofs.DeckLemmas.{whole, At, object_at, draft_meant}
 
 -- ---- a call, whatever kind of operation it is of
@@ -58,10 +55,10 @@ timer_at : (timers : List NamedHandler) (name : List ℕ) → IsAmong name (hand
 timer_at [] name among = absurd cc
 timer_at (handler ∷ rest) name among = elim (cases_Bool (bytes_eq name handler.name)) [
   | inl hit ↦ record {
-      handler = handler;
-      there = ap (slice_get (handler ∷ rest)) (place_here name handler.name (handler_names rest) hit);
-      object_is = cond-true (bytes_eq name handler.name) handler.object (object_handling rest name) hit;
-    }
+    handler = handler;
+    there = ap (slice_get (handler ∷ rest)) (place_here name handler.name (handler_names rest) hit);
+    object_is = cond-true (bytes_eq name handler.name) handler.object (object_handling rest name) hit;
+  }
   | inr miss ↦
       let found = timer_at rest name (among_rest name handler.name (handler_names rest) miss among) in
       let next : place_in name (handler.name ∷ handler_names rest) ≡ suc (place_in name (handler_names rest)) = omega (arith, place_later name handler.name (handler_names rest) miss) in

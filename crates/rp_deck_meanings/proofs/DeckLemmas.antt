@@ -1,37 +1,34 @@
 -- The declarations of a right deck are right for the reader, have the lines that they are written
 -- as, and make what the deck means.
-use Rattle.std.proofs.Common.{◌≡◌, ℕ, zero, suc, ◌+◌, ◌<◌, ◌≤◌, ◌==◌, List, [], ◌∷◌, ◌++◌, Bool, true, false, cond, length, map, Option, Some, None, arith, inl, inr, ap, refl, sym, subst, ◌∙◌, append_assoc, length-append}
-use Rattle.std.specs.Prelude.{flat_map, codes, slice_get, unwrap_or, option_map}
+use Rattle.std.proofs.Common.{◌≡◌, ℕ, suc, ◌<◌, ◌≤◌, ◌==◌, List, [], ◌∷◌, ◌++◌, true, false, length, map, Option, Some, None, arith, inl, inr, ap, refl, sym, subst, ◌∙◌, append_assoc, length-append}
+use Rattle.std.specs.Prelude.{flat_map, codes, slice_get, option_map}
 use Rattle.std.specs.Fmt.{decimal}
 use Rattle.std.specs.List.{AllByRecursion}
 use Rattle.std.specs.Str.{bytes_eq}
 use Rattle.std.proofs.lemmas.Bool.{cases_Bool, cond-true, cond-false}
 use Rattle.std.proofs.lemmas.List.{append-nil}
 use Rattle.std.proofs.lemmas.Option.{slice_get-map}
-use Rattle.rp_object.specs.declared.program.Handler.{Handler}
 use Rattle.rp_object.specs.declared.program.Profile.{Profile}
 use Rattle.rp_object.specs.declared.program.Profile.TheVariants.{Ravenscar, Jorvik}
-use Rattle.rp_deck_declarations.specs.Drafts.{DraftText, profile_of, is_empty, empty_draft}
+use Rattle.rp_deck_declarations.specs.Drafts.{DraftText, profile_of, is_empty}
 use Rattle.rp_deck_declarations.specs.DeclaredTexts.{declared_of, Objects}
 use Rattle.rp_words.specs.Tables.{place_of}
 use Rattle.rp_base.specs.declared.action.Operation.TheVariants as operations
 use Rattle.std.proofs.lemmas.Bool.Decides.{nat_tests}
 use Rattle.rp_deck_objects.specs.Objects.{ObjectText, empty_object}
 use Rattle.rp_deck_objects.specs.ObjectViews.{ProtectedText, protected_of}
-use Rattle.rp_deck.specs.Script.{IsUpTo}
 use Rattle.rp_deck_text.specs.ScriptText.{are_names}
 use Rattle.rp_deck_text.specs.TallyTexts.{positions_words, task_words, AreTasks}
-use Rattle.rp_deck_text.specs.PartTexts.{PartText, ArePartsOf, IsNew, with_parts, shut}
-use Rattle.rp_deck_text.specs.PartTexts as parts
+use Rattle.rp_deck_text.specs.PartTexts.{ArePartsOf, IsNew}
 use Rattle.rp_deck_text.specs.ObjectTexts.{DeclaredObject, DeclaredHandler, with_object, AreObjectsOf, with_objects, handler_of, IsHandlerOf, with_interrupt, with_timer, with_interrupts, with_timers, AreInterruptsOf, AreTimersOf, handlers_lines, ObjectsText, tasks_draft, objects_draft, declared_lines, profile_words, IsObjectsText}
 use Rattle.rp_deck_text.specs.ObjectTexts as objects_of
-use Rattle.rp_deck_meanings.specs.Names.{is_among, IsAmong, place_in, number_in}
+use Rattle.rp_deck_meanings.specs.Names.{IsAmong, place_in, number_in}
 use Rattle.rp_deck_meanings.specs.Named.{NamedTask, NamedPart, NamedObject, NamedHandler, NamedDeck, procedure_names, operation_names, task_names, object_names, handler_names}
 use Rattle.rp_deck_meanings.specs.NamedTexts as written
-use Rattle.rp_deck_meanings.specs.NamedMeanings.{object_meant, parts_named, handler_meant, object_handling, declared_meant}
+use Rattle.rp_deck_meanings.specs.NamedMeanings.{object_meant, parts_named, handler_meant, declared_meant}
 use Rattle.rp_deck_meanings.specs.RightDecks.{IsRightObject, IsRightHandler, IsRightTask, IsRight}
-use Rattle.rp_deck_meanings.proofs.NameLemmas.{same_name, among_rest, place_here, place_later, place_of_is, names_new, name_among}
-use Rattle.rp_deck_meanings.proofs.ObjectLemmas.{so_far, part_text, whole_is, map_both, long_map, operations_from}
+use Rattle.rp_deck_meanings.proofs.NameLemmas.{among_rest, place_here, place_later, place_of_is, names_new, name_among}
+use Rattle.rp_deck_meanings.proofs.ObjectLemmas.{so_far, part_text, whole_is, map_both, long_map}
 use Rattle.rp_deck_meanings.proofs.PartLemmas.{parts_are, parts_same}
 use Rattle.rp_deck_meanings.proofs.OperationLemmas.{procedures_are, procedure_found}
 
@@ -54,10 +51,14 @@ pub tasks_are : (all before rest : List NamedTask) → before ++ rest ≡ all �
     → AreTasks (task_names before) (task_names rest) (map (λ task. task.priority) rest)
 tasks_are all before [] e few names are = tt
 tasks_are all before (task ∷ rest) e few names are =
-    let new = new_named (λ (it : NamedTask). it.name) before rest all task e names in
-    (room_for (λ (it : NamedTask). it.name) before rest all task e few, new.0, new.1, are.0,
-    subst (λ (l : List (List ℕ)). AreTasks l (task_names rest) (map (λ it. it.priority) rest)) (map_both (λ (it : NamedTask). it.name) before (task ∷ []))
-    (tasks_are all (before ++ task ∷ []) rest (append_assoc before (task ∷ []) rest ∙ e) few names are.1))
+    let new = new_named (λ (it : NamedTask). it.name) before rest all task e names in (
+      room_for (λ (it : NamedTask). it.name) before rest all task e few,
+      new.0,
+      new.1,
+      are.0,
+      subst (λ (l : List (List ℕ)). AreTasks l (task_names rest) (map (λ it. it.priority) rest)) (map_both (λ (it : NamedTask). it.name) before (task ∷ []))
+          (tasks_are all (before ++ task ∷ []) rest (append_assoc before (task ∷ []) rest ∙ e) few names are.1),
+    )
 
 pub tasks_same : (tasks : List NamedTask) → task_words (task_names tasks) (map (λ task. task.priority) tasks) ≡ map written.task_line tasks
 tasks_same [] = refl
@@ -75,13 +76,16 @@ objects_are : (profile : Profile) (all : List NamedObject) (d : DraftText) (befo
     → AllByRecursion (IsRightObject profile) rest → AreObjectsOf d (map declared_object rest)
 objects_are profile all d before [] names kept e few right are = tt
 objects_are profile all d before (object ∷ rest) names kept e few right are =
-    let new = new_named (λ (it : NamedObject). it.name) before rest all object e right in
-    ((subst (λ (l : List (List ℕ)). length l < 8) (sym names) (room_for (λ (it : NamedObject). it.name) before rest all object e few),
-    subst (λ (l : List (List ℕ)). IsNew l object.name) (sym names) new,
-    are.0.ceiling,
-    subst (λ (p : Profile). ArePartsOf p (empty_object object.name object.ceiling) (map (part_text object) object.parts)) (sym kept) (parts_are profile object are.0 [] object.parts refl are.0.parts)),
-    objects_are profile all (with_object d (declared_object object)) (before ++ object ∷ []) rest
-    (ap (λ (l : List (List ℕ)). l ++ object.name ∷ []) names ∙ sym (map_both (λ (it : NamedObject). it.name) before (object ∷ []))) kept (append_assoc before (object ∷ []) rest ∙ e) few right are.1)
+    let new = new_named (λ (it : NamedObject). it.name) before rest all object e right in (
+      (
+        subst (λ (l : List (List ℕ)). length l < 8) (sym names) (room_for (λ (it : NamedObject). it.name) before rest all object e few),
+        subst (λ (l : List (List ℕ)). IsNew l object.name) (sym names) new,
+        are.0.ceiling,
+        subst (λ (p : Profile). ArePartsOf p (empty_object object.name object.ceiling) (map (part_text object) object.parts)) (sym kept) (parts_are profile object are.0 [] object.parts refl are.0.parts),
+      ),
+      objects_are profile all (with_object d (declared_object object)) (before ++ object ∷ []) rest
+          (ap (λ (l : List (List ℕ)). l ++ object.name ∷ []) names ∙ sym (map_both (λ (it : NamedObject). it.name) before (object ∷ []))) kept (append_assoc before (object ∷ []) rest ∙ e) few right are.1,
+    )
 
 with_objects_is : (d : DraftText) (rest : List NamedObject) → with_objects d (map declared_object rest) ≡ record d { objects = d.objects ++ object_names rest; drafts = d.drafts ++ map whole rest }
 with_objects_is d [] = λ k. record d { objects = sym (append-nil d.objects) k; drafts = sym (append-nil d.drafts) k }
@@ -108,11 +112,11 @@ pub object_at : (profile : Profile) (all : List NamedObject) (name : List ℕ) �
 object_at profile [] name are among = absurd cc
 object_at profile (object ∷ rest) name are among = elim (cases_Bool (bytes_eq name object.name)) [
   | inl hit ↦ record {
-      object = object;
-      there = ap (slice_get (object ∷ rest)) (place_here name object.name (object_names rest) hit);
-      parts_are = cond-true (bytes_eq name object.name) object.parts (parts_named rest name) hit;
-      is = are.0;
-    }
+    object = object;
+    there = ap (slice_get (object ∷ rest)) (place_here name object.name (object_names rest) hit);
+    parts_are = cond-true (bytes_eq name object.name) object.parts (parts_named rest name) hit;
+    is = are.0;
+  }
   | inr miss ↦
       let found = object_at profile rest name are.1 (among_rest name object.name (object_names rest) miss among) in
       let next : place_in name (object.name ∷ object_names rest) ≡ suc (place_in name (object_names rest)) = omega (arith, place_later name object.name (object_names rest) miss) in
@@ -157,22 +161,24 @@ module _ (profile : Profile) (objects : List NamedObject) (right : AllByRecursio
   interrupts_are : (all : List NamedHandler) (d : DraftText) (before rest : List NamedHandler) → HasThem d → d.interrupts ≡ handler_names before → before ++ rest ≡ all → length all ≤ 8 → are_names (handler_names all) ≡ true
       → AllByRecursion (IsRightHandler objects) rest → AreInterruptsOf d (map (declared_handler objects) rest)
   interrupts_are all d before [] has before_names e few right_names are = tt
-  interrupts_are all d before (handler ∷ rest) has before_names e few right_names are =
-      (subst (λ (l : List (List ℕ)). length l < 8) (sym before_names) (room_for (λ (it : NamedHandler). it.name) before rest all handler e few),
-      subst (λ (l : List (List ℕ)). IsNew l handler.name) (sym before_names) (new_named (λ (it : NamedHandler). it.name) before rest all handler e right_names),
-      handler_is d handler has are.0,
-      interrupts_are all (with_interrupt d (declared_handler objects handler)) (before ++ handler ∷ []) rest has
-      (ap (λ (l : List (List ℕ)). l ++ handler.name ∷ []) before_names ∙ sym (map_both (λ (it : NamedHandler). it.name) before (handler ∷ []))) (append_assoc before (handler ∷ []) rest ∙ e) few right_names are.1)
+  interrupts_are all d before (handler ∷ rest) has before_names e few right_names are = (
+    subst (λ (l : List (List ℕ)). length l < 8) (sym before_names) (room_for (λ (it : NamedHandler). it.name) before rest all handler e few),
+    subst (λ (l : List (List ℕ)). IsNew l handler.name) (sym before_names) (new_named (λ (it : NamedHandler). it.name) before rest all handler e right_names),
+    handler_is d handler has are.0,
+    interrupts_are all (with_interrupt d (declared_handler objects handler)) (before ++ handler ∷ []) rest has
+        (ap (λ (l : List (List ℕ)). l ++ handler.name ∷ []) before_names ∙ sym (map_both (λ (it : NamedHandler). it.name) before (handler ∷ []))) (append_assoc before (handler ∷ []) rest ∙ e) few right_names are.1,
+  )
 
   timers_are : (all : List NamedHandler) (d : DraftText) (before rest : List NamedHandler) → HasThem d → d.timers ≡ handler_names before → before ++ rest ≡ all → length all ≤ 8 → are_names (handler_names all) ≡ true
       → AllByRecursion (IsRightHandler objects) rest → AreTimersOf d (map (declared_handler objects) rest)
   timers_are all d before [] has before_names e few right_names are = tt
-  timers_are all d before (handler ∷ rest) has before_names e few right_names are =
-      (subst (λ (l : List (List ℕ)). length l < 8) (sym before_names) (room_for (λ (it : NamedHandler). it.name) before rest all handler e few),
-      subst (λ (l : List (List ℕ)). IsNew l handler.name) (sym before_names) (new_named (λ (it : NamedHandler). it.name) before rest all handler e right_names),
-      handler_is d handler has are.0,
-      timers_are all (with_timer d (declared_handler objects handler)) (before ++ handler ∷ []) rest has
-      (ap (λ (l : List (List ℕ)). l ++ handler.name ∷ []) before_names ∙ sym (map_both (λ (it : NamedHandler). it.name) before (handler ∷ []))) (append_assoc before (handler ∷ []) rest ∙ e) few right_names are.1)
+  timers_are all d before (handler ∷ rest) has before_names e few right_names are = (
+    subst (λ (l : List (List ℕ)). length l < 8) (sym before_names) (room_for (λ (it : NamedHandler). it.name) before rest all handler e few),
+    subst (λ (l : List (List ℕ)). IsNew l handler.name) (sym before_names) (new_named (λ (it : NamedHandler). it.name) before rest all handler e right_names),
+    handler_is d handler has are.0,
+    timers_are all (with_timer d (declared_handler objects handler)) (before ++ handler ∷ []) rest has
+        (ap (λ (l : List (List ℕ)). l ++ handler.name ∷ []) before_names ∙ sym (map_both (λ (it : NamedHandler). it.name) before (handler ∷ []))) (append_assoc before (handler ∷ []) rest ∙ e) few right_names are.1,
+  )
 
 with_interrupts_is : (objects : List NamedObject) (d : DraftText) (rest : List NamedHandler) → with_interrupts d (map (declared_handler objects) rest)
     ≡ record d { interrupts = d.interrupts ++ handler_names rest; interrupt_handlers = d.interrupt_handlers ++ map (handler_meant objects) rest }

@@ -1,9 +1,8 @@
 -- Expressions, conditions and bodies in memory do what their names say.
-use Rattle.std.proofs.Common.{◌≡◌, ℤ, pos, Bool, cond, List, refl, sym, ap, ◌∙◌}
+use Rattle.std.proofs.Common.{◌≡◌, ℤ, pos, cond, List, refl, sym, ap, ◌∙◌}
 use Rattle.std.specs.Prelude.{◌+ℤ◌, ◌-ℤ◌, int_lt, int_le, ◌&&◌, ◌||◌, not, if◌then◌else◌, ℕ}
 use Rattle.std.specs.Ordering.{int_eq}
 use Rattle.rp_body.specs.declared.statement.Stmt.{Stmt}
-use Rattle.rp_body.specs.declared.statement.Outcome.{Outcome}
 use Rattle.rp_body.specs.declared.statement.Outcome.TheVariants.{Out, Raised}
 use Rattle.rp_body.specs.Store.{Store, with_int, with_bool}
 use Rattle.rp_body.specs.Expressions.{fits_64}

@@ -1,7 +1,7 @@
 -- Names in a list: where one is, and what it is among.
-use Rattle.std.proofs.Common.{◌≡◌, ℕ, zero, suc, ◌+◌, ◌-◌, ◌<◌, ◌||◌, ◌&&◌, not, List, [], ◌∷◌, ◌++◌, Bool, true, false, cond, length, Option, Some, None, nat_lt, arith, inl, inr, ap, refl, sym, subst, ◌∙◌}
+use Rattle.std.proofs.Common.{◌≡◌, ℕ, suc, ◌+◌, ◌-◌, ◌<◌, ◌||◌, ◌&&◌, not, List, [], ◌∷◌, ◌++◌, Bool, true, false, cond, length, Some, None, nat_lt, arith, inl, inr, ap, refl, sym, subst, ◌∙◌}
 use Rattle.std.specs.Prelude.{slice_get, slice_index_or}
-use Rattle.std.specs.List.{list_all, list_any, prefix_len}
+use Rattle.std.specs.List.{list_all, prefix_len}
 use Rattle.std.specs.Str.{bytes_eq}
 use Rattle.std.proofs.lemmas.Bool.{cases_Bool, cond-true, cond-false, lt-ltb}
 use Rattle.std.proofs.lemmas.List.Folds.{list_all-append, list_any-append}
@@ -11,7 +11,7 @@ use Rattle.rp_words.specs.Words.{is_name}
 use Rattle.rp_words.specs.Tables.{is_declared, place_of}
 use Rattle.rp_words.proofs.WordsLemmas.{both}
 use Rattle.rp_deck_text.specs.ScriptText.{is_distinct, are_names, name_numbered}
-use Rattle.rp_deck_text.proofs.ScriptTextLemmas.{same_text, or_right, no_first, another}
+use Rattle.rp_deck_text.proofs.ScriptTextLemmas.{same_text, or_right, another}
 use Rattle.rp_deck_meanings.specs.Names.{is_among, IsAmong, place_in, number_in}
 
 pub same_name : (a b : List ℕ) → bytes_eq a b ≡ true → a ≡ b

@@ -1,26 +1,21 @@
 -- The parts of an object, one after another, give what the object means.
-use Rattle.std.proofs.Common.{◌≡◌, ℕ, zero, suc, ◌+◌, ◌<◌, ◌≤◌, not, List, [], ◌∷◌, ◌++◌, Bool, true, false, cond, length, map, Some, None, arith, inl, inr, ap, refl, sym, subst, ◌∙◌, append_assoc, length-append}
-use Rattle.std.specs.Prelude.{flat_map, nat_eq, codes}
+use Rattle.std.proofs.Common.{◌≡◌, ℕ, suc, ◌+◌, List, [], ◌∷◌, ◌++◌, length, map, None, arith, ap, refl, sym, ◌∙◌, append_assoc}
+use Rattle.std.specs.Prelude.{flat_map}
 use Rattle.std.specs.FinMap.{len, insert}
-use Rattle.std.specs.List.{list_all}
-use Rattle.std.specs.Str.{bytes_eq}
-use Rattle.std.proofs.lemmas.Bool.{cases_Bool, cond-true, cond-false, eq-eqb}
-use Rattle.std.proofs.lemmas.Bool.Decides.{nat_tests}
 use Rattle.std.proofs.lemmas.List.{append-nil}
 use Rattle.std.proofs.lemmas.Grind.{flat_map-append}
 use Rattle.rp_base.specs.declared.action.Operation.{Operation}
 use Rattle.rp_base.specs.declared.action.Operation.TheVariants as operations
 use Rattle.rp_body.specs.Store.{by_place}
-use Rattle.rp_body.specs.declared.components.Ranged.{Ranged}
 use Rattle.rp_body.proofs.Places.{by_place-push, len-by_place}
 use Rattle.rp_deck_bodies.specs.declared.names.Component.{Component}
 use Rattle.rp_deck_bodies.specs.declared.names.Component.TheVariants as components
 use Rattle.rp_deck_objects.specs.Objects.{ObjectText, empty_object, FunctionText, EntryText}
 use Rattle.rp_deck_bodies.specs.Bodies.{BodyText}
 use Rattle.rp_deck_text.specs.PartTexts.{PartText, IntPart, BoolPart, FunctionPart, ProcedurePart, EntryPart, with_part, with_parts, shut}
-use Rattle.rp_deck_meanings.specs.Names.{IsAmong, place_in}
-use Rattle.rp_deck_meanings.specs.Named.{NamedInt, NamedBool, NamedFunction, NamedProcedure, NamedEntry, NamedPart, AnInt, ABool, AFunction, AProcedure, AnEntry, NamedObject, int_of, bool_of, function_of, procedure_of, entry_of, component_of, operation_of, ints, bools, functions, procedures, entries, int_names, bool_names, function_names, procedure_names, entry_names, component_names, operation_names}
-use Rattle.rp_deck_meanings.specs.NamedMeanings.{expr_meant, cond_meant, body_meant, result_meant, entry_meant, ranged, store_meant, object_meant}
+use Rattle.rp_deck_meanings.specs.Names.{place_in}
+use Rattle.rp_deck_meanings.specs.Named.{NamedBool, NamedFunction, NamedProcedure, NamedEntry, NamedPart, AnInt, ABool, AFunction, AProcedure, AnEntry, NamedObject, int_of, bool_of, function_of, procedure_of, entry_of, component_of, operation_of, ints, bools, functions, procedures, entries, int_names, bool_names, entry_names, component_names, operation_names}
+use Rattle.rp_deck_meanings.specs.NamedMeanings.{body_meant, result_meant, entry_meant, ranged, store_meant}
 
 -- ---- what the reader has after some parts
 

@@ -1,5 +1,5 @@
 -- The operation of a name, as the reader numbers it.
-use Rattle.std.proofs.Common.{◌≡◌, ◌⊎◌, ℕ, zero, suc, ◌+◌, ◌&&◌, not, List, [], ◌∷◌, Bool, true, false, cond, length, Some, arith, inl, inr, ap, refl, sym, subst, ◌∙◌}
+use Rattle.std.proofs.Common.{◌≡◌, ℕ, ◌+◌, not, List, [], ◌∷◌, Bool, true, false, cond, length, Some, arith, inl, inr, ap, refl, sym, subst, ◌∙◌}
 use Rattle.std.specs.Prelude.{nat_eq}
 use Rattle.std.specs.List.{list_all}
 use Rattle.std.specs.Str.{bytes_eq}
@@ -11,11 +11,11 @@ use Rattle.rp_words.specs.Words.{is_name}
 use Rattle.rp_words.specs.Tables.{is_declared, find}
 use Rattle.rp_words.proofs.WordsLemmas.{both}
 use Rattle.rp_deck_text.specs.ScriptText.{is_distinct, are_names, same_operation, operation_name_in, IsOneOf}
-use Rattle.rp_deck_text.proofs.ScriptTextLemmas.{another, or_right, IsNamed, by_name}
+use Rattle.rp_deck_text.proofs.ScriptTextLemmas.{another, or_right, by_name}
 use Rattle.rp_deck_meanings.specs.Names.{is_among, IsAmong, place_in, number_in}
 use Rattle.rp_deck_meanings.specs.Named.{NamedPart, AnInt, ABool, AFunction, AProcedure, AnEntry, function_names, procedure_names, entry_names, operation_names}
 use Rattle.rp_deck_meanings.specs.NamedMeanings.{operation_meant}
-use Rattle.rp_deck_meanings.proofs.NameLemmas.{same_name, among_here, among_later, among_rest, not_among, or_later, place_here, place_later}
+use Rattle.rp_deck_meanings.proofs.NameLemmas.{same_name, among_here, among_later, among_rest, not_among, place_here, place_later}
 use Rattle.rp_deck_meanings.proofs.ObjectLemmas.{operations_from}
 
 -- ---- which kind
@@ -55,6 +55,7 @@ from_first all name = by (is_among name (function_names all)) (is_among name (pr
   where
     one : (n : ℕ) → 0 + n ≡ n
     one n = omega arith
+
     by : (a b : Bool) (f p e : ℕ) → chosen a b (0 + f) (0 + p) (0 + e) ≡ cond a (operations.Function f) (cond b (operations.Procedure p) (operations.Entry e))
     by true b f p e = ap operations.Function (one f)
     by false true f p e = ap operations.Procedure (one p)

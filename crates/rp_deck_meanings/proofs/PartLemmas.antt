@@ -1,14 +1,11 @@
 -- The parts of a right object are right for the reader, and have the lines that they are written as.
-use Rattle.std.proofs.Common.{◌≡◌, ℕ, zero, suc, ◌+◌, ◌<◌, ◌≤◌, not, List, [], ◌∷◌, ◌++◌, Bool, true, false, cond, length, map, Some, None, arith, inl, inr, ap, refl, sym, subst, ◌∙◌, append_assoc, length-append}
+use Rattle.std.proofs.Common.{◌≡◌, ℕ, ◌+◌, not, List, [], ◌∷◌, ◌++◌, Bool, true, false, length, map, arith, inl, inr, ap, refl, sym, subst, ◌∙◌, append_assoc, length-append}
 use Rattle.std.specs.Prelude.{flat_map, nat_eq, codes}
-use Rattle.std.specs.Fmt.{decimal, signed_decimal}
-use Rattle.std.specs.FinMap.{len}
 use Rattle.std.specs.List.{list_all}
 use Rattle.std.specs.Str.{bytes_eq}
 use Rattle.std.proofs.lemmas.Bool.{cases_Bool, cond-true, cond-false, eq-eqb}
 use Rattle.std.proofs.lemmas.Bool.Decides.{nat_tests}
 use Rattle.std.proofs.lemmas.Grind.{flat_map-append}
-use Rattle.rp_body.specs.Store.{by_place}
 use Rattle.rp_body.proofs.Places.{len-by_place}
 use Rattle.rp_object.specs.declared.program.Profile.{Profile}
 use Rattle.rp_object.specs.declared.program.Profile.TheVariants.{Ravenscar, Jorvik}
@@ -22,11 +19,11 @@ use Rattle.rp_deck_text.specs.ExpressionTexts as texts
 use Rattle.rp_deck_text.specs.PartTexts as parts
 use Rattle.rp_deck_text.specs.PartTexts.{IsPartOf, ArePartsOf, IsNew, with_part}
 use Rattle.rp_deck_meanings.specs.Names.{is_among, IsAmong, place_in}
-use Rattle.rp_deck_meanings.specs.Named.{NamedInt, NamedBool, NamedBody, NamedResult, NamedFunction, NamedProcedure, Value, Truth, NamedPart, AnInt, ABool, AFunction, AProcedure, AnEntry, NamedObject, int_of, bool_of, function_of, procedure_of, entry_of, component_of, operation_of, ints, bools, functions, procedures, entries, int_names, bool_names, component_names, operation_names}
+use Rattle.rp_deck_meanings.specs.Named.{NamedBool, NamedBody, NamedResult, NamedFunction, NamedProcedure, Value, Truth, NamedPart, AnInt, ABool, AFunction, AProcedure, AnEntry, NamedObject, int_of, bool_of, function_of, procedure_of, entry_of, component_of, operation_of, ints, bools, functions, procedures, entries, int_names, bool_names, component_names, operation_names}
 use Rattle.rp_deck_meanings.specs.NamedTexts as written
-use Rattle.rp_deck_meanings.specs.NamedMeanings.{ranged, expr_meant, cond_meant, body_meant, result_meant, entry_meant}
+use Rattle.rp_deck_meanings.specs.NamedMeanings.{ranged, body_meant, result_meant, entry_meant}
 use Rattle.rp_deck_meanings.specs.RightDecks.{IsRightObject, IsRightPart, IsRightResult, AreRightParts, IsLongest, IsWholeBody, entry_limit}
-use Rattle.rp_deck_meanings.proofs.NameLemmas.{same_name, among_rest, among_more, place_here, place_later, place_more, names_front, names_new, all_front, all_at}
+use Rattle.rp_deck_meanings.proofs.NameLemmas.{same_name, among_rest, place_here, place_later, place_more, names_front, names_new, all_front, all_at}
 use Rattle.rp_deck_meanings.proofs.NamingLemmas.{Finds, expr_same, cond_same, body_same, expr_is, cond_is, body_is, nodes_same, cond_nodes_same, count_same}
 use Rattle.rp_deck_meanings.proofs.ObjectLemmas.{components_from, so_far, part_text, with_part_is, map_both, long_map}
 
@@ -52,9 +49,10 @@ ints_found n b (AnInt int ∷ rest) name among =
           let after : place ≡ place_in name (int_names rest) + 1 = place_later name int.name (int_names rest) miss in
           let not_here : nat_eq n (n + place) ≡ false = ap (λ (m : ℕ). nat_eq n (n + m)) after ∙ other_place n (place_in name (int_names rest)) in
           let found = ints_found (n + 1) b rest name (among_rest name int.name (int_names rest) miss among) in
-          let same : n + 1 + place_in name (int_names rest) ≡ n + place = omega (arith, after) in
-          (cond-false (nat_eq n (n + place)) int.name later not_here ∙ subst (λ (m : ℕ). component_name (is_int m) (component_names rest) (components_from (n + 1) b rest) ≡ name) same found.0,
-          inr (subst (λ (m : ℕ). HasOne (is_int m) (components_from (n + 1) b rest)) same found.1))
+          let same : n + 1 + place_in name (int_names rest) ≡ n + place = omega (arith, after) in (
+            cond-false (nat_eq n (n + place)) int.name later not_here ∙ subst (λ (m : ℕ). component_name (is_int m) (component_names rest) (components_from (n + 1) b rest) ≡ name) same found.0,
+            inr (subst (λ (m : ℕ). HasOne (is_int m) (components_from (n + 1) b rest)) same found.1),
+          )
     ]
 ints_found n b (ABool bool ∷ rest) name among = let found = ints_found n (b + 1) rest name among in (found.0, inr found.1)
 ints_found n b (AFunction function ∷ rest) name among = ints_found n b rest name among
@@ -75,9 +73,10 @@ bools_found n b (ABool bool ∷ rest) name among =
           let after : place ≡ place_in name (bool_names rest) + 1 = place_later name bool.name (bool_names rest) miss in
           let not_here : nat_eq b (b + place) ≡ false = ap (λ (m : ℕ). nat_eq b (b + m)) after ∙ other_place b (place_in name (bool_names rest)) in
           let found = bools_found n (b + 1) rest name (among_rest name bool.name (bool_names rest) miss among) in
-          let same : b + 1 + place_in name (bool_names rest) ≡ b + place = omega (arith, after) in
-          (cond-false (nat_eq b (b + place)) bool.name later not_here ∙ subst (λ (m : ℕ). component_name (is_bool m) (component_names rest) (components_from n (b + 1) rest) ≡ name) same found.0,
-          inr (subst (λ (m : ℕ). HasOne (is_bool m) (components_from n (b + 1) rest)) same found.1))
+          let same : b + 1 + place_in name (bool_names rest) ≡ b + place = omega (arith, after) in (
+            cond-false (nat_eq b (b + place)) bool.name later not_here ∙ subst (λ (m : ℕ). component_name (is_bool m) (component_names rest) (components_from n (b + 1) rest) ≡ name) same found.0,
+            inr (subst (λ (m : ℕ). HasOne (is_bool m) (components_from n (b + 1) rest)) same found.1),
+          )
     ]
 bools_found n b (AnInt int ∷ rest) name among = let found = bools_found (n + 1) b rest name among in (found.0, inr found.1)
 bools_found n b (AFunction function ∷ rest) name among = bools_found n b rest name among
@@ -156,19 +155,22 @@ module _ (profile : Profile) (object : NamedObject) (right : IsRightObject profi
   longest_same Jorvik longest is = is
 
   whole_body : (before rest : List NamedPart) (body : NamedBody) → before ++ rest ≡ object.parts → IsWholeBody (int_names before) (bool_names before) body → parts.IsWholeBody (so_far object before) (body_meant (int_names object.parts) (bool_names object.parts) body)
-  whole_body before rest body e is =
-      (are_components before rest e,
-      body_is (component_names before) (components_from 0 0 before) (int_names object.parts) (bool_names object.parts) (int_names before) (bool_names before) (finds_before before rest e) 0 body is.0,
-      rw (count_same (int_names object.parts) (bool_names object.parts) body) is.1)
+  whole_body before rest body e is = (
+    are_components before rest e,
+    body_is (component_names before) (components_from 0 0 before) (int_names object.parts) (bool_names object.parts) (int_names before) (bool_names before) (finds_before before rest e) 0 body is.0,
+    rw (count_same (int_names object.parts) (bool_names object.parts) body) is.1,
+  )
 
   function_is : (before rest : List NamedPart) (result : NamedResult) → before ++ rest ≡ object.parts → IsRightResult (int_names before) (bool_names before) result
       → parts.IsFunctionOf (so_far object before) (result_meant (int_names object.parts) (bool_names object.parts) result)
-  function_is before rest (Value value) e is =
-      (expr_is (component_names before) (components_from 0 0 before) (int_names object.parts) (bool_names object.parts) (int_names before) (bool_names before) (finds_before before rest e) value is.0,
-      rw (nodes_same (int_names object.parts) (bool_names object.parts) value) is.1)
-  function_is before rest (Truth truth) e is =
-      (cond_is (component_names before) (components_from 0 0 before) (int_names object.parts) (bool_names object.parts) (int_names before) (bool_names before) (finds_before before rest e) truth is.0,
-      rw (cond_nodes_same (int_names object.parts) (bool_names object.parts) truth) is.1)
+  function_is before rest (Value value) e is = (
+    expr_is (component_names before) (components_from 0 0 before) (int_names object.parts) (bool_names object.parts) (int_names before) (bool_names before) (finds_before before rest e) value is.0,
+    rw (nodes_same (int_names object.parts) (bool_names object.parts) value) is.1,
+  )
+  function_is before rest (Truth truth) e is = (
+    cond_is (component_names before) (components_from 0 0 before) (int_names object.parts) (bool_names object.parts) (int_names before) (bool_names before) (finds_before before rest e) truth is.0,
+    rw (cond_nodes_same (int_names object.parts) (bool_names object.parts) truth) is.1,
+  )
 
   part_is : (before rest : List NamedPart) (part : NamedPart) → before ++ part ∷ rest ≡ object.parts → IsRightPart profile before part → IsPartOf profile (so_far object before) (part_text object part)
   part_is before rest (AnInt int) e is =
@@ -177,28 +179,32 @@ module _ (profile : Profile) (object : NamedObject) (right : IsRightObject profi
   part_is before rest (ABool bool) e is =
       let new = new_component before rest (ABool bool) bool.name e refl in
       (omega (arith, split_count bool_of before (ABool bool ∷ rest) object.parts e, right.few_bools, len-by_place (map (λ (it : NamedBool). it.value) (bools before)), long_map (λ (it : NamedBool). it.value) (bools before)), new.0, new.1)
-  part_is before rest (AFunction function) e is =
-      (omega (arith, split_count function_of before (AFunction function ∷ rest) object.parts e, right.few_functions, long_map (λ (it : NamedFunction). result_meant (int_names object.parts) (bool_names object.parts) it.result) (functions before)),
-      new_operation before rest (AFunction function) function.name e refl,
-      are_components before (AFunction function ∷ rest) e,
-      function_is before (AFunction function ∷ rest) function.result e is)
-  part_is before rest (AProcedure procedure) e is =
-      (omega (arith, split_count procedure_of before (AProcedure procedure ∷ rest) object.parts e, right.few_procedures, long_map (λ (it : NamedProcedure). body_meant (int_names object.parts) (bool_names object.parts) it.body) (procedures before)),
-      new_operation before rest (AProcedure procedure) procedure.name e refl,
-      whole_body before (AProcedure procedure ∷ rest) procedure.body e is)
-  part_is before rest (AnEntry entry) e is =
-      (omega (arith, split_count entry_of before (AnEntry entry ∷ rest) object.parts e, right.few_entries, long_map (entry_meant (int_names object.parts) (bool_names object.parts)) (entries before), most_same profile),
-      new_operation before rest (AnEntry entry) entry.name e refl,
-      ((finds_before before (AnEntry entry ∷ rest) e).bool entry.barrier is.0).1,
-      longest_same profile entry.longest is.1,
-      whole_body before (AnEntry entry ∷ rest) entry.body e is.2)
+  part_is before rest (AFunction function) e is = (
+    omega (arith, split_count function_of before (AFunction function ∷ rest) object.parts e, right.few_functions, long_map (λ (it : NamedFunction). result_meant (int_names object.parts) (bool_names object.parts) it.result) (functions before)),
+    new_operation before rest (AFunction function) function.name e refl,
+    are_components before (AFunction function ∷ rest) e,
+    function_is before (AFunction function ∷ rest) function.result e is,
+  )
+  part_is before rest (AProcedure procedure) e is = (
+    omega (arith, split_count procedure_of before (AProcedure procedure ∷ rest) object.parts e, right.few_procedures, long_map (λ (it : NamedProcedure). body_meant (int_names object.parts) (bool_names object.parts) it.body) (procedures before)),
+    new_operation before rest (AProcedure procedure) procedure.name e refl,
+    whole_body before (AProcedure procedure ∷ rest) procedure.body e is,
+  )
+  part_is before rest (AnEntry entry) e is = (
+    omega (arith, split_count entry_of before (AnEntry entry ∷ rest) object.parts e, right.few_entries, long_map (entry_meant (int_names object.parts) (bool_names object.parts)) (entries before), most_same profile),
+    new_operation before rest (AnEntry entry) entry.name e refl,
+    ((finds_before before (AnEntry entry ∷ rest) e).bool entry.barrier is.0).1,
+    longest_same profile entry.longest is.1,
+    whole_body before (AnEntry entry ∷ rest) entry.body e is.2,
+  )
 
   pub parts_are : (before rest : List NamedPart) → before ++ rest ≡ object.parts → AreRightParts profile before rest → ArePartsOf profile (so_far object before) (map (part_text object) rest)
   parts_are before [] e are = tt
-  parts_are before (part ∷ rest) e are =
-      (part_is before rest part e are.0,
-      subst (λ (o : ObjectText). ArePartsOf profile o (map (part_text object) rest)) (sym (with_part_is object before part))
-      (parts_are (before ++ part ∷ []) rest (append_assoc before (part ∷ []) rest ∙ e) are.1))
+  parts_are before (part ∷ rest) e are = (
+    part_is before rest part e are.0,
+    subst (λ (o : ObjectText). ArePartsOf profile o (map (part_text object) rest)) (sym (with_part_is object before part))
+        (parts_are (before ++ part ∷ []) rest (append_assoc before (part ∷ []) rest ∙ e) are.1),
+  )
 
   -- ---- its lines
 

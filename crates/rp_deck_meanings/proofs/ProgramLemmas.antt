@@ -1,22 +1,19 @@
 -- The program in memory of a deck that means what is said.
-use Rattle.std.proofs.Common.{◌≡◌, ℕ, suc, ◌+◌, ◌∷◌, [], List, Bool, true, false, length, map, Option, Some, None, arith, refl, sym, ap, subst, ◌∙◌}
-use Rattle.std.specs.Prelude.{slice_get, option_map, nat_le, IfSome}
+use Rattle.std.proofs.Common.{◌≡◌, ℕ, suc, ◌+◌, ◌∷◌, [], List, map, Option, Some, None, arith, refl, sym, ap, subst, ◌∙◌}
+use Rattle.std.specs.Prelude.{slice_get, option_map, nat_le}
 use Rattle.std.specs.Arc.{arc_value}
 use Rattle.std.specs.List.{AllZip}
 use Rattle.std.proofs.lemmas.Option.{slice_get-map}
 use Rattle.indexmap.specs.IndexMap.{values}
 use Rattle.rp_body.specs.Store.{Store}
-use Rattle.rp_body.specs.declared.statement.Stmt.{Stmt}
 use Rattle.rp_entry.specs.Operations.{of_index}
 use Rattle.rp_entry.specs.Protected.{Protected}
 use Rattle.rp_entry.specs.declared.operations.Entry.{Entry}
-use Rattle.rp_entry.specs.declared.operations.Function.{Function}
-use Rattle.rp_object.specs.Program.{operations_of, is_some_and, is_within_ceiling, interrupt_handler, timer_handler}
-use Rattle.rp_object.specs.State.{first_state, first_object}
+use Rattle.rp_object.specs.Program.{operations_of, is_some_and, is_within_ceiling}
+use Rattle.rp_object.specs.State.{first_object}
 use Rattle.rp_object.specs.declared.program.Declarations.{Declarations}
 use Rattle.rp_object.specs.declared.program.Handler.{Handler}
 use Rattle.rp_object.specs.declared.program.ObjectDeclaration.{ObjectDeclaration}
-use Rattle.rp_object.specs.declared.program.Profile.{Profile}
 use Rattle.rp_object.specs.declared.program.Program.{Program}
 use Rattle.rp_object.specs.declared.program.TimingEvent.{TimingEvent}
 use Rattle.rp_deck.specs.DeckViews.{deck_text}
@@ -30,12 +27,11 @@ use Rattle.rp_deck_declarations.specs.DeclaredTexts as texts
 use Rattle.rp_deck_declarations.specs.DeclaredViews.{program_text}
 use Rattle.rp_deck_declarations.specs.Programs.{Declares, DeclaresAll}
 use Rattle.rp_deck_declarations.specs.declared.deck_program.DeckProgram.{DeckProgram}
-use Rattle.rp_deck_declarations.specs.declared.deck_program.DeckProgram.TheVariants.{Objects}
 use Rattle.rp_words.specs.Tables.{key_names}
 use Rattle.rp_deck_readings.specs.Readings.{IsDeckOfObjects}
-use Rattle.rp_deck_meanings.specs.Named.{NamedFunction, NamedProcedure, NamedEntry, NamedObject, NamedTask, NamedHandler, NamedDeck, functions, procedures, entries, int_names, bool_names}
+use Rattle.rp_deck_meanings.specs.Named.{NamedEntry, NamedObject, NamedTask, NamedDeck, functions, procedures, entries, int_names, bool_names}
 use Rattle.rp_deck_meanings.specs.NamedTexts.{profile_of}
-use Rattle.rp_deck_meanings.specs.NamedMeanings.{result_meant, body_meant, entry_meant, object_meant, store_meant, handler_meant, deck_meant}
+use Rattle.rp_deck_meanings.specs.NamedMeanings.{result_meant, body_meant, entry_meant, object_meant, handler_meant, deck_meant}
 use Rattle.rp_deck_meanings.specs.NamedPrograms.{Does, IsFunctionOf, IsEntryOf, IsObjectOf, IsProgramOf}
 use Rattle.rp_deck_meanings.proofs.EffectLemmas.{does_it, returns_it}
 

@@ -1,22 +1,21 @@
 -- The text of a right deck of a tally means what is said of it.
-use Rattle.std.proofs.Common.{◌≡◌, ℕ, zero, suc, ◌+◌, List, [], ◌∷◌, ◌++◌, length, map, true, Option, None, Result, Ok, arith, ap, refl, sym, subst, ◌∙◌}
+use Rattle.std.proofs.Common.{◌≡◌, ℕ, zero, suc, ◌+◌, List, [], ◌∷◌, ◌++◌, length, map, true, Ok, arith, ap, refl, sym, subst, ◌∙◌}
 use Rattle.std.specs.Prelude.{codes}
 use Rattle.std.specs.Fmt.{decimal}
 use Rattle.std.specs.List.{AllByRecursion}
 use Rattle.rp_object.specs.declared.program.Profile.TheVariants.{Ravenscar}
 use Rattle.rp_deck.specs.declared.deck.Mode.TheVariants.{Script}
-use Rattle.rp_deck.specs.Meaning.{DeckText, meaning_of}
+use Rattle.rp_deck.specs.Meaning.{meaning_of}
 use Rattle.rp_deck.specs.Script.{IsUpTo}
 use Rattle.rp_deck.specs.ScriptLines.{CommandText}
 use Rattle.rp_deck_declarations.specs.Drafts.{tally_names}
-use Rattle.rp_deck_declarations.specs.DeclaredTexts.{DeclaredText, declared_of, Tally}
+use Rattle.rp_deck_declarations.specs.DeclaredTexts.{declared_of}
 use Rattle.rp_deck_declarations.specs.ScriptNames.{DeclaredNames, declared_names}
 use Rattle.rp_deck_text.specs.TallyTexts.{TallyText, IsTallyText, tally_draft, tally_deck}
 use Rattle.rp_deck_text.specs.TallyTexts as texts
 use Rattle.rp_deck_text.specs.ScriptText.{AreDeclared, IsCommandOf, are_names, text_of_lines, numbered_commands}
 use Rattle.rp_deck_text.specs.ScriptText as reader
-use Rattle.rp_deck_meanings.specs.Named.{NamedTask, NamedObject, object_names, task_names}
-use Rattle.rp_deck_meanings.specs.NamedTexts as written
+use Rattle.rp_deck_meanings.specs.Named.{NamedTask, object_names, task_names}
 use Rattle.rp_deck_meanings.specs.NamedMeanings.{command_meant}
 use Rattle.rp_deck_meanings.specs.RightDecks.{IsRight, IsRightObject}
 use Rattle.rp_deck_meanings.specs.Tallies.{NamedTally, sum_names, sum_object, called_as, tally_lines, tally_text, tally_declared, tally_meant, IsRightTally}

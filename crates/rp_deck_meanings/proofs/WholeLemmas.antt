@@ -1,9 +1,8 @@
 -- The text of a right deck means what is said of it.
-use Rattle.std.proofs.Common.{◌≡◌, ℕ, ◌+◌, List, ◌++◌, length, map, Result, Ok, ap, refl, sym, subst, ◌∙◌}
+use Rattle.std.proofs.Common.{◌≡◌, ◌+◌, List, ◌++◌, length, map, Ok, ap, sym, subst, ◌∙◌}
 use Rattle.std.specs.List.{AllByRecursion}
-use Rattle.rp_words.specs.LineFaults.{BadLine}
 use Rattle.rp_deck.specs.declared.deck.Mode.TheVariants.{Script}
-use Rattle.rp_deck.specs.Meaning.{DeckText, meaning_of, deck_of}
+use Rattle.rp_deck.specs.Meaning.{meaning_of, deck_of}
 use Rattle.rp_deck.specs.ScriptLines.{CommandText}
 use Rattle.rp_deck_declarations.specs.Drafts.{DraftText}
 use Rattle.rp_deck_declarations.specs.DeclaredTexts.{DeclaredText}
@@ -13,9 +12,9 @@ use Rattle.rp_deck_text.specs.ScriptText.{AreDeclared, IsCommandOf, command_word
 use Rattle.rp_deck_meanings.specs.Named.{NamedDeck}
 use Rattle.rp_deck_meanings.specs.NamedTexts as written
 use Rattle.rp_deck_meanings.specs.NamedTexts.{text_of}
-use Rattle.rp_deck_meanings.specs.NamedMeanings.{command_meant, deck_meant, declared_meant}
+use Rattle.rp_deck_meanings.specs.NamedMeanings.{command_meant, deck_meant}
 use Rattle.rp_deck_meanings.specs.RightDecks.{IsRight}
-use Rattle.rp_deck_meanings.proofs.DeckLemmas.{draft_meant, declarations, draft_made, declarations_are, lines_same, declared_is}
+use Rattle.rp_deck_meanings.proofs.DeckLemmas.{declarations, draft_made, declarations_are, lines_same, declared_is}
 use Rattle.rp_deck_meanings.proofs.CommandLemmas.{names_are_declared, commands_are, commands_same}
 
 -- every such text is read back

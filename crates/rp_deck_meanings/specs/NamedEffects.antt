@@ -52,8 +52,11 @@ module _ (whole truths : List (List ℕ)) where
       (λ s o. (with_bool s (place_in name truths) (truth_named value s arg o), Out o))
   effect_named arg (bodies.Return before value) store out =
       then_do (effect_named arg before store out)
-      (λ s o. (s, if fits_64 (value_named value s arg o) then Out (value_named value s arg o)
-      else Raised))
+      (λ s o. (
+        s,
+        if fits_64 (value_named value s arg o) then Out (value_named value s arg o)
+            else Raised,
+      ))
   effect_named arg (bodies.If before condition first second) store out =
       then_do (effect_named arg before store out)
       (λ s o. if truth_named condition s arg o then effect_named arg first s o

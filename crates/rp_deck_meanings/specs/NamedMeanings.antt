@@ -1,6 +1,5 @@
 -- What a deck means: each name is replaced by its place among the names of its kind.
 use Rattle.std.specs.Prelude.{ℕ, ◌+◌, ℤ, pos, List, [], ◌∷◌, map, length, unwrap_or, if◌then◌else◌}
-use Rattle.std.specs.Prelude.{Option}
 use Rattle.std.specs.Str.{bytes_eq}
 use Rattle.rp_base.specs.declared.action.Operation.{Operation}
 use Rattle.rp_base.specs.declared.action.Operation.TheVariants as operations
@@ -17,7 +16,7 @@ use Rattle.rp_deck_bodies.specs.Bodies.{BodyText as body_texts}
 use Rattle.rp_deck_objects.specs.Objects.{FunctionText, EntryText}
 use Rattle.rp_deck_objects.specs.Objects.{FunctionText as function_texts}
 use Rattle.rp_deck_objects.specs.ObjectViews.{ProtectedText}
-use Rattle.rp_deck_declarations.specs.DeclaredTexts.{DeclaredText, ProgramText, Objects}
+use Rattle.rp_deck_declarations.specs.DeclaredTexts.{DeclaredText, Objects}
 use Rattle.rp_deck.specs.Meaning.{DeckText}
 use Rattle.rp_deck.specs.ScriptLines.{CommandText}
 use Rattle.rp_deck.specs.ScriptLines.{CommandText as command_texts}

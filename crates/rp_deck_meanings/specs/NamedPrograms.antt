@@ -15,7 +15,7 @@ use Rattle.rp_object.specs.declared.program.Declarations.{Declarations}
 use Rattle.rp_object.specs.declared.program.ObjectDeclaration.{ObjectDeclaration}
 use Rattle.rp_deck_meanings.specs.Names.{place_in}
 use Rattle.rp_deck_meanings.specs.Named.{NamedBody, NamedResult, Value, Truth, NamedFunction}
-use Rattle.rp_deck_meanings.specs.Named.{NamedProcedure, NamedEntry, NamedObject, NamedTask}
+use Rattle.rp_deck_meanings.specs.Named.{NamedEntry, NamedObject, NamedTask}
 use Rattle.rp_deck_meanings.specs.Named.{NamedHandler, NamedDeck, functions, procedures, entries}
 use Rattle.rp_deck_meanings.specs.Named.{int_names, bool_names}
 use Rattle.rp_deck_meanings.specs.NamedTexts.{profile_of}

@@ -3,7 +3,7 @@ mod ExpressionTextLemmas
 mod ObjectDeckLemmas
 mod ObjectTextLemmas
 mod PartTextLemmas
-mod ScriptTextLemmas
+pub mod ScriptTextLemmas
 mod SpacedLemmas
 mod TallyTextLemmas
 mod TextsLemmas

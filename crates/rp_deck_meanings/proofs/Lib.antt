@@ -1,0 +1,11 @@
+mod NameLemmas
+mod NamingLemmas
+mod ObjectLemmas
+mod PartLemmas
+mod OperationLemmas
+mod DeckLemmas
+mod CommandLemmas
+mod WholeLemmas
+mod TallyLemmas
+mod EffectLemmas
+mod ProgramLemmas

@@ -12,4 +12,5 @@ returns c =
     let first = c.in_ok-subcommand.ensures.shape (search rules) ∙ ap₂ with_subcommand top (ap (λ (a : App). a.top) c.in_ok-script.ensures.app) in
     let second = c.in_ok-subcommand-2.ensures.shape (search rules) ∙ ap₂ with_subcommand first (ap (λ (a : App). a.top) c.in_ok-live.ensures.app) in
     let third = c.in_ok-subcommand-3.ensures.shape (search rules) ∙ ap₂ with_subcommand second (ap (λ (a : App). a.top) c.in_ok-chart.ensures.app) in
-    IfOk-weaker c.subcommand-4.result _ _ (λ r added. added.shape (search rules) ∙ ap₂ with_subcommand third (ap (λ (a : App). a.top) c.in_ok-explore.ensures.app)) c.subcommand-4.ensures
+    let fourth = c.in_ok-subcommand-4.ensures.shape (search rules) ∙ ap₂ with_subcommand third (ap (λ (a : App). a.top) c.in_ok-explore.ensures.app) in
+    IfOk-weaker c.subcommand-5.result _ _ (λ r added. added.shape (search rules) ∙ ap₂ with_subcommand fourth (ap (λ (a : App). a.top) c.in_ok-bind.ensures.app)) c.subcommand-5.ensures

@@ -101,6 +101,10 @@ returns-clause-bind g c language is =
 pub returns-in-Some-subcommand_matches-3-clause-refused : goal.returns-in-Some-subcommand_matches-3-clause-refused
 returns-in-Some-subcommand_matches-3-clause-refused g c = taken g (goal.at.returns-in-Some-subcommand_matches-3-clause-refused g c).In_ok-matches
 
+pub returns-in-Some-subcommand_matches-3-clause-named : goal.returns-in-Some-subcommand_matches-3-clause-named
+returns-in-Some-subcommand_matches-3-clause-named g c =
+    met_name _ (map g.S.AsStr.text c.args.words.now) c.in_ok-matches.matches _ c.in_ok-command.ensures c.in_ok-matches.ensures.matches ∙ c.in-Some-subcommand_matches-3.ensures.found.0 refl
+
 pub returns-clause-named : goal.returns-clause-named
 returns-clause-named g c =
     met_name _ (map g.S.AsStr.text c.args.words.now) c.in_ok-matches.matches _ c.in_ok-command.ensures c.in_ok-matches.ensures.matches ∙ c.in-Some-subcommand_matches-4.ensures.found.0 refl

@@ -10,7 +10,7 @@
 
 #include "udp.h"
 
-enum { BATCH = 64, WAIT_MS = 2, MOST_PACKETS = 128, ASK_MS = 1000, WINDOW = 64, AHEAD = 16 };
+enum { BATCH = 64, WAIT_MS = 2, MOST_PACKETS = 128, ASK_MS = 1000, WINDOW = 64, AHEAD = 16, IN_FLIGHT = 8 };
 
 /* Packets one after another, and where each ends. */
 struct packets {
@@ -141,10 +141,10 @@ static void lead(uint32_t position) {
 }
 
 /* A node that led last, and whose position was decided, leads at once for what is pending: it need not wait. With `ranges` it
- * does not wait for the decision either, and leads for each pending item at the next position; where a proposal is lost, it
- * is the advice that leads there again. */
+ * does not wait for the decision either, and leads for each pending item at the next position. A proposal that is lost leaves
+ * a gap, where the advice leads again after its wait; so a node is not further ahead than tasks have calls, one each. */
 static bool leads_on(void) {
-  uint32_t applied = 0, pending = 0, last = last_of(with_ranges ? WINDOW : 1);
+  uint32_t applied = 0, pending = 0, last = last_of(with_ranges ? IN_FLIGHT : 1);
   (void)rp_node_applied(&node, &applied);
   (void)rp_node_pending(&node, &pending);
   if (led == 0 || led >= last || pending == 0) return false;

@@ -1,4 +1,4 @@
---  What the packages of Ada that `rp_bind` makes of a deck are made of: subprograms that are one call of an operation of a
+--  What the packages of `rp_console bind --ada` are made of: subprograms that are one call of an operation of a
 --  replicated object each. Every argument and every result is a whole number of 64 bits, as in a deck; an argument
 --  that is left out is 0.
 

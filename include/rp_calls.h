@@ -1,4 +1,4 @@
-/* What the header that `rp_bind` makes of a deck is made of: a call of an operation of a replicated object, by the kind and
+/* What the header of `rp_console bind --c` is made of: a call of an operation of a replicated object, by the kind and
  * the index of the operation, and the type of its result. */
 #ifndef RP_CALLS_H
 #define RP_CALLS_H

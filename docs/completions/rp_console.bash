@@ -8,7 +8,8 @@ _rp_console() {
         live) words=" --seed --turns -h --help " ;;
         chart) words=" --position --hide-self --from --to --html -h --help " ;;
         explore) words=" --states --deck -h --help " ;;
-        *) words=" script live chart explore -h --help -V --version " ;;
+        bind) words=" --ada --c -h --help " ;;
+        *) words=" script live chart explore bind -h --help -V --version " ;;
     esac
     [[ $COMP_CWORD -gt 1 && $words == *script* ]] && return
     for used in "${COMP_WORDS[@]:1:COMP_CWORD-1}"; do words=${words/ $used / }; done

@@ -1,7 +1,7 @@
 #compdef rp_console
 # Made by tools/words. Copy it to a folder of $fpath as _rp_console.
 _rp_console() {
-    local -a commands=('script:Reads a deck from standard input and runs its script' 'live:Reads a deck from standard input and runs its nodes and tasks as threads' 'chart:Reads a deck from standard input, runs its script and prints a drawing of what happens' 'explore:Reads a deck from standard input and explores every order of what its script asks for')
+    local -a commands=('script:Reads a deck from standard input and runs its script' 'live:Reads a deck from standard input and runs its nodes and tasks as threads' 'chart:Reads a deck from standard input, runs its script and prints a drawing of what happens' 'explore:Reads a deck from standard input and explores every order of what its script asks for' 'bind:Reads a deck from standard input and prints its objects as packages of Ada or as a header of C')
     local state line
     _arguments -C '-h[Print help]' \
                 '--help[Print help]' \
@@ -27,6 +27,10 @@ _rp_console() {
                 '--help[Print help]' ;;
             explore) _arguments '--states[At most how many states are found, 1 to 10000000 (default: 1000000)]:S:' \
                 '--deck[Prints a deck for script that shows outcome N, 1 to 4294967295]:N:' \
+                '-h[Print help]' \
+                '--help[Print help]' ;;
+            bind) _arguments '--ada[Prints packages of Ada, as without an option]' \
+                '--c[Prints a header of C]' \
                 '-h[Print help]' \
                 '--help[Print help]' ;;
         esac ;;

@@ -13,10 +13,11 @@ use Rattle.clap.proofs.WalkLemmas.{one_text-rows}
 use Rattle.clap.specs.Words.{is_simple, is_simple_and_free, HasKind, subcommand_rows_of, subcommand_name_of}
 use Rattle.clap.specs.declared.parser.matches.ArgMatches.{ArgMatches}
 use Rattle.clap.specs.declared.parser.matches.ArgMatches.TheViews.{out-ArgMatches}
+use Rattle.rp_bind.specs.declared.lines.Language.{Language}
 use Rattle.rp_explore_run.specs.declared.answer.ExploreRequest.{ExploreRequest}
 use Rattle.rp_history.specs.declared.view.View.{View}
 use Rattle.rp_chart.specs.declared.chart.ChartRequest.{ChartRequest}
-use Rattle.rp_console.specs.CommandLine.{console, option_of, IsChartRequest, IsRequest, IsView, ReadsAs}
+use Rattle.rp_console.specs.CommandLine.{console, option_of, IsChartRequest, IsLanguage, IsRequest, IsView, ReadsAs}
 
 or_else_second : (first second : Kinds) → or_else first second ≡ [] → second ≡ []
 or_else_second [] second e = e
@@ -43,24 +44,25 @@ level_used s names h words used below expected quiet e =
     (or_else_second (walk_fault s names (walk_from h) words) (or_else below (or_else settle (or_else defaults last))) e))) in
     last_check used s.arg_required_else_help _ s.subcommand_required _ expected quiet none
 
--- it is one of four
-abbrev pub IsOneOfFour : (found : Option Text) (one other third fourth : Text) → Type 0
-IsOneOfFour found one other third fourth = (found ≡ Some one) ⊎ ((found ≡ Some other) ⊎ ((found ≡ Some third) ⊎ (found ≡ Some fourth)))
+-- it is one of five
+abbrev pub IsOneOfFive : (found : Option Text) (one other third fourth fifth : Text) → Type 0
+IsOneOfFive found one other third fourth fifth = (found ≡ Some one) ⊎ ((found ≡ Some other) ⊎ ((found ≡ Some third) ⊎ ((found ≡ Some fourth) ⊎ (found ≡ Some fifth))))
 
-one_entered : (first second third fourth : Bool) (s t u v : Shape) (words : List Text)
-    → let found : Option (Text × List Row) = option_map (λ x. rows_at x words) (cond first (Some s) (cond second (Some t) (cond third (Some u) (cond fourth (Some v) None)))) in
-    is_some found ≡ true → IsOneOfFour (option_map (λ f. f.0) found) s.name t.name u.name v.name
-one_entered true second third fourth s t u v words e = inl refl
-one_entered false true third fourth s t u v words e = inr (inl refl)
-one_entered false false true fourth s t u v words e = inr (inr (inl refl))
-one_entered false false false true s t u v words e = inr (inr (inr refl))
-one_entered false false false false s t u v words e = cc
+one_entered : (first second third fourth fifth : Bool) (s t u v w : Shape) (words : List Text)
+    → let found : Option (Text × List Row) = option_map (λ x. rows_at x words) (cond first (Some s) (cond second (Some t) (cond third (Some u) (cond fourth (Some v) (cond fifth (Some w) None))))) in
+    is_some found ≡ true → IsOneOfFive (option_map (λ f. f.0) found) s.name t.name u.name v.name w.name
+one_entered true second third fourth fifth s t u v w words e = inl refl
+one_entered false true third fourth fifth s t u v w words e = inr (inl refl)
+one_entered false false true fourth fifth s t u v w words e = inr (inr (inl refl))
+one_entered false false false true fifth s t u v w words e = inr (inr (inr (inl refl)))
+one_entered false false false false true s t u v w words e = inr (inr (inr (inr refl)))
+one_entered false false false false false s t u v w words e = cc
 
--- where there are four subcommands, it is one of them that was entered
-entered_one : (a : App) (s t u v : Shape) (stop : Option (Text × List Text)) → a.subs ≡ s ∷ t ∷ u ∷ v ∷ [] → is_some (entered a stop) ≡ true
-    → IsOneOfFour (option_map (λ f. f.0) (entered a stop)) s.name t.name u.name v.name
-entered_one a s t u v None only e = cc
-entered_one a s t u v (Some p) only e = rw only (one_entered _ _ _ _ s t u v p.1 (rw only at e))
+-- where there are five subcommands, it is one of them that was entered
+entered_one : (a : App) (s t u v w : Shape) (stop : Option (Text × List Text)) → a.subs ≡ s ∷ t ∷ u ∷ v ∷ w ∷ [] → is_some (entered a stop) ≡ true
+    → IsOneOfFive (option_map (λ f. f.0) (entered a stop)) s.name t.name u.name v.name w.name
+entered_one a s t u v w None only e = cc
+entered_one a s t u v w (Some p) only e = rw only (one_entered _ _ _ _ _ s t u v w p.1 (rw only at e))
 
 map_map : {A B C : Type 0} (f : B → C) (g : A → B) (o : Option A) → option_map f (option_map g o) ≡ option_map (λ x. f (g x)) o
 map_map f g None = refl
@@ -70,10 +72,10 @@ map_map f g (Some x) = refl
 pub name_of_rows : (m : ArgMatches) → option_map (λ found. found.0) (subcommand_rows_of m) ≡ subcommand_name_of m
 name_of_rows m = map_map _ _ (out-ArgMatches m).subcommand
 
--- the words that clap takes name one of the four subcommands
+-- the words that clap takes name one of the five subcommands
 pub subcommand_name : (words : List Text) → fault_of console words ≡ []
-    → IsOneOfFour (option_map (λ found. found.0) (subcommand_of console words)) (codes "script") (codes "live") (codes "chart") (codes "explore")
-subcommand_name words e = entered_one (built console) _ _ _ _ (stop_after (built console).top.rules (names_of (built console)) (argument_words console words)) refl (level_used _ _ _ _ _ _ refl refl e)
+    → IsOneOfFive (option_map (λ found. found.0) (subcommand_of console words)) (codes "script") (codes "live") (codes "chart") (codes "explore") (codes "bind")
+subcommand_name words e = entered_one (built console) _ _ _ _ _ (stop_after (built console).top.rules (names_of (built console)) (argument_words console words)) refl (level_used _ _ _ _ _ _ refl refl e)
 
 is_simple_console : is_simple console ≡ true
 unfolding clap_on_literals
@@ -107,9 +109,9 @@ module _ (a : App) (words : List Text) (m : ArgMatches) (rows : Type 0) (same : 
   pub met_name : option_map (λ found. found.0) (subcommand_of console words) ≡ subcommand_name_of m
   met_name = ap (option_map (λ found. found.0)) (sym met_rows) ∙ name_of_rows m
 
-  -- a parse without fault used one of the four
-  pub met_one : fault_of console words ≡ [] → IsOneOfFour (subcommand_name_of m) (codes "script") (codes "live") (codes "chart") (codes "explore")
-  met_one none = subst (λ (found : Option Text). IsOneOfFour found (codes "script") (codes "live") (codes "chart") (codes "explore")) met_name (subcommand_name words none)
+  -- a parse without fault used one of the five
+  pub met_one : fault_of console words ≡ [] → IsOneOfFive (subcommand_name_of m) (codes "script") (codes "live") (codes "chart") (codes "explore") (codes "bind")
+  met_one none = subst (λ (found : Option Text). IsOneOfFive found (codes "script") (codes "live") (codes "chart") (codes "explore") (codes "bind")) met_name (subcommand_name words none)
 
   -- what the matches of a subcommand of this name have of an option
   pub option_read : (name option : Text) (inner : ArgMatches) → subcommand_name_of m ≡ Some name → bytes_eq name name ≡ true
@@ -149,4 +151,11 @@ module _ (one other : Text → Option Text) (same : (option : Text) → one opti
     states = λ number reads. is.states number (read_by 32 (codes "states") number reads);
     no_deck = λ e. is.no_deck (same (codes "deck") ∙ e);
     deck = λ number reads. is.deck number (read_by 32 (codes "deck") number reads);
+  }
+
+  -- and they choose the same language
+  pub is_language_by : (language : Language) → IsLanguage one language → IsLanguage other language
+  is_language_by language is = record {
+    c = λ e. is.c (same (codes "c") ∙ e);
+    ada = λ e. is.ada (same (codes "c") ∙ e);
   }

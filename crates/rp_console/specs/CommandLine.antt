@@ -8,12 +8,14 @@ use Rattle.clap.specs.Words.{with_rule, with_subcommand}
 use Rattle.clap.specs.Simple.{on_top}
 use Rattle.clap.specs.declared.builder.action.ArgAction.TheVariants.{SetTrue}
 use Rattle.clap.specs.declared.builder.value_parser.ValueParser.TheVariants.{Signed}
+use Rattle.rp_bind.specs.declared.lines.Language.{Language}
+use Rattle.rp_bind.specs.declared.lines.Language.TheVariants as languages
 use Rattle.rp_explore_run.specs.declared.answer.ExploreRequest.{ExploreRequest}
 use Rattle.rp_history.specs.declared.view.View.{View}
 use Rattle.rp_chart.specs.declared.chart.ChartRequest.{ChartRequest}
 use Rattle.rp_page.specs.declared.page.Form.TheVariants.{Drawing, Page}
 use Rattle.rp_console.specs.declared.args.Args.{Args}
-use Rattle.rp_console.specs.declared.args.Args.TheVariants.{Script, Live, Chart, Explore}
+use Rattle.rp_console.specs.declared.args.Args.TheVariants.{Script, Live, Chart, Explore, Bind}
 
 -- a command that has a version and requires one of its subcommands, not counting `help`
 abbrev pub with_choice : Shape → Shape
@@ -103,9 +105,26 @@ console_of_runs =
     with_subcommand (with_subcommand (on_top with_choice (new_app (codes "rp_console"))) script.top)
     live.top
 
--- the program's command line: the subcommands `script`, `live`, `chart` and `explore`
+-- an option of this name, which takes no value
+abbrev pub flag_option : Text → Rule
+flag_option name = record (new_rule name) { long = Some name; action = Some SetTrue }
+
+-- the options `--ada` and `--c`
+abbrev pub ada_option : Rule
+ada_option = flag_option (codes "ada")
+
+abbrev pub c_option : Rule
+c_option = flag_option (codes "c")
+
+-- the subcommand `bind`, with its two options
+abbrev pub bind : App
+bind = with_rule (with_rule (new_app (codes "bind")) ada_option) c_option
+
+-- the program's command line: the subcommands `script`, `live`, `chart`, `explore` and `bind`
 abbrev pub console : App
-console = with_subcommand (with_subcommand console_of_runs chart.top) explore.top
+console =
+    with_subcommand (with_subcommand (with_subcommand console_of_runs chart.top) explore.top)
+    bind.top
 
 -- the subcommand that asks for this
 abbrev pub name_of : Args → Text
@@ -113,6 +132,7 @@ name_of (Script traced) = codes "script"
 name_of (Live request) = codes "live"
 name_of (Chart view) = codes "chart"
 name_of (Explore request) = codes "explore"
+name_of (Bind language) = codes "bind"
 
 -- `live` with this seed and this many turns
 abbrev pub live_args : ℕ → ℕ → Args
@@ -143,6 +163,10 @@ chart_option words option = option_of (codes "chart") option words
 -- the value that the words give to an option of `explore`
 abbrev pub explore_option : List Text → Text → Option Text
 explore_option words option = option_of (codes "explore") option words
+
+-- the value that the words give to an option of `bind`
+abbrev pub bind_option : List Text → Text → Option Text
+bind_option words option = option_of (codes "bind") option words
 
 -- the text is an optional `+` and the digits of this number of this many bits
 pub record IsNumberText (bits : ℕ) (text : Text) (number : ℕ) : Type 0 where
@@ -180,3 +204,8 @@ pub record IsRequest (value : Text → Option Text) (request : ExploreRequest) :
   pub states : (number : ℕ) → ReadsAs 32 (value (codes "states")) number → request.states ≡ number
   pub no_deck : value (codes "deck") ≡ None → request.deck ≡ None
   pub deck : (number : ℕ) → ReadsAs 32 (value (codes "deck")) number → request.deck ≡ Some number
+
+-- The language that the values of these options choose: C by `--c`, and else Ada.
+pub record IsLanguage (value : Text → Option Text) (language : Language) : Type 0 where
+  pub c : value (codes "c") ≡ Some (codes "true") → language ≡ languages.C
+  pub ada : value (codes "c") ≡ Some (codes "false") → language ≡ languages.Ada

@@ -1,12 +1,14 @@
 -- What the program does with the words of the command line, and how it ends.
 use Rattle.std.specs.Prelude.{◌≡◌, ◌⊎◌, ℕ, true, false, Option, Some, Result, Ok, Err, List}
-use Rattle.std.specs.Prelude.{[], codes, option_map, IfOk, IfErr, OnErr}
+use Rattle.std.specs.Prelude.{[], None, codes, option_map, IfOk, IfErr, OnErr, string_bytes}
 use Rattle.clap.specs.Kinds.{IsAmong}
 use Rattle.clap.specs.Words.{Text, fault_of, subcommand_of}
 use Rattle.clap.specs.declared.error.kind.ErrorKind.{ErrorKind}
 use Rattle.clap.specs.declared.error.kind.ErrorKind.TheVariants.{OutOfMemory}
 use Rattle.rp_base.specs.declared.fault.Fault.{Fault}
 use Rattle.rp_deck.specs.declared.deck.Mode.TheVariants as modes
+use Rattle.rp_bind.specs.declared.lines.Language.{Language}
+use Rattle.rp_bind_run.specs.Prints.{BindingBegins, FailsBinding, PrintsBinding}
 use Rattle.rp_chart.specs.Charts.{DrawingBegins, Draws}
 use Rattle.rp_chart.specs.declared.chart.Outcome.TheVariants.{Drawn}
 use Rattle.rp_chart.specs.declared.chart.Outcome.TheVariants as outcomes
@@ -16,9 +18,9 @@ use Rattle.rp_explore_run.specs.declared.answer.Verdict.{Verdict}
 use Rattle.rp_explore_run.specs.declared.answer.Verdict.TheVariants as verdicts
 use Rattle.rp_chart.specs.declared.chart.ChartRequest.{ChartRequest}
 use Rattle.rp_script.specs.Agreeing.{ScriptBegins, ScriptPrints}
-use Rattle.rp_console.specs.CommandLine.{chart_option, console, explore_option, live_args, name_of}
+use Rattle.rp_console.specs.CommandLine.{bind_option, chart_option, console, explore_option, live_args, name_of}
 use Rattle.rp_console.specs.CommandLine.{seed_of, trace_of, turns_of, IsChartRequest, IsRequest}
-use Rattle.rp_console.specs.CommandLine.{ReadsAs}
+use Rattle.rp_console.specs.CommandLine.{IsLanguage, ReadsAs}
 use Rattle.rp_script.specs.Figures.{figures_line_of}
 use Rattle.rp_script.specs.Given.{FailsRun}
 use Rattle.rp_script.specs.LiveRun.{LiveBegins, LivePrints}
@@ -26,9 +28,10 @@ use Rattle.rp_output.specs.Endings.{RefusesAs, status_of}
 use Rattle.rp_output.specs.FaultMessage.{fault_message_of, with_line_feed}
 use Rattle.rp_output.specs.Stream.{Writes}
 use Rattle.rp_console.specs.declared.args.Args.{Args}
-use Rattle.rp_console.specs.declared.args.Args.TheVariants.{Script, Live, Chart, Explore}
+use Rattle.rp_console.specs.declared.args.Args.TheVariants.{Script, Live, Chart, Explore, Bind}
 use Rattle.rp_console.specs.declared.console.Report.{Report}
 use Rattle.rp_console.specs.declared.console.Report.TheVariants.{Nothing, Figures, TooLong, Searched}
+use Rattle.rp_console.specs.declared.console.Report.TheVariants as reports
 use Rattle.rp_output.specs.declared.ending.Ending.{Ending}
 
 -- the bytes that a stream has, if the contract of its type says which they are
@@ -47,10 +50,12 @@ pub record AsksFor (words : List Text) (args : Args) : Type 0 where
       → IsChartRequest (chart_option words) request
   pub explore : (request : ExploreRequest) → args ≡ Explore request
       → IsRequest (explore_option words) request
+  pub bind : (language : Language) → args ≡ Bind language → IsLanguage (bind_option words) language
 
 -- What a run without a fault prints, of the deck that the bytes given to it mean. A script has
 -- nothing to report, a run in threads the figures of the run that it prints, a drawing that it is too
--- long, if it is: then nothing is printed; and a search what became of it.
+-- long, if it is: then nothing is printed; a search what became of it; and a deck's packages why there are
+-- none.
 abbrev pub Prints : Args → Content → Content → Content → Report → Type 0
 Prints (Script traced) given old new Nothing = ScriptPrints traced given old new
 Prints (Live request) given old new (Figures line) =
@@ -58,6 +63,9 @@ Prints (Live request) given old new (Figures line) =
 Prints (Chart request) given old new Nothing = Draws Drawn request given old new
 Prints (Chart request) given old new TooLong = Draws outcomes.TooLong request given old new
 Prints (Explore request) given old new (Searched verdict) = Explores request given old new verdict
+Prints (Bind language) given old new Nothing = PrintsBinding language given old new None
+Prints (Bind language) given old new (reports.Refused line) =
+    PrintsBinding language given old new (Some line)
 Prints args given old new report = ⊥
 
 -- what a run that a fault ends has printed: nothing, or a prefix of that
@@ -66,6 +74,7 @@ HasBegun (Script traced) given old new = ScriptBegins traced given old new
 HasBegun (Live request) given old new = LiveBegins request.seed request.turns given old new
 HasBegun (Chart request) given old new = DrawingBegins request given old new
 HasBegun (Explore request) given old new = ExploreBegins request given old new
+HasBegun (Bind language) given old new = BindingBegins language given old new
 
 -- the fault of what was asked for, by the deck as it is read for that
 abbrev pub Fails : Args → Content → Content → Content → Fault → Type 0
@@ -73,6 +82,7 @@ Fails (Script traced) given old new fault = FailsRun modes.Script given old new 
 Fails (Live request) given old new fault = FailsRun modes.Live given old new fault
 Fails (Chart request) given old new fault = FailsRun modes.Script given old new fault
 Fails (Explore request) given old new fault = FailsExplore given old new fault
+Fails (Bind language) given old new fault = FailsBinding given old new fault
 
 -- why there is no drawing of a whole run that is too long
 abbrev pub too_long_line : List ℕ
@@ -101,21 +111,23 @@ search_status verdicts.TooLong = 2
 search_status verdicts.NotShown = 7
 
 -- what is reported of a run: the line of its figures, that its drawing is too long, why there is no
--- deck of an outcome, or the line of its fault, if it has any
+-- deck of an outcome, why a deck has no packages, or the line of its fault, if it has any
 abbrev pub report_of : Result Report Fault → List ℕ
 report_of (Ok Nothing) = []
 report_of (Ok (Figures figures)) = with_line_feed (figures_line_of figures)
 report_of (Ok TooLong) = with_line_feed too_long_line
 report_of (Ok (Searched verdict)) = search_report verdict
+report_of (Ok (reports.Refused line)) = with_line_feed (string_bytes line)
 report_of (Err fault) = with_line_feed (fault_message_of fault)
 
--- the status after a run: 0 if it had no fault, 2 if its drawing is too long, that of a search, and
--- otherwise that of the fault
+-- the status after a run: 0 if it had no fault, 2 if its drawing is too long or a deck has no packages,
+-- that of a search, and otherwise that of the fault
 abbrev pub status_of_run : Result Report Fault → ℕ
 status_of_run (Ok Nothing) = 0
 status_of_run (Ok (Figures figures)) = 0
 status_of_run (Ok TooLong) = 2
 status_of_run (Ok (Searched verdict)) = search_status verdict
+status_of_run (Ok (reports.Refused line)) = 2
 status_of_run (Err fault) = status_of fault
 
 -- What the words ask for was run, with the deck that the bytes given to it mean. It printed the

@@ -3,10 +3,11 @@
 ghost use Rattle.std.specs.Prelude.{◌≡◌, ℕ, None, Some, true, false, codes, IfOk, map, option_map};
 ghost use Rattle.clap.specs.Words.{app_of, rule_of, subcommand_of, fault_of, found_of, one_text, FailsBy};
 ghost use Rattle.clap.specs.declared.builder.command.Command.TheViews.{out-Command};
-ghost use Rattle.rp_console.specs.CommandLine.{chart, chart_option, console, count_option, explore, explore_option, hide_self_option, html_option, live, live_args, name_of, position_option, script, seed, seed_of, states, trace_of, turns, turns_of, IsChartRequest, IsRequest, IsView, ReadsAs};
+ghost use Rattle.rp_console.specs.CommandLine.{ada_option, bind, bind_option, c_option, chart, chart_option, console, count_option, explore, explore_option, hide_self_option, html_option, live, live_args, name_of, position_option, script, seed, seed_of, states, trace_of, turns, turns_of, IsChartRequest, IsLanguage, IsRequest, IsView, ReadsAs};
 
 use clap::{Arg, ArgAction, ArgMatches, Command, Error, value_parser};
 use rp_base::Position;
+use rp_bind::Language;
 use rp_chart::ChartRequest;
 use rp_explore_run::ExploreRequest;
 use rp_history::View;
@@ -30,6 +31,8 @@ pub enum Args {
     Chart(ChartRequest),
     /// Explores every order of the program of the deck on standard input.
     Explore(ExploreRequest),
+    /// Prints the packages of the deck on standard input.
+    Bind(Language),
 }
 
 /// The program's command line.
@@ -40,6 +43,7 @@ pub fn command<'a>(alloc: Global) -> Result<Command<'a>, AllocError>
     let live = live_command(alloc)?;
     let chart = chart_command(alloc)?;
     let explore = explore_command(alloc)?;
+    let bind = bind_command(alloc)?;
     Command::new(alloc, "rp_console")
         .about("Runs a program of tasks and objects on a cluster of nodes in memory")
         .after_help("Example: rp_console script < DECK; decks are described in docs/DECK.md")
@@ -49,7 +53,8 @@ pub fn command<'a>(alloc: Global) -> Result<Command<'a>, AllocError>
         .subcommand(script)?
         .subcommand(live)?
         .subcommand(chart)?
-        .subcommand(explore)
+        .subcommand(explore)?
+        .subcommand(bind)
 }
 
 /// The subcommand `script`.
@@ -120,6 +125,20 @@ fn explore_command<'a>(alloc: Global) -> Result<Command<'a>, AllocError>
             "deck",
             "Prints a deck for script that shows outcome N, 1 to 4294967295",
         ))
+}
+
+/// The subcommand `bind`.
+fn bind_command<'a>(alloc: Global) -> Result<Command<'a>, AllocError>
+    ensures app { IfOk result (λ command. app_of command ≡ bind) }
+    ensures local { IfOk result (λ command. (out-Command command).has_globals ≡ false) }
+{
+    Command::new(alloc, "bind")
+        .about(
+            "Reads a deck from standard input and prints its objects as packages of Ada or as a header of C",
+        )
+        .override_usage("rp_console bind [OPTIONS] < DECK")
+        .arg(ada_option(alloc))?
+        .arg(c_option(alloc))
 }
 
 /// The option `--seed`.
@@ -197,6 +216,28 @@ fn html_option<'a>(alloc: Global) -> Arg<'a>
         .action(ArgAction::SetTrue)
 }
 
+/// The option `--ada`.
+fn ada_option<'a>(alloc: Global) -> Arg<'a>
+    ensures rule { rule_of result ≡ ada_option }
+    ensures local { result.global ≡ false }
+{
+    Arg::new(alloc, "ada")
+        .long("ada")
+        .help("Prints packages of Ada, as without an option")
+        .action(ArgAction::SetTrue)
+}
+
+/// The option `--c`.
+fn c_option<'a>(alloc: Global) -> Arg<'a>
+    ensures rule { rule_of result ≡ c_option }
+    ensures local { result.global ≡ false }
+{
+    Arg::new(alloc, "c")
+        .long("c")
+        .help("Prints a header of C")
+        .action(ArgAction::SetTrue)
+}
+
 /// An option that takes a number from 1 on.
 fn count_option<'a>(alloc: Global, name: &'a str, help: &'a str) -> Arg<'a>
     ensures rule { rule_of result ≡ count_option name.now }
@@ -216,7 +257,8 @@ pub fn read_args<S: AsStr>(alloc: Global, words: &[S]) -> Result<Args, Error>
     //   clap's rules say. For a drawing they choose a position, whether packets from a node to
     //   itself are drawn, the first and the last moment that is drawn, and whether a page is made of
     //   it; for a search how many
-    //   states it may find, and whether it is to print the deck of an outcome, and of which
+    //   states it may find, and whether it is to print the deck of an outcome, and of which; and for
+    //   packages their language
     ensures named { IfOk result (λ args. option_map (λ found. found.0)
         (subcommand_of console (map S.text words.now)) ≡ Some (name_of args)) }
     ensures traced { IfOk result (λ args. trace_of (map S.text words.now) ≡ Some (codes "true")
@@ -232,6 +274,8 @@ pub fn read_args<S: AsStr>(alloc: Global, words: &[S]) -> Result<Args, Error>
     ensures explore { IfOk result (λ args. (request : ExploreRequest)
         → args ≡ Args.Explore request
         → IsRequest (explore_option (map S.text words.now)) request) }
+    ensures bind { IfOk result (λ args. (language : Language) → args ≡ Args.Bind language
+        → IsLanguage (bind_option (map S.text words.now)) language) }
     ensures refused { FailsBy (fault_of console (map S.text words.now)) result }
 {
     let matches = command(alloc)?.try_get_matches_from(words)?;
@@ -248,9 +292,23 @@ pub fn read_args<S: AsStr>(alloc: Global, words: &[S]) -> Result<Args, Error>
     if let Some(found) = matches.subcommand_matches("chart") {
         return Ok(Args::Chart(chart_of(found)));
     }
-    match matches.subcommand_matches("explore") {
-        Some(found) => Ok(Args::Explore(request_of(found))),
+    if let Some(found) = matches.subcommand_matches("explore") {
+        return Ok(Args::Explore(request_of(found)));
+    }
+    match matches.subcommand_matches("bind") {
+        Some(found) => Ok(Args::Bind(language_of(found))),
         None => unreachable!(),
+    }
+}
+
+/// The language that the options of `bind` choose.
+fn language_of(found: &ArgMatches<'_>) -> Language
+    ensures { IsLanguage (one_text (found_of found.now)) result }
+{
+    if found.get_flag("c") {
+        Language::C
+    } else {
+        Language::Ada
     }
 }
 

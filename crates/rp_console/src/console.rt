@@ -7,6 +7,7 @@ ghost use Rattle.rp_output.specs.Stream.{Writes};
 
 use crate::args::{Args, read_args};
 use rp_base::Fault;
+use rp_bind_run::bind_deck;
 use rp_chart::{Outcome, draw_script};
 use rp_explore_run::{Verdict, explore_deck};
 use rp_output::{Ending, Streams, fail, refuse_words, report};
@@ -29,6 +30,8 @@ pub enum Report {
     TooLong,
     /// What became of a search.
     Searched(Verdict),
+    /// Why a deck has no packages.
+    Refused(String),
 }
 
 /// Why there is no drawing.
@@ -54,12 +57,13 @@ pub fn obey<
     E: Write + Drop,
 >(rt: &T, alloc: Global, words: &[S], streams: &mut Streams<R, W, E>) -> Ending
     // claim: The program runs what its words ask for (a script, traced or not, a live run, a drawing
-    //   of a script's run, or a search over every order of a deck), and nothing if they are wrong. The
+    //   of a script's run, a search over every order of a deck, or a deck's packages), and nothing if they are wrong. The
     //   status is 0 if the run ended without a fault, no drawing was too long and a search is complete
     //   with no rule broken or printed the deck of an outcome, or if the words ask for help or the
     //   version; 5 exactly if a search broke a rule, and 6 exactly if it is not complete and broke
     //   none; 7 if the deck of an outcome does not show it; 3 at a bad deck; 2 at wrong words, if the
-    //   drawing is too long, or if there is no deck of the outcome, each of which one line reports;
+    //   drawing is too long, if there is no deck of the outcome, or if a name of the deck is none of Ada, each
+    //   of which one line reports;
     //   and 4 at every other fault. A fault is reported on standard error by its line, that of a bad deck
     //   with the first bad line that the deck's bytes mean and the first reason on it. A live run
     //   without a fault leaves there the line of the figures of the run that it printed, with a time
@@ -80,7 +84,7 @@ pub fn obey<
 }
 
 /// Runs the deck that the reader holds, in its script's order or in threads, draws its script's run,
-/// or explores every order of it. Returns what is to be reported of it.
+/// explores every order of it, or prints its packages. Returns what is to be reported of it.
 fn run_as<T: Threads + Wait + Clock + Sync, R: Read, W: Write>(
     rt: &T,
     alloc: Global,
@@ -113,6 +117,11 @@ fn run_as<T: Threads + Wait + Clock + Sync, R: Read, W: Write>(
             Ok(verdict) => Ok(Report::Searched(verdict)),
             Err(fault) => Err(fault),
         },
+        Args::Bind(language) => match bind_deck(alloc, reader, language, writer) {
+            Ok(None) => Ok(Report::Nothing),
+            Ok(Some(line)) => Ok(Report::Refused(line)),
+            Err(fault) => Err(fault),
+        },
     }
 }
 
@@ -138,6 +147,7 @@ fn end<E: Write>(errors: &mut E, ran: Result<Report, Fault>) -> Ending
             reported: report(errors, TOO_LONG),
         },
         Ok(Report::Searched(verdict)) => end_search(errors, verdict),
+        Ok(Report::Refused(line)) => refused(errors, 2, &line),
         Err(fault) => fail(errors, fault),
     }
 }

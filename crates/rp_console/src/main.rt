@@ -1,5 +1,5 @@
 //! The program: reads a deck on standard input, runs its script or all of it in threads, draws its
-//! script's run, or explores every order of it, and prints.
+//! script's run, explores every order of it, or makes its packages, and prints.
 //!
 //! In reading order:
 //! - `console`: does what the words of the command line ask for, and reports its faults

@@ -2,14 +2,17 @@ with Ada.Exceptions;
 with Ada.Real_Time;
 with Ada.Text_IO;
 with Callers;
+with Deck_Objects;
 with GNAT.OS_Lib;
 with Interfaces.C;
-with Reg;
 with RP;
 
 package body Workers is
    use Ada.Real_Time;
-   use type Reg.Value;
+   use type Callers.Value;
+
+   --  The objects of reg.deck, as `rp_console bind --ada` binds them: each call is one of the task that calls.
+   package Objects is new Deck_Objects (Callers.Call);
 
    protected body Finish is
       procedure Start is
@@ -41,11 +44,11 @@ package body Workers is
       Now    : Moment;
       Ignore : constant Interfaces.C.int := Clock_Gettime (Monotonic, Now);
    begin
-      return Reg.Value'Image (Reg.Value (Now.Seconds) * 1_000_000_000 + Reg.Value (Now.Nanoseconds));
+      return Callers.Value'Image (Callers.Value (Now.Seconds) * 1_000_000_000 + Callers.Value (Now.Nanoseconds));
    end Nanoseconds;
 
    task body Worker is
-      Old : Reg.Value;
+      Old : Callers.Value;
    begin
       while not Finish.Is_Started loop
          delay until Clock + Milliseconds (5);
@@ -54,7 +57,7 @@ package body Workers is
          Callers.Enrol (RP.Byte (Number));
          for K in 1 .. Calls_Each loop
             Ada.Text_IO.Put_Line (Number'Image & " call" & K'Image & Nanoseconds);
-            Reg.Swap (Reg.Value (Number) * 1_000_000_000 + Reg.Value (K), Old);
+            Objects.Reg.Swap (Callers.Value (Number) * 1_000_000_000 + Callers.Value (K), Old);
             Ada.Text_IO.Put_Line (Number'Image & " reply" & K'Image & Old'Image & Nanoseconds);
          end loop;
       end if;

@@ -1,16 +1,16 @@
 /* A node of a deck as a process: a file is its device, and packets are datagrams.
  *
- *   node DECK NUMBER NODES DEVICE PORT [TO]
+ *   node DECK NUMBER NODES DEVICE PORT [TO [ranges]]
  *
- * It gets at PORT + NUMBER and sends to TO + the receiver's party (PORT if TO is left out). What the theorem asks of a
- * caller (docs/C.md) is kept at the lines that are marked by RULE. */
+ * It gets at PORT + NUMBER and sends to TO + the receiver's party (PORT if TO is left out). With `ranges` it asks for promises
+ * ahead (`ask_ahead`). What the theorem asks of a caller (docs/C.md) is kept at the lines that are marked by RULE. */
 #include <fcntl.h>
 #include <sys/file.h>
 #include <sys/stat.h>
 
 #include "udp.h"
 
-enum { BATCH = 64, WAIT_MS = 2, MOST_PACKETS = 128, ASK_MS = 1000, WINDOW = 64 };
+enum { BATCH = 64, WAIT_MS = 2, MOST_PACKETS = 128, ASK_MS = 1000, WINDOW = 64, AHEAD = 16, IN_FLIGHT = 8 };
 
 /* Packets one after another, and where each ends. */
 struct packets {
@@ -113,20 +113,42 @@ static bool is_to_ask(uint64_t now) {
   return true;
 }
 
-static uint32_t led; /* where this node led last */
+static bool with_ranges;
+static uint32_t led, asked_to; /* where this node led last, and where the range that it asked for last ends */
+
+/* The last of the first `most` positions that are not applied. */
+static uint32_t last_of(uint32_t most) {
+  uint32_t applied = 0, left = 0;
+  (void)rp_node_applied(&node, &applied);
+  (void)rp_node_left(&node, &left);
+  return applied + (left < most ? left : most);
+}
+
+/* With `ranges`: asks for promises at all positions that follow in the window, in one step, once few are left of those that
+ * it asked for. A lead at a promised position asks for votes alone. It is a step as any other, so what it owes is the three
+ * rules. A range that is lost or refused costs its promises: the leads at its positions ask for them again. */
+static void ask_ahead(void) {
+  uint32_t first = (asked_to > led ? asked_to : led) + 1, last = last_of(WINDOW);
+  if (!with_ranges || asked_to >= led + AHEAD || first > last) return;
+  keep(rp_node_lead_range(&node, (uint16_t)first, (uint8_t)(last - first + 1), &room));
+  asked_to = last;
+}
 
 static void lead(uint32_t position) {
   keep(rp_node_lead_at(&node, (uint16_t)position, &room));
   led = position;
+  ask_ahead();
 }
 
-/* A node that led last, and whose position was decided, leads at once for what is pending: it need not wait. */
+/* A node that led last, and whose position was decided, leads at once for what is pending: it need not wait. With `ranges` it
+ * does not wait for the decision either, and leads for each pending item at the next position. A proposal that is lost leaves
+ * a gap, where the advice leads again after its wait; so a node is not further ahead than tasks have calls, one each. */
 static bool leads_on(void) {
-  uint32_t applied = 0, pending = 0;
+  uint32_t applied = 0, pending = 0, last = last_of(with_ranges ? IN_FLIGHT : 1);
   (void)rp_node_applied(&node, &applied);
   (void)rp_node_pending(&node, &pending);
-  if (led == 0 || applied < led || pending == 0) return false;
-  lead(applied + 1);
+  if (led == 0 || led >= last || pending == 0) return false;
+  for (; pending > 0 && led < last; pending--) lead((led > applied ? led : applied) + 1);
   return true;
 }
 
@@ -190,12 +212,13 @@ int main(int count, char **words) {
   static uint8_t deck[MOST_DECK];
   uint8_t header[RP_HEADER_BYTES];
   if (count < 6) {
-    fprintf(stderr, "node DECK NUMBER NODES DEVICE PORT [TO]\n");
+    fprintf(stderr, "node DECK NUMBER NODES DEVICE PORT [TO [ranges]]\n");
     return 2;
   }
   size_t length = read_deck(words[1], deck);
   me = (uint8_t)atoi(words[2]);
   nodes = (uint8_t)atoi(words[3]);
+  with_ranges = count > 7 && strcmp(words[7], "ranges") == 0;
   if (rp_device_header(deck, length, me, header, sizeof header) != RP_DONE) stop("the deck has no such node");
   open_node(deck, length, header, words[4]);
   net = link_of(header, me, atoi(words[5]), atoi(words[count > 6 ? 6 : 5]));

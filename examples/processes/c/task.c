@@ -5,9 +5,10 @@
  * It gets at PORT + RP_TASK_PARTY + NUMBER. A task that starts again goes on after the call AFTER, of which it had the reply:
  * the number of the next call was printed before the call was sent, and may be under way. So its first call changes nothing,
  * and the reply to it is not used (docs/C.md, "A task that restarts"). */
+#include "deck_objects.h" /* by `rp_console bind --c` of reg.deck */
 #include "udp.h"
 
-enum { REG = 1, CALLS = 1, SWAP = 1, RETRY_MS = 40 };
+enum { RETRY_MS = 40 };
 
 static struct link net;
 static rp_task stub = RP_CLOSED;
@@ -20,24 +21,25 @@ static uint64_t nanoseconds(void) {
 }
 
 /* One call of the replicated object. It returns once the reply is there, and asks again meanwhile, also another node. */
-static int64_t call(uint8_t operation, uint8_t index, int64_t argument) {
+static rp_call_reply call(void *context, uint8_t object, uint8_t operation, uint8_t index, int64_t argument) {
   static uint8_t datagram[MOST_DATAGRAM];
   rp_call_packet packet;
   rp_call_reply reply;
-  if (rp_task_operation(&stub, node, REG, operation, index, argument, &packet) != RP_DONE) stop("a call is refused");
+  (void)context;
+  if (rp_task_operation(&stub, node, object, operation, index, argument, &packet) != RP_DONE) stop("a call is refused");
   for (;;) {
     send_packet(&net, packet.bytes, packet.count);
     uint64_t due = milliseconds() + RETRY_MS, now;
     while ((now = milliseconds()) < due) {
       size_t count = receive_packet(&net, datagram, (int)(due - now));
-      if (count == 0 || rp_task_take(&stub, datagram + MARK, count, &reply) != RP_DONE || reply.kind == 0) continue;
-      if (reply.kind != RP_REPLY_VALUE) stop("the call raised an exception");
-      return reply.value;
+      if (count > 0 && rp_task_take(&stub, datagram + MARK, count, &reply) == RP_DONE && reply.kind != 0) return reply;
     }
     node = (uint8_t)(node % nodes + 1);
     if (rp_task_again(&stub, node, &packet) != RP_DONE) stop("a call is refused");
   }
 }
+
+static const rp_caller caller = {call, NULL};
 
 int main(int count, char **words) {
   static uint8_t deck[MOST_DECK];
@@ -54,13 +56,14 @@ int main(int count, char **words) {
   if (rp_task_open_after((uint8_t)number, (uint32_t)after, &stub) != RP_DONE) stop("no such task");
   setvbuf(stdout, NULL, _IOLBF, 0);
   if (count > 7) { /* it starts again: the next number may be that of a call under way */
-    call(RP_FUNCTION, CALLS, 0);
+    (void)reg__calls(&caller, 0, NULL);
     printf("%d again %d\n", number, ++after);
   }
   for (int made = after + 1; made <= calls; made++) {
     int64_t argument = (int64_t)number * 1000000000 + made;
     printf("%d call %d %llu\n", number, made, (unsigned long long)nanoseconds());
-    int64_t reply = call(RP_PROCEDURE, SWAP, argument);
+    int64_t reply;
+    if (reg__swap(&caller, argument, &reply) != RP_REPLY_VALUE) stop("the call raised an exception");
     printf("%d reply %d %lld %llu\n", number, made, (long long)reply, (unsigned long long)nanoseconds());
   }
   return 0;

@@ -1,9 +1,10 @@
 use Rattle.std.proofs.Common.{◌≡◌, ◌∙◌, [], map, inl, inr, rules, true, false, codes, ap, ap₂, sym, subst, refl, Option, Some}
 use Rattle.clap.specs.Words.{Text, fault_of, found_of, one_text, subcommand_name_of}
+use Rattle.rp_bind.specs.declared.lines.Language.{Language}
 use Rattle.rp_explore_run.specs.declared.answer.ExploreRequest.{ExploreRequest}
 use Rattle.rp_chart.specs.declared.chart.ChartRequest.{ChartRequest}
-use Rattle.rp_console.specs.CommandLine.{chart_option, console, explore_option, live_args, option_of, trace_of, IsChartRequest, IsRequest, ReadsAs}
-use Rattle.rp_console.proofs.CommandLineLemmas.{no_fault, has_fault, is_chart_by, is_request_by, met_name, met_one, option_read}
+use Rattle.rp_console.specs.CommandLine.{bind_option, chart_option, console, explore_option, live_args, option_of, trace_of, IsChartRequest, IsLanguage, IsRequest, ReadsAs}
+use Rattle.rp_console.proofs.CommandLineLemmas.{no_fault, has_fault, is_chart_by, is_language_by, is_request_by, met_name, met_one, option_read}
 use Rattle.rp_console.specs.declared.args.Args.TheVariants.{Script}
 use Rattle.rp_console.proofs.args.read_args.Given as given
 use Rattle.rp_console.proofs.args.read_args.Goals as goal
@@ -43,7 +44,10 @@ unreachable-requires g c =
         | inl live ↦ (let is : false ≡ true = c.in_default-subcommand_matches.ensures.found.1 live in cc)
         | inr last ↦ elim last [
           | inl chart ↦ (let is : false ≡ true = c.in_default-subcommand_matches-2.ensures.found.1 chart in cc)
-          | inr explore ↦ (let is : false ≡ true = c.in-None.ensures.found.1 explore in cc)
+          | inr rest ↦ elim rest [
+            | inl explore ↦ (let is : false ≡ true = c.in_default-subcommand_matches-3.ensures.found.1 explore in cc)
+            | inr bind ↦ (let is : false ≡ true = c.in-None.ensures.found.1 bind in cc)
+          ]
         ]
       ]
     ]
@@ -76,8 +80,8 @@ returns-in-Some-subcommand_matches-2-clause-chart g c request is =
     let same : request ≡ c.chart_of.result = cc in
     subst (λ (r : ChartRequest). IsChartRequest (chart_option (map g.S.AsStr.text c.args.words.now)) r) (sym same) (is_chart_by _ _ text c.chart_of.result c.chart_of.ensures)
 
-pub returns-clause-explore : goal.returns-clause-explore
-returns-clause-explore g c request is =
+pub returns-in-Some-subcommand_matches-3-clause-explore : goal.returns-in-Some-subcommand_matches-3-clause-explore
+returns-in-Some-subcommand_matches-3-clause-explore g c request is =
     let found = c.in-Some-subcommand_matches-3.found.now in
     let named : subcommand_name_of c.in_ok-matches.matches ≡ Some (codes "explore") = c.in-Some-subcommand_matches-3.ensures.found.0 refl in
     let text : (option : Text) → one_text (found_of found) option ≡ explore_option (map g.S.AsStr.text c.args.words.now) option = λ option.
@@ -85,6 +89,22 @@ returns-clause-explore g c request is =
     let same : request ≡ c.request_of.result = cc in
     subst (λ (r : ExploreRequest). IsRequest (explore_option (map g.S.AsStr.text c.args.words.now)) r) (sym same) (is_request_by _ _ text c.request_of.result c.request_of.ensures)
 
+pub returns-clause-bind : goal.returns-clause-bind
+returns-clause-bind g c language is =
+    let found = c.in-Some-subcommand_matches-4.found.now in
+    let named : subcommand_name_of c.in_ok-matches.matches ≡ Some (codes "bind") = c.in-Some-subcommand_matches-4.ensures.found.0 refl in
+    let text : (option : Text) → one_text (found_of found) option ≡ bind_option (map g.S.AsStr.text c.args.words.now) option = λ option.
+    option_read _ _ c.in_ok-matches.matches _ c.in_ok-command.ensures c.in_ok-matches.ensures.matches (codes "bind") option found named refl c.in-Some-subcommand_matches-4.ensures.rows in
+    let same : language ≡ c.language_of.result = cc in
+    subst (λ (l : Language). IsLanguage (bind_option (map g.S.AsStr.text c.args.words.now)) l) (sym same) (is_language_by _ _ text c.language_of.result c.language_of.ensures)
+
+pub returns-in-Some-subcommand_matches-3-clause-refused : goal.returns-in-Some-subcommand_matches-3-clause-refused
+returns-in-Some-subcommand_matches-3-clause-refused g c = taken g (goal.at.returns-in-Some-subcommand_matches-3-clause-refused g c).In_ok-matches
+
+pub returns-in-Some-subcommand_matches-3-clause-named : goal.returns-in-Some-subcommand_matches-3-clause-named
+returns-in-Some-subcommand_matches-3-clause-named g c =
+    met_name _ (map g.S.AsStr.text c.args.words.now) c.in_ok-matches.matches _ c.in_ok-command.ensures c.in_ok-matches.ensures.matches ∙ c.in-Some-subcommand_matches-3.ensures.found.0 refl
+
 pub returns-clause-named : goal.returns-clause-named
 returns-clause-named g c =
-    met_name _ (map g.S.AsStr.text c.args.words.now) c.in_ok-matches.matches _ c.in_ok-command.ensures c.in_ok-matches.ensures.matches ∙ c.in-Some-subcommand_matches-3.ensures.found.0 refl
+    met_name _ (map g.S.AsStr.text c.args.words.now) c.in_ok-matches.matches _ c.in_ok-command.ensures c.in_ok-matches.ensures.matches ∙ c.in-Some-subcommand_matches-4.ensures.found.0 refl

@@ -1,11 +1,13 @@
--- What is reported is the line of the run's figures, or that its drawing is too long.
+-- What is reported is the line of the run's figures, that its drawing is too long, or why a deck has
+-- no packages.
 use Rattle.std.proofs.Common.{◌≡◌, ◌∙◌, ℕ, List, Option, Result, Ok, ap, sym}
 use Rattle.rp_base.specs.declared.fault.Fault.{Fault}
+use Rattle.rp_output.specs.FaultMessage.{with_line_feed}
 use Rattle.rp_output.specs.Stream.{Writes}
 use Rattle.rp_output.proofs.Writing.{writes_same}
 use Rattle.rp_console.specs.Console.{report_of}
 use Rattle.rp_console.specs.declared.console.Report.{Report}
-use Rattle.rp_console.specs.declared.console.Report.TheVariants.{Figures, TooLong}
+use Rattle.rp_console.specs.declared.console.Report.TheVariants.{Figures, Refused, TooLong}
 use Rattle.rp_console.proofs.console.end.Goals as goal
 
 -- a run that left this is reported by its line
@@ -16,10 +18,13 @@ is_reported a b ran found left answer is same written =
 
 pub returns-in-Ok-Figures-clause-reported : goal.returns-in-Ok-Figures-clause-reported
 returns-in-Ok-Figures-clause-reported g c =
-    let found_is = rw c.in-Ok-Figures.is at c.in-Ok-Figures.field-0-is in
-    is_reported _ _ c.args.ran c.in-Ok-Figures.field-0 (Figures c.in-Ok-Figures.figures) c.report.result c.in-Ok-Figures.is found_is c.report.ensures.printed
+    is_reported _ _ c.args.ran c.in-Ok-Figures.field-0 (Figures c.in-Ok-Figures.figures) c.report.result c.in-Ok-Figures.is c.in-Ok-Figures.field-0-is c.report.ensures.printed
 
 pub returns-in-Ok-TooLong-clause-reported : goal.returns-in-Ok-TooLong-clause-reported
 returns-in-Ok-TooLong-clause-reported g c =
-    let found_is = rw c.in-Ok-TooLong.is at c.in-Ok-TooLong.field-0-is in
-    is_reported _ _ c.args.ran c.in-Ok-TooLong.field-0 TooLong c.report-in-Ok-TooLong.result c.in-Ok-TooLong.is found_is c.report-in-Ok-TooLong.ensures.printed
+    is_reported _ _ c.args.ran c.in-Ok-TooLong.field-0 TooLong c.report-in-Ok-TooLong.result c.in-Ok-TooLong.is c.in-Ok-TooLong.field-0-is c.report-in-Ok-TooLong.ensures.printed
+
+pub returns-in-Ok-Refused-clause-reported : goal.returns-in-Ok-Refused-clause-reported
+returns-in-Ok-Refused-clause-reported g c =
+    let written = writes_same _ _ _ (report_of (Ok (Refused c.in-Ok-Refused.line))) c.refused.result.reported (ap with_line_feed c.deref.ensures) c.refused.ensures.reported in
+    is_reported _ _ c.args.ran c.in-Ok-Refused.field-0 (Refused c.in-Ok-Refused.line) c.refused.result.reported c.in-Ok-Refused.is c.in-Ok-Refused.field-0-is written

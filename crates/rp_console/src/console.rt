@@ -174,8 +174,8 @@ fn run_as<T: Threads + Wait + Clock + Sync, R: Read, W: Write>(
 fn end<E: Write>(errors: &mut E, ran: Result<Report, Fault>, hint: Option<Hint<'_>>) -> Ending
     ensures status { result.status ≡ status_of_run ran }
     ensures reported { Writes (E.contents errors.old) (E.contents errors.new)
-        (report_of ran hint) result.reported }
-    ensures silent { report_of ran hint ≡ [] → E.contents errors.new ≡ E.contents errors.old }
+        (report_of ran hint.entry) result.reported }
+    ensures silent { report_of ran hint.entry ≡ [] → E.contents errors.new ≡ E.contents errors.old }
 {
     match ran {
         Ok(Report::Nothing) => Ending {
@@ -199,7 +199,7 @@ fn end<E: Write>(errors: &mut E, ran: Result<Report, Fault>, hint: Option<Hint<'
 fn fail_with<E: Write>(errors: &mut E, fault: Fault, hint: Option<Hint<'_>>) -> Ending
     ensures status { result.status ≡ status_of fault }
     ensures reported { Writes (E.contents errors.old) (E.contents errors.new)
-        (fault_report fault hint) result.reported }
+        (fault_report fault hint.entry) result.reported }
 {
     let Ending { status, reported } = fail(errors, fault);
     let (Some(hint), Ok(())) = (hint, reported) else {

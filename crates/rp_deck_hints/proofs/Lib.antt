@@ -1,2 +1,3 @@
-pub mod Graphic
-pub mod Walking
+mod Graphic
+mod LinesAt
+mod Walking

@@ -7,6 +7,7 @@ use Rattle.std.proofs.Math.Nat.{le-suc_iff}
 use Rattle.rp_base.specs.declared.fault.DeckReason.{DeckReason}
 use Rattle.rp_deck.specs.declared.deck.Mode.{Mode}
 use Rattle.rp_deck_hints.specs.Places.{after_lines, after_words, before_word, first_line, length_before, line_at, line_start, through_word}
+use Rattle.rp_deck_hints.proofs.LinesAt.{line_after}
 use Rattle.rp_deck_hints.specs.Hints.{IsAtFault, IsBadAt, IsNoneAtFault}
 use Rattle.rp_words.specs.Words.{after_word, is_at_end, is_blank, without_blanks}
 
@@ -64,7 +65,7 @@ module _ (mode : Mode) (text : List ℕ) (line : ℕ) (reason : DeckReason) (all
 
   module _ (rest : List ℕ) (rest_is : rest ≡ after_lines text (line - 1)) (all_is : all ≡ first_line rest) where
     line_is : all ≡ line_at text line
-    line_is = all_is ∙ ap first_line rest_is
+    line_is = all_is ∙ ap first_line rest_is ∙ line_after text (line - 1)
 
     -- the text up to where these bytes of the line begin
     pub cut_is : (here there : List ℕ) → here ≡ there

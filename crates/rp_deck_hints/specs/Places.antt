@@ -1,6 +1,8 @@
 -- The lines of a text and the words of a line, by what is after them, and a text up to a word.
-use Rattle.std.specs.Prelude.{ℕ, zero, suc, ◌+◌, ◌-◌, ◌==◌, List, take, drop, length, if◌then◌else◌}
+use Rattle.std.specs.Prelude.{ℕ, zero, suc, ◌+◌, ◌-◌, ◌==◌, List, [], take, drop, length}
+use Rattle.std.specs.Prelude.{slice_index_or, if◌then◌else◌}
 use Rattle.rp_words.specs.LineEnds.{line_end, without_return}
+use Rattle.rp_words.specs.Lines.{lines_of}
 use Rattle.rp_words.specs.Words.{without_blanks, first_word, after_word}
 
 -- the first line, without its end: a line feed, and the return right before it
@@ -28,7 +30,7 @@ length_before all end = length all - length end
 
 -- the line of this number, and where it begins; lines and words are counted from 1
 abbrev pub line_at : List ℕ → ℕ → List ℕ
-line_at text line = first_line (after_lines text (line - 1))
+line_at text line = slice_index_or (lines_of text) (line - 1) []
 
 abbrev pub line_start : List ℕ → ℕ → ℕ
 line_start text line = length_before text (after_lines text (line - 1))

@@ -126,7 +126,10 @@ fn hint_of<'a>(
 {
     match ran {
         Err(Fault::BadDeck { line, reason }) => {
-            hint_for(alloc, text, mode, *line, *reason).ok().flatten()
+            match hint_for(alloc, text, mode, *line, *reason) {
+                Ok(hint) => hint,
+                Err(_) => None,
+            }
         }
         _ => None,
     }
@@ -201,12 +204,15 @@ fn fail_with<E: Write>(errors: &mut E, fault: Fault, hint: Option<Hint<'_>>) -> 
     ensures reported { Writes (E.contents errors.old) (E.contents errors.new)
         (fault_report fault hint.entry) result.reported }
 {
-    let Ending { status, reported } = fail(errors, fault);
-    let (Some(hint), Ok(())) = (hint, reported) else {
-        return Ending { status, reported };
+    let ending = fail(errors, fault);
+    let Some(hint) = hint else {
+        return ending;
     };
+    if ending.reported.is_err() {
+        return ending;
+    }
     Ending {
-        status,
+        status: ending.status,
         reported: report(errors, hint),
     }
 }

@@ -1,1 +1,2 @@
 mod CommandLineLemmas
+mod Hinting

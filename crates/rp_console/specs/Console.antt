@@ -1,14 +1,19 @@
 -- What the program does with the words of the command line, and how it ends.
-use Rattle.std.specs.Prelude.{◌≡◌, ◌⊎◌, ℕ, true, false, Option, Some, Result, Ok, Err, List}
-use Rattle.std.specs.Prelude.{[], None, codes, option_map, IfOk, IfErr, OnErr, string_bytes}
+use Rattle.std.specs.Prelude.{◌≡◌, ◌⊎◌, ℕ, true, false, Option, Some, None, Result, Ok, Err}
+use Rattle.std.specs.Prelude.{List, [], ◌++◌, codes, option_map, IfOk, IfErr, IfSome, OnErr}
+use Rattle.std.specs.Prelude.{string_bytes}
 use Rattle.clap.specs.Kinds.{IsAmong}
 use Rattle.clap.specs.Words.{Text, fault_of, subcommand_of}
 use Rattle.clap.specs.declared.error.kind.ErrorKind.{ErrorKind}
 use Rattle.clap.specs.declared.error.kind.ErrorKind.TheVariants.{OutOfMemory}
 use Rattle.rp_base.specs.declared.fault.Fault.{Fault}
+use Rattle.rp_base.specs.declared.fault.Fault.TheVariants.{BadDeck}
+use Rattle.rp_deck.specs.declared.deck.Mode.{Mode}
 use Rattle.rp_deck.specs.declared.deck.Mode.TheVariants as modes
 use Rattle.rp_bind.specs.declared.lines.Language.{Language}
 use Rattle.rp_bind_run.specs.Prints.{BindingBegins, FailsBinding, PrintsBinding}
+use Rattle.rp_deck_hints.specs.Hints.{IsHint, hint_text}
+use Rattle.rp_deck_hints.specs.declared.hint.Hint.{Hint}
 use Rattle.rp_chart.specs.Charts.{DrawingBegins, Draws}
 use Rattle.rp_chart.specs.declared.chart.Outcome.TheVariants.{Drawn}
 use Rattle.rp_chart.specs.declared.chart.Outcome.TheVariants as outcomes
@@ -110,15 +115,37 @@ search_status verdicts.NoOutcome = 2
 search_status verdicts.TooLong = 2
 search_status verdicts.NotShown = 7
 
+-- how the deck is read for what was asked for
+abbrev pub mode_of : Args → Mode
+mode_of (Script traced) = modes.Script
+mode_of (Live request) = modes.Live
+mode_of (Chart request) = modes.Script
+mode_of (Explore request) = modes.Script
+mode_of (Bind language) = modes.Script
+
+-- a hint is one of a bad deck of these bytes
+abbrev pub IsHintOf : Mode → List ℕ → Result Report Fault → Option Hint → Type 0
+IsHintOf mode bytes ran None = Unit {0}
+IsHintOf mode bytes (Err (BadDeck line reason)) (Some hint) = IsHint mode bytes line reason hint
+IsHintOf mode bytes ran (Some hint) = ⊥
+
+-- what is reported of a fault: its line, and then that of a hint, if there is one
+abbrev pub hint_report : Option Hint → List ℕ
+hint_report None = []
+hint_report (Some hint) = with_line_feed (hint_text hint)
+
+abbrev pub fault_report : Fault → Option Hint → List ℕ
+fault_report fault hint = with_line_feed (fault_message_of fault) ++ hint_report hint
+
 -- what is reported of a run: the line of its figures, that its drawing is too long, why there is no
--- deck of an outcome, why a deck has no packages, or the line of its fault, if it has any
-abbrev pub report_of : Result Report Fault → List ℕ
-report_of (Ok Nothing) = []
-report_of (Ok (Figures figures)) = with_line_feed (figures_line_of figures)
-report_of (Ok TooLong) = with_line_feed too_long_line
-report_of (Ok (Searched verdict)) = search_report verdict
-report_of (Ok (reports.Refused line)) = with_line_feed (string_bytes line)
-report_of (Err fault) = with_line_feed (fault_message_of fault)
+-- deck of an outcome, why a deck has no packages, or what is reported of its fault, if it has any
+abbrev pub report_of : Result Report Fault → Option Hint → List ℕ
+report_of (Ok Nothing) hint = []
+report_of (Ok (Figures figures)) hint = with_line_feed (figures_line_of figures)
+report_of (Ok TooLong) hint = with_line_feed too_long_line
+report_of (Ok (Searched verdict)) hint = search_report verdict
+report_of (Ok (reports.Refused line)) hint = with_line_feed (string_bytes line)
+report_of (Err fault) hint = fault_report fault hint
 
 -- the status after a run: 0 if it had no fault, 2 if its drawing is too long or a deck has no packages,
 -- that of a search, and otherwise that of the fault
@@ -130,22 +157,27 @@ status_of_run (Ok (Searched verdict)) = search_status verdict
 status_of_run (Ok (reports.Refused line)) = 2
 status_of_run (Err fault) = status_of fault
 
--- What the words ask for was run, with the deck that the bytes given to it mean. It printed the
--- output of such a run, or a fault ended it after a prefix of that. If the bytes mean no deck,
--- nothing is printed, and the fault has the first bad line and the first reason on it. The status
--- is that of the run: 0 without a fault, 2 if a drawing is too long, that of a search, and otherwise
--- that of the fault. The figures of a live run are reported as well, and are those of the run that it
--- printed. A report that could not be written whole is a prefix of its line; with nothing to report,
--- nothing is written on standard error.
+-- What the words ask for was run, with the deck that the bytes given to it mean, which are all that
+-- the reader gives, if it is known what it gives. It printed the output of such a run, or a fault
+-- ended it after a prefix of that. If the bytes mean no deck, nothing is printed, and the fault has
+-- the first bad line and the first reason on it; it is reported, and a hint of the bytes may follow
+-- it. The status is that of the run: 0 without a fault, 2 if a drawing is too long, that of a
+-- search, and otherwise that of the fault. The figures of a live run are reported as well, and are
+-- those of the run that it printed. A report that could not be written whole is a prefix of its
+-- lines; with nothing to report, nothing is written on standard error.
 pub record RunsAs (args : Args) (given output output_after errors errors_after : Content)
     (ending : Ending) : Type 0 where
+  pub bytes : List ℕ
+  pub all : IfSome given (λ whole. bytes ≡ whole)
   pub ran : Result Report Fault
-  pub printed : IfOk ran (Prints args given output output_after)
-  pub begun : OnErr ran (HasBegun args given output output_after)
-  pub fault : IfErr ran (Fails args given output output_after)
+  pub hint : Option Hint
+  pub printed : IfOk ran (Prints args (Some bytes) output output_after)
+  pub begun : OnErr ran (HasBegun args (Some bytes) output output_after)
+  pub fault : IfErr ran (Fails args (Some bytes) output output_after)
+  pub hinted : IsHintOf (mode_of args) bytes ran hint
   pub status : ending.status ≡ status_of_run ran
-  pub reported : Writes errors errors_after (report_of ran) ending.reported
-  pub silent : report_of ran ≡ [] → errors_after ≡ errors
+  pub reported : Writes errors errors_after (report_of ran hint) ending.reported
+  pub silent : report_of ran hint ≡ [] → errors_after ≡ errors
 
 -- The words ask for a run, which was made; or they are wrong or memory ran out, and that was
 -- reported.

@@ -1,17 +1,21 @@
 //! Does what the words of the command line ask for, and reports its faults.
 
-ghost use Rattle.std.specs.Prelude.{◌≡◌, [], IfErr, IfOk, Ok, OnErr, map};
-ghost use Rattle.rp_console.specs.Console.{Fails, FollowsWords, HasBegun, Prints, report_of, search_report, search_status, status_of_run};
+ghost use Rattle.std.specs.Prelude.{◌≡◌, ◌≤◌, [], IfErr, IfOk, Ok, OnErr, length, map};
+ghost use Rattle.rp_console.specs.Console.{Fails, FollowsWords, HasBegun, IsHintOf, Prints, RunsAs, fault_report, mode_of, report_of, search_report, search_status, status_of_run};
+ghost use Rattle.rp_output.specs.Endings.{status_of};
 ghost use Rattle.rp_output.specs.FaultMessage.{with_line_feed};
 ghost use Rattle.rp_output.specs.Stream.{Writes};
+ghost use Rattle.rp_script.specs.Given.{most_bytes};
 
 use crate::args::{Args, read_args};
 use rp_base::Fault;
 use rp_bind_run::bind_deck;
 use rp_chart::{Outcome, draw_script};
+use rp_deck::Mode;
+use rp_deck_hints::{Hint, hint_for};
 use rp_explore_run::{Verdict, explore_deck};
 use rp_output::{Ending, Streams, fail, refuse_words, report};
-use rp_script::{FiguresLine, run_live, run_script};
+use rp_script::{FiguresLine, read_whole, run_live, run_script};
 use std::alloc::Global;
 use std::convert::AsStr;
 use std::io::{Read, Write};
@@ -65,7 +69,8 @@ pub fn obey<
     //   drawing is too long, if there is no deck of the outcome, or if a name of the deck is none of Ada, each
     //   of which one line reports;
     //   and 4 at every other fault. A fault is reported on standard error by its line, that of a bad deck
-    //   with the first bad line that the deck's bytes mean and the first reason on it. A live run
+    //   with the first bad line that the deck's bytes mean and the first reason on it, after which the
+    //   line of a hint of these bytes may follow. A live run
     //   without a fault leaves there the line of the figures of the run that it printed, with a time
     //   or without one. A line that could not be written whole is left there as a prefix of it. A
     //   script or a drawing without a fault leaves standard error as it was; wrong words print
@@ -75,11 +80,62 @@ pub fn obey<
         (E.contents streams.old.errors) (E.contents streams.new.errors) result }
 {
     match read_args(alloc, words) {
-        Ok(args) => {
-            let ran = run_as(rt, alloc, args, &mut streams.reader, &mut streams.writer);
-            end(&mut streams.errors, ran)
-        }
+        Ok(args) => run_to_end(rt, alloc, args, streams),
         Err(error) => refuse_words(&error, streams),
+    }
+}
+
+/// Reads the deck whole, runs what was asked for over it, and reports what became of that: of a bad
+/// deck its fault and a hint, unless memory ran out for it.
+fn run_to_end<T: Threads + Wait + Clock + Sync, R: Read + Drop, W: Write + Drop, E: Write + Drop>(
+    rt: &T,
+    alloc: Global,
+    args: Args,
+    streams: &mut Streams<R, W, E>,
+) -> Ending
+    ensures { RunsAs args (R.remaining streams.old.reader)
+        (W.contents streams.old.writer) (W.contents streams.new.writer)
+        (E.contents streams.old.errors) (E.contents streams.new.errors) result }
+{
+    let mode = mode_of(&args);
+    match read_whole(alloc, &mut streams.reader) {
+        Ok(text) => {
+            let ran = run_as(rt, alloc, args, &mut text.as_slice(), &mut streams.writer);
+            let hint = hint_of(alloc, &text, mode, &ran);
+            end(&mut streams.errors, ran, hint)
+        }
+        Err(fault) => fail(&mut streams.errors, fault),
+    }
+}
+
+/// How the deck is read for what was asked for.
+fn mode_of(args: &Args) -> Mode
+    ensures { result ≡ mode_of args.now }
+{
+    match args {
+        Args::Live(_) => Mode::Live,
+        _ => Mode::Script,
+    }
+}
+
+/// The hint for a bad deck of this text, if there is one and memory for it.
+fn hint_of<'a>(
+    alloc: Global,
+    text: &'a [u8],
+    mode: Mode,
+    ran: &Result<Report, Fault>,
+) -> Option<Hint<'a>>
+    requires { length text.now ≤ most_bytes }
+    ensures { IsHintOf mode text.now ran.now result }
+{
+    match ran {
+        Err(Fault::BadDeck { line, reason }) => {
+            match hint_for(alloc, text, mode, *line, *reason) {
+                Ok(hint) => hint,
+                Err(_) => None,
+            }
+        }
+        _ => None,
     }
 }
 
@@ -126,12 +182,12 @@ fn run_as<T: Threads + Wait + Clock + Sync, R: Read, W: Write>(
 }
 
 /// Reports a run's figures, that its drawing is too long, why there is no deck of an outcome, or its
-/// fault, if it has any.
-fn end<E: Write>(errors: &mut E, ran: Result<Report, Fault>) -> Ending
+/// fault with its hint, if it has any.
+fn end<E: Write>(errors: &mut E, ran: Result<Report, Fault>, hint: Option<Hint<'_>>) -> Ending
     ensures status { result.status ≡ status_of_run ran }
-    ensures reported { Writes (E.contents errors.old) (E.contents errors.new) (report_of ran)
-        result.reported }
-    ensures silent { report_of ran ≡ [] → E.contents errors.new ≡ E.contents errors.old }
+    ensures reported { Writes (E.contents errors.old) (E.contents errors.new)
+        (report_of ran hint.entry) result.reported }
+    ensures silent { report_of ran hint.entry ≡ [] → E.contents errors.new ≡ E.contents errors.old }
 {
     match ran {
         Ok(Report::Nothing) => Ending {
@@ -148,7 +204,26 @@ fn end<E: Write>(errors: &mut E, ran: Result<Report, Fault>) -> Ending
         },
         Ok(Report::Searched(verdict)) => end_search(errors, verdict),
         Ok(Report::Refused(line)) => refused(errors, 2, &line),
-        Err(fault) => fail(errors, fault),
+        Err(fault) => fail_with(errors, fault, hint),
+    }
+}
+
+/// Reports a fault, and then a hint, if there is one.
+fn fail_with<E: Write>(errors: &mut E, fault: Fault, hint: Option<Hint<'_>>) -> Ending
+    ensures status { result.status ≡ status_of fault }
+    ensures reported { Writes (E.contents errors.old) (E.contents errors.new)
+        (fault_report fault hint.entry) result.reported }
+{
+    let ending = fail(errors, fault);
+    let Some(hint) = hint else {
+        return ending;
+    };
+    if ending.reported.is_err() {
+        return ending;
+    }
+    Ending {
+        status: ending.status,
+        reported: report(errors, hint),
     }
 }
 

@@ -5,26 +5,27 @@ use Rattle.rp_base.specs.declared.fault.Fault.{Fault}
 use Rattle.rp_output.specs.FaultMessage.{with_line_feed}
 use Rattle.rp_output.specs.Stream.{Writes}
 use Rattle.rp_output.proofs.Writing.{writes_same}
+use Rattle.rp_deck_hints.specs.declared.hint.Hint.{Hint}
 use Rattle.rp_console.specs.Console.{report_of}
 use Rattle.rp_console.specs.declared.console.Report.{Report}
 use Rattle.rp_console.specs.declared.console.Report.TheVariants.{Figures, Refused, TooLong}
 use Rattle.rp_console.proofs.console.end.Goals as goal
 
 -- a run that left this is reported by its line
-is_reported : (a b : Option (List ℕ)) (ran : Result Report Fault) (found left : Report) (answer : Result Unit Fault)
-    → ran ≡ Ok found → found ≡ left → Writes a b (report_of (Ok left)) answer → Writes a b (report_of ran) answer
-is_reported a b ran found left answer is same written =
-    writes_same a b (report_of (Ok left)) (report_of ran) answer (sym (ap report_of (is ∙ ap Ok same))) written
+is_reported : (a b : Option (List ℕ)) (ran : Result Report Fault) (hint : Option Hint) (found left : Report) (answer : Result Unit Fault)
+    → ran ≡ Ok found → found ≡ left → Writes a b (report_of (Ok left) hint) answer → Writes a b (report_of ran hint) answer
+is_reported a b ran hint found left answer is same written =
+    writes_same a b (report_of (Ok left) hint) (report_of ran hint) answer (sym (ap (λ r. report_of r hint) (is ∙ ap Ok same))) written
 
 pub returns-in-Ok-Figures-clause-reported : goal.returns-in-Ok-Figures-clause-reported
 returns-in-Ok-Figures-clause-reported g c =
-    is_reported _ _ c.args.ran c.in-Ok-Figures.field-0 (Figures c.in-Ok-Figures.figures) c.report.result c.in-Ok-Figures.is c.in-Ok-Figures.field-0-is c.report.ensures.printed
+    is_reported _ _ c.args.ran c.args.hint c.in-Ok-Figures.field-0 (Figures c.in-Ok-Figures.figures) c.report.result c.in-Ok-Figures.is c.in-Ok-Figures.field-0-is c.report.ensures.printed
 
 pub returns-in-Ok-TooLong-clause-reported : goal.returns-in-Ok-TooLong-clause-reported
 returns-in-Ok-TooLong-clause-reported g c =
-    is_reported _ _ c.args.ran c.in-Ok-TooLong.field-0 TooLong c.report-in-Ok-TooLong.result c.in-Ok-TooLong.is c.in-Ok-TooLong.field-0-is c.report-in-Ok-TooLong.ensures.printed
+    is_reported _ _ c.args.ran c.args.hint c.in-Ok-TooLong.field-0 TooLong c.report-in-Ok-TooLong.result c.in-Ok-TooLong.is c.in-Ok-TooLong.field-0-is c.report-in-Ok-TooLong.ensures.printed
 
 pub returns-in-Ok-Refused-clause-reported : goal.returns-in-Ok-Refused-clause-reported
 returns-in-Ok-Refused-clause-reported g c =
-    let written = writes_same _ _ _ (report_of (Ok (Refused c.in-Ok-Refused.line))) c.refused.result.reported (ap with_line_feed c.deref.ensures) c.refused.ensures.reported in
-    is_reported _ _ c.args.ran c.in-Ok-Refused.field-0 (Refused c.in-Ok-Refused.line) c.refused.result.reported c.in-Ok-Refused.is c.in-Ok-Refused.field-0-is written
+    let written = writes_same _ _ _ (report_of (Ok (Refused c.in-Ok-Refused.line)) c.args.hint) c.refused.result.reported (ap with_line_feed c.deref.ensures) c.refused.ensures.reported in
+    is_reported _ _ c.args.ran c.args.hint c.in-Ok-Refused.field-0 (Refused c.in-Ok-Refused.line) c.refused.result.reported c.in-Ok-Refused.is c.in-Ok-Refused.field-0-is written

@@ -1,0 +1,3 @@
+mod Graphic
+mod LinesAt
+mod Walking

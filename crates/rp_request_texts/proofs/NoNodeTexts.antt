@@ -1,11 +1,11 @@
 -- Bytes that are no text of a request to a node.
-use Rattle.std.proofs.Common.{◌≡◌, ◌≢◌, ◌⊎◌, inl, inr, ◌<◌, ◌≤◌, ℕ, Bool, true, false, cond, ◌&&◌, List, [], ◌∷◌, length, Option, Some, None, refl, sym, ◌∙◌, ap, arith}
+use Rattle.std.proofs.Common.{◌≡◌, ◌≢◌, ◌⊎◌, inl, inr, ◌<◌, ◌≤◌, ℕ, Bool, true, false, cond, ◌&&◌, List, [], ◌∷◌, length, Option, Some, None, refl, ◌∙◌, ap, arith}
 use Rattle.std.specs.Prelude.{nat_le, ◌==◌}
 use Rattle.std.specs.Int.{w32, from_be_bytes}
 use Rattle.std.proofs.lemmas.Bool.{ne_eqb}
 use Rattle.std.proofs.lemmas.Bool.Decides.{nat_tests}
 use Rattle.rp_model.specs.Effect as inputs
-use Rattle.rp_requests.specs.Requests.{Asked, Applied, Image, LastAnswer, Left, Pending, Counted, given, interrupt_at, ask_to, question_asked, asked_by, asked_of}
+use Rattle.rp_requests.specs.Requests.{Asked, Applied, Image, LastAnswer, Left, Pending, Counted, given, question_asked, asked_by, asked_of}
 
 -- a number that is 0 or above a bound is not from 1 to it
 pub outside : (n most : ℕ) → (n ≡ 0) ⊎ (most < n) → (nat_le 1 n && nat_le n most) ≡ false

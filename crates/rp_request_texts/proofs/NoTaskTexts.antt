@@ -1,11 +1,10 @@
 -- Bytes that are no text of a request to a task.
-use Rattle.std.proofs.Common.{◌≡◌, ◌≢◌, ◌⊎◌, inl, inr, ◌<◌, ◌≤◌, ℕ, ℤ, Bool, true, false, cond, ◌&&◌, List, [], ◌∷◌, length, Option, Some, None, refl, sym, ◌∙◌, ap, arith}
+use Rattle.std.proofs.Common.{◌≡◌, ◌≢◌, ◌⊎◌, inl, inr, ◌<◌, ◌≤◌, ℕ, ℤ, Bool, true, false, cond, List, [], ◌∷◌, length, Option, Some, None, refl, ◌∙◌, ap, arith}
 use Rattle.std.specs.Prelude.{◌==◌}
 use Rattle.std.specs.Int.{w64, from_be_bytes, cast_signed}
 use Rattle.std.proofs.lemmas.Bool.{ne_eqb}
 use Rattle.rp_base.specs.declared.action.Operation.{Operation}
-use Rattle.rp_base.specs.declared.action.Operation.TheVariants.{Function, Procedure, Entry, SetTimer, CancelTimer}
-use Rattle.rp_requests.specs.TaskRequests.{TaskAsked, SendAgain, TakePacket, operation_at, is_party, arg_at, call_with, call_if, call_asked, again_asked, task_asked_by, task_asked_of}
+use Rattle.rp_requests.specs.TaskRequests.{TaskAsked, operation_at, is_party, arg_at, call_if, task_asked_by, task_asked_of}
 use Rattle.rp_request_texts.proofs.NoNodeTexts.{outside}
 
 pub empty_is : task_asked_of [] ≡ None

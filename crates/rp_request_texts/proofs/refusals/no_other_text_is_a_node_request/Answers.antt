@@ -1,6 +1,4 @@
 -- By the kind and the number of operands.
-use Rattle.std.proofs.Common.{refl}
-use Rattle.rp_requests.specs.Requests.{asked_of}
 use Rattle.rp_request_texts.proofs.NoNodeTexts.{empty_is, kinds, lead, interrupt, tick, report, range, ask, counted, questions, source, node, task}
 use Rattle.rp_request_texts.proofs.refusals.no_other_text_is_a_node_request.Goals as goal
 

@@ -1,2 +1,4 @@
 pub mod NodeTexts
 pub mod TaskTexts
+pub mod NoNodeTexts
+pub mod NoTaskTexts

@@ -1,15 +1,14 @@
 -- The texts of requests to a task.
-use Rattle.std.proofs.Common.{◌≡◌, ◌<◌, ◌≤◌, ◌^◌, ℕ, ℤ, Bool, true, false, cond, ◌&&◌, List, [], ◌∷◌, ◌++◌, Option, Some, None, refl, sym, ◌∙◌, ap, ap₂, arith, FitsSigned, w64}
+use Rattle.std.proofs.Common.{◌≡◌, ◌<◌, ◌≤◌, ◌^◌, ℕ, ℤ, true, cond, ◌&&◌, Option, Some, None, refl, ◌∙◌, ap, ap₂, arith, FitsSigned, w64}
 use Rattle.std.specs.Prelude.{nat_le}
-use Rattle.std.specs.Int.{to_be_bytes, from_be_bytes, cast_signed, cast_unsigned}
+use Rattle.std.specs.Int.{to_be_bytes, cast_signed, cast_unsigned}
 use Rattle.std.proofs.lemmas.Bool.Decides.{nat_tests}
 use Rattle.std.proofs.lemmas.Int.{ints, to_z-of_z}
 use Rattle.std.proofs.lemmas.Nat.{from_be_bytes-to_be_bytes_8}
-use Rattle.rp_base.specs.Number.{IsNode}
-use Rattle.rp_base.specs.Action.{IsIndex, IsRightOperation, is_right_operation}
+use Rattle.rp_base.specs.Action.{IsRightOperation, is_right_operation}
 use Rattle.rp_base.specs.declared.action.Operation.{Operation}
 use Rattle.rp_base.specs.declared.action.Operation.TheVariants.{Function, Procedure, Entry, SetTimer, CancelTimer}
-use Rattle.rp_requests.specs.TaskRequests.{TaskAsked, MakeCall, SendAgain, TakePacket, operation_at, is_party, arg_at, call_with, call_if, task_asked_by, task_asked_of}
+use Rattle.rp_requests.specs.TaskRequests.{TaskAsked, MakeCall, SendAgain, TakePacket, is_party, arg_at, call_with, call_if, task_asked_by, task_asked_of}
 use Rattle.rp_request_texts.specs.Texts.{task_request_text, FitsTaskRequest}
 
 in_both : (n least most : ℕ) → least ≤ n → n ≤ most → (nat_le least n && nat_le n most) ≡ true

@@ -1,6 +1,6 @@
 -- The texts of requests to a node and to a task, written from the list in include/rp.h: a byte for
 -- the kind, and then the operands, numbers in big-endian order.
-use Rattle.std.specs.Prelude.{◌<◌, ◌≤◌, ◌^◌, ℕ, Option, Some, None, List, [], ◌∷◌, ◌++◌, FitsSigned}
+use Rattle.std.specs.Prelude.{◌<◌, ◌^◌, ℕ, Some, None, List, [], ◌∷◌, ◌++◌, FitsSigned}
 use Rattle.std.specs.Int.{w16, w32, w64, to_be_bytes, cast_unsigned}
 use Rattle.rp_base.specs.Number.{IsNode, IsPosition}
 use Rattle.rp_base.specs.Action.{IsIndex, IsCount, IsRightOperation}

@@ -25,8 +25,8 @@ use std::alloc::Global;
 use std::io::Write;
 
 /// Runs the lines of a script over a cluster of new devices that never fail, and writes what they
-/// print. A fault ends the run at once, and then a prefix of that is written: `OutOfMemory`, or
-/// `Io` if the writer fails.
+/// print. A fault ends the run at once, and then a prefix of that is written. It is `OutOfMemory` or
+/// `Io`.
 pub fn run_lines<M: Machine, D: CutDevice + InfallibleDevice, W: Write>(
     alloc: Global,
     options: &RunOptions<'_>,
@@ -40,8 +40,8 @@ pub fn run_lines<M: Machine, D: CutDevice + InfallibleDevice, W: Write>(
         options.now.lines.now }
     // claim: What a run prints is the stated output of its deck, with its packets if this is asked
     //   for; if a fault ends the run, it is a prefix of that, for every machine and over any
-    //   devices that never fail. Such a run ends by `OutOfMemory`, or by `Io` if the writer fails,
-    //   and by no other fault: a run in memory never returns `Device`
+    //   devices that never fail. If a fault ends such a run, it is `OutOfMemory` or `Io`: a run in
+    //   memory never returns `Device`
     ensures output { Writes (W.contents writer.old) (W.contents writer.new)
         (text_of (run_said (run_setting M.next M.answers M.begin M.image
         (opening_setup options.now.config program) options.now)

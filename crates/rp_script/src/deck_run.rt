@@ -35,8 +35,8 @@ pub fn run_script<R: Read, W: Write>(
     // claim: From bytes to bytes: a script that runs without a fault prints into its writer, whose
     //   buffer is a part of it, the output of the deck that all bytes of the reader mean, of which
     //   the headline holds. If they mean none, nothing is written, and the fault has the first bad
-    //   line and the first reason on it. After every other fault, `OutOfMemory`, or `Io` if the
-    //   reader or the writer fails, nothing was written, or a prefix of that output
+    //   line and the first reason on it. Every other fault is `OutOfMemory` or `Io`, after which
+    //   nothing was written, or a prefix of that output
     ensures output { OnOk result (ScriptPrints traced (R.remaining reader.old)
         (W.contents writer.old) (W.contents writer.new)) }
     ensures begun { OnErr result (ScriptBegins traced (R.remaining reader.old)
@@ -51,9 +51,9 @@ pub fn run_script<R: Read, W: Write>(
     write_out(writer)
 }
 
-/// Runs the script of a deck, and writes what it prints. A fault ends the run at once, and then a
-/// prefix of that is written: `OutOfMemory`, or `Io` if the writer fails. One order of actions
-/// gives all states and replies that are written, and after any two lines nodes agree.
+/// Runs the script of a deck, and writes what it prints. A fault, `OutOfMemory` or `Io`, ends the
+/// run at once, and then a prefix of that is written. One order of actions gives all states and
+/// replies that are written, and after any two lines nodes agree.
 pub fn run_deck<W: Write>(
     alloc: Global,
     deck: Deck,
@@ -63,7 +63,7 @@ pub fn run_deck<W: Write>(
     requires { IsRightDeck deck }
     // claim (output, fault): What a deck's run writes is the stated output of the deck, with its
     //   packets if this is asked for; if a fault ends the run, it is a prefix of that. The fault is
-    //   `OutOfMemory`, or `Io` if the writer fails, and no other
+    //   `OutOfMemory` or `Io`, and no other
     ensures output { Writes (W.contents writer.old) (W.contents writer.new)
         (output_of traced deck) result }
     // claim (headline): What a deck's run writes is the texts of its items, each of one of four

@@ -52,9 +52,9 @@ pub fn run_live<T: Threads + Wait + Clock + Sync, R: Read, W: Write>(
     // claim: What live mode prints is the text of the result of a run in threads of the deck that
     //   all bytes of the reader mean in live mode, with its events, the seed and the number of
     //   turns asked for. If they mean none, nothing is written, and the fault has the first bad
-    //   line and the first reason on it. After every other fault, `OutOfMemory`, or `Io` if the
-    //   reader or the writer fails, nothing was written, or a prefix of such a text. The figures
-    //   that it returns are those of the same run
+    //   line and the first reason on it. Every other fault is `OutOfMemory` or `Io`, after which
+    //   nothing was written, or a prefix of such a text. The figures that it returns are those of
+    //   the same run
     ensures output { IfOk result (λ line. LivePrints request.seed request.turns
         (R.remaining reader.old) (W.contents writer.old) (W.contents writer.new) line.figures) }
     ensures begun { OnErr result (LiveBegins request.seed request.turns

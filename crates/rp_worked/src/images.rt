@@ -1,6 +1,6 @@
 //! The lines that show a state (`rp_worked` Images).
 
-ghost use Rattle.std.specs.Prelude.{◌≡◌, pos, negsuc, true, false, Some, None, List, [], ◌∷◌, String, string_bytes, codes};
+ghost use Rattle.std.specs.Prelude.{◌≡◌, pos, negsuc, true, false, Some, None, List, [], ◌∷◌, ◌++◌, String, string_bytes, codes};
 ghost use Rattle.std.specs.declared.alloc.Global.{Global};
 ghost use Rattle.std.proofs.Common.{lit<};
 ghost use Rattle.rp_worked.specs.Memory.{Unread};
@@ -26,7 +26,8 @@ pub fn gates_are_shown()
         → let called = named unread number boolean (entry ∷ second ∷ []) (lit< tt) in
         shows (gates called)
         (gates_are called (pos 0) false [] (first_call 3 ∷ first_call 1 ∷ []))
-        ≡ codes "object gate n=0 up=false queue pass none queue late task 3 call 1 arg 0 task 1 call 1 arg 0\nclock 0\n" }
+        ≡ codes "object gate n=0 up=false queue pass none queue late task 3 call 1 arg 0"
+        ++ codes " task 1 call 1 arg 0\nclock 0\n" }
 {}
 
 /// The box, of whose timing events one is set for a time below 0 and the other is not set.

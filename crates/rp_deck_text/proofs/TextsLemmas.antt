@@ -1,7 +1,7 @@
 -- A text of lines is read back, line by line.
 use Rattle.std.proofs.Common.{◌≡◌, ℕ, zero, suc, ◌+◌, ◌==◌, ◌||◌, ◌&&◌, not, List, [], ◌∷◌, ◌++◌, Bool, true, false, cond, take, drop, length, map, Option, Some, None, Ok, arith, ap, refl, ◌∙◌}
 use Rattle.std.specs.Prelude.{ℤ, pos, negsuc, nat_le, nat_eq, option_to_list, FitsSigned}
-use Rattle.std.specs.Fmt.{decimal, signed_decimal}
+use Rattle.std.specs.Fmt.{decimal}
 use Rattle.std.specs.Int.{w64}
 use Rattle.std.specs.List.{prefix_len, list_all, AllByRecursion}
 use Rattle.std.proofs.Math.Seq.{take-append_seam}

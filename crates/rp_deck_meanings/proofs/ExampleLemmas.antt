@@ -1,11 +1,11 @@
 -- The example is right, and has its text.
-use Rattle.std.proofs.Common.{◌≡◌, ℕ, ◌<◌, ◌≤◌, List, [], ◌∷◌, arith, refl}
-use Rattle.std.specs.Prelude.{ℤ, pos, FitsSigned, codes}
+use Rattle.std.proofs.Common.{◌≡◌, ℕ, ◌≤◌, List, [], ◌∷◌, arith, refl}
+use Rattle.std.specs.Prelude.{pos, FitsSigned, codes}
 use Rattle.std.specs.Fmt.{digits}
 use Rattle.std.specs.Int.{w64}
 use Rattle.rp_object.specs.declared.program.Profile.TheVariants.{Jorvik}
 use Rattle.rp_deck.specs.Script.{IsUpTo}
-use Rattle.rp_deck_meanings.specs.Named.{NamedDeck, NamedExpr, NamedHandler, NamedObject}
+use Rattle.rp_deck_meanings.specs.Named.{NamedExpr}
 use Rattle.rp_deck_meanings.specs.Named.{NamedExpr as exprs}
 use Rattle.rp_deck_meanings.specs.NamedTexts.{text_of}
 use Rattle.rp_deck_meanings.specs.RightDecks.{HasNames, IsRightObject, IsRightHandler, IsRight, IsWholeBody, expr_nodes}

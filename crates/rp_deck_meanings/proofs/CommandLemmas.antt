@@ -12,7 +12,7 @@ use Rattle.rp_object.specs.declared.program.Profile.{Profile}
 use Rattle.rp_deck_declarations.specs.ScriptNames.{DeclaredNames, declared_names}
 use Rattle.rp_deck_objects.specs.ObjectViews.{OperationsText, object_operations}
 use Rattle.rp_deck.specs.Script.{IsUpTo}
-use Rattle.rp_deck_text.specs.ScriptText.{name_numbered, operation_name_in, operations_numbered, operation_name, submit_words, AreOperations, AreDeclared, IsOneOf, IsCallOf, IsTimerOf, IsSubmitOf, IsStepOf, IsCommandOf}
+use Rattle.rp_deck_text.specs.ScriptText.{argument_words, name_numbered, operation_name_in, operations_numbered, operation_name, submit_words, AreOperations, AreDeclared, IsOneOf, IsCallOf, IsTimerOf, IsSubmitOf, IsStepOf, IsCommandOf}
 use Rattle.rp_deck_text.specs.ScriptText as reader
 use Rattle.rp_deck_meanings.specs.Names.{IsAmong, place_in, number_in, is_among}
 use Rattle.rp_deck_meanings.specs.Named.{NamedPart, NamedObject, NamedHandler, NamedStep, NamedCommand, NamedDeck, function_names, procedure_names, operation_names, task_names, object_names, handler_names}
@@ -28,7 +28,7 @@ use Rattle.rp_deck_meanings.proofs.DeckLemmas.{whole, At, object_at, draft_meant
 -- ---- a call, whatever kind of operation it is of
 
 call_words : (d : DeclaredNames) (task node object : ℕ) (a b : Bool) (f p e : ℕ) (arg : ℤ) → submit_words d task node object (chosen a b f p e) arg
-    ≡ codes "call" ∷ name_numbered d.tasks task ∷ decimal node ∷ (name_numbered d.objects object ++ 46 ∷ operation_name d object (chosen a b f p e)) ∷ signed_decimal arg ∷ []
+    ≡ codes "call" ∷ name_numbered d.tasks task ∷ decimal node ∷ (name_numbered d.objects object ++ 46 ∷ operation_name d object (chosen a b f p e)) ∷ argument_words arg
 call_words d task node object true b f p e arg = refl
 call_words d task node object false true f p e arg = refl
 call_words d task node object false false f p e arg = refl
@@ -137,11 +137,11 @@ module _ (deck : NamedDeck) (right : IsRight deck) where
 
     submit_same : (task : List ℕ) (node : ℕ) (arg : ℤ) → IsAmong task (task_names deck.tasks)
         → submit_words names (number_in task (task_names deck.tasks)) node number (operation_meant (parts_named deck.objects object) operation) arg
-        ≡ codes "call" ∷ task ∷ decimal node ∷ written.dotted object operation ∷ signed_decimal arg ∷ []
+        ≡ codes "call" ∷ task ∷ decimal node ∷ written.dotted object operation ∷ argument_words arg
     submit_same task node arg is_task =
         ap (λ (o : Operation). submit_words names (number_in task (task_names deck.tasks)) node number o arg) (sym called_same)
         ∙ call_words names (number_in task (task_names deck.tasks)) node number (is_among operation (function_names parts_of)) (is_among operation (procedure_names parts_of)) _ _ _ arg
-        ∙ (λ k. codes "call" ∷ numbered_is task (task_names deck.tasks) is_task k ∷ decimal node ∷ (numbered_is object (object_names deck.objects) among k ++ 46 ∷ named_same k) ∷ signed_decimal arg ∷ [])
+        ∙ (λ k. codes "call" ∷ numbered_is task (task_names deck.tasks) is_task k ∷ decimal node ∷ (numbered_is object (object_names deck.objects) among k ++ 46 ∷ named_same k) ∷ argument_words arg)
 
   -- a timing event
   is_timer : (timer : List ℕ) → IsAmong timer (handler_names deck.timers) → IsTimerOf names (number_in (object_handling deck.timers timer) (object_names deck.objects)) (number_in timer (handler_names deck.timers))

@@ -9,3 +9,4 @@ mod WholeLemmas
 mod TallyLemmas
 mod EffectLemmas
 mod ProgramLemmas
+mod ExampleLemmas

@@ -212,10 +212,6 @@ module _ (profile : Profile) (object : NamedObject) (right : IsRightObject profi
   truth_same names declared true = refl
   truth_same names declared false = refl
 
-  queue_same : (profile : Profile) (longest : ℕ) → parts.queue_words profile longest ≡ written.queue_words profile longest
-  queue_same Ravenscar longest = refl
-  queue_same Jorvik longest = refl
-
   result_same : (before rest : List NamedPart) (result : NamedResult) → before ++ rest ≡ object.parts → IsRightResult (int_names before) (bool_names before) result
       → parts.function_words (so_far object before) (result_meant (int_names object.parts) (bool_names object.parts) result) ≡ written.result_words result
   result_same before rest (Value value) e is =
@@ -237,7 +233,7 @@ module _ (profile : Profile) (object : NamedObject) (right : IsRightObject profi
   part_same before rest (AProcedure procedure) e is =
       ap (λ (l : List (List (List ℕ))). (codes "procedure" ∷ procedure.name ∷ []) ∷ l) (ended_same before (AProcedure procedure ∷ rest) procedure.body e is)
   part_same before rest (AnEntry entry) e is =
-      λ k. (codes "entry" ∷ entry.name ∷ codes "when" ∷ ((finds_before before (AnEntry entry ∷ rest) e).bool entry.barrier is.0).0 k ∷ queue_same profile entry.longest k)
+      λ k. (codes "entry" ∷ entry.name ∷ codes "when" ∷ ((finds_before before (AnEntry entry ∷ rest) e).bool entry.barrier is.0).0 k ∷ parts.queue_words profile entry.longest)
       ∷ ended_same before (AnEntry entry ∷ rest) entry.body e is.2 k
 
   pub parts_same : (before rest : List NamedPart) → before ++ rest ≡ object.parts → AreRightParts profile before rest

@@ -6,3 +6,4 @@ pub mod RightDecks
 pub mod Tallies
 pub mod NamedEffects
 pub mod NamedPrograms
+pub mod Example

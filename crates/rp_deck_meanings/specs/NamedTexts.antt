@@ -4,7 +4,8 @@ use Rattle.std.specs.Prelude.{unwrap_or, Option, Some, None}
 use Rattle.std.specs.Fmt.{decimal, signed_decimal}
 use Rattle.rp_object.specs.declared.program.Profile.{Profile}
 use Rattle.rp_object.specs.declared.program.Profile.TheVariants.{Ravenscar, Jorvik}
-use Rattle.rp_deck_text.specs.ScriptText.{text_of_lines}
+use Rattle.rp_deck_text.specs.PartTexts.{queue_words}
+use Rattle.rp_deck_text.specs.ScriptText.{argument_words, text_of_lines}
 use Rattle.rp_deck_meanings.specs.Named.{NamedExpr, NamedCond, NamedBody, NamedResult, Value, Truth}
 use Rattle.rp_deck_meanings.specs.Named.{NamedPart, AnInt, ABool, AFunction, AProcedure, AnEntry}
 use Rattle.rp_deck_meanings.specs.Named.{NamedObject, NamedTask, NamedHandler, NamedStep}
@@ -59,11 +60,6 @@ ended body = body_lines body ++ (codes "end" ∷ []) ∷ []
 abbrev pub result_words : NamedResult → Line
 result_words (Value value) = codes "value" ∷ expr_words value
 result_words (Truth truth) = codes "truth" ∷ cond_words truth
-
--- under Ravenscar the line of an entry says nothing of its queue
-abbrev pub queue_words : Profile → ℕ → Line
-queue_words Ravenscar longest = []
-queue_words Jorvik longest = codes "queue" ∷ decimal longest ∷ []
 
 abbrev pub part_lines : Profile → NamedPart → List Line
 part_lines profile (AnInt int) =
@@ -130,7 +126,7 @@ step_words (steps.Tick node now) = codes "tick" ∷ decimal node ∷ decimal now
 
 abbrev pub command_words : NamedCommand → Line
 command_words (commands.Call task node object operation arg) =
-    codes "call" ∷ task ∷ decimal node ∷ dotted object operation ∷ signed_decimal arg ∷ []
+    codes "call" ∷ task ∷ decimal node ∷ dotted object operation ∷ argument_words arg
 command_words (commands.Arm task node timer time) =
     codes "arm" ∷ task ∷ decimal node ∷ timer ∷ signed_decimal time ∷ []
 command_words (commands.Disarm task node timer) =

@@ -6,6 +6,7 @@ ghost use Rattle.rp_deck.specs.DeckViews.{deck_text};
 ghost use Rattle.rp_deck.specs.Meaning.{meaning_of};
 ghost use Rattle.rp_deck.specs.declared.deck.Deck.{Deck};
 ghost use Rattle.rp_deck.specs.declared.deck.Mode.TheVariants.{Script};
+ghost use Rattle.rp_deck_meanings.specs.Example.{example, example_text};
 ghost use Rattle.rp_deck_meanings.specs.Named.{NamedDeck};
 ghost use Rattle.rp_deck_meanings.specs.NamedMeanings.{deck_meant};
 ghost use Rattle.rp_deck_meanings.specs.NamedPrograms.{IsProgramOf};
@@ -48,4 +49,11 @@ pub fn programs_are_as_declared()
     ensures { (deck : Deck) (program : Program) (named : NamedDeck)
         → IsDeckOfObjects deck program → deck_text deck ≡ deck_meant named
         → IsProgramOf named (arc_value program.declarations) }
+{}
+
+/// An example: such a deck, with its text.
+pub fn an_example_is_right()
+    // claim: A deck with most kinds of lines is right, and its text is the one that is shown
+    ensures right { IsRight example }
+    ensures text { text_of example ≡ example_text }
 {}

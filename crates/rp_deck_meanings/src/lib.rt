@@ -5,4 +5,7 @@
 
 mod laws;
 
-pub use laws::{decks_mean_what_they_say, programs_are_as_declared, tallies_mean_what_they_say};
+pub use laws::{
+    an_example_is_right, decks_mean_what_they_say, programs_are_as_declared,
+    tallies_mean_what_they_say,
+};

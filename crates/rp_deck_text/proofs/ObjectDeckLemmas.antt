@@ -1,6 +1,7 @@
 -- The text of a deck of protected objects is read back.
-use Rattle.std.proofs.Common.{◌≡◌, ℕ, suc, List, [], ◌∷◌, ◌++◌, Bool, true, false, Option, Some, None, Ok, arith, refl}
+use Rattle.std.proofs.Common.{◌≡◌, ℕ, suc, ◌==◌, cond, List, [], ◌∷◌, ◌++◌, Bool, true, false, Option, Some, None, Ok, arith, refl}
 use Rattle.std.specs.Prelude.{codes}
+use Rattle.std.specs.Fmt.{decimal}
 use Rattle.std.specs.List.{list_all, AllByRecursion}
 use Rattle.rp_object.specs.declared.program.Profile.{Profile}
 use Rattle.rp_object.specs.declared.program.Profile.TheVariants.{Ravenscar, Jorvik}
@@ -77,7 +78,11 @@ ended_are_lines o body is =
 
 queue_solid : (profile : Profile) (longest : ℕ) → IsLongest profile longest → AreSolid (queue_words profile longest)
 queue_solid Ravenscar longest is = tt
-queue_solid Jorvik longest is = (refl, (decimal_solid longest (omega (arith, is.1)), tt))
+queue_solid Jorvik longest is = by (longest == 1)
+  where
+    by : (t : Bool) → AreSolid (cond t [] (codes "queue" ∷ decimal longest ∷ []))
+    by true = tt
+    by false = (refl, (decimal_solid longest (omega (arith, is.1)), tt))
 
 part_are_lines : (profile : Profile) (o : ObjectText) (part : PartText) → IsPartOf profile o part → AreLines (part_lines profile o part)
 part_are_lines profile o (IntPart name low high value) is =

@@ -1,12 +1,12 @@
 -- The lines of an object are read back.
-use Rattle.std.proofs.Common.{◌≡◌, ℕ, ◌-◌, ◌<◌, ◌&&◌, not, List, [], ◌∷◌, Bool, true, false, cond, length, Option, Some, None, Ok, arith, ap, refl, sym, ◌∙◌}
+use Rattle.std.proofs.Common.{◌≡◌, ℕ, ◌-◌, ◌<◌, ◌==◌, ◌&&◌, not, List, [], ◌∷◌, Bool, true, false, cond, length, Option, Some, None, Ok, arith, ap, refl, sym, ◌∙◌}
 use Rattle.std.specs.Prelude.{codes, ℤ, FitsSigned}
 use Rattle.std.specs.FinMap.{len}
 use Rattle.std.specs.Fmt.{decimal, signed_decimal}
 use Rattle.std.specs.Int.{w64}
 use Rattle.std.specs.List.{list_all}
 use Rattle.std.specs.Str.{bytes_eq}
-use Rattle.std.proofs.lemmas.Bool.{lt-ltb}
+use Rattle.std.proofs.lemmas.Bool.{lt-ltb, eqb-true}
 use Rattle.rp_body.specs.Store.{is_within}
 use Rattle.rp_object.specs.declared.program.Profile.{Profile}
 use Rattle.rp_object.specs.declared.program.Profile.TheVariants.{Ravenscar, Jorvik}
@@ -102,7 +102,11 @@ queue_back longest is = rw (word_back (codes "queue") (decimal longest ∷ []) r
 
 longest_back : (profile : Profile) (longest : ℕ) → IsLongest profile longest → longest_at profile (spaced (queue_words profile longest)) ≡ Ok (longest, spaced [])
 longest_back Ravenscar longest is = ap (λ (n : ℕ). Ok (n, spaced [])) (sym is)
-longest_back Jorvik longest is = rw (word_there (codes "queue") (decimal longest ∷ []) refl) (queue_back longest is)
+longest_back Jorvik longest is = by (longest == 1) refl
+  where
+    by : (t : Bool) → (longest == 1) ≡ t → longest_at Jorvik (spaced (cond t [] (codes "queue" ∷ decimal longest ∷ []))) ≡ Ok (longest, spaced [])
+    by true one = ap (λ (n : ℕ). Ok (n, spaced [])) (sym (eqb-true longest 1 one))
+    by false more = rw (word_there (codes "queue") (decimal longest ∷ []) refl) (queue_back longest is)
 
 entry_back : (o : ObjectText) (profile : Profile) (name : List ℕ) (barrier longest : ℕ) → length o.entries < most_entries profile → IsNew o.operation_names name → AreComponents o.component_names o.components
     → HasOne (is_bool barrier) o.components → IsLongest profile longest

@@ -1,6 +1,6 @@
 -- The text of a script's line is read back.
 use Rattle.std.proofs.Common.{◌≡◌, ℕ, zero, suc, ◌+◌, ◌-◌, ◌^◌, ◌<◌, ◌||◌, ◌&&◌, not, List, [], ◌∷◌, ◌++◌, Bool, true, false, cond, length, Some, None, Result, Ok, nat_lt, arith, inl, inr, ap, refl, sym, subst, ◌∙◌}
-use Rattle.std.specs.Prelude.{ℤ, pos, IsTrue, FitsSigned, codes, slice_get, slice_index_or}
+use Rattle.std.specs.Prelude.{ℤ, pos, negsuc, IsTrue, FitsSigned, codes, slice_get, slice_index_or}
 use Rattle.std.specs.Fmt.{decimal, signed_decimal}
 use Rattle.std.specs.Int.{w64}
 use Rattle.std.specs.List.{prefix_len, list_all}
@@ -22,7 +22,7 @@ use Rattle.rp_deck.specs.Script.{IsUpTo, IsMessage}
 use Rattle.rp_deck_objects.specs.ObjectViews.{OperationsText}
 use Rattle.rp_deck_declarations.specs.ScriptNames.{DeclaredNames}
 use Rattle.rp_deck.specs.ScriptLines.{declared_at, operation_at, timer_at, message_at, argument_at, position_at, last_at, lead_at, range_at, deliver_at, interrupt_at, tick_at, step_from, call_at, arm_at, disarm_at, again_at, cut_at, lose_at, CommandText, Take, Lose, Drain, Show, verb_named, command_at, command_line}
-use Rattle.rp_deck_text.specs.ScriptText.{spaced, line_of, step_words, submit_words, event_words, command_words, name_numbered, same_operation, operation_name_in, operation_name, operations_numbered, is_distinct, are_names, AreDeclared, IsOneOf, IsCallOf, IsTimerOf, IsSubmitOf, IsStepOf, MayBeCut, IsEventOf, IsCommandOf}
+use Rattle.rp_deck_text.specs.ScriptText.{spaced, line_of, step_words, argument_words, submit_words, event_words, command_words, name_numbered, same_operation, operation_name_in, operation_name, operations_numbered, is_distinct, are_names, AreDeclared, IsOneOf, IsCallOf, IsTimerOf, IsSubmitOf, IsStepOf, MayBeCut, IsEventOf, IsCommandOf}
 use Rattle.rp_words.proofs.WordsLemmas.{both}
 use Rattle.rp_words.proofs.TablesLemmas.{found_step}
 use Rattle.rp_deck_text.proofs.SpacedLemmas.{is_solid, word_back, word_there, signed_solid, decimal_solid, name_back, number_back, integer_back, dotted_back, dotted_solid, end_back}
@@ -196,9 +196,18 @@ pub message_back : (message : ℕ) (words : List (List ℕ)) → IsMessage messa
 unfolding message_at
 message_back message words is = number_back 1 (2 ^ 63 - 1) message words is.0 (omega (arith, is.1)) is.1
 
-argument_back : (z : ℤ) (words : List (List ℕ)) → FitsSigned w64 z → argument_at (spaced (signed_decimal z ∷ words)) ≡ Ok (z, spaced words)
+argument_there : (z : ℤ) → FitsSigned w64 z → argument_at (spaced (signed_decimal z ∷ [])) ≡ Ok (z, spaced [])
 unfolding argument_at
-argument_back z words fits = rw (word_there (signed_decimal z) words (signed_solid z fits)) (integer_back z words fits)
+argument_there z fits = rw (word_there (signed_decimal z) [] (signed_solid z fits)) (integer_back z [] fits)
+
+no_argument : argument_at (spaced []) ≡ Ok (pos 0, spaced [])
+unfolding argument_at
+no_argument = refl
+
+argument_back : (z : ℤ) → FitsSigned w64 z → argument_at (spaced (argument_words z)) ≡ Ok (z, spaced [])
+argument_back (pos zero) fits = no_argument
+argument_back (pos (suc n)) fits = argument_there (pos (suc n)) fits
+argument_back (negsuc n) fits = argument_there (negsuc n) fits
 
 last_back : (first last : ℕ) (words : List (List ℕ)) → IsMessage last → last_at first (spaced (decimal last ∷ words)) ≡ Ok (last, spaced words)
 unfolding last_at
@@ -257,15 +266,15 @@ tick_back d node now right within small =
 
 call_back : (d : DeclaredNames) (task node object : ℕ) (operation : Operation) (arg : ℤ) → AreDeclared d → IsUpTo (length d.tasks) task → IsUpTo d.nodes node
     → IsCallOf d object operation → same_operation operation operation ≡ true → FitsSigned w64 arg
-    → call_at d (spaced (name_numbered d.tasks task ∷ decimal node ∷ (name_numbered d.objects object ++ 46 ∷ operation_name d object operation) ∷ signed_decimal arg ∷ [])) ≡ Ok (Submit task node object operation arg, spaced [])
+    → call_at d (spaced (name_numbered d.tasks task ∷ decimal node ∷ (name_numbered d.objects object ++ 46 ∷ operation_name d object operation) ∷ argument_words arg)) ≡ Ok (Submit task node object operation arg, spaced [])
 unfolding call_at
 call_back d task node object operation arg right is within call same fits =
     let called : List ℕ = name_numbered d.objects object ++ 46 ∷ operation_name d object operation in
     rw (
-      declared_back d.tasks task (decimal node ∷ called ∷ signed_decimal arg ∷ []) right.tasks is,
-      node_back d node (called ∷ signed_decimal arg ∷ []) right within,
-      operation_back d object operation (signed_decimal arg ∷ []) right call same,
-      argument_back arg [] fits,
+      declared_back d.tasks task (decimal node ∷ called ∷ argument_words arg) right.tasks is,
+      node_back d node (called ∷ argument_words arg) right within,
+      operation_back d object operation (argument_words arg) right call same,
+      argument_back arg fits,
     ) refl
 
 arm_back : (d : DeclaredNames) (task node object timer : ℕ) (time : ℤ) → AreDeclared d → IsUpTo (length d.tasks) task → IsUpTo d.nodes node → IsTimerOf d object timer → FitsSigned w64 time
@@ -357,11 +366,11 @@ cut_line d number kept (Ask node to) right is may small = absurd may
 call_line : (d : DeclaredNames) (number task node object : ℕ) (operation : Operation) (arg : ℤ) → AreDeclared d → IsUpTo (length d.tasks) task → IsUpTo d.nodes node → IsSubmitOf d object operation arg
     → command_line Script d (line_of number (submit_words d task node object operation arg)) ≡ Ok (Take (Submit task node object operation arg))
 call_line d number task node object (operations.Function index) arg right is within submit =
-    line_back d number (codes "call") (name_numbered d.tasks task ∷ decimal node ∷ (name_numbered d.objects object ++ 46 ∷ operation_name d object (operations.Function index)) ∷ signed_decimal arg ∷ []) verbs.Call _ refl (ap taken (call_back d task node object (operations.Function index) arg right is within submit.0 (eq-eqb index index refl) submit.1))
+    line_back d number (codes "call") (name_numbered d.tasks task ∷ decimal node ∷ (name_numbered d.objects object ++ 46 ∷ operation_name d object (operations.Function index)) ∷ argument_words arg) verbs.Call _ refl (ap taken (call_back d task node object (operations.Function index) arg right is within submit.0 (eq-eqb index index refl) submit.1))
 call_line d number task node object (operations.Procedure index) arg right is within submit =
-    line_back d number (codes "call") (name_numbered d.tasks task ∷ decimal node ∷ (name_numbered d.objects object ++ 46 ∷ operation_name d object (operations.Procedure index)) ∷ signed_decimal arg ∷ []) verbs.Call _ refl (ap taken (call_back d task node object (operations.Procedure index) arg right is within submit.0 (eq-eqb index index refl) submit.1))
+    line_back d number (codes "call") (name_numbered d.tasks task ∷ decimal node ∷ (name_numbered d.objects object ++ 46 ∷ operation_name d object (operations.Procedure index)) ∷ argument_words arg) verbs.Call _ refl (ap taken (call_back d task node object (operations.Procedure index) arg right is within submit.0 (eq-eqb index index refl) submit.1))
 call_line d number task node object (operations.Entry index) arg right is within submit =
-    line_back d number (codes "call") (name_numbered d.tasks task ∷ decimal node ∷ (name_numbered d.objects object ++ 46 ∷ operation_name d object (operations.Entry index)) ∷ signed_decimal arg ∷ []) verbs.Call _ refl (ap taken (call_back d task node object (operations.Entry index) arg right is within submit.0 (eq-eqb index index refl) submit.1))
+    line_back d number (codes "call") (name_numbered d.tasks task ∷ decimal node ∷ (name_numbered d.objects object ++ 46 ∷ operation_name d object (operations.Entry index)) ∷ argument_words arg) verbs.Call _ refl (ap taken (call_back d task node object (operations.Entry index) arg right is within submit.0 (eq-eqb index index refl) submit.1))
 call_line d number task node object (operations.SetTimer timer) arg right is within submit =
     line_back d number (codes "arm") (name_numbered d.tasks task ∷ decimal node ∷ name_numbered d.timers timer ∷ signed_decimal arg ∷ []) verbs.Arm _ refl (ap taken (arm_back d task node object timer arg right is within submit.0 submit.1))
 call_line d number task node object (operations.CancelTimer timer) arg right is within submit =

@@ -1,7 +1,7 @@
 -- A text of lines is read back, line by line.
-use Rattle.std.proofs.Common.{◌≡◌, ℕ, ◌+◌, ◌==◌, ◌||◌, ◌&&◌, not, List, [], ◌∷◌, ◌++◌, Bool, true, false, cond, take, drop, length, map, Option, Some, None, Ok, arith, ap, refl, ◌∙◌}
-use Rattle.std.specs.Prelude.{ℤ, nat_le, nat_eq, option_to_list, FitsSigned}
-use Rattle.std.specs.Fmt.{decimal, signed_decimal}
+use Rattle.std.proofs.Common.{◌≡◌, ℕ, zero, suc, ◌+◌, ◌==◌, ◌||◌, ◌&&◌, not, List, [], ◌∷◌, ◌++◌, Bool, true, false, cond, take, drop, length, map, Option, Some, None, Ok, arith, ap, refl, ◌∙◌}
+use Rattle.std.specs.Prelude.{ℤ, pos, negsuc, nat_le, nat_eq, option_to_list, FitsSigned}
+use Rattle.std.specs.Fmt.{decimal}
 use Rattle.std.specs.Int.{w64}
 use Rattle.std.specs.List.{prefix_len, list_all, AllByRecursion}
 use Rattle.std.proofs.Math.Seq.{take-append_seam}
@@ -14,7 +14,7 @@ use Rattle.rp_deck.specs.declared.deck.Mode.TheVariants.{Script}
 use Rattle.rp_deck.specs.Script.{IsUpTo}
 use Rattle.rp_deck_declarations.specs.ScriptNames.{DeclaredNames}
 use Rattle.rp_deck.specs.ScriptLines.{CommandText, Take, Lose, Drain, Show, script_of}
-use Rattle.rp_deck_text.specs.ScriptText.{numbered_lines, spaced, joined, line_of, text_of_lines, script_text, numbered_commands, name_numbered, operation_name, step_words, submit_words, event_words, command_words, AreDeclared, IsCallOf, IsSubmitOf, IsStepOf, IsEventOf, IsCommandOf}
+use Rattle.rp_deck_text.specs.ScriptText.{numbered_lines, spaced, joined, line_of, text_of_lines, script_text, numbered_commands, name_numbered, operation_name, step_words, argument_words, submit_words, event_words, command_words, AreDeclared, IsCallOf, IsSubmitOf, IsStepOf, IsEventOf, IsCommandOf}
 use Rattle.rp_words.specs.Lines.{is_line_feed, in_front, lines_of, LineText, is_skipped, text_at, texts_from}
 use Rattle.rp_words.specs.Words.{begins_with, is_blank, without_blanks, is_at_end, first_word, after_word, is_name}
 use Rattle.rp_words.proofs.WordsLemmas.{both, and_true}
@@ -152,11 +152,16 @@ step_solid d step right is = by (step_words d step) (step_line d step right is)
     by [] line = absurd line
     by (first ∷ words) line = (line.0, line.2)
 
+argument_solid : (arg : ℤ) → FitsSigned w64 arg → AreSolid (argument_words arg)
+argument_solid (pos zero) fits = tt
+argument_solid (pos (suc n)) fits = (signed_solid (pos (suc n)) fits, tt)
+argument_solid (negsuc n) fits = (signed_solid (negsuc n) fits, tt)
+
 call_line : (d : DeclaredNames) (task node object : ℕ) (operation : Operation) (arg : ℤ) → AreDeclared d → IsUpTo (length d.tasks) task → IsUpTo d.nodes node
     → is_name (operation_name d object operation) ≡ true → IsCallOf d object operation → FitsSigned w64 arg
-    → AreSolid (name_numbered d.tasks task ∷ decimal node ∷ (name_numbered d.objects object ++ 46 ∷ operation_name d object operation) ∷ signed_decimal arg ∷ [])
+    → AreSolid (name_numbered d.tasks task ∷ decimal node ∷ (name_numbered d.objects object ++ 46 ∷ operation_name d object operation) ∷ argument_words arg)
 call_line d task node object operation arg right is within name call fits =
-    (name_solid (name_numbered d.tasks task) (numbered d.tasks task right.tasks is).name, (small_node d node right within, (dotted_solid (name_numbered d.objects object) (operation_name d object operation) (numbered d.objects object right.objects call.object_is).name name, (signed_solid arg fits, tt))))
+    (name_solid (name_numbered d.tasks task) (numbered d.tasks task right.tasks is).name, (small_node d node right within, (dotted_solid (name_numbered d.objects object) (operation_name d object operation) (numbered d.objects object right.objects call.object_is).name name, argument_solid arg fits)))
 
 same_index : (index : ℕ) → nat_eq index index ≡ true
 same_index index = eq-eqb index index refl

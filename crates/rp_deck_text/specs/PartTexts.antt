@@ -1,6 +1,6 @@
 -- The lines of an object: one way to write each part of it, which reading gives back.
 use Rattle.std.specs.Prelude.{ℕ, ◌≡◌, ◌<◌, ◌≤◌, ℤ, FitsSigned, Bool, true, false, IsTrue, List, []}
-use Rattle.std.specs.Prelude.{◌∷◌, ◌++◌, codes, length, None}
+use Rattle.std.specs.Prelude.{◌∷◌, ◌++◌, ◌==◌, codes, length, None, if◌then◌else◌}
 use Rattle.std.specs.FinMap.{len}
 use Rattle.std.specs.Fmt.{decimal, signed_decimal}
 use Rattle.std.specs.Int.{w64}
@@ -44,9 +44,11 @@ abbrev pub function_words : ObjectText → FunctionText → List (List ℕ)
 function_words o (Value value) = codes "value" ∷ expr_words o.component_names o.components value
 function_words o (Truth truth) = codes "truth" ∷ cond_words o.component_names o.components truth
 
+-- a queue of one call is not written
 abbrev pub queue_words : Profile → ℕ → List (List ℕ)
 queue_words Ravenscar longest = []
-queue_words Jorvik longest = codes "queue" ∷ decimal longest ∷ []
+queue_words Jorvik longest =
+    if longest == 1 then [] else codes "queue" ∷ decimal longest ∷ []
 
 abbrev pub ended : ObjectText → BodyText → List (List (List ℕ))
 ended o body = body_lines o.component_names o.components body ++ (codes "end" ∷ []) ∷ []

@@ -1,5 +1,5 @@
 -- The text of a script's line: one way to write each command, which reading gives back.
-use Rattle.std.specs.Prelude.{ℕ, ◌≡◌, ◌<◌, ◌≤◌, ◌+◌, ◌-◌, ◌^◌, ℤ, pos, FitsSigned, Bool, true}
+use Rattle.std.specs.Prelude.{ℕ, zero, ◌≡◌, ◌<◌, ◌≤◌, ◌+◌, ◌-◌, ◌^◌, ℤ, pos, FitsSigned, Bool, true}
 use Rattle.std.specs.Prelude.{false, nat_eq, not, ◌&&◌, IsTrue, List, [], ◌∷◌, ◌++◌, codes, length}
 use Rattle.std.specs.Prelude.{map, slice_get, slice_index_or, Some, None, ◌⊎◌, if◌then◌else◌}
 use Rattle.std.specs.Prelude.{IfSome}
@@ -72,6 +72,11 @@ step_words d (Tick node now) = codes "tick" ∷ decimal node ∷ decimal now ∷
 step_words d (Report node first) = []
 step_words d (Ask node to) = []
 
+-- an argument 0 is not written
+abbrev pub argument_words : ℤ → List (List ℕ)
+argument_words (pos zero) = []
+argument_words arg = signed_decimal arg ∷ []
+
 abbrev pub submit_words : DeclaredNames → ℕ → ℕ → ℕ → Operation → ℤ → List (List ℕ)
 submit_words d task node object (operations.SetTimer timer) arg =
     codes "arm" ∷ name_numbered d.tasks task ∷ decimal node ∷ name_numbered d.timers timer
@@ -81,7 +86,7 @@ submit_words d task node object (operations.CancelTimer timer) arg =
 submit_words d task node object operation arg =
     codes "call" ∷ name_numbered d.tasks task ∷ decimal node
     ∷ (name_numbered d.objects object ++ 46 ∷ operation_name d object operation)
-    ∷ signed_decimal arg ∷ []
+    ∷ argument_words arg
 
 abbrev pub event_words : DeclaredNames → Event → List (List ℕ)
 event_words d (Submit task node object operation arg) =

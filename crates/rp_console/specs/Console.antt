@@ -54,8 +54,8 @@ pub record AsksFor (words : List Text) (args : Args) : Type 0 where
 
 -- What a run without a fault prints, of the deck that the bytes given to it mean. A script has
 -- nothing to report, a run in threads the figures of the run that it prints, a drawing that it is too
--- long, if it is: then nothing is printed; a search what became of it; and a deck's packages why there are
--- none.
+-- long, if it is: then nothing is printed; a search what became of it; and a deck's packages why
+-- there are none.
 abbrev pub Prints : Args → Content → Content → Content → Report → Type 0
 Prints (Script traced) given old new Nothing = ScriptPrints traced given old new
 Prints (Live request) given old new (Figures line) =
@@ -120,8 +120,8 @@ report_of (Ok (Searched verdict)) = search_report verdict
 report_of (Ok (reports.Refused line)) = with_line_feed (string_bytes line)
 report_of (Err fault) = with_line_feed (fault_message_of fault)
 
--- the status after a run: 0 if it had no fault, 2 if its drawing is too long or a deck has no packages,
--- that of a search, and otherwise that of the fault
+-- the status after a run: 0 if it had no fault, 2 if its drawing is too long or a deck has no
+-- packages, that of a search, and otherwise that of the fault
 abbrev pub status_of_run : Result Report Fault → ℕ
 status_of_run (Ok Nothing) = 0
 status_of_run (Ok (Figures figures)) = 0
@@ -133,10 +133,10 @@ status_of_run (Err fault) = status_of fault
 -- What the words ask for was run, with the deck that the bytes given to it mean. It printed the
 -- output of such a run, or a fault ended it after a prefix of that. If the bytes mean no deck,
 -- nothing is printed, and the fault has the first bad line and the first reason on it. The status
--- is that of the run: 0 without a fault, 2 if a drawing is too long, that of a search, and otherwise
--- that of the fault. The figures of a live run are reported as well, and are those of the run that it
--- printed. A report that could not be written whole is a prefix of its line; with nothing to report,
--- nothing is written on standard error.
+-- is that of the run: 0 without a fault, 2 if a drawing is too long or a deck has no packages, that
+-- of a search, and otherwise that of the fault. The figures of a live run are reported as well, and
+-- are those of the run that it printed. A report that could not be written whole is a prefix of its
+-- line; with nothing to report, nothing is written on standard error.
 pub record RunsAs (args : Args) (given output output_after errors errors_after : Content)
     (ending : Ending) : Type 0 where
   pub ran : Result Report Fault

@@ -57,19 +57,19 @@ pub fn obey<
     E: Write + Drop,
 >(rt: &T, alloc: Global, words: &[S], streams: &mut Streams<R, W, E>) -> Ending
     // claim: The program runs what its words ask for (a script, traced or not, a live run, a drawing
-    //   of a script's run, a search over every order of a deck, or a deck's packages), and nothing if they are wrong. The
-    //   status is 0 if the run ended without a fault, no drawing was too long and a search is complete
-    //   with no rule broken or printed the deck of an outcome, or if the words ask for help or the
-    //   version; 5 exactly if a search broke a rule, and 6 exactly if it is not complete and broke
-    //   none; 7 if the deck of an outcome does not show it; 3 at a bad deck; 2 at wrong words, if the
-    //   drawing is too long, if there is no deck of the outcome, or if a name of the deck is none of Ada, each
-    //   of which one line reports;
-    //   and 4 at every other fault. A fault is reported on standard error by its line, that of a bad deck
-    //   with the first bad line that the deck's bytes mean and the first reason on it. A live run
-    //   without a fault leaves there the line of the figures of the run that it printed, with a time
-    //   or without one. A line that could not be written whole is left there as a prefix of it. A
-    //   script or a drawing without a fault leaves standard error as it was; wrong words print
-    //   nothing, and help reports nothing; if help cannot be printed the fault is `Io`
+    //   of a script's run, a search over every order of a deck, or a deck's packages), and nothing if
+    //   they are wrong. The status is 0 if the run ended without a fault, no drawing was too long and
+    //   a search is complete with no rule broken or printed the deck of an outcome, or if the words
+    //   ask for help or the version; 5 exactly if a search broke a rule, and 6 exactly if it is not
+    //   complete and broke none; 7 if the deck of an outcome does not show it; 3 at a bad deck; 2 at
+    //   wrong words, if the drawing is too long, if there is no deck of the outcome, or if a name of
+    //   the deck is none of Ada, each of which one line reports; and 4 at every other fault. A fault
+    //   is reported on standard error by its line, that of a bad deck with the first bad line that
+    //   the deck's bytes mean and the first reason on it. A live run without a fault leaves there the
+    //   line of the figures of the run that it printed, with a time or without one. A line that could
+    //   not be written whole is left there as a prefix of it. A script or a drawing without a fault
+    //   leaves standard error as it was; wrong words print nothing, and help reports nothing; if help
+    //   cannot be printed the fault is `Io`
     ensures obeyed { FollowsWords (map S.text words.now) (R.remaining streams.old.reader)
         (W.contents streams.old.writer) (W.contents streams.new.writer)
         (E.contents streams.old.errors) (E.contents streams.new.errors) result }

@@ -29,9 +29,9 @@ use Rattle.rp_console.specs.CommandLine.{IsLanguage, ReadsAs}
 use Rattle.rp_script.specs.Figures.{figures_line_of}
 use Rattle.rp_script.specs.Given.{FailsRun}
 use Rattle.rp_script.specs.LiveRun.{LiveBegins, LivePrints}
-use Rattle.rp_output.specs.Endings.{RefusesAs, status_of}
+use Rattle.rp_output.specs.Endings.{RefusesAs, ReportsFault, status_of}
 use Rattle.rp_output.specs.FaultMessage.{fault_message_of, with_line_feed}
-use Rattle.rp_output.specs.Stream.{Writes}
+use Rattle.rp_output.specs.Stream.{IsReadFault, Writes}
 use Rattle.rp_console.specs.declared.args.Args.{Args}
 use Rattle.rp_console.specs.declared.args.Args.TheVariants.{Script, Live, Chart, Explore, Bind}
 use Rattle.rp_console.specs.declared.console.Report.{Report}
@@ -59,8 +59,8 @@ pub record AsksFor (words : List Text) (args : Args) : Type 0 where
 
 -- What a run without a fault prints, of the deck that the bytes given to it mean. A script has
 -- nothing to report, a run in threads the figures of the run that it prints, a drawing that it is too
--- long, if it is: then nothing is printed; a search what became of it; and a deck's packages why there are
--- none.
+-- long, if it is: then nothing is printed; a search what became of it; and a deck's packages why
+-- there are none.
 abbrev pub Prints : Args → Content → Content → Content → Report → Type 0
 Prints (Script traced) given old new Nothing = ScriptPrints traced given old new
 Prints (Live request) given old new (Figures line) =
@@ -147,8 +147,8 @@ report_of (Ok (Searched verdict)) hint = search_report verdict
 report_of (Ok (reports.Refused line)) hint = with_line_feed (string_bytes line)
 report_of (Err fault) hint = fault_report fault hint
 
--- the status after a run: 0 if it had no fault, 2 if its drawing is too long or a deck has no packages,
--- that of a search, and otherwise that of the fault
+-- the status after a run: 0 if it had no fault, 2 if its drawing is too long or a deck has no
+-- packages, that of a search, and otherwise that of the fault
 abbrev pub status_of_run : Result Report Fault → ℕ
 status_of_run (Ok Nothing) = 0
 status_of_run (Ok (Figures figures)) = 0
@@ -161,10 +161,10 @@ status_of_run (Err fault) = status_of fault
 -- the reader gives, if it is known what it gives. It printed the output of such a run, or a fault
 -- ended it after a prefix of that. If the bytes mean no deck, nothing is printed, and the fault has
 -- the first bad line and the first reason on it; it is reported, and a hint of the bytes may follow
--- it. The status is that of the run: 0 without a fault, 2 if a drawing is too long, that of a
--- search, and otherwise that of the fault. The figures of a live run are reported as well, and are
--- those of the run that it printed. A report that could not be written whole is a prefix of its
--- lines; with nothing to report, nothing is written on standard error.
+-- it. The status is that of the run: 0 without a fault, 2 if a drawing is too long or a deck has no
+-- packages, that of a search, and otherwise that of the fault. The figures of a live run are reported
+-- as well, and are those of the run that it printed. A report that could not be written whole is a
+-- prefix of its lines; with nothing to report, nothing is written on standard error.
 pub record RunsAs (args : Args) (given output output_after errors errors_after : Content)
     (ending : Ending) : Type 0 where
   pub bytes : List ℕ
@@ -179,12 +179,27 @@ pub record RunsAs (args : Args) (given output output_after errors errors_after :
   pub reported : Writes errors errors_after (report_of ran hint) ending.reported
   pub silent : report_of ran hint ≡ [] → errors_after ≡ errors
 
--- The words ask for a run, which was made; or they are wrong or memory ran out, and that was
--- reported.
+-- The deck could not be read: nothing was printed, and the fault was reported.
+pub record FailsToRead (output output_after errors errors_after : Content) (ending : Ending)
+    : Type 0 where
+  pub fault : Fault
+  pub unread : IsReadFault fault
+  pub unprinted : output_after ≡ output
+  pub status : ending.status ≡ status_of fault
+  pub reported : ReportsFault fault errors errors_after ending
+
+-- what was asked for was run over the deck, or that could not be read
+abbrev pub EndsAs : Args → Content → Content → Content → Content → Content → Ending → Type 0
+EndsAs args given output output_after errors errors_after ending =
+    RunsAs args given output output_after errors errors_after ending
+    ⊎ FailsToRead output output_after errors errors_after ending
+
+-- The words ask for a run, which was made unless the deck could not be read; or they are wrong or
+-- memory ran out, and that was reported.
 abbrev pub FollowsWords : List Text → Content → Content → Content → Content → Content → Ending
     → Type 0
 FollowsWords words given output output_after errors errors_after ending =
     ((args : Args) × AsksFor words args
-    × RunsAs args given output output_after errors errors_after ending)
+    × EndsAs args given output output_after errors errors_after ending)
     ⊎ ((kind : ErrorKind) × ((kind ≡ OutOfMemory) ⊎ IsAmong kind (fault_of console words))
     × RefusesAs kind output output_after errors errors_after ending)

@@ -1,7 +1,7 @@
 //! Does what the words of the command line ask for, and reports its faults.
 
 ghost use Rattle.std.specs.Prelude.{◌≡◌, ◌≤◌, [], IfErr, IfOk, Ok, OnErr, length, map};
-ghost use Rattle.rp_console.specs.Console.{Fails, FollowsWords, HasBegun, IsHintOf, Prints, RunsAs, fault_report, mode_of, report_of, search_report, search_status, status_of_run};
+ghost use Rattle.rp_console.specs.Console.{Fails, FollowsWords, HasBegun, IsHintOf, Prints, EndsAs, fault_report, mode_of, report_of, search_report, search_status, status_of_run};
 ghost use Rattle.rp_output.specs.Endings.{status_of};
 ghost use Rattle.rp_output.specs.FaultMessage.{with_line_feed};
 ghost use Rattle.rp_output.specs.Stream.{Writes};
@@ -61,16 +61,16 @@ pub fn obey<
     E: Write + Drop,
 >(rt: &T, alloc: Global, words: &[S], streams: &mut Streams<R, W, E>) -> Ending
     // claim: The program runs what its words ask for (a script, traced or not, a live run, a drawing
-    //   of a script's run, a search over every order of a deck, or a deck's packages), and nothing if they are wrong. The
-    //   status is 0 if the run ended without a fault, no drawing was too long and a search is complete
-    //   with no rule broken or printed the deck of an outcome, or if the words ask for help or the
-    //   version; 5 exactly if a search broke a rule, and 6 exactly if it is not complete and broke
-    //   none; 7 if the deck of an outcome does not show it; 3 at a bad deck; 2 at wrong words, if the
-    //   drawing is too long, if there is no deck of the outcome, or if a name of the deck is none of Ada, each
-    //   of which one line reports;
-    //   and 4 at every other fault. A fault is reported on standard error by its line, that of a bad deck
-    //   with the first bad line that the deck's bytes mean and the first reason on it, after which the
-    //   line of a hint of these bytes may follow. A live run
+    //   of a script's run, a search over every order of a deck, or a deck's packages), and nothing if
+    //   they are wrong. The status is 0 if the run ended without a fault, no drawing was too long and
+    //   a search is complete with no rule broken or printed the deck of an outcome, or if the words
+    //   ask for help or the version; 5 exactly if a search broke a rule, and 6 exactly if it is not
+    //   complete and broke none; 7 if the deck of an outcome does not show it; 3 at a bad deck; 2 at
+    //   wrong words, if the drawing is too long, if there is no deck of the outcome, or if a name of
+    //   the deck is none of Ada, each of which one line reports; and 4 at every other fault. A fault
+    //   is reported on standard error by its line, that of a bad deck with the first bad line that the
+    //   deck's bytes mean and the first reason on it, after which the line of a hint of these bytes
+    //   may follow. If the deck cannot be read, nothing is printed. A live run
     //   without a fault leaves there the line of the figures of the run that it printed, with a time
     //   or without one. A line that could not be written whole is left there as a prefix of it. A
     //   script or a drawing without a fault leaves standard error as it was; wrong words print
@@ -86,14 +86,14 @@ pub fn obey<
 }
 
 /// Reads the deck whole, runs what was asked for over it, and reports what became of that: of a bad
-/// deck its fault and a hint, unless memory ran out for it.
+/// deck its fault and a hint, unless memory ran out for the hint.
 fn run_to_end<T: Threads + Wait + Clock + Sync, R: Read + Drop, W: Write + Drop, E: Write + Drop>(
     rt: &T,
     alloc: Global,
     args: Args,
     streams: &mut Streams<R, W, E>,
 ) -> Ending
-    ensures { RunsAs args (R.remaining streams.old.reader)
+    ensures { EndsAs args (R.remaining streams.old.reader)
         (W.contents streams.old.writer) (W.contents streams.new.writer)
         (E.contents streams.old.errors) (E.contents streams.new.errors) result }
 {

@@ -1,7 +1,6 @@
 -- The words are tried one after another.
-use Rattle.std.proofs.Common.{rules, arith, ◌≡◌, ◌∙◌, ◌-◌, ◌+◌, ◌≤◌, ℕ, ap, sym, List, length, ◌==◌, true, false, inl}
-use Rattle.rp_deck_hints.specs.Places.{after_lines, first_line}
-use Rattle.rp_deck_hints.specs.Hints.{IsBadAt}
+use Rattle.std.proofs.Common.{rules, arith, ◌∙◌, ◌≤◌, ap, sym, length}
+use Rattle.rp_deck_hints.specs.Places.{after_lines}
 use Rattle.rp_deck_hints.proofs.Walking.{at_fault, before_is, begins, goes_on, none_left}
 use Rattle.rp_deck_hints.proofs.bad_deck.BadLine.word_at_fault.Goals as goal
 

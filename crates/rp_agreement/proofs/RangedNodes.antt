@@ -238,18 +238,13 @@ missing_asked me to most records mine theirs high m h =
 -- ---- what came
 
 audit_says : (to : Party) (body : Body) → ¬ MaySay Audit to body
-audit_says to (bodies.Call action) may = may.0
-audit_says to (bodies.Prepare i b) may = may.0
 audit_says to (bodies.Promise i b last) may = may.0.0
 audit_says to (bodies.Accept i b v) may = may.0.0
 audit_says to (bodies.Accepted i b v) may = may.0.0
 audit_says to (bodies.Decided i v) may = may.0.0
-audit_says to (bodies.Ask i) may = may.0
 audit_says to (bodies.Nack i b bound) may = may.0.0
-audit_says to (bodies.Reply number reply) may = may.0
-audit_says to (bodies.Report first applied actions) may = may.0
-audit_says to (bodies.PrepareRange range b) may = may.0
 audit_says to (bodies.PromiseRange range b votes) may = may.0.0
+audit_says to _ may = may.0
 
 -- what came from a node is in range
 record FromNode (from : ℕ) (body : Body) : Type 0 where

@@ -81,17 +81,8 @@ module _ {S : Type 0} (config : Config) (next : S → Action → S) (answers : S
 
   body_alike : (from : ℕ) (body : Body) → on_body here from body ≡ on_body there from body
   body_alike from (bodies.Call action) = call_alike action
-  body_alike from (bodies.Prepare i b) = refl
-  body_alike from (bodies.Promise i b last) = refl
-  body_alike from (bodies.Accept i b v) = refl
   body_alike from (bodies.Accepted i b v) = ap (λ (plan : Plan). cond {A = Plan} (is_beyond records i) (plans.Pass No) plan) (vote_alike from i (record { ballot = b; action = v }) (learned_at records i))
-  body_alike from (bodies.Decided i v) = refl
-  body_alike from (bodies.Ask i) = refl
-  body_alike from (bodies.Nack i b bound) = refl
-  body_alike from (bodies.Reply number reply) = refl
-  body_alike from (bodies.Report first applied actions) = refl
-  body_alike from (bodies.PrepareRange range b) = refl
-  body_alike from (bodies.PromiseRange range b votes) = refl
+  body_alike from _ = refl
 
   begins_alike : (i : ℕ) → begins_if here i ≡ begins_if there i
   begins_alike i = ap (λ (own : Action). cond {A = Result Plan Fault} (is_exhausted here) (Err BallotsSpent) (Ok (plans.Lead i (ballot_of here) own))) (own_alike i)

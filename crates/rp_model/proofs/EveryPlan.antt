@@ -374,11 +374,10 @@ module _ {S : Type 0} (node : RunningNode S) (input : NodeInput) where
   body_saw from (bodies.Decided i v) came = decision_saw from i v came (learned_at node.records i) refl
   body_saw from (bodies.Ask i) came = ask_saw from i came (learned_at node.records i) refl
   body_saw from (bodies.Nack i b bound) came = (from, came)
-  body_saw from (bodies.Reply number reply) came = tt
-  body_saw from (bodies.Report first applied stated) came = tt
   body_saw from (bodies.PrepareRange range b) came =
       range_saw from range b came (is_above_bounds node.records range b) refl (λ i is. found_test (λ (k : ℕ). nat_lt b (bound_at node.records k)) i (positions_of range) is)
   body_saw from (bodies.PromiseRange range b votes) came = came
+  body_saw from _ came = tt
 
   saw : (given : NodeInput) → input ≡ given → SawIf (plan_of node given)
   saw (Receive message) is =
@@ -464,17 +463,14 @@ module _ {S : Type 0} (node : RunningNode S) (input : NodeInput) (P : Fault → 
       (one_of (nat_eq (length (unlearned_in node.records range)) 0) (Ok _) _ tt (one_of (is_exhausted node) (Err BallotsSpent) (Ok _) spent tt))
 
   refused : (given : NodeInput) → input ≡ given → IfErr (plan_of node given) P
-  refused (Receive message) is = tt
   refused (Lead choice) is =
       let i = chosen_position (nodes_of node) node.records node.running choice in
       one_of (is_some (learned_at node.records i)) (Ok _) _ tt
       (one_of (is_out_of_reach node.setting.config.max_positions node.records i) (Err LogFull) (leads_at node i (proposal_at node.running.proposals i)) full
       (leads_refused i (proposal_at node.running.proposals i)))
   refused (LeadRange first count) is = range_refused (range_of first count) (range first count is)
-  refused (Interrupt source occurrence) is = tt
-  refused (Tick now) is = tt
-  refused (Report first) is = tt
   refused (Ask to) is = one_of (in_range 1 (nodes_of node) to && not (nat_eq to node.me)) (Ok (plans.AskMissing to)) (Err BadConfig) tt (asked to is)
+  refused _ is = tt
 
   pub plan_refused : IfErr (plan_of node input) P
   plan_refused = refused input refl

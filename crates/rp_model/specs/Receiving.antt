@@ -67,7 +67,7 @@ is_for_node config me message =
     && is_allowed config.max_positions (party_number message.from) message.body
 
 module _ {S : Type 0} (node : RunningNode S) where
-  -- by what the packet says
+  -- by what the packet says: a reply or a report tells a node nothing
   abbrev pub on_body : ℕ → Body → Plan
   on_body from (Call action) = on_call node action
   on_body from (Prepare i b) = on_prepare node from i b
@@ -78,12 +78,11 @@ module _ {S : Type 0} (node : RunningNode S) where
   on_body from (Decided i v) = on_decided node from i v
   on_body from (Ask i) = on_ask node from i
   on_body from (Nack i b bound) = plans.Yield i b bound
-  on_body from (Reply number reply) = plans.Pass No
-  on_body from (Report first applied actions) = plans.Pass No
   on_body from (PrepareRange range b) = on_prepare_range node from range b
   on_body from (PromiseRange range b votes) =
       plans.CountRangePromise
       (record { from = from; range = range; ballot = b; votes = votes })
+  on_body from _ = plans.Pass No
 
   -- a packet arrives at a node
   abbrev pub receives : Message → Plan

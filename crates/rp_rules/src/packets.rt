@@ -128,9 +128,7 @@ fn on_node<M: Machine>(
             ballot: *ballot,
             bound: *bound,
         },
-        Body::Call { .. } | Body::Reply { .. } | Body::Report { .. } => {
-            *plan = Plan::Pass(Dropped::No);
-        }
+        _ => *plan = Plan::Pass(Dropped::No),
     }
     Ok(())
 }

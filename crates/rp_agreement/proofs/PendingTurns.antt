@@ -84,27 +84,20 @@ module _ {S : Type 0} (s : Setting S) (me : ℕ) (records : List Rec) (running :
       elim (is_in b (proposal_at running.proposals i)) as (λ t. (let left : Running = if t then known else running in left.pending) ≡ running.pending) [ true ↦ refl | false ↦ refl ]
 
   plan_fate : (plan : Plan) → Saw here input plan → FateOf (turn_of here plan)
-  plan_fate (plans.Pass dropped) saw = inr (λ i v e. absurd cc, inl refl)
-  plan_fate (plans.Promise header last) saw = inr (λ i v e. absurd cc, inl refl)
-  plan_fate (plans.PromiseRange p) saw = inr (λ i v e. absurd cc, inl refl)
   plan_fate (plans.Vote header v) saw = inr (λ i v e. absurd cc, inl refl)
   plan_fate (plans.Repeat to i b v) saw = inr (λ i v e. absurd cc, inl refl)
   plan_fate (plans.Refuse to i b bound) saw = inr (λ i v e. absurd cc, inl refl)
   plan_fate (plans.Inform to i v) saw = inr (λ i v e. absurd cc, inl refl)
-  plan_fate (plans.Answer task number reply) saw = inr (λ i v e. absurd cc, inl refl)
   plan_fate (plans.Await item) saw = inr (λ i v e. absurd cc, inr (item, brought_item here input item saw.brought, refl))
   plan_fate (plans.Lead i b own) saw = inr (λ i v e. absurd cc, inl refl)
-  plan_fate (plans.LeadRange range b) saw = inr (λ i v e. absurd cc, inl refl)
   plan_fate (plans.OfferPrepared i b v) saw = inr (λ i v e. absurd cc, inl (offered_pending s.config.nodes v (proposal_at running.proposals i)))
   plan_fate (plans.CountPromise p) saw = inr (λ i v e. absurd cc, inl (promised_pending s.config.nodes p.ballot (p.from, p.last) (proposal_at running.proposals p.position)))
-  plan_fate (plans.CountRangePromise p) saw = inr (λ i v e. absurd cc, inl refl)
   plan_fate (plans.Offer p v) saw = inr (λ i v e. absurd cc, inl (promised_pending s.config.nodes p.ballot (p.from, p.last) (proposal_at running.proposals p.position)))
   plan_fate (plans.Yield i b bound) saw = inr (λ i v e. absurd cc, inl (refused_pending s.config.nodes i b bound))
   plan_fate (plans.CountVote from i vote) saw = inr (λ i v e. absurd cc, inl refl)
   plan_fate (plans.Learn i v) saw = inl (i, v, refl, refl)
   plan_fate (plans.Follow from i v) saw = inl (i, v, refl, refl)
-  plan_fate (plans.Report first) saw = inr (λ i v e. absurd cc, inl refl)
-  plan_fate (plans.AskMissing to) saw = inr (λ i v e. absurd cc, inl refl)
+  plan_fate _ saw = inr (λ i v e. absurd cc, inl refl)
 
 -- any input
 pub fate_of : {S : Type 0} (s : Setting S) (me : ℕ) (records : List Rec) (running : Running) (input : NodeInput) → FateIf s records running (brought_by input) (running_effect s me records running input)

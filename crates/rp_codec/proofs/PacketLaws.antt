@@ -113,18 +113,13 @@ said_took v kind bytes h =
 -- a body's number names its kind, who may say the body may send that kind, and who may hear it may receive it
 of_kind : (from to : Party) (body : Body) → MaySay from to body
     → (kind_of (kind_number body) ≡ Some (kind_of_body body)) × HasRole (sender_role (kind_of_body body)) from × HasRole (receiver_role (kind_of_body body)) to
-of_kind from to (bodies.Call action) rules = (refl, rules.0, rules.1)
-of_kind from to (bodies.Prepare position ballot) rules = (refl, rules.0, rules.1)
 of_kind from to (bodies.Promise position ballot last) rules = (refl, rules.0.0, rules.0.1)
 of_kind from to (bodies.Accept position ballot action) rules = (refl, rules.0.0, rules.0.1)
 of_kind from to (bodies.Accepted position ballot action) rules = (refl, rules.0.0, rules.0.1)
 of_kind from to (bodies.Decided position action) rules = (refl, rules.0.0, rules.0.1)
-of_kind from to (bodies.Ask position) rules = (refl, rules.0, rules.1)
 of_kind from to (bodies.Nack position ballot bound) rules = (refl, rules.0.0, rules.0.1)
-of_kind from to (bodies.Reply number reply) rules = (refl, rules.0, rules.1)
-of_kind from to (bodies.Report first applied actions) rules = (refl, rules.0, rules.1)
-of_kind from to (bodies.PrepareRange range ballot) rules = (refl, rules.0, rules.1)
 of_kind from to (bodies.PromiseRange range ballot votes) rules = (refl, rules.0.0, rules.0.1)
+of_kind from to _ rules = (refl, rules.0, rules.1)
 
 said_again : (v : Version) (m : Message) (rest : List ℕ) → IsPacket m → HasText v m → said_at v (kind_of_body m.body) (said_text v m ++ rest) ≡ Ok (m, rest)
 unfolding said_at

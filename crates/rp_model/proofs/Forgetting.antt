@@ -28,7 +28,7 @@ use Rattle.rp_model.specs.Leader.{is_beyond, unlearned_in}
 use Rattle.rp_model.specs.Learner.{missing_position, asks_for, on_vote}
 use Rattle.rp_model.specs.Node.{RunningNode, running_node}
 use Rattle.rp_model.specs.Plans.{written_by, promised_running, offered_running, started_running, report_of, once_learned, turn_of}
-use Rattle.rp_model.specs.Receiving.{is_for_node, party_number, on_body}
+use Rattle.rp_model.specs.Receiving.{is_for_node, sender_number, on_body}
 use Rattle.rp_model.specs.Effect as inputs
 use Rattle.rp_model.specs.Effect.{Setting, NodeInput, plan_of, turn_if, running_effect}
 use Rattle.rp_model.specs.Forgetting.{is_open, KnowsAlike, AreAlikeTurns, AreAlikeAnswers}
@@ -211,7 +211,7 @@ module _ (grown : (records : List Rec) (rec : Rec) (i : ℕ) → learned_at (rec
       plan_decided : (input : NodeInput) → plan_of there input ≡ plan_of here input
       plan_decided (inputs.Receive message) =
           ap (λ (plan : Plan). let r : Result Plan Fault = Ok (if is_for_node s.config me message then plan else plans.Pass Foreign) in r)
-          (body_decided (party_number message.from) message.body)
+          (body_decided (sender_number message.from) message.body)
       plan_decided _ = refl
 
       -- ---- and a plan does the same

@@ -16,7 +16,7 @@ use Rattle.rp_base.proofs.Members.{has_right, has_passing, passes}
 use Rattle.rp_codec.specs.declared.packet.Body.{Body}
 use Rattle.rp_machine.specs.Asked.{last_occurrence}
 use Rattle.rp_machine.specs.Replay.{kept_of, replay_answers}
-use Rattle.rp_agreement.specs.Over.{asked_in, brought_by, AreKept, IsTaken, IsOverOnce}
+use Rattle.rp_agreement.specs.Over.{calls_in_body, brought_by, AreKept, IsTaken, IsOverOnce}
 use Rattle.rp_agreement.proofs.Lists.{some_same}
 use Rattle.rp_agreement.proofs.PendingOver.{not_over, so_stays}
 use Rattle.rp_model.specs.Effect.{Setting, NodeInput, Interrupt, Tick, running_effect}
@@ -59,7 +59,7 @@ module _ {S : Type 0} (s : Setting S) (records : List Rec) (running : Running) (
 brought_item : {S : Type 0} (node : RunningNode S) (input : NodeInput) (item : Action) → Brings node input item → Has item (brought_by input)
 brought_item node input item (ByCall from task number object operation arg came is) =
     subst (λ (given : NodeInput). Has item (brought_by given)) (sym came.input_is)
-    (subst (λ (body : Body). Has item (asked_in body)) (sym came.says) (inl refl))
+    (subst (λ (body : Body). Has item (calls_in_body body)) (sym came.says) (inl refl))
 brought_item node input item (ByInterrupt source occurrence given is) = subst (λ (input : NodeInput). Has item (brought_by input)) (sym given) (inl is)
 brought_item node input item (ByTick now given is) = subst (λ (input : NodeInput). Has item (brought_by input)) (sym given) (inl is)
 

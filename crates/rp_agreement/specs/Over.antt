@@ -39,13 +39,13 @@ IsOverOnce s records i v item =
     (drop (length before) after) item
 
 -- the call that a packet asks for
-abbrev pub asked_in : Body → List Action
-asked_in (Call action) = action ∷ []
-asked_in body = []
+abbrev pub calls_in_body : Body → List Action
+calls_in_body (Call action) = action ∷ []
+calls_in_body body = []
 
 -- what an input brings to wait: the call that is asked for, the interrupt, the tick
 abbrev pub brought_by : NodeInput → List Action
-brought_by (Receive message) = asked_in message.body
+brought_by (Receive message) = calls_in_body message.body
 brought_by (Interrupt source occurrence) = actions.Interrupt source occurrence ∷ []
 brought_by (Tick now) = actions.Tick now ∷ []
 brought_by _ = []

@@ -7,7 +7,7 @@ use Rattle.rp_codec.specs.declared.packet.Party.TheVariants.{Node, Task, Audit}
 use Rattle.rp_codec.specs.declared.packet.Body.{Body}
 use Rattle.rp_codec.specs.declared.packet.Body.TheVariants as bodies
 use Rattle.rp_codec.specs.declared.kind.Kind.{Kind}
-use Rattle.rp_codec.specs.Kind.{kind_of, number_of, kind_of_body, Role, ANode, ATask, TheAudit, sender_role, receiver_role}
+use Rattle.rp_codec.specs.Kind.{kind_of, number_of_kind, kind_of_body, Role, ANode, ATask, TheAudit, sender_role, receiver_role}
 use Rattle.rp_codec.specs.declared.version.Version.{Version}
 use Rattle.rp_codec.specs.Message.{Message, IsParty, IsNodeParty, IsTaskParty, IsAudit, MaySay, IsPacket}
 use Rattle.rp_codec.specs.Text.{party_text, kind_number, body_text_at, text_at, HasText}
@@ -86,7 +86,7 @@ abbrev pub said_text : Version → Message → List ℕ
 said_text v m = party_text m.from ++ party_text m.to ++ body_text_at v m.body
 
 abbrev pub IsPacketOf : Version → Kind → Message → Type 0
-IsPacketOf v kind m = IsPacket m × HasText v m × (number_of kind ≡ kind_number m.body)
+IsPacketOf v kind m = IsPacket m × HasText v m × (number_of_kind kind ≡ kind_number m.body)
 
 abbrev pub TookSaid : Version → Kind → List ℕ → Message × List ℕ → Type 0
 TookSaid v kind bytes = Took (said_text v) (IsPacketOf v kind) bytes

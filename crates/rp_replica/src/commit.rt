@@ -1,7 +1,7 @@
 //! A plan, committed: memory is reserved, the record is written, the state is updated, and the
 //! packets are given out.
 
-ghost use Rattle.std.specs.Prelude.{◌≡◌, ◌++◌, ◌∷◌, ◌<◌, [], Some, None, length, OnOk, OnErr, ◌≤◌, IfErr, IfOk, IfSome, IfNone, IsOk, IsOkUnless, true, false};
+ghost use Rattle.std.specs.Prelude.{◌≡◌, ◌++◌, ◌∷◌, ◌<◌, [], Some, None, length, OnOk, OnErr, IfErr, IfOk, IfSome, IfNone, IsOk, IsOkUnless, true, false};
 ghost use Rattle.rp_acceptor.specs.First.{IsFirstPromise, IsFirstVote};
 ghost use Rattle.rp_base.specs.Action.{IsCount, IsRight};
 ghost use Rattle.rp_base.specs.Right.{IsRightRecord};
@@ -332,7 +332,8 @@ impl<M: Machine, D: Device> Replica<M, D> {
         ballot: Ballot,
     ) -> Option<Result<(), WriteFault>>
         requires working { self.old.failed ≡ false }
-        requires place { position ≤ self.old.config.max_positions }
+        requires place { is_in_log self.old.config.max_positions (Promised position ballot)
+            ≡ true }
         ensures first { IfSome result (λ _. IsFirstPromise self.old.records position ballot) }
         ensures ok { IfSome result (λ done. OnOk done (self.new
             ≡ after_turn self.old (writes (Promised position ballot) self.old.running []))) }
@@ -352,7 +353,8 @@ impl<M: Machine, D: Device> Replica<M, D> {
     ) -> Option<Result<(), WriteFault>>
         requires working { self.old.failed ≡ false }
         requires right { IsRight placed.now.vote.action }
-        requires place { placed.now.position ≤ self.old.config.max_positions }
+        requires place { is_in_log self.old.config.max_positions (vote_record placed.now)
+            ≡ true }
         requires text { text.now ≡ record_text (vote_record placed.now) }
         ensures first { IfSome result (λ _. IsFirstVote self.old.records
             placed.now.position placed.now.vote.ballot) }

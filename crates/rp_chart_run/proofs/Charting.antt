@@ -10,43 +10,30 @@ use Rattle.rp_history.specs.declared.chart.Chart.{Chart}
 use Rattle.rp_model.specs.Effect.{Setting}
 use Rattle.rp_model.specs.World.{World, part_at}
 use Rattle.rp_run.specs.Output.{Play, Said}
-use Rattle.rp_run.specs.Runs.{Follows, Says, run_setting}
-use Rattle.rp_run.specs.declared.options.RunOptions.{RunOptions}
+use Rattle.rp_run.specs.Runs.{Follows, Says}
 use Rattle.rp_output.specs.Stream.{Writes}
 use Rattle.rp_run.specs.declared.settled.Settled.{Settled}
 use Rattle.rp_output.proofs.Writing.{begins_nothing}
-use Rattle.rp_world.specs.Steps.{IsSameSetup, Setup, setting_of}
+use Rattle.rp_world.specs.Steps.{ClusterState, setting_of}
+use Rattle.rp_world.proofs.Answering.{same_setting}
 use Rattle.rp_chart_run.specs.Charts.{HasWays, IsCharted}
 
--- one setting for clusters of one configuration and program
-pub one_setting : {S P : Type 0} (next : S → Action → S) (answers : S → Action → List Answer) (start : P → S) (old new : Setup P) → IsSameSetup old new
-    → setting_of next answers start new ≡ setting_of next answers start old
-one_setting next answers start old new same =
-    ap (λ c. setting_of next answers start (record new { config = c })) same.config
-    ∙ ap (λ p. setting_of next answers start (record new { config = old.config; program = p })) same.program
-
--- and one run
-pub one_run : {S P : Type 0} (next : S → Action → S) (answers : S → Action → List Answer) (start : P → S) (image : S → List ℕ) (old new : Setup P) (options : RunOptions) → IsSameSetup old new
-    → run_setting next answers start image new options ≡ run_setting next answers start image old options
-one_run next answers start image old new options same =
-    ap (λ (t : Setting _). record (run_setting next answers start image old options) { setting = t }) (one_setting next answers start old new same)
-
 -- the chart of a cluster after a step, by the setting before it
-pub charted_by : {S P : Type 0} (next : S → Action → S) (answers : S → Action → List Answer) (start : P → S) (old new : Setup P) (chart : Chart) (happened : List Happening) (answer : Result Unit Fault)
-    → IsSameSetup old new → OnOk answer (IsSketchOf (setting_of next answers start old) chart.stage chart.sketch happened new.world)
+pub charted_by : {S P : Type 0} (next : S → Action → S) (answers : S → Action → List Answer) (start : P → S) (old new : ClusterState P) (chart : Chart) (happened : List Happening) (answer : Result Unit Fault)
+    → new.setup ≡ old.setup → OnOk answer (IsSketchOf (setting_of next answers start old) chart.stage chart.sketch happened new.world)
     → OnOk answer (IsCharted next answers start new chart happened)
 charted_by next answers start old new chart happened (Ok done) same is =
-    subst (λ (s : Setting _). IsSketchOf s chart.stage chart.sketch happened new.world) (sym (one_setting next answers start old new same)) is
+    subst (λ (s : Setting _). IsSketchOf s chart.stage chart.sketch happened new.world) (sym (same_setting next answers start old new same)) is
 charted_by next answers start old new chart happened (Err fault) same is = tt
 
 -- what happened, under another name
-pub charted_as : {S P : Type 0} (next : S → Action → S) (answers : S → Action → List Answer) (start : P → S) (cluster : Setup P) (chart : Chart) (one other : List Happening) (answer : Result Unit Fault)
+pub charted_as : {S P : Type 0} (next : S → Action → S) (answers : S → Action → List Answer) (start : P → S) (cluster : ClusterState P) (chart : Chart) (one other : List Happening) (answer : Result Unit Fault)
     → one ≡ other → OnOk answer (IsCharted next answers start cluster chart one) → OnOk answer (IsCharted next answers start cluster chart other)
 charted_as next answers start cluster chart one other answer same is =
     subst (λ (l : List Happening). OnOk answer (IsCharted next answers start cluster chart l)) same is
 
 -- as many ways as messages
-pub has_ways : {P : Type 0} (cluster : Setup P) (chart : Chart) (answer : Result Unit Fault) (count : ℕ) → OnOk answer (IsDrawable chart.sketch)
+pub has_ways : {P : Type 0} (cluster : ClusterState P) (chart : Chart) (answer : Result Unit Fault) (count : ℕ) → OnOk answer (IsDrawable chart.sketch)
     → OnOk answer (length chart.sketch.ways.items ≡ count) → count ≡ length cluster.world.sent → OnOk answer (HasWays cluster chart)
 has_ways cluster chart (Ok done) count drawable counted same = record { drawable = drawable; count = counted ∙ same }
 has_ways cluster chart (Err fault) count drawable counted same = tt
@@ -54,7 +41,7 @@ has_ways cluster chart (Err fault) count drawable counted same = tt
 -- ---- a chart so far, and what is left to happen
 
 -- the chart is that of a part of the whole, and the rest of it begins at the play that the run follows
-pub record Underway {S P : Type 0} (next : S → Action → S) (answers : S → Action → List Answer) (start : P → S) (cluster : Setup P) (settled : Settled) (chart : Chart)
+pub record Underway {S P : Type 0} (next : S → Action → S) (answers : S → Action → List Answer) (start : P → S) (cluster : ClusterState P) (settled : Settled) (chart : Chart)
     (whole : List Happening) (rest : Play → List Happening) : Type 0 where
   pub play : Play
   pub follows : Follows cluster.world settled play
@@ -64,7 +51,7 @@ pub record Underway {S P : Type 0} (next : S → Action → S) (answers : S → 
 
 module _ {S P : Type 0} (next : S → Action → S) (answers : S → Action → List Answer) (start : P → S) where
   -- one thing more
-  pub goes_on : (cluster later : Setup P) (settled after : Settled) (chart chart_after : Chart) (whole : List Happening) (rest further : Play → List Happening)
+  pub goes_on : (cluster later : ClusterState P) (settled after : Settled) (chart chart_after : Chart) (whole : List Happening) (rest further : Play → List Happening)
       → (so_far : Underway next answers start cluster settled chart whole rest) → (here : List Happening) (now : Play) → rest so_far.play ≡ here ++ further now
       → Follows later.world after now → IsCharted next answers start later chart_after (so_far.so_far ++ here)
       → Underway next answers start later after chart_after whole further
@@ -77,7 +64,7 @@ module _ {S P : Type 0} (next : S → Action → S) (answers : S → Action → 
   }
 
   -- the last thing
-  pub ends_by : (cluster later : Setup P) (settled : Settled) (chart chart_after : Chart) (whole : List Happening) (rest : Play → List Happening)
+  pub ends_by : (cluster later : ClusterState P) (settled : Settled) (chart chart_after : Chart) (whole : List Happening) (rest : Play → List Happening)
       → (so_far : Underway next answers start cluster settled chart whole rest) → (here : List Happening) (answer : Result Unit Fault) → rest so_far.play ≡ here
       → OnOk answer (IsCharted next answers start later chart_after (so_far.so_far ++ here)) → OnOk answer (IsCharted next answers start later chart_after whole)
   ends_by cluster later settled chart chart_after whole rest so_far here answer is charted =
@@ -85,7 +72,7 @@ module _ {S P : Type 0} (next : S → Action → S) (answers : S → Action → 
       (sym (so_far.parts ∙ ap (λ (l : List Happening). so_far.so_far ++ l) is)) charted
 
   -- nothing more
-  pub ends : (cluster : Setup P) (settled : Settled) (chart : Chart) (whole : List Happening) (rest : Play → List Happening)
+  pub ends : (cluster : ClusterState P) (settled : Settled) (chart : Chart) (whole : List Happening) (rest : Play → List Happening)
       → (so_far : Underway next answers start cluster settled chart whole rest) → rest so_far.play ≡ [] → IsCharted next answers start cluster chart whole
   ends cluster settled chart whole rest so_far is =
       subst (λ (l : List Happening). IsCharted next answers start cluster chart l)

@@ -9,7 +9,7 @@ use Rattle.rp_run.specs.Output.{Play}
 use Rattle.rp_run.specs.Runs.{Follows}
 use Rattle.rp_run.specs.Settled.{is_settled}
 use Rattle.rp_run.specs.declared.settled.Settled.{Settled}
-use Rattle.rp_world.specs.Steps.{Setup, setting_of}
+use Rattle.rp_world.specs.Steps.{ClusterState, setting_of}
 use Rattle.rp_chart_run.specs.declared.walk.Walk.{Walk}
 
 -- the same messages are settled
@@ -17,13 +17,13 @@ abbrev pub IsSettledAlike : Settled → Settled → Type 0
 IsSettledAlike old new = (m : ℕ) → is_settled new m ≡ is_settled old m
 
 -- each message that the cluster has sent has its way in the chart
-pub record HasWays {P : Type 0} (cluster : Setup P) (chart : Chart) : Type 0 where
+pub record HasWays {P : Type 0} (cluster : ClusterState P) (chart : Chart) : Type 0 where
   pub drawable : IsDrawable chart.sketch
   pub count : length chart.sketch.ways.items ≡ length cluster.world.sent
 
 -- the chart is that of the cluster's history so far, in which this happened
 abbrev pub IsCharted : {S P : Type 0} → (S → Action → S) → (S → Action → List Answer) → (P → S)
-    → Setup P → Chart → List Happening → Type 0
+    → ClusterState P → Chart → List Happening → Type 0
 IsCharted next answers start cluster chart happened =
     IsSketchOf (setting_of next answers start cluster) chart.stage chart.sketch happened
     cluster.world

@@ -33,7 +33,7 @@ use Rattle.rp_page.specs.declared.page.Form.TheVariants.{Drawing, Page}
 use Rattle.rp_run.specs.Output.{RunSetting, Play, effect_of, event_said, command_said, from_to}
 use Rattle.rp_run.specs.Output.{is_among, least_unsettled, opening_play}
 use Rattle.rp_run.specs.Runs.{run_setting}
-use Rattle.rp_world.specs.Steps.{Setup}
+use Rattle.rp_world.specs.Steps.{ClusterState}
 use Rattle.rp_chart_run.specs.Causes.{cause_text, line_text, packet_text}
 use Rattle.rp_chart_run.specs.Effects.{effect_text, refusal_text}
 use Rattle.rp_chart_run.specs.Prospects.{happened_in}
@@ -53,7 +53,7 @@ deck_of scene = map (λ line. line.now) scene.deck.now
 
 -- the run of a cluster that a scene draws
 abbrev pub drawn_run : {S P : Type 0} → (S → Action → S) → (S → Action → List Answer) → (P → S)
-    → (S → List ℕ) → Setup P → Scene → DrawnRun S
+    → (S → List ℕ) → ClusterState P → Scene → DrawnRun S
 drawn_run next answers start image cluster scene = record {
   run = run_setting next answers start image cluster scene.options.now;
   deck = deck_of scene;

@@ -61,7 +61,7 @@ impl Scene<'_> {
         first: u64,
     ) -> Result<Vec<u8>, Fault>
         requires first { 1 ≤ first }
-        requires nodes { cluster.now.config.nodes ≡ self.now.options.now.config.nodes }
+        requires nodes { cluster.now.setup.config.nodes ≡ self.now.options.now.config.nodes }
         ensures { IfOk result (λ text. text.items
             ≡ details_as (drawn_run M.next M.answers M.begin M.image cluster.now self.now)
             self.now.form event.now first cluster.now.world) }

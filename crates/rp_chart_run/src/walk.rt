@@ -8,9 +8,8 @@ ghost use Rattle.rp_drawing.specs.Ways.{IsEndingWithin};
 ghost use Rattle.rp_history.specs.Histories.{label_text, lane_text, loss_of, lost_of};
 ghost use Rattle.rp_page.specs.Pages.{IsDrawnAs};
 ghost use Rattle.rp_run.specs.Output.{event_said, lost, drained, command_said, run_said};
-ghost use Rattle.rp_run.specs.Runs.{run_setting, opening_setup, HasParts};
+ghost use Rattle.rp_run.specs.Runs.{run_setting, opening_cluster, HasParts};
 ghost use Rattle.rp_run.specs.Settled.{is_settled};
-ghost use Rattle.rp_world.specs.Steps.{IsSameSetup};
 
 use crate::labels::{applied_words, image_words, refusal_words, stopped_words};
 use crate::prospect::{happened_after, packets_from, prospect_of};
@@ -53,7 +52,7 @@ pub fn draw_lines<M: Machine, D: CutDevice>(
     //   node and task, as `rp_details` says it of the world after the event
     ensures drawing { IfOk result (λ page. let options = scene.now.options.now in
         let d = drawn_run M.next M.answers M.begin M.image
-        (opening_setup options.config program) scene.now in
+        (opening_cluster options.config program) scene.now in
         IsDrawnAs scene.now.form d.run.setting scene.now.stage (map lane_text scene.now.lanes.now)
         (script_happens d options.most options.lines.now)
         (run_said d.run options.most options.lines.now).play.world
@@ -88,7 +87,7 @@ impl<M: Machine, D: CutDevice> Walk<M, D> {
         requires ways { HasWays self.old.cluster self.old.chart }
         ensures parts { OnOk result (HasParts scene.now.options.now.config.nodes
             self.new.cluster) }
-        ensures setup { IsSameSetup self.old.cluster self.new.cluster }
+        ensures setup { self.new.cluster.setup ≡ self.old.cluster.setup }
         ensures stage { self.new.chart.stage ≡ self.old.chart.stage }
         ensures reached { let options = scene.now.options.now in
             let s = run_setting M.next M.answers M.begin M.image self.old.cluster options in
@@ -116,7 +115,7 @@ impl<M: Machine, D: CutDevice> Walk<M, D> {
         requires ways { HasWays self.old.cluster self.old.chart }
         ensures parts { OnOk result (HasParts scene.now.options.now.config.nodes
             self.new.cluster) }
-        ensures setup { IsSameSetup self.old.cluster self.new.cluster }
+        ensures setup { self.new.cluster.setup ≡ self.old.cluster.setup }
         ensures stage { self.new.chart.stage ≡ self.old.chart.stage }
         ensures reached { let options = scene.now.options.now in
             let s = run_setting M.next M.answers M.begin M.image self.old.cluster options in
@@ -269,7 +268,7 @@ impl<M: Machine, D: CutDevice> Walk<M, D> {
         requires ways { HasWays self.old.cluster self.old.chart }
         ensures parts { OnOk result (HasParts scene.now.options.now.config.nodes
             self.new.cluster) }
-        ensures setup { IsSameSetup self.old.cluster self.new.cluster }
+        ensures setup { self.new.cluster.setup ≡ self.old.cluster.setup }
         ensures stage { self.new.chart.stage ≡ self.old.chart.stage }
         ensures reached { let options = scene.now.options.now in
             let s = run_setting M.next M.answers M.begin M.image self.old.cluster options in

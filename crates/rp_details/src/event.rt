@@ -35,7 +35,7 @@ pub fn details<M: Machine, D: CutDevice>(
     options: &RunOptions<'_>,
     told: &Told,
 ) -> Result<Vec<u8>, Fault>
-    requires { cluster.now.config.nodes ≡ options.now.config.nodes }
+    requires { cluster.now.setup.config.nodes ≡ options.now.config.nodes }
     // claim: What a page says of an event is, line by line: the packet that was delivered and those
     //   that were sent, each by its line of the trace and by its fields; each node after the event: as
     //   `show` prints it, how many bytes its device holds and, where it runs, its bound and its last

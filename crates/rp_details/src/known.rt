@@ -23,7 +23,7 @@ pub fn add_known<M: Machine, D: CutDevice>(
     node: NodeId,
 ) -> Result<(), AllocError>
     ensures { OnOk result (text.new.items ≡ text.old.items
-        ++ known_lines cluster.now.config.max_positions (part_at cluster.now.world.nodes node)) }
+        ++ known_lines cluster.now.setup.config.max_positions (part_at cluster.now.world.nodes node)) }
 {
     let Ok(server) = cluster.server(node) else {
         return Ok(());

@@ -25,10 +25,10 @@ pub fn add_nodes<M: Machine, D: CutDevice>(
     cluster: &Cluster<M, D>,
     options: &RunOptions<'_>,
 ) -> Result<(), Fault>
-    requires { cluster.now.config.nodes ≡ options.now.config.nodes }
+    requires { cluster.now.setup.config.nodes ≡ options.now.config.nodes }
     ensures { OnOk result (text.new.items ≡ text.old.items
         ++ nodes_lines (run_setting M.next M.answers M.begin M.image cluster.now options.now)
-        cluster.now.world cluster.now.config.nodes) }
+        cluster.now.world cluster.now.setup.config.nodes) }
 {
     for place in 0..options.config.nodes {
         let node = NodeId::new(place + 1).unwrap();

@@ -102,13 +102,10 @@ module _ {S : Type 0} (config : Config) (next : S → Action → S) (answers : S
   plan_alike (NodeInput.Receive m) =
       ap (λ (plan : Plan). (let r : Result Plan Fault = Ok (cond {A = Plan} (is_for_node config me m) plan (plans.Pass Foreign)) in r)) (body_alike (sender_number m.from) m.body)
   plan_alike (NodeInput.Lead choice) = lead_alike choice
-  plan_alike (NodeInput.LeadRange first count) = refl
   plan_alike (NodeInput.Interrupt source occurrence) =
       ap (λ (kept : List Action). (let r : Result Plan Fault = Ok (cond {A = Plan} (nat_lt (last_occurrence source kept) occurrence) (adds_pending running.pending (actions.Interrupt source occurrence)) (plans.Pass No)) in r))
       (alike.kept applied)
-  plan_alike (NodeInput.Tick now) = refl
-  plan_alike (NodeInput.Report first) = refl
-  plan_alike (NodeInput.Ask to) = refl
+  plan_alike _ = refl
 
   -- ---- and a plan does the same
 

@@ -6,7 +6,6 @@ use Rattle.std.proofs.lemmas.Result.{IfErr-weaker}
 use Rattle.std.proofs.lemmas.List.{length-replicate}
 use Rattle.rp_base.specs.Fault.{code_of}
 use Rattle.rp_base.specs.declared.action.Action.{Action}
-use Rattle.rp_base.specs.declared.config.Config.{Config}
 use Rattle.rp_base.specs.declared.fault.Fault.{Fault}
 use Rattle.rp_base.specs.declared.fault.Fault.TheVariants.{OutOfMemory, Device, Failed, BadPacket, NotRunning, BallotsSpent, LogFull, NoSuchMessage, TaskBusy, NumbersSpent, BadDeck, BadConfig, Io}
 use Rattle.rp_base.specs.declared.reply.Answer.{Answer}
@@ -19,7 +18,7 @@ use Rattle.rp_model.specs.Parts.{fresh_node, fresh_task}
 use Rattle.rp_model.specs.World.{World, Transition, event_effect, node_of, opening_world, part_at}
 use Rattle.rp_agreement.proofs.PartPlaces.{put_there}
 use Rattle.rp_world.specs.Failures.{AreCounted, RisesAt, RisesOnly}
-use Rattle.rp_world.specs.Steps.{Setup, IsSameSetup, setting_of}
+use Rattle.rp_world.specs.Steps.{ClusterState, Setup, setting_of}
 use Rattle.rp_run.specs.Faults.{IsDeviceRunFault}
 use Rattle.rp_output.specs.Faults.{IsRunFault}
 use Rattle.rp_run.specs.Runs.{HasParts, run_setting}
@@ -44,7 +43,7 @@ rises_somewhere : (me : Option ℕ) (before after : List ℕ) → RisesOnly me b
 rises_somewhere None before after rises = absurd rises
 rises_somewhere (Some me) before after rises = (me, rises)
 
-module _ {S P : Type 0} (next : S → Action → S) (answers : S → Action → List Answer) (start : P → S) (nodes : ℕ) (old new : Setup P) (event : Event)
+module _ {S P : Type 0} (next : S → Action → S) (answers : S → Action → List Answer) (start : P → S) (nodes : ℕ) (old new : ClusterState P) (event : Event)
     (parts : HasParts nodes old) (fits : IsEventWithin nodes 8 8 event) where
   keeps : Keeps old.world (event_effect (setting_of next answers start old) old.world (event_of event))
   keeps =
@@ -52,18 +51,18 @@ module _ {S P : Type 0} (next : S → Action → S) (answers : S → Action → 
       (subst (λ (n : ℕ). IsEventWithin n 8 8 event) (sym parts.config) fits)
 
   -- nodes and tasks neither come nor go
-  pub parts_stay : (effect : Effect) → IsSameSetup old new → IsDone (setting_of next answers start old) old.world (event_of event) new.world effect → HasParts nodes new
+  pub parts_stay : (effect : Effect) → new.setup ≡ old.setup → IsDone (setting_of next answers start old) old.world (event_of event) new.world effect → HasParts nodes new
   parts_stay effect same done =
       let lengths = kept_lengths old.world (event_effect (setting_of next answers start old) old.world (event_of event)) done.transition done.resulted keeps in
       record {
-        config = ap (λ (c : Config). c.nodes) same.config ∙ parts.config;
+        config = ap (λ (u : Setup P). u.config.nodes) same ∙ parts.config;
         nodes_there = ap (λ (w : World). length w.nodes) done.world ∙ lengths.0 ∙ parts.nodes_there;
         tasks = ap (λ (w : World). length w.tasks) done.world ∙ lengths.1 ∙ parts.tasks;
       }
 
-  pub parts_left : (fault : Fault) → IsSameSetup old new → IsRefused (setting_of next answers start old) old.world (event_of event) new.world fault → HasParts nodes new
+  pub parts_left : (fault : Fault) → new.setup ≡ old.setup → IsRefused (setting_of next answers start old) old.world (event_of event) new.world fault → HasParts nodes new
   parts_left fault same refused = record {
-    config = ap (λ (c : Config). c.nodes) same.config ∙ parts.config;
+    config = ap (λ (u : Setup P). u.config.nodes) same ∙ parts.config;
     nodes_there = ap (λ (w : World). length w.nodes) refused.unchanged ∙ parts.nodes_there;
     tasks = ap (λ (w : World). length w.tasks) refused.unchanged ∙ parts.tasks;
   }
@@ -123,17 +122,13 @@ refused_of s w left event fault (inr (inr device)) numbered = absurd (at (subst 
     at : 5 ≤ code_of Device → ⊥
     at le = omega arith
 
--- one setting for clusters of one configuration and program
-pub same_setting : {S P : Type 0} (next : S → Action → S) (answers : S → Action → List Answer) (start : P → S) (image : S → List ℕ) (options : RunOptions) (old new : Setup P)
-    → IsSameSetup old new → run_setting next answers start image new options ≡ run_setting next answers start image old options
-same_setting next answers start image options old new same =
-    ap (λ c. run_setting next answers start image (record new { config = c }) options) same.config
-    ∙ ap (λ p. run_setting next answers start image (record new { config = old.config; program = p }) options) same.program
+-- one setting for clusters of one setup
+pub same_run_setting : {S P : Type 0} (next : S → Action → S) (answers : S → Action → List Answer) (start : P → S) (image : S → List ℕ) (options : RunOptions) (old new : ClusterState P)
+    → new.setup ≡ old.setup → run_setting next answers start image new options ≡ run_setting next answers start image old options
+same_run_setting {P = P} next answers start image options old new same =
+    ap (λ (u : Setup P). run_setting next answers start image (record old { setup = u }) options) same
 
-pub same_trans : {P : Type 0} (a b c : Setup P) → IsSameSetup a b → IsSameSetup b c → IsSameSetup a c
-same_trans a b c first second = record { config = second.config ∙ first.config; program = second.program ∙ first.program }
-
-pub opening_parts : {P : Type 0} (nodes : ℕ) (cluster : Setup P) → cluster.config.nodes ≡ nodes → cluster.world ≡ opening_world nodes → HasParts nodes cluster
+pub opening_parts : {P : Type 0} (nodes : ℕ) (cluster : ClusterState P) → cluster.setup.config.nodes ≡ nodes → cluster.world ≡ opening_world nodes → HasParts nodes cluster
 opening_parts nodes cluster config opened = record {
   config = config;
   nodes_there = ap (λ (w : World). length w.nodes) opened ∙ length-replicate nodes fresh_node;

@@ -10,7 +10,7 @@ use Rattle.rp_codec.specs.Message.{Message}
 use Rattle.rp_model.specs.World.{World, opening_world}
 use Rattle.rp_model.specs.declared.effect.Effect.{Effect}
 use Rattle.rp_model.specs.declared.event.Event.{Event}
-use Rattle.rp_world.specs.Steps.{Setup, setting_of}
+use Rattle.rp_world.specs.Steps.{ClusterState, setting_of}
 use Rattle.rp_run.specs.Output.{RunSetting, Play, Said, text_of, names_of, is_among, traced_text}
 use Rattle.rp_run.specs.Output.{effect_text}
 use Rattle.rp_run.specs.Settled.{is_settled}
@@ -20,7 +20,7 @@ use Rattle.rp_run.specs.declared.settled.Settled.{Settled}
 
 -- what is constant in a run of a cluster
 abbrev pub run_setting : {S P : Type 0} → (S → Action → S) → (S → Action → List Answer) → (P → S)
-    → (S → List ℕ) → Setup P → RunOptions → RunSetting S
+    → (S → List ℕ) → ClusterState P → RunOptions → RunSetting S
 run_setting next answers start image cluster options = record {
   setting = setting_of next answers start cluster;
   image = image;
@@ -29,10 +29,9 @@ run_setting next answers start image cluster options = record {
 }
 
 -- a cluster that is opened over devices that have not failed
-abbrev pub opening_setup : {P : Type 0} → Config → P → Setup P
-opening_setup config program = record {
-  config = config;
-  program = program;
+abbrev pub opening_cluster : {P : Type 0} → Config → P → ClusterState P
+opening_cluster config program = record {
+  setup = record { config = config; program = program };
   world = opening_world config.nodes;
   failures = replicate config.nodes 0;
 }
@@ -45,8 +44,8 @@ printed_text options sent event effect =
     ++ effect_text names sent event effect.opened effect.dropped effect.taken
 
 -- the cluster has n nodes, and eight tasks
-pub record HasParts {P : Type 0} (nodes : ℕ) (cluster : Setup P) : Type 0 where
-  pub config : cluster.config.nodes ≡ nodes
+pub record HasParts {P : Type 0} (nodes : ℕ) (cluster : ClusterState P) : Type 0 where
+  pub config : cluster.setup.config.nodes ≡ nodes
   pub nodes_there : length cluster.world.nodes ≡ nodes
   pub tasks : length cluster.world.tasks ≡ 8
 

@@ -2,7 +2,7 @@
 
 ghost use Rattle.std.specs.Prelude.{All};
 ghost use Rattle.rp_run.specs.Agreeing.{RunAgrees, RunIsPrinted};
-ghost use Rattle.rp_run.specs.Runs.{run_setting, opening_setup};
+ghost use Rattle.rp_run.specs.Runs.{run_setting, opening_cluster};
 ghost use Rattle.rp_deck.specs.Script.{KeepsRanges};
 
 use crate::options::RunOptions;
@@ -17,10 +17,10 @@ pub fn scripts_agree<M: Machine>(options: &RunOptions<'_>)
     // claim: For every machine, whatever the lines of a script are, one order gives the states and
     //   the replies that its run prints, and after any two lines nodes agree
     ensures agrees { (program : M.Program) → RunAgrees
-        (run_setting M.next M.answers M.begin M.image (opening_setup options.now.config program)
+        (run_setting M.next M.answers M.begin M.image (opening_cluster options.now.config program)
         options.now) options.now.most options.now.lines.now }
     ensures printed { (program : M.Program) → RunIsPrinted
-        (run_setting M.next M.answers M.begin M.image (opening_setup options.now.config program)
+        (run_setting M.next M.answers M.begin M.image (opening_cluster options.now.config program)
         options.now) options.now.most options.now.lines.now }
 {
     histories_are_ordered::<M>();

@@ -2,10 +2,9 @@
 
 ghost use Rattle.std.specs.Prelude.{◌≡◌, ◌≤◌, ◌<◌, ◌^◌, ◌||◌, [], length, All, IfErr, OnOk};
 ghost use Rattle.rp_model.specs.World.{part_at};
-ghost use Rattle.rp_world.specs.Steps.{IsSameSetup};
 ghost use Rattle.rp_deck.specs.Script.{FitsIn, IsEventWithin};
 ghost use Rattle.rp_run.specs.Output.{Play, event_said, lost, drained, part_text, nodes_text, command_said, run_said, text_of, is_restart, is_full};
-ghost use Rattle.rp_run.specs.Runs.{run_setting, opening_setup, printed_text, HasParts, Follows, Says};
+ghost use Rattle.rp_run.specs.Runs.{run_setting, opening_cluster, printed_text, HasParts, Follows, Says};
 ghost use Rattle.rp_output.specs.Stream.{Writes};
 ghost use Rattle.rp_run.specs.Faults.{IsDeviceRunFault};
 ghost use Rattle.rp_output.specs.Faults.{IsRunFault};
@@ -44,7 +43,7 @@ pub fn run_lines<M: Machine, D: CutDevice + InfallibleDevice, W: Write>(
     //   memory never returns `Device`
     ensures output { Writes (W.contents writer.old) (W.contents writer.new)
         (text_of (run_said (run_setting M.next M.answers M.begin M.image
-        (opening_setup options.now.config program) options.now)
+        (opening_cluster options.now.config program) options.now)
         options.now.most options.now.lines.now)) result }
     ensures fault { IfErr result IsRunFault }
 {
@@ -83,7 +82,7 @@ impl<M: Machine, D: CutDevice> Run<M, D> {
         requires parts { HasParts options.now.config.nodes self.old.cluster }
         requires line { FitsIn options.now.config.nodes 8 8 line.now.command }
         ensures parts { OnOk result (HasParts options.now.config.nodes self.new.cluster) }
-        ensures setup { IsSameSetup self.old.cluster self.new.cluster }
+        ensures setup { self.new.cluster.setup ≡ self.old.cluster.setup }
         ensures counts { OnOk result (self.new.cluster.failures ≡ self.old.cluster.failures) }
         ensures printed { (play : Play) → Follows self.old.cluster.world self.old.settled play
             → Says self.new.cluster.world self.new.settled
@@ -116,7 +115,7 @@ impl<M: Machine, D: CutDevice> Run<M, D> {
         requires parts { HasParts options.now.config.nodes self.old.cluster }
         requires event { IsEventWithin options.now.config.nodes 8 8 event.now }
         ensures parts { OnOk result (HasParts options.now.config.nodes self.new.cluster) }
-        ensures setup { IsSameSetup self.old.cluster self.new.cluster }
+        ensures setup { self.new.cluster.setup ≡ self.old.cluster.setup }
         ensures counts { OnOk result (self.new.cluster.failures ≡ self.old.cluster.failures) }
         ensures printed { (play : Play) → Follows self.old.cluster.world self.old.settled play
             → Says self.new.cluster.world self.new.settled
@@ -231,7 +230,7 @@ impl<M: Machine, D: CutDevice> Run<M, D> {
     ) -> Result<(), Fault>
         requires parts { HasParts options.now.config.nodes self.old.cluster }
         ensures parts { OnOk result (HasParts options.now.config.nodes self.new.cluster) }
-        ensures setup { IsSameSetup self.old.cluster self.new.cluster }
+        ensures setup { self.new.cluster.setup ≡ self.old.cluster.setup }
         ensures counts { OnOk result (self.new.cluster.failures ≡ self.old.cluster.failures) }
         ensures printed { (play : Play) → Follows self.old.cluster.world self.old.settled play
             → Says self.new.cluster.world self.new.settled

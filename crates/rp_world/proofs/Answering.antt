@@ -1,6 +1,5 @@
 -- What is answered is a step of the world, and steps make a history.
-use Rattle.std.proofs.Common.{◌≡◌, ℕ, Option, Result, Ok, Err, List, [], ◌∷◌, ◌++◌, inl, inr, ap, subst, ◌∙◌}
-use Rattle.rp_base.specs.declared.config.Config.{Config}
+use Rattle.std.proofs.Common.{◌≡◌, ℕ, Option, Result, Ok, Err, List, [], ◌∷◌, ◌++◌, inl, inr, ap, subst}
 use Rattle.rp_base.specs.declared.action.Action.{Action}
 use Rattle.rp_base.specs.declared.reply.Answer.{Answer}
 use Rattle.std.specs.Prelude.{IsSome}
@@ -14,7 +13,7 @@ use Rattle.rp_model.specs.World.{World, Transition, event_effect, cut_step, step
 use Rattle.rp_model.specs.Answers.{IsLeft, FailsBy, Steps, Happen}
 use Rattle.rp_world.specs.Failures.{RisesOnly, AreCounted}
 use Rattle.rp_world.specs.Going.{Fails, Answers, AnswersRestart, AnswersStop, Counts, no_cut, stated}
-use Rattle.rp_world.specs.Steps.{Setup, IsSameSetup, setting_of}
+use Rattle.rp_world.specs.Steps.{ClusterState, Setup, setting_of}
 use Rattle.rp_world.proofs.Reports.{as_fault}
 
 module _ {S : Type 0} (s : Setting S) (w : World) (event : Event) (new : World) (cut : ℕ → Result Transition Fault)
@@ -127,8 +126,7 @@ module _ {S : Type 0} (s : Setting S) where
   happen_more w (e ∷ rest) now after event effect here step = (here.0, here.1, happen_more here.0.world rest now after event effect here.2 step)
 
 module _ {S P : Type 0} (next : S → Action → S) (answers : S → Action → List Answer) (start : P → S) where
-  -- two clusters of one configuration and program share the same
-  pub same_setting : (old new : Setup P) → IsSameSetup old new → setting_of next answers start new ≡ setting_of next answers start old
+  -- the nodes of two clusters of one setup share the same
+  pub same_setting : (old new : ClusterState P) → new.setup ≡ old.setup → setting_of next answers start new ≡ setting_of next answers start old
   same_setting old new same =
-      ap (λ (config : Config). let s : Setting S = record { config = config; next = next; answers = answers; begin = start new.program } in s) same.config
-      ∙ ap (λ (program : P). let s : Setting S = record { config = old.config; next = next; answers = answers; begin = start program } in s) same.program
+      ap (λ (u : Setup P). setting_of next answers start (record old { setup = u })) same

@@ -49,26 +49,26 @@ module _ {S D P : Type 0} (f : Fields S D P) (at : Found f.nodes) where
   -- its replica
   pub replica_of : (found : Option (Bor (ReplicaState S))) → IfSome found (λ replica. (m : Member S) (p : NodePart) → Represents f.disk m at.it p → RunsAs m replica.now p)
       → IfNone found ((m : Member S) (p : NodePart) → Represents f.disk m at.it p → p.running ≡ None)
-      → {answer : Result (Bor (ReplicaState S)) Fault} → answer ≡ ok_or found NotRunning → IsReplicaOf f.was.config (f.start f.was.program) answer (part_at f.was.world.nodes at.me)
+      → {answer : Result (Bor (ReplicaState S)) Fault} → answer ≡ ok_or found NotRunning → IsReplicaOf f.was.setup.config (f.start f.was.setup.program) answer (part_at f.was.world.nodes at.me)
   replica_of found runs rests {answer = answer} is_answer =
-      as_seen f (λ v. IsReplicaOf v.config (f.start v.program) answer (part_at v.world.nodes at.me))
+      as_seen f (λ v. IsReplicaOf v.setup.config (f.start v.setup.program) answer (part_at v.world.nodes at.me))
       (subst (IsReplicaOf f.config (f.start f.program) answer) (sym (is_here f at))
       (subst (λ (r : Result (Bor (ReplicaState S)) Fault). IsReplicaOf f.config (f.start f.program) r (Some (part f at))) (sym is_answer) (stated f.disk (member f at.me) at.it (part f at) (represents_now f at) found runs rests)))
 
   -- its server, where it runs
   pub server_found : (replica : ReplicaState S) → ((m : Member S) (p : NodePart) → Represents f.disk m at.it p → RunsAs m replica p)
       → (server : Bor (ServerState S)) → server.now ≡ server_of replica
-      → IsServerOf f.was.config (let r : Result (Bor (ServerState S)) Fault = Ok server in r) (part_at f.was.world.nodes at.me)
+      → IsServerOf f.was.setup.config (let r : Result (Bor (ServerState S)) Fault = Ok server in r) (part_at f.was.world.nodes at.me)
   server_found replica runs server is_server =
-      as_seen f (λ v. IsServerOf v.config (let r : Result (Bor (ServerState S)) Fault = Ok server in r) (part_at v.world.nodes at.me))
+      as_seen f (λ v. IsServerOf v.setup.config (let r : Result (Bor (ServerState S)) Fault = Ok server in r) (part_at v.world.nodes at.me))
       (subst (IsServerOf f.config (let r : Result (Bor (ServerState S)) Fault = Ok server in r)) (sym (is_here f at))
       (served_running (member f at.me) (part f at) replica (runs (member f at.me) (part f at) (represents_now f at)) server is_server))
 
   -- none, where it rests
   pub no_server : ((m : Member S) (p : NodePart) → Represents f.disk m at.it p → p.running ≡ None)
-      → IsServerOf f.was.config (let r : Result (Bor (ServerState S)) Fault = Err NotRunning in r) (part_at f.was.world.nodes at.me)
+      → IsServerOf f.was.setup.config (let r : Result (Bor (ServerState S)) Fault = Err NotRunning in r) (part_at f.was.world.nodes at.me)
   no_server rests =
-      as_seen f (λ v. IsServerOf v.config (let r : Result (Bor (ServerState S)) Fault = Err NotRunning in r) (part_at v.world.nodes at.me))
+      as_seen f (λ v. IsServerOf v.setup.config (let r : Result (Bor (ServerState S)) Fault = Err NotRunning in r) (part_at v.world.nodes at.me))
       (subst (IsServerOf f.config (let r : Result (Bor (ServerState S)) Fault = Err NotRunning in r)) (sym (is_here f at))
       (served_resting (member f at.me) (part f at) (rests (member f at.me) (part f at) (represents_now f at))))
 

@@ -21,7 +21,7 @@ use Rattle.rp_model.specs.World.{World, Transition, part_at, with_part, task_don
 use Rattle.rp_model.specs.declared.effect.Effect.{Effect}
 use Rattle.rp_world.specs.Callers.{Caller}
 use Rattle.rp_world.specs.Going.{Goes, Answers, no_cut}
-use Rattle.rp_world.specs.Steps.{Setup}
+use Rattle.rp_world.specs.Steps.{ClusterState}
 use Rattle.rp_outbox.specs.Packets.{Sending}
 use Rattle.rp_world.proofs.Fields.{Fields, as_seen, first_seen, world, world_with, made_of}
 use Rattle.rp_world.proofs.Lists.{part_same}
@@ -92,8 +92,8 @@ module _ {S D P : Type 0} (f : Fields S D P) (at : Found f.tasks) where
   effect input = task_effect f.config at.me at.it.part input
 
   -- the same of the cluster that the caller saw
-  abbrev seen : TaskInput → Setup P → Result Transition Fault
-  seen input v = task_takes v.config v.world at.me input (part_at v.world.tasks at.me)
+  abbrev seen : TaskInput → ClusterState P → Result Transition Fault
+  seen input v = task_takes v.setup.config v.world at.me input (part_at v.world.tasks at.me)
 
   whole_is : (input : TaskInput) (result : Result (Done TaskPart) Fault) → effect input ≡ result → whole input ≡ task_done_if w at.me result
   whole_is input result is = ap (task_takes f.config w at.me input) (task_here f at) ∙ ap (task_done_if w at.me) is
@@ -213,7 +213,7 @@ module _ {S D P : Type 0} (f : Fields S D P) (at : Found f.tasks) {node : ℕ} (
   pub asks_nothing : at.it.part.outstanding ≡ None → {first : ℕ} {stated : Effect} → first ≡ length f.was.world.sent → stated ≡ stated_count (first + 1) 0
       → Goes f.was.world (seen f at (Again node) f.was) f.was.world stated
   asks_nothing none {stated = stated} first_is is =
-      subst (λ (x : World). Goes f.was.world (seen f at (Again node) f.was) x stated) (ap (λ (v : Setup P). v.world) f.view_is)
+      subst (λ (x : World). Goes f.was.world (seen f at (Again node) f.was) x stated) (ap (λ (v : ClusterState P). v.world) f.view_is)
       (from_same f at (λ ts. Goes f.was.world (seen f at (Again node) f.was) (world_with f f.nodes ts f.messages) stated)
       (goes f at (Again node) (goes_on_as at.it.part) at.it f.messages 0 (again_is None none) refl (sym (append-nil f.messages.sent)) first_is is
       (record { first = refl; count = refl; dropped = refl; taken = refl; opened = refl })))

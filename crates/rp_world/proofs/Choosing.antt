@@ -134,8 +134,8 @@ nodes_of f same = record {
 }
 
 -- and of the world that the caller saw
-pub nodes_seen : {S D P : Type 0} (f : Fields S D P) {lent : List (OneNode S D P)} → lent ≡ f.nodes → AreNodesOf f.disk (f.start f.was.program) lent f.was.world
-nodes_seen f {lent = lent} same = as_seen f (λ v. AreNodesOf f.disk (f.start v.program) lent v.world) (nodes_of f same)
+pub nodes_seen : {S D P : Type 0} (f : Fields S D P) {lent : List (OneNode S D P)} → lent ≡ f.nodes → AreNodesOf f.disk (f.start f.was.setup.program) lent f.was.world
+nodes_seen f {lent = lent} same = as_seen f (λ v. AreNodesOf f.disk (f.start v.setup.program) lent v.world) (nodes_of f same)
 
 module _ {S D P : Type 0} (disk : D → Disk) (begin : S) (nodes : List (OneNode S D P)) (w : World) (are : AreNodesOf disk begin nodes w) where
   pub as_many : length w.nodes ≡ length nodes

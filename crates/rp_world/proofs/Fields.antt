@@ -12,7 +12,7 @@ use Rattle.rp_outbox.specs.Packets.{Sending}
 use Rattle.rp_world.specs.Callers.{Caller}
 use Rattle.rp_world.specs.Nodes.{Member, member_of, failures_in}
 use Rattle.rp_world.specs.Shape.{IsWorld, world_of}
-use Rattle.rp_world.specs.Steps.{Setup, IsSameSetup, setting_of}
+use Rattle.rp_world.specs.Steps.{ClusterState, setting_of}
 use Rattle.rp_world.specs.declared.node.Node.{Node}
 
 -- a world of these parts and messages
@@ -20,9 +20,9 @@ abbrev pub made_of : List NodePart → List TaskPart → List Message → World
 made_of nodes tasks sent = record { nodes = nodes; tasks = tasks; sent = sent }
 
 -- the cluster that such fields are
-abbrev pub setup_of : {S D P : Type 0} → (D → Disk) → Config → P → List (Node S D P) → List Caller → Sending → Setup P
-setup_of disk config program nodes tasks messages =
-    record { config = config; program = program; world = world_of disk config.max_positions nodes tasks messages; failures = map (failures_in disk) nodes }
+abbrev pub cluster_of : {S D P : Type 0} → (D → Disk) → Config → P → List (Node S D P) → List Caller → Sending → ClusterState P
+cluster_of disk config program nodes tasks messages =
+    record { setup = record { config = config; program = program }; world = world_of disk config.max_positions nodes tasks messages; failures = map (failures_in disk) nodes }
 
 -- The fields, the functions of the machine, and the value that the fields are, as the caller saw it.
 pub record Fields (S D P : Type 0) : Type 0 where
@@ -36,12 +36,12 @@ pub record Fields (S D P : Type 0) : Type 0 where
   pub answers : S → Action → List Answer
   pub start : P → S
   pub kept : IsWorld disk config (start program) nodes tasks
-  pub was : Setup P
-  pub view_is : setup_of disk config program nodes tasks messages ≡ was
+  pub was : ClusterState P
+  pub view_is : cluster_of disk config program nodes tasks messages ≡ was
 
-abbrev pub fields_of : {S D P : Type 0} {disk : D → Disk} {config : Config} {program : P} {nodes : List (Node S D P)} {tasks : List Caller} {was : Setup P}
+abbrev pub fields_of : {S D P : Type 0} {disk : D → Disk} {config : Config} {program : P} {nodes : List (Node S D P)} {tasks : List Caller} {was : ClusterState P}
     (next : S → Action → S) (answers : S → Action → List Answer) (start : P → S) (messages : Sending) → IsWorld disk config (start program) nodes tasks
-    → setup_of disk config program nodes tasks messages ≡ was → Fields S D P
+    → cluster_of disk config program nodes tasks messages ≡ was → Fields S D P
 fields_of {disk = disk} {config = config} {program = program} {nodes = nodes} {tasks = tasks} {was = was} next answers start messages kept view_is =
     record { disk = disk; config = config; program = program; nodes = nodes; tasks = tasks; messages = messages; next = next; answers = answers; start = start; kept = kept; was = was; view_is = view_is }
 
@@ -54,7 +54,7 @@ module _ {S D P : Type 0} (f : Fields S D P) where
   setting = record { config = f.config; next = f.next; answers = f.answers; begin = begin }
 
   -- the same of any cluster of this machine
-  abbrev pub setting_by : Setup P → Setting S
+  abbrev pub setting_by : ClusterState P → Setting S
   setting_by v = setting_of f.next f.answers f.start v
 
   -- the node of this number
@@ -76,22 +76,19 @@ module _ {S D P : Type 0} (f : Fields S D P) where
   IsKept nodes tasks = IsWorld f.disk f.config begin nodes tasks
 
   -- the cluster that the fields are; what is so of it is so of the one that the caller saw
-  abbrev pub now : Setup P
-  now = setup_of f.disk f.config f.program f.nodes f.tasks f.messages
+  abbrev pub now : ClusterState P
+  now = cluster_of f.disk f.config f.program f.nodes f.tasks f.messages
 
-  pub as_seen : (Q : Setup P → Type 0) → Q now → Q f.was
+  pub as_seen : (Q : ClusterState P → Type 0) → Q now → Q f.was
   as_seen Q q = subst Q f.view_is q
 
   -- the messages, and their number
   pub sent_seen : f.messages.sent ≡ f.was.world.sent
-  sent_seen = ap (λ (v : Setup P). v.world.sent) f.view_is
+  sent_seen = ap (λ (v : ClusterState P). v.world.sent) f.view_is
 
   pub first_seen : {first : ℕ} → first ≡ length f.was.world.sent → first ≡ length f.messages.sent
   first_seen first_is = first_is ∙ ap length (sym sent_seen)
 
-  -- a cluster of this configuration and program
-  pub same_setup : (new : Setup P) → new.config ≡ f.config → new.program ≡ f.program → IsSameSetup f.was new
-  same_setup new config program = record {
-    config = config ∙ ap (λ (v : Setup P). v.config) f.view_is;
-    program = program ∙ ap (λ (v : Setup P). v.program) f.view_is;
-  }
+  -- the setup stays
+  pub same_setup : now.setup ≡ f.was.setup
+  same_setup = ap (λ (v : ClusterState P). v.setup) f.view_is

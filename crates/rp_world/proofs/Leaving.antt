@@ -8,7 +8,7 @@ use Rattle.rp_model.specs.Effect.{stop_effect, restart_part}
 use Rattle.rp_model.specs.World.{World, stops, restarts, part_at}
 use Rattle.rp_world.specs.Failures.{AreCounted}
 use Rattle.rp_world.specs.Going.{AnswersStop, AnswersRestart}
-use Rattle.rp_world.specs.Steps.{Setup}
+use Rattle.rp_world.specs.Steps.{ClusterState}
 use Rattle.rp_world.specs.Nodes.{Member, GoesBy, RefusedBy, IsCounted, IsLeftTorn, IsResting, DescribesNothing, DescribesOpened, failures_in}
 use Rattle.rp_world.proofs.Answering.{rose}
 use Rattle.rp_world.proofs.Ending.{still, stopped, not_stopped, left_by_stop, restarted, not_restarted, left_by_restart}
@@ -58,7 +58,7 @@ module _ {S D P : Type 0} (f : Fields S D P) (change : Changed f.nodes) where
   abbrev StopsNot : Fault → Type 0
   StopsNot fault = (m : Member S) → RefusedBy f.disk m change.at.it change.new stop_effect fault
 
-  abbrev Stopped : Result Effect Fault → Setup P → Type 0
+  abbrev Stopped : Result Effect Fault → ClusterState P → Type 0
   Stopped r v = AnswersStop v.world (stops v.world me (part_at v.world.nodes me)) after r
 
   pub still_by_stop : (answer : Result Unit Fault) → IfOk answer Stops → IfErr answer StopsNot → IsKept f change.after f.tasks
@@ -89,7 +89,7 @@ module _ {S D P : Type 0} (f : Fields S D P) (change : Changed f.nodes) where
   abbrev Reasons : Fault → Type 0
   Reasons fault = (fault ≡ OutOfMemory) ⊎ (fault ≡ Device)
 
-  abbrev Restarted : Result Effect Fault → Setup P → Type 0
+  abbrev Restarted : Result Effect Fault → ClusterState P → Type 0
   Restarted r v = AnswersRestart v.world me (restarts v.world me (part_at v.world.nodes me)) after r
 
   pub still_by_restart : (answer : Result (Option (ℕ × ℕ)) Fault) → IfOk answer Restarts → IfErr answer Torn → IsKept f change.after f.tasks

@@ -14,7 +14,7 @@ use Rattle.rp_world.specs.Choosing.{IsOf}
 use Rattle.rp_world.specs.Going.{Answers, Counts}
 use Rattle.rp_world.specs.Nodes.{Member, IsCounted, IsCutBy, NotTaken, failures_in, node_step}
 use Rattle.rp_world.specs.Shape.{part_by}
-use Rattle.rp_world.specs.Steps.{Setup}
+use Rattle.rp_world.specs.Steps.{ClusterState}
 use Rattle.rp_world.proofs.Ending.{still, cut_so, not_cut, left_by_cut}
 use Rattle.rp_world.proofs.Failing.{counts, same_seen, writes}
 use Rattle.rp_world.proofs.Fields.{Fields, IsKept, as_seen, counts_of, first_seen, member, setting, world, world_with, setting_by}
@@ -55,10 +55,10 @@ module _ {S D P : Type 0} (f : Fields S D P) (change : Changed f.nodes) {step : 
   cut_here k = one.cut k ∙ ap (λ o. chosen_cut (setting f) (world f) k (commanded me one.given o)) (is_here f change.at)
 
   -- what a cluster answers to the cut, and what it counts
-  abbrev Answered : Result Effect Fault → Setup P → Type 0
+  abbrev Answered : Result Effect Fault → ClusterState P → Type 0
   Answered r v = let s = setting_by f v in Answers v.world (cut_step s v.world step kept) (λ less. cut_step s v.world step less) (world_with f change.after f.tasks f.messages) r
 
-  abbrev Counted : Result Effect Fault → Setup P → Type 0
+  abbrev Counted : Result Effect Fault → ClusterState P → Type 0
   Counted r v = let s = setting_by f v in Counts (IsSome (step_writes s v.world step)) (stepping v.world step) v.failures (counts_of f change.after) r
 
   -- what is answered is so

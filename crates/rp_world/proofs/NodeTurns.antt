@@ -15,7 +15,7 @@ use Rattle.rp_model.specs.World.{World, Transition, part_at, node_done_if, nothi
 use Rattle.rp_outbox.specs.Packets.{Sending}
 use Rattle.rp_world.specs.Going.{Goes, Answers, AnswersDelivery, Counts, CountsDelivery, stated}
 use Rattle.rp_world.specs.Nodes.{Member, Represents, GoesBy, IsLight, NotTaken, DescribesSending, IsCounted, failures_in, node_step}
-use Rattle.rp_world.specs.Steps.{IsLightStep, Setup}
+use Rattle.rp_world.specs.Steps.{IsLightStep, ClusterState}
 use Rattle.rp_world.specs.declared.node.Node.{Node}
 use Rattle.rp_world.proofs.Ending.{none_here}
 use Rattle.rp_world.proofs.Failing.{counts, heard_counts, writes}
@@ -41,13 +41,13 @@ module _ {S D P : Type 0} (f : Fields S D P) (at : Found f.nodes) (new : Node S 
   after later = world_with f (slice_set f.nodes at.place new) f.tasks later
 
   -- what a cluster answers to the input, and what it counts
-  abbrev takes : Setup P → Result Transition Fault
+  abbrev takes : ClusterState P → Result Transition Fault
   takes v = chosen_effect (setting_by f v) v.world (commanded at.me input (part_at v.world.nodes at.me))
 
-  abbrev Answered : Sending → Result Effect Fault → Setup P → Type 0
+  abbrev Answered : Sending → Result Effect Fault → ClusterState P → Type 0
   Answered later r v = Answers v.world (takes v) (λ kept. chosen_cut (setting_by f v) v.world kept (commanded at.me input (part_at v.world.nodes at.me))) (after later) r
 
-  abbrev Counted : {A : Type 0} → Result A Fault → Setup P → Type 0
+  abbrev Counted : {A : Type 0} → Result A Fault → ClusterState P → Type 0
   Counted r v = Counts (IsSome (chosen_record (setting_by f v) (commanded at.me input (part_at v.world.nodes at.me)))) (Some at.me) v.failures (counts_of f (slice_set f.nodes at.place new)) r
 
   pub goes_given : (dropped : Dropped) (later : Sending) → GoesBy f.disk (member f at.me) at.it new (node_step f.next f.answers (member f at.me) input) (DescribesSending f.messages.sent later.sent) dropped
@@ -80,7 +80,7 @@ light_given f at input p here light =
 -- ---- a message that is for it
 
 module _ {S D P : Type 0} (f : Fields S D P) (number : ℕ) where
-  abbrev heard : Setup P → Result Transition Fault
+  abbrev heard : ClusterState P → Result Transition Fault
   heard v = step_effect (setting_by f v) v.world (Deliver number)
 
 -- a message that changes nothing
@@ -148,10 +148,10 @@ module _ {S D P : Type 0} (f : Fields S D P) (at : Found f.nodes) {number : ℕ}
   -- or does not
   module _ (new : Node S D P) (fault : Fault)
       (by : (member : Member S) (packet : Message) → slice_get f.messages.sent (number - 1) ≡ Some packet → NotTaken f.disk member at.it new (node_step f.next f.answers member (NodeInput.Receive packet)) fault) where
-    abbrev IsAnswered : Sending → Result Effect Fault → Setup P → Type 0
+    abbrev IsAnswered : Sending → Result Effect Fault → ClusterState P → Type 0
     IsAnswered later r v = AnswersDelivery (setting_by f v) v.world number (with_node new later) r
 
-    abbrev HasCounted : Result Unit Fault → Setup P → Type 0
+    abbrev HasCounted : Result Unit Fault → ClusterState P → Type 0
     HasCounted r v = CountsDelivery (setting_by f v) v.world number v.failures (counts_of f (slice_set f.nodes at.place new)) r
 
     pub still_unheard : IsKept f (slice_set f.nodes at.place new) f.tasks

@@ -13,10 +13,10 @@ use Rattle.rp_model.specs.Events.{Event, Step, Makes, Cut, event_of}
 use Rattle.rp_model.specs.World.{event_effect, cut_step, step_writes, stepping, node_of}
 use Rattle.rp_world.specs.Failures.{AreCounted}
 use Rattle.rp_world.specs.Going.{Answers, Counts, no_cut}
-use Rattle.rp_world.specs.Steps.{Setup, IsSameSetup, IsStep, setting_of}
+use Rattle.rp_world.specs.Steps.{ClusterState, IsStep, setting_of}
 use Rattle.rp_world.proofs.Answering.{made, was_cut, rose, none_rose}
 
-module _ {S P : Type 0} (next : S → Action → S) (answers : S → Action → List Answer) (begin : P → S) (old new : Setup P) (given : Taken) (answer : Result Effect Fault) (setup : IsSameSetup old new) where
+module _ {S P : Type 0} (next : S → Action → S) (answers : S → Action → List Answer) (begin : P → S) (old new : ClusterState P) (given : Taken) (answer : Result Effect Fault) (setup : new.setup ≡ old.setup) where
   abbrev s : Setting S
   s = setting_of next answers begin old
 

@@ -8,18 +8,18 @@ use Rattle.rp_model.specs.Events.{event_of}
 use Rattle.rp_model.specs.World.{World, node_of}
 use Rattle.rp_model.specs.Answers.{Happen, IsFaulted}
 use Rattle.rp_world.specs.Failures.{AreCounted}
-use Rattle.rp_world.specs.Steps.{Setup, IsSameSetup, setting_of}
+use Rattle.rp_world.specs.Steps.{ClusterState, setting_of}
 use Rattle.rp_world.specs.declared.effect.Refused.{Refused}
 
 module _ {S P : Type 0} (next : S → Action → S) (answers : S → Action → List Answer) (start : P
     → S) where
   -- the events happen, and lead to this world
-  abbrev pub LeadsTo : Setup P → List Event → World → Type 0
+  abbrev pub LeadsTo : ClusterState P → List Event → World → Type 0
   LeadsTo old events world =
       Happen (setting_of next answers start old) old.world (map event_of events) world
 
   -- The events before a place happen, and the event there is answered by a fault.
-  pub record StopsAt (old : Setup P) (events : List Event) (left : World) (place : ℕ)
+  pub record StopsAt (old : ClusterState P) (events : List Event) (left : World) (place : ℕ)
       (fault : Fault) : Type 0 where
     pub stopped : World
     pub event : Event
@@ -28,13 +28,13 @@ module _ {S P : Type 0} (next : S → Action → S) (answers : S → Action → 
     pub faulted : IsFaulted (setting_of next answers start old) stopped (event_of event) left fault
 
   -- where a run ends, by what it answers
-  abbrev pub EndsIn : Setup P → List Event → World → Result Unit Refused → Type 0
+  abbrev pub EndsIn : ClusterState P → List Event → World → Result Unit Refused → Type 0
   EndsIn old events new (Ok all) = LeadsTo old events new
   EndsIn old events new (Err refused) = StopsAt old events new refused.place refused.fault
 
   -- The counts of failures after a run: as before, but that of one node where its device failed, at
   -- the event where the run stopped.
-  abbrev pub AreCountedBy : (old : Setup P) (events : List Event) (new : Setup P)
+  abbrev pub AreCountedBy : (old : ClusterState P) (events : List Event) (new : ClusterState P)
       (answer : Result Unit Refused)
       → EndsIn old events new.world answer → Type 0
   AreCountedBy old events new (Ok all) resulted = new.failures ≡ old.failures
@@ -44,9 +44,9 @@ module _ {S P : Type 0} (next : S → Action → S) (answers : S → Action → 
       fault
 
   -- A run of a cluster: its world goes by the events; the counts of failures stay, but where a
-  -- device failed; and all else stays.
-  pub record IsRun (old : Setup P) (events : List Event) (new : Setup P)
+  -- device failed; and its setup stays.
+  pub record IsRun (old : ClusterState P) (events : List Event) (new : ClusterState P)
       (answer : Result Unit Refused) : Type 0 where
     pub world : EndsIn old events new.world answer
-    pub setup : IsSameSetup old new
+    pub setup : new.setup ≡ old.setup
     pub failures : AreCountedBy old events new answer world

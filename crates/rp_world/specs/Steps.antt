@@ -25,32 +25,31 @@ use Rattle.rp_server.specs.State.{ServerState}
 use Rattle.rp_world.specs.Failures.{AreCounted}
 use Rattle.rp_world.specs.Nodes.{heard_while, stored_length}
 
--- a cluster: its configuration, the program that its nodes run, its world, and how often the device
--- of each node has failed, in order of nodes
+-- what never changes in a cluster: its configuration, and the program that its nodes run
 pub record Setup (P : Type 0) : Type 0 where
   pub config : Config
   pub program : P
+
+-- a cluster: its setup, its world, and how often the device of each node has failed, in order of
+-- nodes
+pub record ClusterState (P : Type 0) : Type 0 where
+  pub setup : Setup P
   pub world : World
   pub failures : List ℕ
-
--- the two have one configuration and one program
-pub record IsSameSetup {P : Type 0} (old new : Setup P) : Type 0 where
-  pub config : new.config ≡ old.config
-  pub program : new.program ≡ old.program
 
 module _ {S P : Type 0} (next : S → Action → S) (answers : S → Action → List Answer) (start : P
     → S) where
   -- what the nodes of a cluster share
-  abbrev pub setting_of : Setup P → Setting S
+  abbrev pub setting_of : ClusterState P → Setting S
   setting_of c =
-      record { config = c.config; next = next; answers = answers; begin = start c.program }
+      record { config = c.setup.config; next = next; answers = answers; begin = start c.setup.program }
 
   -- A step of a cluster: its world goes by the event; the counts of failures stay, but that of the
-  -- event's node where a device failed; and all else stays.
-  pub record IsStep (old : Setup P) (event : Event) (new : Setup P) (answer : Result Effect Fault)
+  -- event's node where a device failed; and its setup stays.
+  pub record IsStep (old : ClusterState P) (event : Event) (new : ClusterState P) (answer : Result Effect Fault)
       : Type 0 where
     pub world : Steps (setting_of old) old.world (event_of event) new.world answer
-    pub setup : IsSameSetup old new
+    pub setup : new.setup ≡ old.setup
     pub failures : AreCounted (node_of old.world (event_of event)) old.failures new.failures answer
 
 -- the votes that the node of this number has heard, none where there is no such node

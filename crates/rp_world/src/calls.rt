@@ -7,7 +7,6 @@ ghost use Rattle.rp_codec.specs.Message.{IsCallBy};
 ghost use Rattle.rp_base.specs.Action.{IsRight};
 ghost use Rattle.rp_agreement.specs.Ranges.{IsRangedWorld};
 ghost use Rattle.rp_world.specs.Going.{Answers, no_cut};
-ghost use Rattle.rp_world.specs.Steps.{IsSameSetup};
 
 use crate::effect::{no_effect, one_message};
 use crate::world::World;
@@ -59,9 +58,9 @@ impl<M: Machine, D: CutDevice> World<M, D> {
         arg: i64,
     ) -> Result<Effect, Fault>
         ensures answer { Answers self.old.world
-            (task_takes self.old.config self.old.world task (tasks.Submit node object operation arg)
+            (task_takes self.old.setup.config self.old.world task (tasks.Submit node object operation arg)
             (part_at self.old.world.tasks task)) no_cut self.new.world result }
-        ensures setup { IsSameSetup self.old self.new }
+        ensures setup { self.new.setup ≡ self.old.setup }
         ensures failures { self.new.failures ≡ self.old.failures }
     {
         let first = self.messages() + 1;
@@ -76,11 +75,11 @@ impl<M: Machine, D: CutDevice> World<M, D> {
     /// the last node, or refused for memory: nothing changes.
     #[inline(never)]
     pub(crate) fn again(&mut self, task: TaskId, node: NodeId) -> Result<Effect, Fault>
-        requires ranged { IsRangedWorld self.old.config.nodes self.old.world }
+        requires ranged { IsRangedWorld self.old.setup.config.nodes self.old.world }
         ensures answer { Answers self.old.world
-            (task_takes self.old.config self.old.world task (tasks.Again node)
+            (task_takes self.old.setup.config self.old.world task (tasks.Again node)
             (part_at self.old.world.tasks task)) no_cut self.new.world result }
-        ensures setup { IsSameSetup self.old self.new }
+        ensures setup { self.new.setup ≡ self.old.setup }
         ensures failures { self.new.failures ≡ self.old.failures }
     {
         let first = self.messages() + 1;

@@ -55,10 +55,10 @@ pub struct Cluster<M: Machine, D: CutDevice> {
 }
 
 impl<M: Machine, D: CutDevice> Model for Cluster<M, D> {
-    ghost use Rattle.rp_world.specs.Steps.{Setup, setting_of};
+    ghost use Rattle.rp_world.specs.Steps.{ClusterState, setting_of};
     ghost use Rattle.rp_world.specs.Shape.{IsCluster};
 
-    ghost Value = { Setup M.Program };
+    ghost Value = { ClusterState M.Program };
 
     ghost view = { λ c. c.world };
 
@@ -87,8 +87,7 @@ impl<M: Machine, D: CutDevice> Cluster<M, D> {
         //   exactly if a number is outside its limits, there are not as many devices as nodes, or
         //   one is not empty
         ensures opened { IfOk result (λ c. c ≡ record {
-          config = config;
-          program = program;
+          setup = record { config = config; program = program };
           world = opening_world config.nodes;
           failures = map (λ device. (D.disk device).failures) devices.items;
         }) }
@@ -198,19 +197,19 @@ impl<M: Machine, D: CutDevice> Cluster<M, D> {
         // claim (agree): Whatever a run's events are, of the log that one node applied before it
         //   and the log that another applied after it, one is a prefix of the other; and equally
         //   many actions lead to one state and one image
-        ensures agree { Agree M.next M.answers M.image (M.begin self.old.program)
+        ensures agree { Agree M.next M.answers M.image (M.begin self.old.setup.program)
             self.old.world self.new.world }
         // claim (ordered): After a run there is one order: each node's applied list is a prefix of
         //   it; the calls of a task that count in it are those that the task made, in order (all,
         //   or all but the one that it waits for); each reply that a task got is its answer to the
         //   call of that number; a call takes effect at exactly one place if its reply was got, at
         //   one at most otherwise, and no call does that its task did not make
-        ensures ordered { IsOrdered M.next M.answers (M.begin self.old.program)
-            self.old.config.nodes self.new.world }
+        ensures ordered { IsOrdered M.next M.answers (M.begin self.old.setup.program)
+            self.old.setup.config.nodes self.new.world }
         // claim: What is decided before a run is decided after it
         ensures decided { (i : ℕ) (v : Action)
-            → IsDecided self.old.config.nodes self.old.world.sent i v
-            → IsDecided self.old.config.nodes self.new.world.sent i v }
+            → IsDecided self.old.setup.config.nodes self.old.world.sent i v
+            → IsDecided self.old.setup.config.nodes self.new.world.sent i v }
     {
         self.is_kept();
         let ran = self.run_all(alloc, events);
@@ -265,20 +264,20 @@ impl<M: Machine, D: CutDevice> Cluster<M, D> {
         //   of each proposal, of each promise, vote and decision that it sent, and a promise
         //   reports its last vote
         ensures decided { (i : ℕ) (v w : Action)
-            → IsDecided self.now.config.nodes self.now.world.sent i v
-            → IsDecided self.now.config.nodes self.now.world.sent i w → v ≡ w }
+            → IsDecided self.now.setup.config.nodes self.now.world.sent i v
+            → IsDecided self.now.setup.config.nodes self.now.world.sent i w → v ≡ w }
         ensures cast { let node = node_in self.now.world.nodes in (i b c : ℕ) (v w : Action)
-            → IsCast self.now.config.nodes node i b v
-            → IsCast self.now.config.nodes node i c w → v ≡ w }
+            → IsCast self.now.setup.config.nodes node i b v
+            → IsCast self.now.setup.config.nodes node i c w → v ≡ w }
         ensures offered { (i b : ℕ) (v w : Action) → IsOffered self.now.world.sent i b v
             → IsOffered self.now.world.sent i b w → v ≡ w }
         ensures follows { let node = node_in self.now.world.nodes in (i b c : ℕ) (v w : Action)
-            → IsCast self.now.config.nodes node i b v → b < c
+            → IsCast self.now.setup.config.nodes node i b v → b < c
             → IsOffered self.now.world.sent i c w → w ≡ v }
         ensures justified { (i b : ℕ) (v : Action) → IsOffered self.now.world.sent i b v
-            → IsJustified self.now.config.nodes self.now.world.sent i b v }
+            → IsJustified self.now.setup.config.nodes self.now.world.sent i b v }
         ensures applied { (order : List Action)
-            → IsOrder self.now.config.nodes self.now.world.sent order
+            → IsOrder self.now.setup.config.nodes self.now.world.sent order
             → (x : ℕ) (part : NodePart) → part_at self.now.world.nodes x ≡ Some part
             → IsPrefix (applied_of part.records) order }
         ensures started { (x b : ℕ) (body : Body) → Says self.now.world.sent x body
@@ -351,7 +350,7 @@ impl<M: Machine, D: CutDevice> Cluster<M, D> {
     pub fn server(&self, node: NodeId) -> Result<&Server<M>, Fault>
         // claim: The server of a node that runs is returned: its configuration, its records, and
         //   what it knows
-        ensures { IsServerOf self.now.config result (part_at self.now.world.nodes node) }
+        ensures { IsServerOf self.now.setup.config result (part_at self.now.world.nodes node) }
     {
         self.world.server(node)
     }
@@ -373,7 +372,7 @@ impl<M: Machine, D: CutDevice> Cluster<M, D> {
         // claim: A node shows the image of the state that its applied list leads to; it is refused
         //   as `Cluster::applied` is, and out of memory only if it runs
         ensures { IsQueryAnswerUnlessMemory result (λ text records.
-            text.items ≡ M.image (replay_state M.next M.answers (M.begin self.now.program)
+            text.items ≡ M.image (replay_state M.next M.answers (M.begin self.now.setup.program)
             (applied_of records))) (part_at self.now.world.nodes node) }
     {
         self.world.image(alloc, node)

@@ -20,7 +20,7 @@ ghost use Rattle.rp_rules.specs.Inputs.{IsLong, IsRightInput, given_by};
 ghost use Rattle.rp_world.specs.Choosing.{AreNodesOf, IsMaker, IsRefused};
 ghost use Rattle.rp_world.specs.Going.{Answers, AnswersDelivery, Counts, CountsDelivery, reply_read, stated};
 ghost use Rattle.rp_world.specs.Nodes.{IsLight};
-ghost use Rattle.rp_world.specs.Steps.{IsLightStep, IsStep, IsSameSetup, setting_of};
+ghost use Rattle.rp_world.specs.Steps.{IsLightStep, IsStep, setting_of};
 
 use crate::effect::{no_effect, of_step, taken};
 use crate::node;
@@ -55,8 +55,8 @@ impl<M: Machine, D: CutDevice> World<M, D> {
         event: &Event,
         effect: &mut Effect,
     ) -> Result<(), Fault>
-        requires config { IsRightConfig self.old.config }
-        requires ranged { IsRangedWorld self.old.config.nodes self.old.world }
+        requires config { IsRightConfig self.old.setup.config }
+        requires ranged { IsRangedWorld self.old.setup.config.nodes self.old.world }
         requires event { IsRightEvent (event_of event.now) }
         ensures step { IsStep M.next M.answers M.begin self.old event.now self.new
             (stated result effect.new) }
@@ -111,14 +111,14 @@ fn input_of(interrupt: Interrupt) -> Input<'static>
 impl<M: Machine, D: CutDevice> World<M, D> {
     /// A node makes a step. Refused as `deliver` is, or as `give_input`.
     fn make_step(&mut self, alloc: Global, step: Step, effect: &mut Effect) -> Result<(), Fault>
-        requires config { IsRightConfig self.old.config }
-        requires ranged { IsRangedWorld self.old.config.nodes self.old.world }
+        requires config { IsRightConfig self.old.setup.config }
+        requires ranged { IsRangedWorld self.old.setup.config.nodes self.old.world }
         requires step { events.IsRightStep (step_of step) }
         ensures answer { let setting = setting_of M.next M.answers M.begin self.old in
             Answers self.old.world (step_effect setting self.old.world (step_of step))
             (λ kept. cut_step setting self.old.world (step_of step) kept) self.new.world
             (stated result effect.new) }
-        ensures setup { IsSameSetup self.old self.new }
+        ensures setup { self.new.setup ≡ self.old.setup }
         ensures failures { let setting = setting_of M.next M.answers M.begin self.old in
             Counts (IsSome (step_writes setting self.old.world (step_of step)))
             (stepping self.old.world (step_of step)) self.old.failures self.new.failures result }
@@ -159,11 +159,11 @@ impl<M: Machine, D: CutDevice> World<M, D> {
     /// within the step.
     #[inline(never)]
     pub(crate) fn make_cut(&mut self, alloc: Global, step: Step, kept: u64) -> Result<Effect, Fault>
-        requires ranged { IsRangedWorld self.old.config.nodes self.old.world }
+        requires ranged { IsRangedWorld self.old.setup.config.nodes self.old.world }
         ensures answer { let setting = setting_of M.next M.answers M.begin self.old in
             Answers self.old.world (cut_step setting self.old.world (step_of step) kept)
             (λ less. cut_step setting self.old.world (step_of step) less) self.new.world result }
-        ensures setup { IsSameSetup self.old self.new }
+        ensures setup { self.new.setup ≡ self.old.setup }
         ensures failures { let setting = setting_of M.next M.answers M.begin self.old in
             Counts (IsSome (step_writes setting self.old.world (step_of step)))
             (stepping self.old.world (step_of step)) self.old.failures self.new.failures result }
@@ -277,7 +277,7 @@ impl<M: Machine, D: CutDevice> World<M, D> {
             Answers self.old.world (chosen_effect setting self.old.world chosen)
             (λ kept. chosen_cut setting self.old.world kept chosen)
             self.new.world (stated result effect.new) }
-        ensures setup { IsSameSetup self.old self.new }
+        ensures setup { self.new.setup ≡ self.old.setup }
         ensures failures { (given : NodeInput) → given_by input.now ≡ Ok given
             → let setting = setting_of M.next M.answers M.begin self.old in
             Counts (IsSome (chosen_record setting
@@ -299,7 +299,7 @@ impl<M: Machine, D: CutDevice> World<M, D> {
     /// The receiver of the message of this number, from 1.
     #[inline(always)]
     fn receiver_of_number(&self, number: u64) -> Option<Party>
-        requires ranged { IsRangedWorld self.now.config.nodes self.now.world }
+        requires ranged { IsRangedWorld self.now.setup.config.nodes self.now.world }
         ensures { result ≡ option_map (λ m. m.to) (part_at self.now.world.sent number) }
     {
         let text = self.text(number)?;
@@ -316,10 +316,10 @@ impl<M: Machine, D: CutDevice> World<M, D> {
         number: u64,
         effect: &mut Effect,
     ) -> Result<(), Fault>
-        requires ranged { IsRangedWorld self.old.config.nodes self.old.world }
+        requires ranged { IsRangedWorld self.old.setup.config.nodes self.old.world }
         ensures answer { AnswersDelivery (setting_of M.next M.answers M.begin self.old)
             self.old.world number self.new.world (stated result effect.new) }
-        ensures setup { IsSameSetup self.old self.new }
+        ensures setup { self.new.setup ≡ self.old.setup }
         ensures failures { CountsDelivery (setting_of M.next M.answers M.begin self.old)
             self.old.world number self.old.failures self.new.failures result }
         ensures certain { IsLightStep (setting_of M.next M.answers M.begin self.old) self.old.world
@@ -360,12 +360,12 @@ impl<M: Machine, D: CutDevice> World<M, D> {
         task: TaskId,
         effect: &mut Effect,
     ) -> Result<(), Fault>
-        requires ranged { IsRangedWorld self.old.config.nodes self.old.world }
+        requires ranged { IsRangedWorld self.old.setup.config.nodes self.old.world }
         requires to { (m : Message) × (part_at self.old.world.sent number ≡ Some m)
             × (m.to ≡ Task task) }
         ensures answer { AnswersDelivery (setting_of M.next M.answers M.begin self.old)
             self.old.world number self.new.world (stated result effect.new) }
-        ensures setup { IsSameSetup self.old self.new }
+        ensures setup { self.new.setup ≡ self.old.setup }
         ensures failures { self.new.failures ≡ self.old.failures }
     {
         let first = self.messages() + 1;

@@ -4,7 +4,6 @@ ghost use Rattle.std.specs.Prelude.{◌≡◌, Some};
 ghost use Rattle.rp_model.specs.World.{part_at, stops, restarts};
 ghost use Rattle.rp_world.specs.Going.{AnswersRestart, AnswersStop};
 ghost use Rattle.rp_world.specs.Failures.{AreCounted};
-ghost use Rattle.rp_world.specs.Steps.{IsSameSetup};
 
 use crate::effect::{no_effect, opened};
 use crate::world::{World, put_back};
@@ -22,7 +21,7 @@ impl<M: Machine, D: CutDevice> World<M, D> {
         ensures answer { AnswersStop self.old.world
             (stops self.old.world node (part_at self.old.world.nodes node))
             self.new.world result }
-        ensures setup { IsSameSetup self.old self.new }
+        ensures setup { self.new.setup ≡ self.old.setup }
         ensures failures { self.new.failures ≡ self.old.failures }
     {
         let first = self.messages() + 1;
@@ -45,7 +44,7 @@ impl<M: Machine, D: CutDevice> World<M, D> {
         ensures answer { AnswersRestart self.old.world node
             (restarts self.old.world node (part_at self.old.world.nodes node))
             self.new.world result }
-        ensures setup { IsSameSetup self.old self.new }
+        ensures setup { self.new.setup ≡ self.old.setup }
         ensures failures { AreCounted (Some node) self.old.failures self.new.failures result }
     {
         let first = self.messages() + 1;

@@ -36,16 +36,15 @@ pub(crate) struct World<M: Machine, D: CutDevice> {
 }
 
 impl<M: Machine, D: CutDevice> Model for World<M, D> {
-    ghost use Rattle.rp_world.specs.Steps.{Setup};
+    ghost use Rattle.rp_world.specs.Steps.{ClusterState};
     ghost use Rattle.rp_world.specs.Shape.{world_of, IsWorld};
     ghost use Rattle.rp_world.specs.Nodes.{failures_in};
     ghost use Rattle.std.specs.Prelude.{map};
 
-    ghost Value = { Setup M.Program };
+    ghost Value = { ClusterState M.Program };
 
     ghost view = { λ w. record {
-      config = w.config;
-      program = w.program;
+      setup = record { config = w.config; program = w.program };
       world = world_of D.disk w.config.max_positions w.nodes.items w.tasks.items w.messages;
       failures = map (failures_in D.disk) w.nodes.items;
     } };
@@ -117,8 +116,7 @@ impl<M: Machine, D: CutDevice> World<M, D> {
         requires count { length devices.items ≡ config.nodes }
         requires empty { All (λ device. (D.disk device).contents ≡ []) devices.items }
         ensures opened { IfOk result (λ w. w ≡ record {
-          config = config;
-          program = program;
+          setup = record { config = config; program = program };
           world = opening_world config.nodes;
           failures = map (λ device. (D.disk device).failures) devices.items;
         }) }
@@ -184,7 +182,7 @@ impl<M: Machine, D: CutDevice> World<M, D> {
     /// the last node.
     pub(crate) fn image(&self, alloc: Global, node: NodeId) -> Result<Vec<u8>, Fault>
         ensures { IsQueryAnswerUnlessMemory result (λ text records.
-            text.items ≡ M.image (replay_state M.next M.answers (M.begin self.now.program)
+            text.items ≡ M.image (replay_state M.next M.answers (M.begin self.now.setup.program)
             (applied_of records))) (part_at self.now.world.nodes node) }
     {
         let replica = self.replica(node)?;
@@ -193,7 +191,7 @@ impl<M: Machine, D: CutDevice> World<M, D> {
 
     /// The replica of a node that runs.
     fn replica(&self, node: NodeId) -> Result<&Replica<M, D>, Fault>
-        ensures { IsReplicaOf self.now.config (M.begin self.now.program) result
+        ensures { IsReplicaOf self.now.setup.config (M.begin self.now.setup.program) result
             (part_at self.now.world.nodes node) }
     {
         let Some(node) = self.nodes.get(usize::from(node.get()) - 1) else {
@@ -205,7 +203,7 @@ impl<M: Machine, D: CutDevice> World<M, D> {
     /// The server of a node that runs. `NotRunning` where it is stopped, `BadConfig` above the last
     /// node.
     pub(crate) fn server(&self, node: NodeId) -> Result<&Server<M>, Fault>
-        ensures { IsServerOf self.now.config result (part_at self.now.world.nodes node) }
+        ensures { IsServerOf self.now.setup.config result (part_at self.now.world.nodes node) }
     {
         let Some(node) = self.nodes.get(usize::from(node.get()) - 1) else {
             return Err(Fault::BadConfig);

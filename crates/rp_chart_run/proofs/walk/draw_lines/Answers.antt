@@ -5,15 +5,16 @@ use Rattle.std.proofs.lemmas.Result.{IfOk-weaker}
 use Rattle.rp_model.specs.Effect.{Setting}
 use Rattle.rp_model.specs.World.{World, opening_world}
 use Rattle.rp_run.specs.Output.{Play, command_said, opening_play, script_said}
-use Rattle.rp_run.specs.Runs.{Follows, opening_setup, run_setting}
+use Rattle.rp_run.specs.Runs.{Follows, opening_cluster, run_setting}
 use Rattle.rp_history.specs.Histories.{IsSketchOf, lane_text}
 use Rattle.rp_page.specs.Pages.{IsDrawnAs}
 use Rattle.rp_history.specs.declared.stage.Stage.{Stage}
 use Rattle.rp_run.proofs.RunParts.{sets_out, ends, no_line, line_goes_on}
-use Rattle.rp_run.proofs.Stepping.{same_setting, same_trans, opening_parts}
+use Rattle.rp_run.proofs.Stepping.{same_run_setting, opening_parts}
 use Rattle.rp_world.specs.Steps.{setting_of}
+use Rattle.rp_world.proofs.Answering.{same_setting}
 use Rattle.rp_chart_run.specs.ScriptHistory.{command_happens, drawn_run, lines_happen, script_happens}
-use Rattle.rp_chart_run.proofs.Charting.{one_setting, goes_on as chart_goes_on, ends as chart_ends}
+use Rattle.rp_chart_run.proofs.Charting.{goes_on as chart_goes_on, ends as chart_ends}
 use Rattle.rp_chart_run.proofs.ScriptHistory.{next_line, no_line as none_left}
 use Rattle.rp_chart_run.proofs.walk.draw_lines.Goals as goal
 
@@ -21,18 +22,18 @@ pub loop-line-init : goal.loop-line-init
 loop-line-init g c =
     let m = g.M.Machine in
     let options = c.args.scene.now.options.now in
-    let s = run_setting m.next m.answers m.begin m.image (opening_setup options.config c.args.program) options in
+    let s = run_setting m.next m.answers m.begin m.image (opening_cluster options.config c.args.program) options in
     let cluster = c.in_ok-new.field-0 in
     let opened = c.in_ok-new.ensures.opened in
     let world = ap (λ k. k.world) opened in
     let t = setting_of m.next m.answers m.begin cluster in
-    let nodes : opening_world t.config.nodes ≡ cluster.world = ap (λ k. opening_world k.config.nodes) opened ∙ sym world in
+    let nodes : opening_world t.config.nodes ≡ cluster.world = ap (λ k. opening_world k.setup.config.nodes) opened ∙ sym world in
     let chart = c.new-3.result in
     let opens = subst (λ (w : World). IsSketchOf t chart.stage chart.sketch [] w) nodes (c.new-3.ensures.opening t) in
     let follows : Follows cluster.world c.new-2.result (opening_play s) = record { world_is = world; settled_are = c.new-2.ensures } in
     record {
-      parts = opening_parts options.config.nodes cluster (ap (λ k. k.config.nodes) opened) world;
-      setup = record { config = ap (λ k. k.config) opened; program = ap (λ k. k.program) opened };
+      parts = opening_parts options.config.nodes cluster (ap (λ k. k.setup.config.nodes) opened) world;
+      setup = ap (λ k. k.setup) opened;
       stage = c.new-3.ensures.stage;
       so_far = sets_out cluster.world c.new-2.result None (opening_play s) (λ (now : Play). script_said s options.most now options.lines.now) follows;
       ways = record { drawable = c.new-3.ensures.drawable; count = opens.count };
@@ -43,12 +44,12 @@ pub loop-line-preserved : goal.loop-line-preserved
 loop-line-preserved g c =
     let m = g.M.Machine in
     let options = c.args.scene.now.options.now in
-    let opening = opening_setup options.config c.args.program in
+    let opening = opening_cluster options.config c.args.program in
     let s = run_setting m.next m.answers m.begin m.image opening options in
     let d = drawn_run m.next m.answers m.begin m.image opening c.args.scene.now in
     let walk = c.loop-line.walk in
     let so_far = c.loop-line.invariant.so_far in
-    let same = same_setting m.next m.answers m.begin m.image options opening walk.cluster c.loop-line.invariant.setup in
+    let same = same_run_setting m.next m.answers m.begin m.image options opening walk.cluster c.loop-line.invariant.setup in
     let reached = c.in_ok-take.ensures.reached so_far.said.play so_far.follows in
     let line = c.line-item.result in
     let charted = c.loop-line.invariant.charted in
@@ -56,7 +57,7 @@ loop-line-preserved g c =
     let drawn = c.in_ok-take.ensures.charted charted.play charted.so_far charted.follows charted.charted in
     record {
       parts = c.in_ok-take.ensures.parts;
-      setup = same_trans opening walk.cluster c.take.new.self.cluster c.loop-line.invariant.setup c.take.ensures.setup;
+      setup = c.take.ensures.setup ∙ c.loop-line.invariant.setup;
       stage = c.take.ensures.stage ∙ c.loop-line.invariant.stage;
       so_far = line_goes_on s options.most options.lines.now c.loop-line.line-index c.line-item.result (omega arith) c.line-item.is so_far (rw same at reached) tt;
       ways = c.in_ok-take.ensures.ways;
@@ -72,7 +73,7 @@ pub returns : goal.returns
 returns g c =
     let m = g.M.Machine in
     let options = c.args.scene.now.options.now in
-    let opening = opening_setup options.config c.args.program in
+    let opening = opening_cluster options.config c.args.program in
     let s = run_setting m.next m.answers m.begin m.image opening options in
     let d = drawn_run m.next m.answers m.begin m.image opening c.args.scene.now in
     let most = options.most in
@@ -81,7 +82,7 @@ returns g c =
     let so_far = c.loop-line.invariant.so_far in
     let done = ends walk.cluster.world walk.settled None None (script_said s most (opening_play s) lines) (λ (p : Play). script_said s most p (drop c.loop-line.line-index lines)) so_far tt
     (no_line s most so_far.said.play lines c.loop-line.line-index (omega arith)) in
-    let setting = one_setting m.next m.answers m.begin opening walk.cluster c.loop-line.invariant.setup in
+    let setting = same_setting m.next m.answers m.begin opening walk.cluster c.loop-line.invariant.setup in
     let happened = script_happens d most lines in
     let lanes = map lane_text c.args.scene.now.lanes.now in
     let drawn = chart_ends m.next m.answers m.begin walk.cluster walk.settled walk.chart happened (λ (p : Play). lines_happen d most p (drop c.loop-line.line-index lines)) c.loop-line.invariant.charted

@@ -29,5 +29,5 @@ pub returns : goal.returns
 returns g c =
     let m = g.M.Machine in
     let s = run_setting m.next m.answers m.begin m.image c.args.cluster.now c.args.options.now in
-    let all : c.loop-place.place ≡ c.args.cluster.now.config.nodes = omega (arith, c.requires) in
+    let all : c.loop-place.place ≡ c.args.cluster.now.setup.config.nodes = omega (arith, c.requires) in
     c.loop-place.invariant ∙ ap (λ (n : ℕ). c.args.text.now.items ++ nodes_lines s c.args.cluster.now.world n) all

@@ -3,7 +3,7 @@ use Rattle.std.proofs.Common.{ℕ, suc, List, ◌≤◌, arith, length, take, su
 use Rattle.std.proofs.Math.Seq.{take-length}
 use Rattle.rp_base.specs.Records.{applied_of}
 use Rattle.rp_run.specs.Agreeing.{IsPrinted, RunIsPrinted, items_after, world_after}
-use Rattle.rp_run.specs.Runs.{run_setting, opening_setup}
+use Rattle.rp_run.specs.Runs.{run_setting, opening_cluster}
 use Rattle.rp_run.proofs.Histories.{run_is_history, run_has_moments, noted_in}
 use Rattle.rp_run.specs.Output.{opening_play}
 use Rattle.rp_run.proofs.Printing.{run_is_printed}
@@ -16,7 +16,7 @@ returns-clause-agrees g c = λ program.
     let m = g.M.Machine in
     let options = c.args.options.now in
     let config = options.config in
-    let s = run_setting m.next m.answers m.begin m.image (opening_setup config program) options in
+    let s = run_setting m.next m.answers m.begin m.image (opening_cluster config program) options in
     let lines = options.lines.now in
     let right = c.lines_keep_ranges.ensures in
     let laws = c.histories_are_ordered.ensures in
@@ -44,7 +44,7 @@ returns-clause-printed g c = λ program.
     let m = g.M.Machine in
     let options = c.args.options.now in
     let config = options.config in
-    let s = run_setting m.next m.answers m.begin m.image (opening_setup config program) options in
+    let s = run_setting m.next m.answers m.begin m.image (opening_cluster config program) options in
     let lines = options.lines.now in
     let all = length lines in
     let history = run_is_history s options.right options.most lines c.lines_keep_ranges.ensures all in

@@ -7,7 +7,7 @@ use Rattle.rp_run.specs.Output.{Play, drained, event_said, note_said}
 use Rattle.rp_run.specs.Runs.{run_setting}
 use Rattle.rp_run.proofs.LeastUnsettled.{least_is_left, none_is_left}
 use Rattle.rp_run.proofs.RunParts.{Underway, sets_out, goes_on, ends, ends_by, says_by, drained_none, drained_full, drained_more}
-use Rattle.rp_run.proofs.Stepping.{same_setting, same_trans}
+use Rattle.rp_run.proofs.Stepping.{same_run_setting}
 use Rattle.rp_chart_run.specs.ScriptHistory.{drain_ended, drain_happens, drawn_run, event_happens}
 use Rattle.rp_chart_run.proofs.Charting.{Underway as ChartUnderway, goes_on as chart_goes_on, ends as chart_ends, ends_by as chart_ends_by, follows_of, writes_none}
 use Rattle.rp_chart_run.proofs.ScriptHistory.{drain_none, drain_full, drain_more}
@@ -23,7 +23,7 @@ loop-delivered-init g c =
     let all : most ≡ most - 0 = omega arith in
     record {
       parts = c.requires.parts;
-      setup = record { config = refl; program = refl };
+      setup = refl;
       stage = refl;
       so_far = λ play follows.
           subst (λ (n : ℕ). Underway c.args.self.now.cluster.world c.args.self.now.settled None None (drained s c.args.line most play) (λ (now : Play). drained s c.args.line n now)) all
@@ -47,10 +47,10 @@ loop-delivered-preserved g c =
     let delivered = c.loop-delivered.delivered in
     let most = options.most in
     let below : delivered < most = omega arith in
-    let same = same_setting m.next m.answers m.begin m.image options c.args.self.now.cluster run.cluster c.loop-delivered.invariant.setup in
+    let same = same_run_setting m.next m.answers m.begin m.image options c.args.self.now.cluster run.cluster c.loop-delivered.invariant.setup in
     record {
       parts = c.in_ok-step.ensures.parts;
-      setup = same_trans c.args.self.now.cluster run.cluster c.step.new.self.cluster c.loop-delivered.invariant.setup c.step.ensures.setup;
+      setup = c.step.ensures.setup ∙ c.loop-delivered.invariant.setup;
       stage = c.step.ensures.stage ∙ c.loop-delivered.invariant.stage;
       so_far = λ play follows.
           let so_far = c.loop-delivered.invariant.so_far play follows in

@@ -3,7 +3,6 @@ use Rattle.rp_history.specs.Histories.{Happening}
 use Rattle.rp_run.specs.Output.{Play, drained}
 use Rattle.rp_run.specs.Runs.{HasParts, Follows, run_setting}
 use Rattle.rp_run.proofs.RunParts.{Underway}
-use Rattle.rp_world.specs.Steps.{IsSameSetup}
 use Rattle.rp_chart_run.specs.Charts.{HasWays, IsCharted}
 use Rattle.rp_chart_run.specs.ScriptHistory.{drain_happens, drawn_run}
 use Rattle.rp_chart_run.proofs.Charting.{Underway as ChartUnderway}
@@ -18,7 +17,7 @@ invariant-loop-delivered g l =
     let most = l.scene.options.now.most in
     record {
       parts : HasParts l.scene.options.now.config.nodes l.self.cluster;
-      setup : IsSameSetup l.fn.self.cluster l.self.cluster;
+      setup : l.self.cluster.setup ≡ l.fn.self.cluster.setup;
       stage : l.self.chart.stage ≡ l.fn.self.chart.stage;
       so_far : (play : Play) → Follows l.fn.self.cluster.world l.fn.self.settled play
           → Underway l.self.cluster.world l.self.settled None None (drained s l.line most play) (λ now. drained s l.line (most - l.delivered) now);

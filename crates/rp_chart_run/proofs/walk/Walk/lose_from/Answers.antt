@@ -4,7 +4,7 @@ use Rattle.rp_history.specs.Histories.{Happening}
 use Rattle.rp_model.specs.World.{World}
 use Rattle.rp_run.specs.Settled.{is_settled}
 use Rattle.rp_run.specs.declared.settled.Settled.{Settled}
-use Rattle.rp_world.specs.Steps.{Setup}
+use Rattle.rp_world.specs.Steps.{ClusterState}
 use Rattle.rp_chart_run.specs.Charts.{IsCharted}
 use Rattle.rp_chart_run.specs.ScriptHistory.{drawn_run, message_lost, unsettled_in}
 use Rattle.rp_chart_run.proofs.ScriptHistory.{lost_all, lost_more, lost_none}
@@ -51,7 +51,7 @@ loop-number-preserved g c =
       ways = c.in_ok-lose_one.ensures.ways;
       charted = λ play happened follows charted.
           let so_far : List Happening = map (message_lost d play.world) (unsettled_in play first (number - 1)) in
-          let same = ap (λ (k : Setup _). message_lost (drawn_run m.next m.answers m.begin m.image k c.args.scene.now) k.world number) held.cluster
+          let same = ap (λ (k : ClusterState _). message_lost (drawn_run m.next m.answers m.begin m.image k c.args.scene.now) k.world number) held.cluster
           ∙ ap (λ (w : World). message_lost d w number) follows.world_is in
           subst (λ (l : List Happening). IsCharted m.next m.answers m.begin lost.cluster lost.chart l)
           (append_assoc happened so_far _

@@ -3,7 +3,7 @@ use Rattle.std.proofs.Common.{◌≡◌, ◌∙◌, ℕ, suc, rules, ◌+◌, Li
 use Rattle.std.proofs.lemmas.List.{map-append}
 use Rattle.rp_history.specs.Histories.{Happening}
 use Rattle.rp_machine.specs.Replay.{one_to}
-use Rattle.rp_world.specs.Steps.{Setup}
+use Rattle.rp_world.specs.Steps.{ClusterState}
 use Rattle.rp_chart_run.specs.Charts.{IsCharted}
 use Rattle.rp_chart_run.specs.ScriptHistory.{drawn_run, node_shown, nodes_shown}
 use Rattle.rp_chart_run.proofs.walk.Walk.show.Goals as goal
@@ -40,7 +40,7 @@ loop-place-preserved g c =
       charted = λ happened charted.
           let node : c.unwrap-node.result ≡ place + 1 = search rules in
           let one = ap (λ (n : ℕ). node_shown (drawn_run m.next m.answers m.begin m.image run.cluster c.args.scene.now) run.cluster.world n) node
-          ∙ ap (λ (k : Setup _). node_shown (drawn_run m.next m.answers m.begin m.image k c.args.scene.now) k.world (place + 1)) c.loop-place.invariant.cluster
+          ∙ ap (λ (k : ClusterState _). node_shown (drawn_run m.next m.answers m.begin m.image k c.args.scene.now) k.world (place + 1)) c.loop-place.invariant.cluster
           ∙ ap (λ (n : ℕ). node_shown d start.world n) number in
           subst (λ (l : List Happening). IsCharted m.next m.answers m.begin shown.cluster shown.chart l)
           (append_assoc happened here _

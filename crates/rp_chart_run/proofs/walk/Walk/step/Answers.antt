@@ -20,11 +20,11 @@ use Rattle.rp_run.specs.Output.{RunSetting, event_said}
 use Rattle.rp_run.specs.Runs.{run_setting}
 use Rattle.rp_run.proofs.Taken.{settled_alike}
 use Rattle.rp_run.proofs.RunParts.{happened, was_refused}
-use Rattle.rp_run.proofs.Stepping.{always_ok, parts_stay, refused_of}
+use Rattle.rp_run.proofs.Stepping.{always_ok, parts_stay, refused_of, same_run_setting}
 use Rattle.rp_chart_run.specs.Causes.{line_text}
 use Rattle.rp_chart_run.specs.Prospects.{actor_at, actor_state, effect_after, happened_in, packet_number}
 use Rattle.rp_chart_run.specs.ScriptHistory.{details_as, drawn_run, event_happens, event_label, refused}
-use Rattle.rp_chart_run.proofs.Charting.{charted_as, charted_by, follows_of, has_ways, one_run, writes_none}
+use Rattle.rp_chart_run.proofs.Charting.{charted_as, charted_by, follows_of, has_ways, writes_none}
 use Rattle.rp_chart_run.proofs.ScriptHistory.{event_happened, event_refused}
 use Rattle.rp_chart_run.proofs.walk.Walk.step.Goals as goal
 
@@ -46,7 +46,7 @@ pub details-requires-clause-first : goal.details-requires-clause-first
 details-requires-clause-first g c = omega (arith, c.in-Ok.ensures.step.world.describes.first)
 
 pub details-requires-clause-nodes : goal.details-requires-clause-nodes
-details-requires-clause-nodes g c = ap (λ k. k.nodes) c.in-Ok.ensures.step.setup.config ∙ c.requires.parts.config
+details-requires-clause-nodes g c = ap (λ k. k.config.nodes) c.in-Ok.ensures.step.setup ∙ c.requires.parts.config
 
 pub happen-requires-clause-ending : goal.happen-requires-clause-ending
 happen-requires-clause-ending g c =
@@ -136,7 +136,7 @@ returns-in_ok-packets-in-Ok-clause-charted g c = λ play happened follows charte
     let first : c.in-Ok.effect.first ≡ length old.world.sent + 1 = done.describes.first in
     let said : List ℕ = details_as d d.form event (length old.world.sent + 1) done.transition.world in
     let details_are = c.in_ok-details-in-Ok.ensures
-    ∙ ap (λ (r : RunSetting _). details_as (record d { run = r }) d.form event c.in-Ok.effect.first new.world) (one_run m.next m.answers m.begin m.image old new c.args.scene.now.options.now c.in-Ok.ensures.step.setup)
+    ∙ ap (λ (r : RunSetting _). details_as (record d { run = r }) d.form event c.in-Ok.effect.first new.world) (same_run_setting m.next m.answers m.begin m.image c.args.scene.now.options.now old new c.in-Ok.ensures.step.setup)
     ∙ ap (λ (n : ℕ). details_as d d.form event n new.world) first
     ∙ ap (λ (w : World). details_as d d.form event (length old.world.sent + 1) w) done.world in
     let label : LabelText = event_label d.run.names (line_text d.deck line) d.stage (happened_in old.world event done.transition) said in

@@ -31,5 +31,5 @@ returns-in-Show-clause-charted g c =
     (λ play happened follows charted.
     charted_as m.next m.answers m.begin c.show.new.self.cluster c.show.new.self.chart _ _ c.show.result
     (ap (λ (n : ℕ). happened ++ nodes_shown d c.args.self.now.cluster.world n) (sym c.requires.parts.config)
-    ∙ ap (λ (w : World). happened ++ nodes_shown d w c.args.self.now.cluster.config.nodes) follows.world_is)
+    ∙ ap (λ (w : World). happened ++ nodes_shown d w c.args.self.now.cluster.setup.config.nodes) follows.world_is)
     (c.show.ensures.charted happened charted))

@@ -7,7 +7,7 @@ use Rattle.rp_run.specs.Items.{DrainLimit}
 use Rattle.rp_run.specs.Runs.{run_setting}
 use Rattle.rp_run.proofs.LeastUnsettled.{none_is_left, least_is_left}
 use Rattle.rp_run.proofs.RunParts.{Underway, sets_out, goes_on, fails, ends_by, ends, says_by, note_written, says_failed, drained_none, drained_full, drained_more}
-use Rattle.rp_run.proofs.Stepping.{same_setting, same_trans}
+use Rattle.rp_run.proofs.Stepping.{same_run_setting}
 use Rattle.rp_run.proofs.run.Run.drain.Goals as goal
 
 pub loop-delivered-init : goal.loop-delivered-init
@@ -19,7 +19,7 @@ loop-delivered-init g c =
     let all : most ≡ most - 0 = omega arith in
     record {
       parts = c.requires.parts;
-      setup = record { config = refl; program = refl };
+      setup = refl;
       counts = refl;
       so_far = λ play follows.
           subst (λ (n : ℕ). Underway c.args.self.now.cluster.world c.args.self.now.settled start start (drained s c.args.line most play) (λ (now : Play). drained s c.args.line n now)) all
@@ -52,7 +52,7 @@ returns-in_err-step-clause-printed g c =
     let delivered = c.loop-delivered.delivered in
     let most = c.args.options.now.most in
     let below : delivered < most = omega arith in
-    let same = same_setting m.next m.answers m.begin m.image c.args.options.now c.args.self.now.cluster run.cluster c.loop-delivered.invariant.setup in
+    let same = same_run_setting m.next m.answers m.begin m.image c.args.options.now c.args.self.now.cluster run.cluster c.loop-delivered.invariant.setup in
     λ play follows.
     let so_far = c.loop-delivered.invariant.so_far play follows in
     let now = so_far.said.play in
@@ -77,10 +77,10 @@ loop-delivered-preserved g c =
     let delivered = c.loop-delivered.delivered in
     let most = c.args.options.now.most in
     let below : delivered < most = omega arith in
-    let same = same_setting m.next m.answers m.begin m.image c.args.options.now c.args.self.now.cluster run.cluster c.loop-delivered.invariant.setup in
+    let same = same_run_setting m.next m.answers m.begin m.image c.args.options.now c.args.self.now.cluster run.cluster c.loop-delivered.invariant.setup in
     record {
       parts = c.in_ok-step.ensures.parts;
-      setup = same_trans c.args.self.now.cluster run.cluster c.step.new.self.cluster c.loop-delivered.invariant.setup c.step.ensures.setup;
+      setup = c.step.ensures.setup ∙ c.loop-delivered.invariant.setup;
       counts = c.in_ok-step.ensures.counts ∙ c.loop-delivered.invariant.counts;
       so_far = λ play follows.
           let so_far = c.loop-delivered.invariant.so_far play follows in

@@ -1,5 +1,4 @@
 use Rattle.std.proofs.Common.{◌≡◌, ◌-◌}
-use Rattle.rp_world.specs.Steps.{IsSameSetup}
 use Rattle.rp_run.specs.Output.{Play, drained}
 use Rattle.rp_run.specs.Runs.{HasParts, Follows, run_setting}
 use Rattle.rp_run.proofs.RunParts.{Underway}
@@ -12,7 +11,7 @@ invariant-loop-delivered g l =
     let s = run_setting m.next m.answers m.begin m.image l.fn.self.cluster l.options in
     record {
       parts : HasParts l.options.config.nodes l.self.cluster;
-      setup : IsSameSetup l.fn.self.cluster l.self.cluster;
+      setup : l.self.cluster.setup ≡ l.fn.self.cluster.setup;
       counts : l.self.cluster.failures ≡ l.fn.self.cluster.failures;
       so_far : (play : Play) → Follows l.fn.self.cluster.world l.fn.self.settled play
           → Underway l.self.cluster.world l.self.settled (g.W.Write.contents l.fn.writer) (g.W.Write.contents l.writer) (drained s l.line l.options.most play)

@@ -27,7 +27,7 @@ asked_in nodes sent records b _ is so = absurd is
 pub returns : goal.returns
 returns g c =
     let now = c.args.self.now in
-    let n = now.config.nodes in
+    let n = now.setup.config.nodes in
     let node = node_in now.world.nodes in
     let sent = now.world.sent in
     let kept = c.is_kept.ensures.kept in

@@ -14,7 +14,7 @@ invariant_of-result g c =
     subst (λ v. IsCluster (setting_of m.next m.answers m.begin v) v.world) (sym c.in_ok-new.ensures.opened)
     (record {
       right = right;
-      kept = c.replies_follow_the_order.ensures.histories (setting_of m.next m.answers m.begin (record { config = c.args.config; program = c.args.program; world = opening; failures = [] })) [] opening (record { config = right; right = λ event h. absurd h; happened = refl });
+      kept = c.replies_follow_the_order.ensures.histories (setting_of m.next m.answers m.begin (record { setup = record { config = c.args.config; program = c.args.program }; world = opening; failures = [] })) [] opening (record { config = right; right = λ event h. absurd h; happened = refl });
       ranged = c.events_keep_ranges.ensures.opening c.args.config.nodes;
     })
 

@@ -17,9 +17,9 @@ returns g c =
     let later = subst (λ (s : Setting g.row.M.Denot). IsKeptWorld s new.world) same c.is_kept-2.ensures.kept in
     record {
       run = ran.run;
-      agree = agree m.next m.answers m.image (m.begin old.program) old.config.nodes c.applied_lists_are_alike.ensures (c.states_are_alike.ensures (m.begin old.program)) old.world new.world
+      agree = agree m.next m.answers m.image (m.begin old.setup.program) old.setup.config.nodes c.applied_lists_are_alike.ensures (c.states_are_alike.ensures (m.begin old.setup.program)) old.world new.world
           c.is_kept.ensures.kept.kept.sound later.kept.sound ran.sent;
-      ordered = ordered (setting_of m.next m.answers m.begin old) c.the_order_exists.ensures c.applied_lists_are_prefixes.ensures (c.replies_answer_calls_that_count.ensures old.config old.program)
-          (c.calls_count_in_order.ensures old.config old.program) (c.only_made_calls_count.ensures old.config old.program) (c.a_call_has_one_place.ensures (m.begin old.program)) new.world later;
-      decided = c.decisions_stay.ensures old.config.nodes old.world.sent new.world.sent ran.sent;
+      ordered = ordered (setting_of m.next m.answers m.begin old) c.the_order_exists.ensures c.applied_lists_are_prefixes.ensures (c.replies_answer_calls_that_count.ensures old.setup.config old.setup.program)
+          (c.calls_count_in_order.ensures old.setup.config old.setup.program) (c.only_made_calls_count.ensures old.setup.config old.setup.program) (c.a_call_has_one_place.ensures (m.begin old.setup.program)) new.world later;
+      decided = c.decisions_stay.ensures old.setup.config.nodes old.world.sent new.world.sent ran.sent;
     }

@@ -34,10 +34,7 @@ loop-place-preserved g c =
     let more : take (place + 1) events ≡ take place events ++ event ∷ [] =
     take_more events place event c.loop-place-test.true ∙ ap (λ (y : PlainEvent). take place events ++ y ∷ []) (sym c.index-events-place.is) in
     record {
-      setup = record {
-        config = stepped.setup.config ∙ same.config;
-        program = stepped.setup.program ∙ same.program;
-      };
+      setup = stepped.setup ∙ same;
       failures = stepped.failures ∙ c.loop-place.invariant.failures;
       so_far = subst (λ (list : List PlainEvent). LeadsTo m.next m.answers m.begin old list after) (sym more)
           (subst (λ (list : List Event). Happen s old.world list after) (sym (map-append event_of (take place events) (event ∷ [])))
@@ -70,6 +67,6 @@ returns-in-Err-clause-run g c =
         here = here_of events c.loop-place.place event c.loop-place-test.true c.index-events-place.is;
         faulted = subst (λ (t : Setting g.row.M.Denot). IsFaulted t now.world (event_of event) new.world fault) (same_setting m.next m.answers m.begin old now same) stepped.world;
       };
-      setup = record { config = stepped.setup.config ∙ same.config; program = stepped.setup.program ∙ same.program };
+      setup = stepped.setup ∙ same;
       failures = subst (λ (l : List ℕ). AreCounted (node_of now.world (event_of event)) l new.failures (let r : Result Unit Fault = Err fault in r)) c.loop-place.invariant.failures stepped.failures;
     }

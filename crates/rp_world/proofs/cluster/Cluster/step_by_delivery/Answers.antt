@@ -28,7 +28,7 @@ invariant_of-self g c =
     (record {
       right = now.right;
       kept = c.events_keep_replies.ensures.answer s old.world new.world (Makes step) answer now.right now.kept tt is_step;
-      ranged = c.events_keep_ranges.ensures.answer old.config old.program old.world new.world (Makes step) answer now.right now.ranged tt is_step;
+      ranged = c.events_keep_ranges.ensures.answer old.setup.config old.setup.program old.world new.world (Makes step) answer now.right now.ranged tt is_step;
     })
 
 pub returns-clause-step : goal.returns-clause-step

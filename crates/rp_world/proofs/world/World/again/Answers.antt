@@ -9,8 +9,8 @@ use Rattle.rp_world.proofs.world.World.again.Goals as goal
 pub returns-then-get-self-clause-answer : goal.returns-then-get-self-clause-answer
 returns-then-get-self-clause-answer g c =
     let now = c.args.self.now in
-    let over : now.config.nodes < c.args.node = omega (arith, c.if-get-self.true, c.get.ensures.value, ap (λ v. v.config.nodes) c.self.view_is) in
-    inl (record { resulted = above now.config now.world c.args.task c.args.node (part_at now.world.tasks c.args.task) over; unchanged = refl })
+    let over : now.setup.config.nodes < c.args.node = omega (arith, c.if-get-self.true, c.get.ensures.value, ap (λ v. v.setup.config.nodes) c.self.view_is) in
+    inl (record { resulted = above now.setup.config now.world c.args.task c.args.node (part_at now.world.tasks c.args.task) over; unchanged = refl })
 
 pub returns-in_default-clause-answer : goal.returns-in_default-clause-answer
 returns-in_default-clause-answer g c =

@@ -30,7 +30,7 @@ returns-in_err-dropped g c =
     let err = c.in_err-dropped.ensures in
     record {
       answer = λ given gives. answers_given f at c.turn.new.self given c.in_err-dropped.field-0.0 (err.err (member f at.me) given gives) c.from_residual.result c.from_residual.ensures.1 c.turn.new.messages err.unsent c.args.effect.now;
-      setup = same_setup f _ refl refl;
+      setup = same_setup f;
       failures = λ given gives. counts_given f at c.turn.new.self given c.in_err-dropped.field-0.0 (err.err (member f at.me) given gives) c.from_residual.result c.from_residual.ensures.1 err.failures;
       certain = λ given p gives short here light. let never : false ≡ true = err.certain (member f at.me) (part f at) given (represents_now f at) gives short (light_given f at given p here light) in cc;
     }
@@ -57,7 +57,7 @@ returns g c =
     record {
       answer = λ given gives. goes_given f at c.turn.new.self given c.in_ok-dropped.dropped c.turn.new.messages (c.in_ok-dropped.ensures.ok (member f at.me) given gives)
           c.messages-first.ensures.value c.messages.ensures.value c.of_step.ensures;
-      setup = same_setup f _ refl refl;
+      setup = same_setup f;
       failures = λ given gives. same_seen f at c.turn.new.self c.in_ok-dropped.ensures.failures;
       certain = λ given p gives short here light. refl;
     }

@@ -10,7 +10,7 @@ use Rattle.rp_world.proofs.world.World.make_cut.Goals as goal
 
 pub step_to_cut-requires : goal.step_to_cut-requires
 step_to_cut-requires g c =
-    let ranged = subst (λ v. IsRangedWorld v.config.nodes v.world) (sym c.self.view_is) c.requires.ranged in
+    let ranged = subst (λ v. IsRangedWorld v.setup.config.nodes v.world) (sym c.self.view_is) c.requires.ranged in
     record { packets = ranged.packets }
 
 pub returns-in-Err : goal.returns-in-Err
@@ -19,7 +19,7 @@ returns-in-Err g c =
     let none = c.in-Err.ensures.maker (setting_by f f.was) f.was.world (sym (sent_seen f)) (nodes_seen f c.deref.ensures.value) in
     record {
       answer = inl (record { resulted = none.cut c.args.kept; unchanged = refl });
-      setup = record { config = refl; program = refl };
+      setup = refl;
       failures = none_counted _ _ f.was.failures c.in-Err.fault none.reason;
     }
 
@@ -49,6 +49,6 @@ returns g c =
     ] in
     record {
       answer = answers_cut f change one c.args.kept cut.result.1 cut.ensures.ok cut.ensures.err c.messages-first.ensures.value c.match-answer.result stated;
-      setup = same_setup f _ refl refl;
+      setup = same_setup f;
       failures = counts_cut f change one c.args.kept cut.result.1 cut.ensures.err cut.ensures.failures (c.messages-first.result + 1) c.match-answer.result stated;
     }

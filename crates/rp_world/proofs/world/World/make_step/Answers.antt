@@ -11,7 +11,7 @@ use Rattle.rp_model.specs.Events.{Step, step_of}
 use Rattle.rp_model.specs.Parts.{NodePart}
 use Rattle.rp_model.specs.World.{World, part_at, node_done, node_done_if, commanded, node_chosen, chosen_effect, chosen_record, step_effect, cut_step, step_writes, stepping}
 use Rattle.rp_world.specs.Going.{Answers, Counts, stated}
-use Rattle.rp_world.specs.Steps.{IsLightStep, Setup, IsSameSetup, setting_of}
+use Rattle.rp_world.specs.Steps.{IsLightStep, ClusterState, setting_of}
 use Rattle.rp_world.proofs.Choosing.{its_node, nodes_seen}
 use Rattle.rp_world.proofs.Failing.{none_counted}
 use Rattle.rp_world.proofs.Fields.{fields_of, setting_by}
@@ -21,13 +21,13 @@ use Rattle.rp_world.proofs.Messages.{sends_are}
 use Rattle.rp_world.proofs.world.World.make_step.Goals as goal
 
 -- what a cluster answers to a step, and what it counts
-module _ {S P : Type 0} (next : S → Action → S) (answers : S → Action → List Answer) (start : P → S) (was new : Setup P) (result : Result Unit Fault) (effect : Effect) where
+module _ {S P : Type 0} (next : S → Action → S) (answers : S → Action → List Answer) (start : P → S) (was new : ClusterState P) (result : Result Unit Fault) (effect : Effect) where
   abbrev IsMade : Step → Type 0
   IsMade step =
       let s = setting_of next answers start was in
       record {
         answer : Answers was.world (step_effect s was.world step) (λ kept. cut_step s was.world step kept) new.world (stated result effect);
-        setup : IsSameSetup was new;
+        setup : new.setup ≡ was.setup;
         failures : Counts (IsSome (step_writes s was.world step)) (stepping was.world step) was.failures new.failures result;
         certain : IsLightStep s was.world step → IsOk result;
       }
@@ -52,7 +52,7 @@ give_input-requires-clause-sends g c = λ given part done is here resulted.
     let step = events.Lead me c.in-Lead.position in
     let range = subst (λ s. events.IsRightStep (step_of s)) c.in-Lead.is c.requires.step in
     let results = result_of (setting_of g.M.Machine.next g.M.Machine.answers g.M.Machine.begin was) was.world step me (inputs.Lead c.in-Lead.position) refl is here resulted in
-    sends_are was.world.sent done.sends (c.events_keep_ranges.ensures.effect was.config was.program was.world (events.Makes step) (node_done was.world me done) c.requires.config c.requires.ranged range results).packets
+    sends_are was.world.sent done.sends (c.events_keep_ranges.ensures.effect was.setup.config was.setup.program was.world (events.Makes step) (node_done was.world me done) c.requires.config c.requires.ranged range results).packets
 
 pub give_input-requires-in-Ok-clause-given : goal.give_input-requires-in-Ok-clause-given
 give_input-requires-in-Ok-clause-given g c = (inputs.LeadRange c.in-LeadRange.first c.in-LeadRange.count, c.in-Ok.ensures.ok)
@@ -64,7 +64,7 @@ give_input-requires-in-Ok-clause-sends g c = λ given part done is here resulted
     let step = events.LeadRange me c.in-LeadRange.first c.in-LeadRange.count in
     let range = subst (λ s. events.IsRightStep (step_of s)) c.in-LeadRange.is c.requires.step in
     let results = result_of (setting_of g.M.Machine.next g.M.Machine.answers g.M.Machine.begin was) was.world step me (inputs.LeadRange c.in-LeadRange.first c.in-LeadRange.count) refl (sym c.in-Ok.ensures.ok ∙ is) here resulted in
-    sends_are was.world.sent done.sends (c.events_keep_ranges.ensures.effect was.config was.program was.world (events.Makes step) (node_done was.world me done) c.requires.config c.requires.ranged range results).packets
+    sends_are was.world.sent done.sends (c.events_keep_ranges.ensures.effect was.setup.config was.setup.program was.world (events.Makes step) (node_done was.world me done) c.requires.config c.requires.ranged range results).packets
 
 pub give_input-requires-in-Tick-clause-given : goal.give_input-requires-in-Tick-clause-given
 give_input-requires-in-Tick-clause-given g c = ((inputs.Tick c.in-Tick.now), refl)
@@ -79,7 +79,7 @@ give_input-requires-in-Report-clause-sends g c = λ given part done is here resu
     let step = events.Report me c.in-Report.first in
     let range = subst (λ s. events.IsRightStep (step_of s)) c.in-Report.is c.requires.step in
     let results = result_of (setting_of g.M.Machine.next g.M.Machine.answers g.M.Machine.begin was) was.world step me (inputs.Report c.in-Report.first) refl is here resulted in
-    sends_are was.world.sent done.sends (c.events_keep_ranges.ensures.effect was.config was.program was.world (events.Makes step) (node_done was.world me done) c.requires.config c.requires.ranged range results).packets
+    sends_are was.world.sent done.sends (c.events_keep_ranges.ensures.effect was.setup.config was.setup.program was.world (events.Makes step) (node_done was.world me done) c.requires.config c.requires.ranged range results).packets
 
 pub give_input-requires-in-Ask-clause-given : goal.give_input-requires-in-Ask-clause-given
 give_input-requires-in-Ask-clause-given g c = ((inputs.Ask c.in-Ask.to), refl)
@@ -91,7 +91,7 @@ give_input-requires-in-Ask-clause-sends g c = λ given part done is here resulte
     let step = events.Ask me c.in-Ask.to in
     let range = subst (λ s. events.IsRightStep (step_of s)) c.in-Ask.is c.requires.step in
     let results = result_of (setting_of g.M.Machine.next g.M.Machine.answers g.M.Machine.begin was) was.world step me (inputs.Ask c.in-Ask.to) refl is here resulted in
-    sends_are was.world.sent done.sends (c.events_keep_ranges.ensures.effect was.config was.program was.world (events.Makes step) (node_done was.world me done) c.requires.config c.requires.ranged range results).packets
+    sends_are was.world.sent done.sends (c.events_keep_ranges.ensures.effect was.setup.config was.setup.program was.world (events.Makes step) (node_done was.world me done) c.requires.config c.requires.ranged range results).packets
 
 pub returns-in-Deliver : goal.returns-in-Deliver
 returns-in-Deliver g c =
@@ -139,7 +139,7 @@ returns-in-Err g c =
     let refused = c.in-Err.ensures.err s f.was.world (nodes_seen f c.deref.ensures.value) in
     record {
       answer = inl (record { resulted = ap (λ step. step_effect s f.was.world (step_of step)) c.in-LeadRange.is ∙ refused.whole; unchanged = refl });
-      setup = record { config = refl; program = refl };
+      setup = refl;
       failures = none_counted _ _ f.was.failures c.in-Err.fault refused.none.reason;
       certain = λ light.
           let refuses : step_effect s f.was.world (step_of c.args.step) ≡ Err c.in-Err.fault = ap (λ step. step_effect s f.was.world (step_of step)) c.in-LeadRange.is ∙ refused.whole in

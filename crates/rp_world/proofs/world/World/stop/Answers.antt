@@ -28,6 +28,6 @@ returns g c =
         | in-Ok b ↦ stop_ok f change b.in-Ok.is b.result-is c.stop-node.ensures.ok c.messages-first.ensures.value b.no_effect.ensures
         | in-Err b ↦ stop_err f change b.in-Err.is b.result-is c.stop-node.ensures.err
       ];
-      setup = same_setup f _ refl refl;
+      setup = same_setup f;
       failures = same_left f change c.stop-node.ensures.failures;
     }

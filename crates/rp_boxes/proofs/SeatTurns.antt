@@ -16,7 +16,7 @@ use Rattle.rp_model.specs.Parts.{NodePart, Running, Turn}
 use Rattle.rp_machine.specs.declared.machine.Machine.{Ghosts}
 use Rattle.rp_agreement.specs.Inputs.{IsInput}
 use Rattle.rp_replica.specs.State.{ReplicaState, with_text}
-use Rattle.rp_replica.specs.Inputs.{effect_if_given, input_effect, effect_of}
+use Rattle.rp_replica.specs.Inputs.{effect_if_given, input_effect, replica_effect}
 use Rattle.rp_rules.specs.Inputs.{IsLong, IsRightInput, packet_given, given_by}
 use Rattle.rp_replica.specs.Turning.{TurnsIf, FailsAt, IsCertain, Stops, StopsIf}
 use Rattle.rp_rules.specs.declared.input.Input.{Input}
@@ -114,7 +114,7 @@ module _ {M D P : Type 0} {machine : Ghosts M P} (at : NodeStep machine D) where
 
   -- the result of the input at the replica, and how its turn ends
   abbrev effect_here : Result Turn Fault
-  effect_here = effect_of machine.next machine.answers old is.given
+  effect_here = replica_effect machine.next machine.answers old is.given
 
   abbrev Turned : ReplicaState M → Sent → Type 0
   Turned new sent = TurnsIf (input_effect machine.next machine.answers old input) old new sent
@@ -122,7 +122,7 @@ module _ {M D P : Type 0} {machine : Ghosts M P} (at : NodeStep machine D) where
   abbrev Ended : ReplicaState M → Fault → Type 0
   Ended new fault = StopsIf (input_effect machine.next machine.answers old input) old new fault
 
-  same_input : input_effect machine.next machine.answers old input ≡ effect_of machine.next machine.answers old is.given
+  same_input : input_effect machine.next machine.answers old input ≡ replica_effect machine.next machine.answers old is.given
   same_input = ap (effect_if_given machine.next machine.answers old) is.gives
 
   -- what is known once the turn is counted at the table, as a call finds it

@@ -21,12 +21,12 @@ use Rattle.rp_model.specs.Parts.{Turn}
 use Rattle.rp_model.specs.Arrivals.{adds_pending, on_interrupt}
 use Rattle.rp_model.specs.Node.{RunningNode, kept_by}
 use Rattle.rp_model.specs.Pending.{is_same_call, most_pending}
-use Rattle.rp_model.specs.Plans.{turn_of as plan_turn}
+use Rattle.rp_model.specs.Plans.{turn_of_plan as plan_turn}
 use Rattle.rp_model.specs.declared.effect.Dropped.TheVariants.{No, Full}
 use Rattle.rp_model.specs.declared.plan.Plan.TheVariants as plans
 use Rattle.rp_model.specs.declared.plan.Plan.{Plan}
 use Rattle.rp_rules.specs.Inputs.{Refuses}
-use Rattle.rp_rules.specs.Plans.{turn_of, TakesNoMemory}
+use Rattle.rp_rules.specs.Plans.{turn_of_plan, TakesNoMemory}
 use Rattle.rp_replica.specs.State.{ReplicaState, server_of}
 
 -- ---- votes that were heard
@@ -73,10 +73,10 @@ is_planned long effect (Ok v) turn err is short = refl
 is_planned long effect (Err fault) turn err is short = let why : Refuses long (Ok turn) fault = subst (λ (e : Result Turn Fault). Refuses long e fault) is err in absurd (short why.1)
 
 -- a plan of this turn takes no memory
-pub plan_takes_none : {S : Type 0} (next : S → Action → S) (answers : S → Action → List Answer) (replica : ReplicaState S) (effect : Result Turn Fault) (plan : Plan) (turn : Turn) → Ok (turn_of next answers (server_of replica) plan) ≡ effect → effect ≡ Ok turn
-    → TakesNoMemory replica.running turn → TakesNoMemory replica.running (turn_of next answers (server_of replica) plan)
+pub plan_takes_none : {S : Type 0} (next : S → Action → S) (answers : S → Action → List Answer) (replica : ReplicaState S) (effect : Result Turn Fault) (plan : Plan) (turn : Turn) → Ok (turn_of_plan next answers (server_of replica) plan) ≡ effect → effect ≡ Ok turn
+    → TakesNoMemory replica.running turn → TakesNoMemory replica.running (turn_of_plan next answers (server_of replica) plan)
 plan_takes_none next answers replica effect plan turn planned is free =
-    let same : turn_of next answers (server_of replica) plan ≡ turn = let e = planned ∙ is in cc in
+    let same : turn_of_plan next answers (server_of replica) plan ≡ turn = let e = planned ∙ is in cc in
     subst (TakesNoMemory replica.running) (sym same) free
 
 -- the text of a packet that is not long is not long

@@ -38,14 +38,14 @@ use Rattle.rp_model.specs.declared.plan.Plan.{Plan}
 use Rattle.rp_model.specs.declared.plan.Plan.TheVariants as plans
 use Rattle.rp_proposer.specs.Proposing.{progress_in}
 use Rattle.rp_proposer.specs.declared.proposal.Progress.{Progress}
-use Rattle.rp_rules.specs.Inputs.{node_of, packet_given}
+use Rattle.rp_rules.specs.Inputs.{running_server, packet_given}
 use Rattle.rp_rules.proofs.Accepted.{accepted_plan, status_plan}
 use Rattle.rp_server.specs.State.{ServerState}
 use Rattle.rp_server.specs.Status.{status_of}
 use Rattle.rp_server.proofs.Promising.{plan_is, promise_plan}
-use Rattle.rp_rules.specs.Plans.{turn_of, IsPlanOf, TakesNoMemory}
+use Rattle.rp_rules.specs.Plans.{turn_of_plan, IsPlanOf, TakesNoMemory}
 use Rattle.rp_replica.specs.Committing.{Commits}
-use Rattle.rp_replica.specs.Inputs.{effect_of, effect_if_given}
+use Rattle.rp_replica.specs.Inputs.{replica_effect, effect_if_given}
 use Rattle.rp_replica.specs.State.{ReplicaState, server_of}
 use Rattle.rp_replica.specs.Turning.{AnswersOnto, Stops}
 use Rattle.rp_replica.proofs.Certain.{plan_takes_none}
@@ -60,7 +60,7 @@ IsTextAt before place bytes = (m : Message) → slice_get before place ≡ Some 
 
 module _ {S : Type 0} (next : S → Action → S) (answers : S → Action → List Answer) (server : ServerState S) (bytes : List ℕ) where
   abbrev node : RunningNode S
-  node = node_of next answers server
+  node = running_server next answers server
 
   pub promised_plan : (header answer : Header) (last : Option CastVote) (rec : Rec) → IsPlanOf next answers server bytes (on_prepare node header.from header.position header.ballot)
       → prepares.Promise last rec ≡ prepare_answer server.records header.position header.ballot → answer ≡ answer_to server.me header.from header.position header.ballot
@@ -98,28 +98,28 @@ module _ {S : Type 0} (next : S → Action → S) (answers : S → Action → Li
   abbrev pub HasPlan : Type 0
   HasPlan = IsTextAt before place bytes × IsPlanOf next answers (server_of replica) bytes plan
 
-  turned : HasPlan → (m : Message) → slice_get before place ≡ Some m → Ok (turn_of next answers (server_of replica) plan) ≡ effect_of next answers replica (NodeInput.Receive m)
+  turned : HasPlan → (m : Message) → slice_get before place ≡ Some m → Ok (turn_of_plan next answers (server_of replica) plan) ≡ replica_effect next answers replica (NodeInput.Receive m)
   turned has m at =
       let text = has.0 m at in
       let given = ap (λ (l : List ℕ). packet_given (all_of l)) text.0 ∙ ap packet_given (whole_again m text.1) in
       planned next answers (server_of replica) (packet_given (all_of bytes)) plan (sym has.1) ∙ ap (effect_if_given next answers replica) given
 
   -- it was carried out
-  pub carried_out : HasPlan → (new : ReplicaState S) (after : List Message) (dropped : Dropped) → replica.failed ≡ false → Commits (turn_of next answers (server_of replica) plan) replica new before after → dropped ≡ dropped_by plan
-      → (m : Message) → slice_get before place ≡ Some m → AnswersOnto (effect_of next answers replica (NodeInput.Receive m)) replica new before after (Ok dropped)
+  pub carried_out : HasPlan → (new : ReplicaState S) (after : List Message) (dropped : Dropped) → replica.failed ≡ false → Commits (turn_of_plan next answers (server_of replica) plan) replica new before after → dropped ≡ dropped_by plan
+      → (m : Message) → slice_get before place ≡ Some m → AnswersOnto (replica_effect next answers replica (NodeInput.Receive m)) replica new before after (Ok dropped)
   carried_out has new after dropped working commits is m at =
-      committed next answers replica (effect_of next answers replica (NodeInput.Receive m)) plan new before after dropped (turned has m at) working commits is
+      committed next answers replica (replica_effect next answers replica (NodeInput.Receive m)) plan new before after dropped (turned has m at) working commits is
 
   -- it was not
   pub not_carried_out : HasPlan → (new : ReplicaState S) (after : List Message) (answer : Result Dropped Fault) (fault : WriteFault) → IsErrAnd answer (λ e. e ≡ fault_of fault) → Stops (written_by plan) replica new (fault_of fault) → after ≡ before
-      → (m : Message) → slice_get before place ≡ Some m → AnswersOnto (effect_of next answers replica (NodeInput.Receive m)) replica new before after answer
+      → (m : Message) → slice_get before place ≡ Some m → AnswersOnto (replica_effect next answers replica (NodeInput.Receive m)) replica new before after answer
   not_carried_out has new after answer fault is stops unsent m at =
-      refused next answers replica (effect_of next answers replica (NodeInput.Receive m)) plan new before after answer fault is (turned has m at) stops unsent
+      refused next answers replica (replica_effect next answers replica (NodeInput.Receive m)) plan new before after answer fault is (turned has m at) stops unsent
 
   -- its turn takes memory where the plan does
-  pub takes_memory : HasPlan → (¬ TakesNoMemory replica.running (turn_of next answers (server_of replica) plan)) → (m : Message) → slice_get before place ≡ Some m
-      → (turn : Turn) → effect_of next answers replica (NodeInput.Receive m) ≡ Ok turn → ¬ TakesNoMemory replica.running turn
-  takes_memory has takes m at turn is = λ free. takes (plan_takes_none next answers replica (effect_of next answers replica (NodeInput.Receive m)) plan turn (turned has m at) is free)
+  pub takes_memory : HasPlan → (¬ TakesNoMemory replica.running (turn_of_plan next answers (server_of replica) plan)) → (m : Message) → slice_get before place ≡ Some m
+      → (turn : Turn) → replica_effect next answers replica (NodeInput.Receive m) ≡ Ok turn → ¬ TakesNoMemory replica.running turn
+  takes_memory has takes m at turn is = λ free. takes (plan_takes_none next answers replica (replica_effect next answers replica (NodeInput.Receive m)) plan turn (turned has m at) is free)
 
 -- ---- a packet to each node
 

@@ -14,7 +14,7 @@ use Rattle.rp_model.specs.declared.plan.Plan.TheVariants.{Pass, Promise, Promise
 use Rattle.rp_replica.specs.State.{ReplicaState, server_of}
 use Rattle.rp_rules.specs.Inputs.{Refuses}
 use Rattle.rp_model.specs.Plans.{written_by, dropped_by}
-use Rattle.rp_rules.specs.Plans.{turn_of}
+use Rattle.rp_rules.specs.Plans.{turn_of_plan}
 use Rattle.rp_codec.specs.Message.{Message}
 use Rattle.rp_model.specs.declared.effect.Dropped.{Dropped}
 use Rattle.rp_replica.specs.Committing.{Commits}
@@ -22,7 +22,7 @@ use Rattle.rp_replica.specs.Turning.{Stops, StopsIf, TurnsOnto, AnswersOnto}
 
 module _ {S : Type 0} (next : S → Action → S) (answers : S → Action → List Answer) (replica : ReplicaState S) where
   -- what a plan writes and drops is what its turn does
-  plan_is : (plan : Plan) → ((turn_of next answers (server_of replica) plan).written ≡ written_by plan) × ((turn_of next answers (server_of replica) plan).dropped ≡ dropped_by plan)
+  plan_is : (plan : Plan) → ((turn_of_plan next answers (server_of replica) plan).written ≡ written_by plan) × ((turn_of_plan next answers (server_of replica) plan).dropped ≡ dropped_by plan)
   plan_is (Pass dropped) = (refl, refl)
   plan_is (Promise place last) = (refl, refl)
   plan_is (PromiseRange p) = (refl, refl)
@@ -46,20 +46,20 @@ module _ {S : Type 0} (next : S → Action → S) (answers : S → Action → Li
   plan_is (AskMissing to) = (refl, refl)
 
   -- a plan that is not committed
-  pub stops_plan : (effect : Result Turn Fault) (plan : Plan) (new : ReplicaState S) (fault : Fault) → Ok (turn_of next answers (server_of replica) plan) ≡ effect
+  pub stops_plan : (effect : Result Turn Fault) (plan : Plan) (new : ReplicaState S) (fault : Fault) → Ok (turn_of_plan next answers (server_of replica) plan) ≡ effect
       → Stops (written_by plan) replica new fault → StopsIf effect replica new fault
   stops_plan effect plan new fault same stops =
       subst (λ (e : Result Turn Fault). StopsIf e replica new fault) same (subst (λ (w : Option Rec). Stops w replica new fault) (sym (plan_is plan).0) stops)
 
   -- a plan that was committed after others
-  pub committed : (effect : Result Turn Fault) (plan : Plan) (new : ReplicaState S) (before after : List Message) (dropped : Dropped) → Ok (turn_of next answers (server_of replica) plan) ≡ effect → replica.failed ≡ false
-      → Commits (turn_of next answers (server_of replica) plan) replica new before after → dropped ≡ dropped_by plan → TurnsOnto effect replica new before after dropped
+  pub committed : (effect : Result Turn Fault) (plan : Plan) (new : ReplicaState S) (before after : List Message) (dropped : Dropped) → Ok (turn_of_plan next answers (server_of replica) plan) ≡ effect → replica.failed ≡ false
+      → Commits (turn_of_plan next answers (server_of replica) plan) replica new before after → dropped ≡ dropped_by plan → TurnsOnto effect replica new before after dropped
   committed effect plan new before after dropped same working commits is =
       subst (λ (e : Result Turn Fault). TurnsOnto e replica new before after dropped) same (commits, is ∙ sym (plan_is plan).1, working)
 
   -- a plan that was not committed
   pub refused : (effect : Result Turn Fault) (plan : Plan) (new : ReplicaState S) (before after : List Message) (answer : Result Dropped Fault) (fault : WriteFault) → IsErrAnd answer (λ e. e ≡ fault_of fault)
-      → Ok (turn_of next answers (server_of replica) plan) ≡ effect → Stops (written_by plan) replica new (fault_of fault) → after ≡ before → AnswersOnto effect replica new before after answer
+      → Ok (turn_of_plan next answers (server_of replica) plan) ≡ effect → Stops (written_by plan) replica new (fault_of fault) → after ≡ before → AnswersOnto effect replica new before after answer
   refused effect plan new before after (Ok dropped) fault is same stops unsent = absurd is
   refused effect plan new before after (Err e) fault is same stops unsent =
       (subst (λ (f : Fault). StopsIf effect replica new f) (sym is) (stops_plan effect plan new (fault_of fault) same stops), unsent)

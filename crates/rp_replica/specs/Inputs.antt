@@ -12,8 +12,8 @@ use Rattle.rp_replica.specs.State.{ReplicaState, server_of}
 module _ {S : Type 0} (next : S → Action → S) (answers : S → Action → List Answer)
     (replica : ReplicaState S) where
   -- the result of an input for a replica, or its refusal
-  abbrev pub effect_of : NodeInput → Result Turn Fault
-  effect_of input = rules.effect_of next answers (server_of replica) input
+  abbrev pub replica_effect : NodeInput → Result Turn Fault
+  replica_effect input = rules.effect_of next answers (server_of replica) input
 
   -- the same, where the input itself may be refused
   abbrev pub effect_if_given : Result NodeInput Fault → Result Turn Fault

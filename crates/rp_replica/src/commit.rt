@@ -21,7 +21,7 @@ ghost use Rattle.rp_replica.specs.Committing.{Commits};
 ghost use Rattle.rp_replica.specs.State.{after_turn, server_of};
 ghost use Rattle.rp_model.specs.declared.plan.Plan.TheVariants as plans;
 ghost use Rattle.rp_model.specs.Plans.{written_by};
-ghost use Rattle.rp_rules.specs.Plans.{turn_of, MayCommit, OnlySends, TakesNoMemory};
+ghost use Rattle.rp_rules.specs.Plans.{turn_of_plan, MayCommit, OnlySends, TakesNoMemory};
 ghost use Rattle.rp_server.specs.Invariant.{IsAnswer, vote_record};
 ghost use Rattle.rp_replica.specs.Turning.{Stops};
 
@@ -50,13 +50,13 @@ impl<M: Machine, D: Device> Replica<M, D> {
     ) -> Result<(), WriteFault>
         requires working { self.old.failed ≡ false }
         requires may { MayCommit (server_of self.old) plan.now }
-        ensures ok { OnOk result (Commits (turn_of M.next M.answers (server_of self.old) plan.now)
+        ensures ok { OnOk result (Commits (turn_of_plan M.next M.answers (server_of self.old) plan.now)
             self.old self.new out.old.sent out.new.sent) }
         ensures err { IfErr result (λ fault.
             Stops (written_by plan.now) self.old self.new (fault_of fault)) }
         ensures unsent { OnErr result (out.new.sent ≡ out.old.sent) }
         ensures certain { TakesNoMemory self.old.running
-            (turn_of M.next M.answers (server_of self.old) plan.now) → IsOk result }
+            (turn_of_plan M.next M.answers (server_of self.old) plan.now) → IsOk result }
     {
         match plan {
             Plan::Pass(_) => return Ok(()),
@@ -105,7 +105,7 @@ impl<M: Machine, D: Device> Replica<M, D> {
         requires working { self.old.failed ≡ false }
         requires may { MayCommit (server_of self.old) (plans.Promise header.now last.now) }
         ensures ok { OnOk result (Commits
-            (turn_of M.next M.answers (server_of self.old) (plans.Promise header.now last.now))
+            (turn_of_plan M.next M.answers (server_of self.old) (plans.Promise header.now last.now))
             self.old self.new out.old.sent out.new.sent) }
         ensures err { IfErr result (λ fault.
             Stops (written_by (plans.Promise header.now last.now))
@@ -130,7 +130,7 @@ impl<M: Machine, D: Device> Replica<M, D> {
         requires working { self.old.failed ≡ false }
         requires may { MayCommit (server_of self.old) (plans.Vote header.now action.now) }
         ensures ok { OnOk result (Commits
-            (turn_of M.next M.answers (server_of self.old) (plans.Vote header.now action.now))
+            (turn_of_plan M.next M.answers (server_of self.old) (plans.Vote header.now action.now))
             self.old self.new out.old.sent out.new.sent) }
         ensures err { IfErr result (λ fault.
             Stops (written_by (plans.Vote header.now action.now))
@@ -157,7 +157,7 @@ impl<M: Machine, D: Device> Replica<M, D> {
         ensures first { IfSome result (λ _.
             IsFirstPromise self.old.records header.now.position header.now.ballot) }
         ensures ok { IfSome result (λ done. OnOk done (Commits
-            (turn_of M.next M.answers (server_of self.old) (plans.Promise header.now None))
+            (turn_of_plan M.next M.answers (server_of self.old) (plans.Promise header.now None))
             self.old self.new out.old.sent out.new.sent)) }
         ensures err { IfSome result (λ done. IfErr done (λ fault.
             Stops (written_by (plans.Promise header.now None))
@@ -191,7 +191,7 @@ impl<M: Machine, D: Device> Replica<M, D> {
         ensures first { IfSome result (λ _.
             IsFirstVote self.old.records header.now.position header.now.ballot) }
         ensures ok { IfSome result (λ done. OnOk done (Commits
-            (turn_of M.next M.answers (server_of self.old) (plans.Vote header.now action.now))
+            (turn_of_plan M.next M.answers (server_of self.old) (plans.Vote header.now action.now))
             self.old self.new out.old.sent out.new.sent)) }
         ensures err { IfSome result (λ done. IfErr done (λ fault.
             Stops (written_by (plans.Vote header.now action.now))
@@ -220,7 +220,7 @@ impl<M: Machine, D: Device> Replica<M, D> {
     fn send(&self, alloc: Global, out: &mut Outbox, plan: &Plan) -> Result<(), WriteFault>
         requires may { MayCommit (server_of self.now) plan.now }
         requires sends { OnlySends plan.now }
-        ensures ok { OnOk result (Commits (turn_of M.next M.answers (server_of self.now) plan.now)
+        ensures ok { OnOk result (Commits (turn_of_plan M.next M.answers (server_of self.now) plan.now)
             self.now self.now out.old.sent out.new.sent) }
         ensures only { IsOkUnless result faults.OutOfMemory }
         ensures unsent { OnErr result (out.new.sent ≡ out.old.sent) }

@@ -6,7 +6,7 @@ ghost use Rattle.std.specs.Prelude.{◌≡◌, ◌<◌, Some, false, length, sli
 ghost use Rattle.rp_codec.specs.Decoding.{IsLongBody};
 ghost use Rattle.rp_codec.specs.Message.{Message};
 ghost use Rattle.rp_model.specs.Effect as inputs;
-ghost use Rattle.rp_replica.specs.Inputs.{effect_of};
+ghost use Rattle.rp_replica.specs.Inputs.{replica_effect};
 ghost use Rattle.rp_replica.specs.Turning.{AnswersOnto, IsCertain};
 
 use crate::laws::texts_are_packets;
@@ -34,11 +34,11 @@ impl<M: Machine, D: Device> Replica<M, D> {
     ) -> Result<Dropped, Fault>
         requires place { place < length out.old.sent }
         ensures answer { (m : Message) → slice_get out.old.sent place ≡ Some m
-            → AnswersOnto (effect_of M.next M.answers self.old (inputs.NodeInput.Receive m))
+            → AnswersOnto (replica_effect M.next M.answers self.old (inputs.NodeInput.Receive m))
             self.old self.new out.old.sent out.new.sent result }
         ensures certain { (m : Message) → slice_get out.old.sent place ≡ Some m
             → (¬ IsLongBody m.body)
-            → IsCertain (effect_of M.next M.answers self.old (inputs.NodeInput.Receive m))
+            → IsCertain (replica_effect M.next M.answers self.old (inputs.NodeInput.Receive m))
             self.old result }
     {
         if self.has_failed() {
@@ -65,11 +65,11 @@ impl<M: Machine, D: Device> Replica<M, D> {
         requires place { place < length out.old.sent }
         requires working { self.old.failed ≡ false }
         ensures answer { (m : Message) → slice_get out.old.sent place ≡ Some m
-            → AnswersOnto (effect_of M.next M.answers self.old (inputs.NodeInput.Receive m))
+            → AnswersOnto (replica_effect M.next M.answers self.old (inputs.NodeInput.Receive m))
             self.old self.new out.old.sent out.new.sent result }
         ensures certain { (m : Message) → slice_get out.old.sent place ≡ Some m
             → (¬ IsLongBody m.body)
-            → IsCertain (effect_of M.next M.answers self.old (inputs.NodeInput.Receive m))
+            → IsCertain (replica_effect M.next M.answers self.old (inputs.NodeInput.Receive m))
             self.old result }
     {
         let Some(header) = prepare_for(&self.server, out.text(place).unwrap()) else {
@@ -96,11 +96,11 @@ impl<M: Machine, D: Device> Replica<M, D> {
         requires place { place < length out.old.sent }
         requires working { self.old.failed ≡ false }
         ensures answer { (m : Message) → slice_get out.old.sent place ≡ Some m
-            → AnswersOnto (effect_of M.next M.answers self.old (inputs.NodeInput.Receive m))
+            → AnswersOnto (replica_effect M.next M.answers self.old (inputs.NodeInput.Receive m))
             self.old self.new out.old.sent out.new.sent result }
         ensures certain { (m : Message) → slice_get out.old.sent place ≡ Some m
             → (¬ IsLongBody m.body)
-            → IsCertain (effect_of M.next M.answers self.old (inputs.NodeInput.Receive m))
+            → IsCertain (replica_effect M.next M.answers self.old (inputs.NodeInput.Receive m))
             self.old result }
     {
         let Some(promise) = promise_for(&self.server, out.text(place).unwrap()) else {
@@ -125,11 +125,11 @@ impl<M: Machine, D: Device> Replica<M, D> {
         requires place { place < length out.old.sent }
         requires working { self.old.failed ≡ false }
         ensures answer { (m : Message) → slice_get out.old.sent place ≡ Some m
-            → AnswersOnto (effect_of M.next M.answers self.old (inputs.NodeInput.Receive m))
+            → AnswersOnto (replica_effect M.next M.answers self.old (inputs.NodeInput.Receive m))
             self.old self.new out.old.sent out.new.sent result }
         ensures certain { (m : Message) → slice_get out.old.sent place ≡ Some m
             → (¬ IsLongBody m.body)
-            → IsCertain (effect_of M.next M.answers self.old (inputs.NodeInput.Receive m))
+            → IsCertain (replica_effect M.next M.answers self.old (inputs.NodeInput.Receive m))
             self.old result }
     {
         let text = out.text(place).unwrap();
@@ -160,11 +160,11 @@ impl<M: Machine, D: Device> Replica<M, D> {
         requires place { place < length out.old.sent }
         requires working { self.old.failed ≡ false }
         ensures answer { (m : Message) → slice_get out.old.sent place ≡ Some m
-            → AnswersOnto (effect_of M.next M.answers self.old (inputs.NodeInput.Receive m))
+            → AnswersOnto (replica_effect M.next M.answers self.old (inputs.NodeInput.Receive m))
             self.old self.new out.old.sent out.new.sent result }
         ensures certain { (m : Message) → slice_get out.old.sent place ≡ Some m
             → (¬ IsLongBody m.body)
-            → IsCertain (effect_of M.next M.answers self.old (inputs.NodeInput.Receive m))
+            → IsCertain (replica_effect M.next M.answers self.old (inputs.NodeInput.Receive m))
             self.old result }
     {
         let text = out.text(place).unwrap();
@@ -206,11 +206,11 @@ impl<M: Machine, D: Device> Replica<M, D> {
         requires place { place < length out.old.sent }
         requires working { self.old.failed ≡ false }
         ensures answer { (m : Message) → slice_get out.old.sent place ≡ Some m
-            → AnswersOnto (effect_of M.next M.answers self.old (inputs.NodeInput.Receive m))
+            → AnswersOnto (replica_effect M.next M.answers self.old (inputs.NodeInput.Receive m))
             self.old self.new out.old.sent out.new.sent result }
         ensures certain { (m : Message) → slice_get out.old.sent place ≡ Some m
             → (¬ IsLongBody m.body)
-            → IsCertain (effect_of M.next M.answers self.old (inputs.NodeInput.Receive m))
+            → IsCertain (replica_effect M.next M.answers self.old (inputs.NodeInput.Receive m))
             self.old result }
     {
         let text = out.text(place).unwrap();
@@ -237,11 +237,11 @@ impl<M: Machine, D: Device> Replica<M, D> {
         requires place { place < length out.old.sent }
         requires working { self.old.failed ≡ false }
         ensures answer { (m : Message) → slice_get out.old.sent place ≡ Some m
-            → AnswersOnto (effect_of M.next M.answers self.old (inputs.NodeInput.Receive m))
+            → AnswersOnto (replica_effect M.next M.answers self.old (inputs.NodeInput.Receive m))
             self.old self.new out.old.sent out.new.sent result }
         ensures certain { (m : Message) → slice_get out.old.sent place ≡ Some m
             → (¬ IsLongBody m.body)
-            → IsCertain (effect_of M.next M.answers self.old (inputs.NodeInput.Receive m))
+            → IsCertain (replica_effect M.next M.answers self.old (inputs.NodeInput.Receive m))
             self.old result }
     {
         texts_are_packets();

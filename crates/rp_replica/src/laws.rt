@@ -12,7 +12,7 @@ ghost use Rattle.rp_model.specs.Parts.{NodePart};
 ghost use Rattle.rp_model.specs.Parts.{Turn};
 ghost use Rattle.rp_replica.specs.State.{ReplicaState, setting_of, part_of};
 ghost use Rattle.rp_rules.specs.Inputs.{packet_given};
-ghost use Rattle.rp_replica.specs.Inputs.{effect_of};
+ghost use Rattle.rp_replica.specs.Inputs.{replica_effect};
 ghost use Rattle.rp_replica.specs.Kept.{HoldsPart, HoldsOnly};
 ghost use Rattle.rp_replica.specs.Opening.{Opens};
 ghost use Rattle.rp_replica.specs.Turning.{Turns};
@@ -25,13 +25,13 @@ use rp_machine::Machine;
 pub fn turns_are_effects<M: Machine>()
     // claim: A replica's call has the node's effect in a world
     ensures effect { (old : ReplicaState M) (input : NodeInput) (turn : Turn)
-        → effect_of M.next M.answers old input ≡ Ok turn
+        → replica_effect M.next M.answers old input ≡ Ok turn
         → node_effect (setting_of M.next M.answers old) old.me (part_of old) input
         ≡ Ok (turn_done (part_of old) turn) }
     ensures part { (old new : ReplicaState M) (turn : Turn) (sent : Sent)
         → Turns turn old new sent → part_of new ≡ (turn_done (part_of old) turn).part }
     ensures refusal { (old : ReplicaState M) (input : NodeInput) (fault : Fault)
-        → effect_of M.next M.answers old input ≡ Err fault
+        → replica_effect M.next M.answers old input ≡ Err fault
         → node_effect (setting_of M.next M.answers old) old.me (part_of old) input ≡ Err fault }
 {}
 

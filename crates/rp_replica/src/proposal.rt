@@ -12,7 +12,7 @@ ghost use Rattle.rp_model.specs.Leader.{begun_running, on_promise_range, on_nack
 ghost use Rattle.rp_model.specs.Says.{says_to_all, notes, sends, writes};
 ghost use Rattle.rp_replica.specs.Committing.{Commits};
 ghost use Rattle.rp_replica.specs.State.{after_turn, server_of};
-ghost use Rattle.rp_rules.specs.Inputs.{node_of};
+ghost use Rattle.rp_rules.specs.Inputs.{running_server};
 ghost use Rattle.rp_rules.specs.Plans.{MayBegin, MayBeginRange, MayCount, MayCountRange};
 ghost use Rattle.rp_model.specs.Plans.{started_running, offered_running, once_counted};
 ghost use Rattle.rp_replica.specs.Turning.{Stops};
@@ -120,7 +120,7 @@ impl<M: Machine, D: Device> Replica<M, D> {
         requires working { self.old.failed ≡ false }
         requires may { MayCount (server_of self.old) promise.now }
         requires right { IsRight action.now }
-        ensures ok { OnOk result (Commits (sends (once_counted (node_of M.next M.answers (server_of self.old)) promise.now)
+        ensures ok { OnOk result (Commits (sends (once_counted (running_server M.next M.answers (server_of self.old)) promise.now)
             (says_to_all self.old.config.nodes self.old.me
             (bodies.Accept promise.now.position promise.now.ballot action.now)))
             self.old self.new out.old.sent out.new.sent) }
@@ -201,7 +201,7 @@ impl<M: Machine, D: Device> Replica<M, D> {
     pub(crate) fn note_promise(&mut self, promise: &CountedPromise)
         requires may { MayCount (server_of self.old) promise.now }
         ensures { self.new ≡ after_turn self.old
-            (notes (once_counted (node_of M.next M.answers (server_of self.old)) promise.now)) }
+            (notes (once_counted (running_server M.next M.answers (server_of self.old)) promise.now)) }
     {
         let CountedPromise {
             from,

@@ -9,8 +9,8 @@ ghost use Rattle.rp_codec.specs.Reading.{all_of};
 ghost use Rattle.rp_model.specs.Effect as inputs;
 ghost use Rattle.rp_model.specs.Parts.{Turn};
 ghost use Rattle.rp_rules.specs.Inputs.{IsLong, IsRightInput, packet_given};
-ghost use Rattle.rp_rules.specs.Plans.{turn_of, MayCommit};
-ghost use Rattle.rp_replica.specs.Inputs.{effect_of, effect_if_given, input_effect};
+ghost use Rattle.rp_rules.specs.Plans.{turn_of_plan, MayCommit};
+ghost use Rattle.rp_replica.specs.Inputs.{replica_effect, effect_if_given, input_effect};
 ghost use Rattle.rp_replica.specs.State.{server_of};
 ghost use Rattle.rp_replica.specs.Turning.{Answers, AnswersOnto, IsCertain, StopsIf};
 
@@ -32,7 +32,7 @@ impl<M: Machine, D: Device> Replica<M, D> {
     #[inline(always)]
     pub(crate) fn decide(&self, alloc: Global, input: &Input, plan: &mut Plan) -> Result<(), Fault>
         requires right { IsRightInput input.now }
-        ensures ok { OnOk result (Ok (turn_of M.next M.answers (server_of self.now) plan.new)
+        ensures ok { OnOk result (Ok (turn_of_plan M.next M.answers (server_of self.now) plan.new)
             ≡ input_effect M.next M.answers self.now input.now) }
         ensures may { OnOk result (MayCommit (server_of self.now) plan.new) }
         ensures working { OnOk result (self.now.failed ≡ false) }
@@ -142,7 +142,7 @@ impl<M: Machine, D: Device> Replica<M, D> {
     /// above the log or 64 positions above the first unlearned one, with `BallotsSpent` if the
     /// node has no ballot left, and then as `Replica` says.
     pub fn lead(&mut self, alloc: Global, choice: Option<Position>) -> Result<Sent, Fault>
-        ensures { Answers (effect_of M.next M.answers self.old (inputs.NodeInput.Lead choice))
+        ensures { Answers (replica_effect M.next M.answers self.old (inputs.NodeInput.Lead choice))
             self.old self.new result }
     {
         self.turn(alloc, &Input::Lead(choice))
@@ -153,7 +153,7 @@ impl<M: Machine, D: Device> Replica<M, D> {
     /// of them is above the log or 64 positions above the first unlearned one, with `BallotsSpent`
     /// if the node has no ballot left, and then as `Replica` says.
     pub fn lead_range(&mut self, alloc: Global, range: PositionRange) -> Result<Sent, Fault>
-        ensures { Answers (effect_of M.next M.answers self.old
+        ensures { Answers (replica_effect M.next M.answers self.old
             (inputs.NodeInput.LeadRange range.first range.count)) self.old self.new result }
     {
         self.turn(alloc, &Input::LeadRange(range))
@@ -164,7 +164,7 @@ impl<M: Machine, D: Device> Replica<M, D> {
     /// memory.
     pub fn interrupt(&mut self, alloc: Global, source: u8, occurrence: u32) -> Result<Sent, Fault>
         requires right { IsRight (actions.Interrupt source occurrence) }
-        ensures answer { Answers (effect_of M.next M.answers self.old
+        ensures answer { Answers (replica_effect M.next M.answers self.old
             (inputs.NodeInput.Interrupt source occurrence))
             self.old self.new result }
         ensures certain { self.old.failed ≡ false → IsOk result }
@@ -175,7 +175,7 @@ impl<M: Machine, D: Device> Replica<M, D> {
     /// The node notes a tick of the clock: it becomes pending, and is dropped if 32 items are
     /// pending. It takes no memory.
     pub fn tick(&mut self, alloc: Global, now: u32) -> Result<Sent, Fault>
-        ensures answer { Answers (effect_of M.next M.answers self.old (inputs.NodeInput.Tick now))
+        ensures answer { Answers (replica_effect M.next M.answers self.old (inputs.NodeInput.Tick now))
             self.old self.new result }
         ensures certain { self.old.failed ≡ false → IsOk result }
     {
@@ -186,7 +186,7 @@ impl<M: Machine, D: Device> Replica<M, D> {
     /// `report_len` says. It copies what it reports and no more. Refused with `OutOfMemory` or
     /// `Failed`.
     pub fn report(&mut self, alloc: Global, first: Position) -> Result<Sent, Fault>
-        ensures { Answers (effect_of M.next M.answers self.old (inputs.NodeInput.Report first))
+        ensures { Answers (replica_effect M.next M.answers self.old (inputs.NodeInput.Report first))
             self.old self.new result }
     {
         self.turn(alloc, &Input::Report(first))

@@ -49,12 +49,12 @@ module _ {S : Type 0} (next : S → Action → S) (answers : S → Action → Li
       record { config = server.config; next = next; answers = answers; begin = server.begin }
 
   -- the node that runs
-  abbrev pub node_of : RunningNode S
-  node_of = running_node setting_of server.me server.records server.running
+  abbrev pub running_server : RunningNode S
+  running_server = running_node setting_of server.me server.records server.running
 
   -- what it decides of an input for a node, if it is one
   abbrev pub plan_if_given : Result NodeInput Fault → Result Plan Fault
-  plan_if_given (Ok input) = plan_of node_of input
+  plan_if_given (Ok input) = plan_of running_server input
   plan_if_given (Err refusal) = Err refusal
 
   -- what it decides of an input for a server

@@ -19,8 +19,8 @@ use Rattle.rp_model.specs.Parts.{Turn}
 use Rattle.rp_model.specs.Leader.{starts_above}
 use Rattle.rp_model.specs.Pending.{most_pending}
 use Rattle.rp_codec.specs.Reading.{all_of}
-use Rattle.rp_model.specs.Plans.{turn_of as turn_by}
-use Rattle.rp_rules.specs.Inputs.{node_of, packet_given, plan_if_given}
+use Rattle.rp_model.specs.Plans.{turn_of_plan as turn_by}
+use Rattle.rp_rules.specs.Inputs.{running_server, packet_given, plan_if_given}
 use Rattle.rp_model.specs.declared.plan.CountedPromise.{CountedPromise}
 use Rattle.rp_model.specs.declared.plan.CountedRange.{CountedRange}
 use Rattle.rp_model.specs.declared.plan.RangePromise.{RangePromise}
@@ -36,8 +36,8 @@ use Rattle.rp_server.specs.Status.{status_of}
 module _ {S : Type 0} (next : S → Action → S) (answers : S → Action → List Answer)
     (server : ServerState S) where
   -- the turn that a plan is
-  abbrev pub turn_of : Plan → Turn
-  turn_of plan = turn_by (node_of next answers server) plan
+  abbrev pub turn_of_plan : Plan → Turn
+  turn_of_plan plan = turn_by (running_server next answers server) plan
 
 -- the turn takes no memory: it writes no record, sends no packet and counts no vote
 pub record TakesNoMemory (old : Running) (turn : Turn) : Type 0 where

@@ -5,7 +5,7 @@ ghost use Rattle.std.specs.Prelude.{◌≡◌, ◌≤◌, true};
 ghost use Rattle.rp_base.specs.Action.{IsRight};
 ghost use Rattle.rp_model.specs.Acceptor.{on_prepare, on_prepare_range, on_accept};
 ghost use Rattle.rp_model.specs.Receiving.{is_range_within};
-ghost use Rattle.rp_rules.specs.Inputs.{node_of};
+ghost use Rattle.rp_rules.specs.Inputs.{running_server};
 ghost use Rattle.rp_rules.specs.Plans.{MayCommit};
 
 use rp_acceptor::Comparison;
@@ -28,7 +28,7 @@ pub(crate) fn on_prepare<M: Machine>(
     plan: &mut Plan,
 )
     requires place { position ≤ server.now.config.max_positions }
-    ensures plan { plan.new ≡ on_prepare (node_of M.next M.answers server.now) from position ballot }
+    ensures plan { plan.new ≡ on_prepare (running_server M.next M.answers server.now) from position ballot }
     ensures may { MayCommit server.now plan.new }
 {
     last_votes_lie_below();
@@ -57,7 +57,7 @@ pub(crate) fn on_prepare_range<M: Machine>(
 ) -> Plan
     requires place { is_range_within server.now.config.max_positions range ≡ true }
     ensures plan { result
-        ≡ on_prepare_range (node_of M.next M.answers server.now) from range ballot }
+        ≡ on_prepare_range (running_server M.next M.answers server.now) from range ballot }
     ensures may { MayCommit server.now result }
 {
     range_votes_are_reported();
@@ -88,7 +88,7 @@ pub(crate) fn on_accept<M: Machine>(
 )
     requires place { header.now.position ≤ server.now.config.max_positions }
     requires right { IsRight action.now }
-    ensures plan { plan.new ≡ on_accept (node_of M.next M.answers server.now) header.now.from
+    ensures plan { plan.new ≡ on_accept (running_server M.next M.answers server.now) header.now.from
         header.now.position header.now.ballot action.now }
     ensures may { MayCommit server.now plan.new }
 {

@@ -4,7 +4,7 @@ ghost use Rattle.std.specs.Prelude.{◌≡◌, None};
 ghost use Rattle.rp_base.specs.Action.{IsRight};
 ghost use Rattle.rp_base.specs.declared.action.Action.TheVariants as actions;
 ghost use Rattle.rp_model.specs.Arrivals.{adds_pending, on_numbered, on_call, on_interrupt, on_tick};
-ghost use Rattle.rp_rules.specs.Inputs.{node_of};
+ghost use Rattle.rp_rules.specs.Inputs.{running_server};
 ghost use Rattle.rp_rules.specs.Plans.{MayCommit};
 
 use rp_base::{Action, TaskId};
@@ -22,7 +22,7 @@ pub(crate) fn on_interrupt<M: Machine>(
 )
     requires right { IsRight (actions.Interrupt source occurrence) }
     ensures plan { plan.new
-        ≡ on_interrupt (node_of M.next M.answers server.now) source occurrence }
+        ≡ on_interrupt (running_server M.next M.answers server.now) source occurrence }
     ensures may { MayCommit server.now plan.new }
 {
     if server.last_occurrence(source) < occurrence {
@@ -36,7 +36,7 @@ pub(crate) fn on_interrupt<M: Machine>(
 /// The node notes a tick of the clock: it becomes pending, and is dropped if 32 items are
 /// pending.
 pub(crate) fn on_tick<M: Machine>(server: &Server<M>, now: u32, plan: &mut Plan)
-    ensures plan { plan.new ≡ on_tick (node_of M.next M.answers server.now) now }
+    ensures plan { plan.new ≡ on_tick (running_server M.next M.answers server.now) now }
     ensures may { MayCommit server.now plan.new }
 {
     adds(server, RightAction::new(Action::Tick { now }), plan);
@@ -46,7 +46,7 @@ pub(crate) fn on_tick<M: Machine>(server: &Server<M>, now: u32, plan: &mut Plan)
 #[inline(always)]
 pub(crate) fn on_call<M: Machine>(server: &Server<M>, action: Action, plan: &mut Plan)
     requires right { IsRight action }
-    ensures plan { plan.new ≡ on_call (node_of M.next M.answers server.now) action }
+    ensures plan { plan.new ≡ on_call (running_server M.next M.answers server.now) action }
     ensures may { MayCommit server.now plan.new }
 {
     let Action::Call { task, number, .. } = action else {
@@ -70,7 +70,7 @@ fn on_unanswered<M: Machine>(
 )
     requires right { IsRight call }
     ensures plan { plan.new
-        ≡ on_numbered (node_of M.next M.answers server.now) task number call None }
+        ≡ on_numbered (running_server M.next M.answers server.now) task number call None }
     ensures may { MayCommit server.now plan.new }
 {
     if number < server.last_number(task) {

@@ -5,7 +5,7 @@ ghost use Rattle.rp_base.specs.declared.fault.Fault.TheVariants.{LogFull};
 ghost use Rattle.rp_model.specs.Effect as inputs;
 ghost use Rattle.rp_model.specs.Effect.{plan_of};
 ghost use Rattle.rp_model.specs.Leader.{is_free_position, is_out_of_reach, least_free};
-ghost use Rattle.rp_rules.specs.Inputs.{node_of};
+ghost use Rattle.rp_rules.specs.Inputs.{running_server};
 ghost use Rattle.rp_rules.specs.Plans.{MayCommit};
 
 use crate::leader::on_lead_at;
@@ -24,10 +24,10 @@ pub(crate) fn on_lead<M: Machine>(
     plan: &mut Plan,
 ) -> Result<(), Fault>
     ensures ok { OnOk result (Ok plan.new
-        ≡ plan_of (node_of M.next M.answers server.now) (inputs.NodeInput.Lead choice)) }
+        ≡ plan_of (running_server M.next M.answers server.now) (inputs.NodeInput.Lead choice)) }
     ensures may { OnOk result (MayCommit server.now plan.new) }
     ensures err { IfErr result (λ fault. Err fault
-        ≡ plan_of (node_of M.next M.answers server.now) (inputs.NodeInput.Lead choice)) }
+        ≡ plan_of (running_server M.next M.answers server.now) (inputs.NodeInput.Lead choice)) }
 {
     match position_to_lead(server, choice) {
         Some(position) => on_lead_at(server, position, plan),
@@ -39,10 +39,10 @@ pub(crate) fn on_lead<M: Machine>(
 #[inline(always)]
 fn position_to_lead<M: Machine>(server: &Server<M>, choice: Option<Position>) -> Option<Position>
     ensures some { IfSome result (λ position.
-        plan_of (node_of M.next M.answers server.now) (inputs.NodeInput.Lead (Some position))
-        ≡ plan_of (node_of M.next M.answers server.now) (inputs.NodeInput.Lead choice)) }
+        plan_of (running_server M.next M.answers server.now) (inputs.NodeInput.Lead (Some position))
+        ≡ plan_of (running_server M.next M.answers server.now) (inputs.NodeInput.Lead choice)) }
     ensures none { IfNone result (Err LogFull
-        ≡ plan_of (node_of M.next M.answers server.now) (inputs.NodeInput.Lead choice)) }
+        ≡ plan_of (running_server M.next M.answers server.now) (inputs.NodeInput.Lead choice)) }
 {
     match choice {
         Some(position) => Some(position),

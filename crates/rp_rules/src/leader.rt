@@ -9,7 +9,7 @@ ghost use Rattle.rp_model.specs.Effect as inputs;
 ghost use Rattle.rp_model.specs.Effect.{plan_of};
 ghost use Rattle.rp_model.specs.Leader.{is_out_of_reach, starts_above, begins_if, on_promise};
 ghost use Rattle.rp_model.specs.Node.{own_for};
-ghost use Rattle.rp_rules.specs.Inputs.{node_of};
+ghost use Rattle.rp_rules.specs.Inputs.{running_server};
 ghost use Rattle.rp_rules.specs.Plans.{MayCommit, MayCount};
 
 use rp_base::{Action, Fault, Position};
@@ -28,10 +28,10 @@ pub(crate) fn on_lead_at<M: Machine>(
     plan: &mut Plan,
 ) -> Result<(), Fault>
     ensures ok { OnOk result (Ok plan.new
-        ≡ plan_of (node_of M.next M.answers server.now) (inputs.NodeInput.Lead (Some position))) }
+        ≡ plan_of (running_server M.next M.answers server.now) (inputs.NodeInput.Lead (Some position))) }
     ensures may { OnOk result (MayCommit server.now plan.new) }
     ensures err { IfErr result (λ fault. Err fault
-        ≡ plan_of (node_of M.next M.answers server.now) (inputs.NodeInput.Lead (Some position))) }
+        ≡ plan_of (running_server M.next M.answers server.now) (inputs.NodeInput.Lead (Some position))) }
 {
     if server.is_learned(position) {
         *plan = Plan::Pass(Dropped::No);
@@ -58,7 +58,7 @@ fn prepared_action<M: Machine>(
     reported: Option<Action>,
 ) -> Action
     ensures action { result
-        ≡ unwrap_or reported (own_for (node_of M.next M.answers server.now) position) }
+        ≡ unwrap_or reported (own_for (running_server M.next M.answers server.now) position) }
     ensures right { IfSome reported IsRight → IsRight result }
 {
     match reported {
@@ -77,10 +77,10 @@ fn on_lead_unprepared<M: Machine>(
     requires reach { is_out_of_reach server.now.config.max_positions server.now.records position
         ≡ false }
     ensures ok { OnOk result (Ok plan.new
-        ≡ begins_if (node_of M.next M.answers server.now) position) }
+        ≡ begins_if (running_server M.next M.answers server.now) position) }
     ensures may { OnOk result (MayCommit server.now plan.new) }
     ensures err { IfErr result (λ fault. Err fault
-        ≡ begins_if (node_of M.next M.answers server.now) position) }
+        ≡ begins_if (running_server M.next M.answers server.now) position) }
 {
     match server.next_ballot() {
         Some(ballot) => {
@@ -96,7 +96,7 @@ fn on_lead_unprepared<M: Machine>(
 #[inline(always)]
 pub(crate) fn on_promise<M: Machine>(server: &Server<M>, promise: CountedPromise, plan: &mut Plan)
     requires may { MayCount server.now promise }
-    ensures plan { plan.new ≡ on_promise (node_of M.next M.answers server.now) promise }
+    ensures plan { plan.new ≡ on_promise (running_server M.next M.answers server.now) promise }
     ensures may { MayCommit server.now plan.new }
 {
     let CountedPromise {

@@ -6,7 +6,7 @@ ghost use Rattle.rp_base.specs.Action.{IsRight};
 ghost use Rattle.rp_base.specs.Number.{IsPosition};
 ghost use Rattle.rp_learner.specs.Status.{vote_for};
 ghost use Rattle.rp_model.specs.Learner.{on_ask, on_accepted, on_decided};
-ghost use Rattle.rp_rules.specs.Inputs.{node_of};
+ghost use Rattle.rp_rules.specs.Inputs.{running_server};
 ghost use Rattle.rp_rules.specs.Plans.{MayCommit};
 ghost use Rattle.rp_server.specs.Status.{status_of};
 
@@ -19,7 +19,7 @@ use rp_server::Server;
 
 /// An `Ask` comes.
 pub(crate) fn on_ask<M: Machine>(server: &Server<M>, from: NodeId, position: Position) -> Plan
-    ensures plan { result ≡ on_ask (node_of M.next M.answers server.now) from position }
+    ensures plan { result ≡ on_ask (running_server M.next M.answers server.now) from position }
     ensures may { MayCommit server.now result }
 {
     match server.learned(position) {
@@ -40,7 +40,7 @@ pub(crate) fn on_accepted<M: Machine>(
     requires place { IsPosition header.now.position
         × (header.now.position ≤ server.now.config.max_positions) }
     requires right { IsRight action.now }
-    ensures plan { plan.new ≡ on_accepted (node_of M.next M.answers server.now) header.now.from
+    ensures plan { plan.new ≡ on_accepted (running_server M.next M.answers server.now) header.now.from
         header.now.position (vote_for header.now.ballot action.now) }
     ensures may { MayCommit server.now plan.new }
 {
@@ -69,7 +69,7 @@ pub(crate) fn on_decided<M: Machine>(
     requires place { position ≤ server.now.config.max_positions }
     requires right { IsRight action.now }
     ensures plan { plan.new
-        ≡ on_decided (node_of M.next M.answers server.now) from position action.now }
+        ≡ on_decided (running_server M.next M.answers server.now) from position action.now }
     ensures may { MayCommit server.now plan.new }
 {
     if server.is_learned(position) {

@@ -7,7 +7,7 @@ ghost use Rattle.rp_codec.specs.Decoding.{IsLongBody};
 ghost use Rattle.rp_codec.specs.Message.{IsNodeParty, IsPacket};
 ghost use Rattle.rp_codec.specs.declared.packet.Party.TheVariants.{Node};
 ghost use Rattle.rp_model.specs.Receiving.{is_for_node, is_allowed, is_range_within, is_node, is_no_node_above, sender_number, on_body, receives};
-ghost use Rattle.rp_rules.specs.Inputs.{node_of};
+ghost use Rattle.rp_rules.specs.Inputs.{running_server};
 ghost use Rattle.rp_rules.specs.Plans.{MayCommit};
 
 use crate::acceptor::{on_accept, on_prepare, on_prepare_range};
@@ -28,7 +28,7 @@ pub(crate) fn on_packet<M: Machine>(
     plan: &mut Plan,
 ) -> Result<(), Fault>
     ensures plan { OnOk result
-        (plan.new ≡ receives (node_of M.next M.answers server.now) packet.now) }
+        (plan.new ≡ receives (running_server M.next M.answers server.now) packet.now) }
     ensures may { OnOk result (MayCommit server.now plan.new) }
     ensures memory { IfErr result (λ fault. (fault ≡ faults.OutOfMemory)
         × IsLongBody packet.now.body) }
@@ -57,7 +57,7 @@ fn on_node<M: Machine>(
     requires sender { packet.now.from ≡ Node from }
     requires right { is_for_node server.now.config server.now.me packet.now ≡ true }
     ensures plan { OnOk result
-        (plan.new ≡ on_body (node_of M.next M.answers server.now) from packet.now.body) }
+        (plan.new ≡ on_body (running_server M.next M.answers server.now) from packet.now.body) }
     ensures may { OnOk result (MayCommit server.now plan.new) }
     ensures memory { IfErr result (λ fault. (fault ≡ faults.OutOfMemory)
         × IsLongBody packet.now.body) }
@@ -137,7 +137,7 @@ fn on_node<M: Machine>(
 #[inline(always)]
 fn on_task<M: Machine>(server: &Server<M>, packet: &Packet, plan: &mut Plan)
     requires sender { ¬ IsNodeParty packet.now.from }
-    ensures plan { plan.new ≡ on_body (node_of M.next M.answers server.now)
+    ensures plan { plan.new ≡ on_body (running_server M.next M.answers server.now)
         (sender_number packet.now.from) packet.now.body }
     ensures may { MayCommit server.now plan.new }
 {

@@ -8,7 +8,7 @@ ghost use Rattle.rp_model.specs.Effect as inputs;
 ghost use Rattle.rp_model.specs.Effect.{plan_of};
 ghost use Rattle.rp_model.specs.Leader.{is_out_of_reach, unlearned_in};
 ghost use Rattle.rp_proposer.specs.Proposing.{unskipped};
-ghost use Rattle.rp_rules.specs.Inputs.{node_of};
+ghost use Rattle.rp_rules.specs.Inputs.{running_server};
 ghost use Rattle.rp_rules.specs.Plans.{MayCommit};
 
 use rp_base::{Fault, PositionRange};
@@ -23,10 +23,10 @@ pub(crate) fn on_lead_range<M: Machine>(
     server: &Server<M>,
     range: PositionRange,
 ) -> Result<Plan, Fault>
-    ensures ok { IfOk result (λ plan. Ok plan ≡ plan_of (node_of M.next M.answers server.now)
+    ensures ok { IfOk result (λ plan. Ok plan ≡ plan_of (running_server M.next M.answers server.now)
         (inputs.NodeInput.LeadRange range.first range.count)) }
     ensures may { IfOk result (λ plan. MayCommit server.now plan) }
-    ensures err { IfErr result (λ fault. Err fault ≡ plan_of (node_of M.next M.answers server.now)
+    ensures err { IfErr result (λ fault. Err fault ≡ plan_of (running_server M.next M.answers server.now)
         (inputs.NodeInput.LeadRange range.first range.count)) }
 {
     if is_range_out_of_reach(server, range) {

@@ -17,7 +17,7 @@ ghost use Rattle.rp_model.specs.Leader.{on_promise};
 ghost use Rattle.rp_model.specs.Learner.{on_accepted, on_decided};
 ghost use Rattle.rp_model.specs.Receiving.{is_for_node, is_node, is_no_node_above};
 ghost use Rattle.rp_model.specs.Says.{says};
-ghost use Rattle.rp_rules.specs.Inputs.{Refuses, node_of, packet_given, plan_if_given};
+ghost use Rattle.rp_rules.specs.Inputs.{Refuses, running_server, packet_given, plan_if_given};
 ghost use Rattle.rp_rules.specs.Plans.{Decides, IsPlanOf, MayCommit, MayCount};
 
 use crate::acceptor::{on_accept, on_prepare};
@@ -116,7 +116,7 @@ fn on_other_text<M: Machine>(
 pub fn call_for<M: Machine>(server: &Server<M>, bytes: &[u8]) -> Option<Action>
     ensures right { IfSome result IsRight }
     ensures plan { IfSome result (λ action. IsPlanOf M.next M.answers server.now bytes.now
-        (on_call (node_of M.next M.answers server.now) action)) }
+        (on_call (running_server M.next M.answers server.now) action)) }
 {
     let call = usual_call(bytes).ok()?;
     if call.to == server.me() {
@@ -133,7 +133,7 @@ pub fn prepare_for<M: Machine>(server: &Server<M>, bytes: &[u8]) -> Option<Heade
     ensures place { IfSome result (λ header.
         header.position ≤ server.now.config.max_positions) }
     ensures plan { IfSome result (λ header. IsPlanOf M.next M.answers server.now bytes.now
-        (on_prepare (node_of M.next M.answers server.now) header.from header.position
+        (on_prepare (running_server M.next M.answers server.now) header.from header.position
         header.ballot)) }
 {
     let header = usual_prepare(bytes).ok()?;
@@ -149,7 +149,7 @@ pub fn prepare_for<M: Machine>(server: &Server<M>, bytes: &[u8]) -> Option<Heade
 pub fn promise_for<M: Machine>(server: &Server<M>, bytes: &[u8]) -> Option<CountedPromise>
     ensures may { IfSome result (MayCount server.now) }
     ensures plan { IfSome result (λ promise. IsPlanOf M.next M.answers server.now bytes.now
-        (on_promise (node_of M.next M.answers server.now) promise)) }
+        (on_promise (running_server M.next M.answers server.now) promise)) }
 {
     let header = usual_promise(bytes).ok()?;
     if takes(server, header.from, header.to, header.position) {
@@ -173,7 +173,7 @@ pub fn accept_for<M: Machine>(server: &Server<M>, bytes: &[u8]) -> Option<(Heade
         vote.0.position ≤ server.now.config.max_positions) }
     ensures right { IfSome result (λ vote. IsRight vote.1) }
     ensures plan { IfSome result (λ vote. IsPlanOf M.next M.answers server.now bytes.now
-        (on_accept (node_of M.next M.answers server.now) vote.0.from vote.0.position
+        (on_accept (running_server M.next M.answers server.now) vote.0.from vote.0.position
         vote.0.ballot vote.1)) }
 {
     let Ok((header, action)) = usual_accept(bytes) else {
@@ -196,7 +196,7 @@ pub fn accepted_for<M: Machine>(server: &Server<M>, bytes: &[u8]) -> Option<(Hea
         × (vote.0.position ≤ server.now.config.max_positions)) }
     ensures right { IfSome result (λ vote. IsRight vote.1) }
     ensures plan { IfSome result (λ vote. IsPlanOf M.next M.answers server.now bytes.now
-        (on_accepted (node_of M.next M.answers server.now) vote.0.from vote.0.position
+        (on_accepted (running_server M.next M.answers server.now) vote.0.from vote.0.position
         (vote_for vote.0.ballot vote.1))) }
 {
     let Ok((header, action)) = usual_accepted(bytes) else {
@@ -217,7 +217,7 @@ pub fn decided_for<M: Machine>(server: &Server<M>, bytes: &[u8]) -> Option<SentD
         sent.position ≤ server.now.config.max_positions) }
     ensures right { IfSome result (λ sent. IsRight sent.action) }
     ensures plan { IfSome result (λ sent. IsPlanOf M.next M.answers server.now bytes.now
-        (on_decided (node_of M.next M.answers server.now) sent.from sent.position
+        (on_decided (running_server M.next M.answers server.now) sent.from sent.position
         sent.action)) }
 {
     let sent = usual_decided(bytes).ok()?;

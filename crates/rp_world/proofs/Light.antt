@@ -9,7 +9,7 @@ use Rattle.rp_model.specs.Effect.{Done, NodeInput, Setting, node_effect, turn_do
 use Rattle.rp_model.specs.Events.{Step}
 use Rattle.rp_model.specs.Parts.{NodePart, Turn}
 use Rattle.rp_model.specs.World.{World, Transition, part_at, with_part, node_done, node_done_if, commanded, chosen_effect, chosen_record, step_effect, step_writes, stepping, written_by}
-use Rattle.rp_replica.specs.Inputs.{effect_of}
+use Rattle.rp_replica.specs.Inputs.{replica_effect}
 use Rattle.rp_replica.specs.State.{ReplicaState}
 use Rattle.rp_rules.specs.Plans.{TakesNoMemory}
 use Rattle.rp_world.specs.Nodes.{Member, RunsAs, IsLight, heard_while, node_step}
@@ -21,7 +21,7 @@ use Rattle.rp_world.proofs.Turning.{same_effect}
 -- the turn of a replica that runs as the part
 module _ {S : Type 0} (next : S → Action → S) (answers : S → Action → List Answer) (member : Member S) (replica : ReplicaState S) (part : NodePart) (runs : RunsAs member replica part) (input : NodeInput) (light : IsLight part (node_step next answers member input part)) where
   abbrev effect : Result Turn Fault
-  effect = effect_of next answers replica input
+  effect = replica_effect next answers replica input
 
   -- it takes no memory
   pub record LightTurn : Type 0 where

@@ -8,7 +8,7 @@ use Rattle.rp_codec.specs.Text.{text_of}
 use Rattle.rp_model.specs.Effect.{NodeInput}
 use Rattle.rp_model.specs.Parts.{Turn}
 use Rattle.rp_rules.specs.Inputs.{Refuses, packet_given, plan_if_given}
-use Rattle.rp_replica.specs.Inputs.{effect_of, effect_if_given}
+use Rattle.rp_replica.specs.Inputs.{replica_effect, effect_if_given}
 use Rattle.rp_replica.specs.State.{ReplicaState, server_of}
 use Rattle.rp_outbox.proofs.Joined.{text_found_is}
 use Rattle.rp_replica.proofs.Certain.{plan_takes_none, short_text}
@@ -24,7 +24,7 @@ returns-clause-answer g c = λ message at.
     let given = ap (λ (l : List ℕ). packet_given (all_of l)) text ∙ c.texts_are_packets.ensures message (c.text.ensures.right message at) in
     let made = planned m.next m.answers (server_of h) (packet_given (all_of c.unwrap.result.now)) c.on_text.new.plan
     (subst (λ (k : ReplicaState g.row.M.Denot). Ok c.on_text.new.plan ≡ plan_if_given m.next m.answers (server_of k) (packet_given (all_of c.unwrap.result.now))) c.self.view_is c.in_ok-on_text.ensures.ok) in
-    committed m.next m.answers h (effect_of m.next m.answers h (NodeInput.Receive message)) c.on_text.new.plan c.commit.new.self c.args.out.now.sent c.commit.new.out.sent c.dropped.result
+    committed m.next m.answers h (replica_effect m.next m.answers h (NodeInput.Receive message)) c.on_text.new.plan c.commit.new.self c.args.out.now.sent c.commit.new.out.sent c.dropped.result
     (made ∙ ap (effect_if_given m.next m.answers h) given) c.requires.working c.in_ok-commit.ensures.ok c.dropped.ensures
 
 pub returns-in_err-commit-clause-answer : goal.returns-in_err-commit-clause-answer
@@ -35,7 +35,7 @@ returns-in_err-commit-clause-answer g c = λ message at.
     let given = ap (λ (l : List ℕ). packet_given (all_of l)) text ∙ c.texts_are_packets.ensures message (c.text.ensures.right message at) in
     let made = planned m.next m.answers (server_of h) (packet_given (all_of c.unwrap.result.now)) c.on_text.new.plan
     (subst (λ (k : ReplicaState g.row.M.Denot). Ok c.on_text.new.plan ≡ plan_if_given m.next m.answers (server_of k) (packet_given (all_of c.unwrap.result.now))) c.self.view_is c.in_ok-on_text.ensures.ok) in
-    refused m.next m.answers h (effect_of m.next m.answers h (NodeInput.Receive message)) c.on_text.new.plan c.commit.new.self c.args.out.now.sent c.commit.new.out.sent c.from_residual-in_err-commit.result c.in_err-commit.field-0.0
+    refused m.next m.answers h (replica_effect m.next m.answers h (NodeInput.Receive message)) c.on_text.new.plan c.commit.new.self c.args.out.now.sent c.commit.new.out.sent c.from_residual-in_err-commit.result c.in_err-commit.field-0.0
     c.from_residual-in_err-commit.ensures.1 (made ∙ ap (effect_if_given m.next m.answers h) given) c.in_err-commit.ensures.err c.in_err-commit.ensures.unsent
 
 pub returns-in_err-commit-clause-certain : goal.returns-in_err-commit-clause-certain
@@ -46,7 +46,7 @@ returns-in_err-commit-clause-certain g c = λ message at short turn is free work
     let given = ap (λ (l : List ℕ). packet_given (all_of l)) text ∙ c.texts_are_packets.ensures message (c.text.ensures.right message at) in
     let made = planned m.next m.answers (server_of h) (packet_given (all_of c.unwrap.result.now)) c.on_text.new.plan
     (subst (λ (k : ReplicaState g.row.M.Denot). Ok c.on_text.new.plan ≡ plan_if_given m.next m.answers (server_of k) (packet_given (all_of c.unwrap.result.now))) c.self.view_is c.in_ok-on_text.ensures.ok) in
-    let never : false ≡ true = c.in_err-commit.ensures.certain (plan_takes_none m.next m.answers h (effect_of m.next m.answers h (NodeInput.Receive message)) c.on_text.new.plan turn (made ∙ ap (effect_if_given m.next m.answers h) given) is free) in
+    let never : false ≡ true = c.in_err-commit.ensures.certain (plan_takes_none m.next m.answers h (replica_effect m.next m.answers h (NodeInput.Receive message)) c.on_text.new.plan turn (made ∙ ap (effect_if_given m.next m.answers h) given) is free) in
     cc
 
 pub returns-in_err-on_text-clause-certain : goal.returns-in_err-on_text-clause-certain

@@ -21,7 +21,7 @@ use Rattle.rp_model.specs.Parts.{Turn}
 use Rattle.rp_model.specs.Arrivals.{adds_pending, on_interrupt}
 use Rattle.rp_model.specs.Node.{RunningNode, kept_by}
 use Rattle.rp_model.specs.Pending.{is_same_call, most_pending}
-use Rattle.rp_model.specs.Plans.{turn_of_plan as plan_turn}
+use Rattle.rp_model.specs.Plans.{turn_of as plan_turn}
 use Rattle.rp_model.specs.declared.effect.Dropped.TheVariants.{No, Full}
 use Rattle.rp_model.specs.declared.plan.Plan.TheVariants as plans
 use Rattle.rp_model.specs.declared.plan.Plan.{Plan}

@@ -19,7 +19,7 @@ use Rattle.rp_model.specs.Parts.{Turn}
 use Rattle.rp_model.specs.Leader.{starts_above}
 use Rattle.rp_model.specs.Pending.{most_pending}
 use Rattle.rp_codec.specs.Reading.{all_of}
-use Rattle.rp_model.specs.Plans.{turn_of_plan as turn_by}
+use Rattle.rp_model.specs.Plans.{turn_of as turn_by}
 use Rattle.rp_rules.specs.Inputs.{running_server, packet_given, plan_if_given}
 use Rattle.rp_model.specs.declared.plan.CountedPromise.{CountedPromise}
 use Rattle.rp_model.specs.declared.plan.CountedRange.{CountedRange}

@@ -13,9 +13,9 @@ use Rattle.rp_model.specs.Plans.{written_by}
 use Rattle.rp_model.specs.declared.effect.Dropped.TheVariants.{No}
 use Rattle.rp_model.specs.declared.plan.Plan.TheVariants as plans
 use Rattle.rp_outbox.proofs.Joined.{text_found_is}
-use Rattle.rp_rules.specs.Plans.{IsPlanOf, turn_of}
+use Rattle.rp_rules.specs.Plans.{IsPlanOf, turn_of_plan}
 use Rattle.rp_replica.specs.Committing.{Commits}
-use Rattle.rp_replica.specs.Inputs.{effect_of}
+use Rattle.rp_replica.specs.Inputs.{replica_effect}
 use Rattle.rp_replica.specs.State.{ReplicaState, server_of}
 use Rattle.rp_replica.specs.Turning.{IsCertain, Stops}
 use Rattle.rp_replica.proofs.Delivered.{HasPlan, vote_plan, carried_out, not_carried_out, takes_memory}
@@ -27,8 +27,8 @@ returns-in_default-vote_first-clause-certain g c =
     let place = c.args.place in
     let other = c.deliver_other-in_default-vote_first in
     let none = c.in_default-vote_first.ensures.none in
-    subst (λ (k : ReplicaState g.row.M.Denot). (p : Message) → slice_get c.args.out.now.sent place ≡ Some p → (¬ IsLongBody p.body) → IsCertain (effect_of m.next m.answers k (NodeInput.Receive p)) k other.result) none.0
-    (subst (λ (l : List Message). (p : Message) → slice_get l place ≡ Some p → (¬ IsLongBody p.body) → IsCertain (effect_of m.next m.answers c.vote_first.new.self (NodeInput.Receive p)) c.vote_first.new.self other.result) none.1
+    subst (λ (k : ReplicaState g.row.M.Denot). (p : Message) → slice_get c.args.out.now.sent place ≡ Some p → (¬ IsLongBody p.body) → IsCertain (replica_effect m.next m.answers k (NodeInput.Receive p)) k other.result) none.0
+    (subst (λ (l : List Message). (p : Message) → slice_get l place ≡ Some p → (¬ IsLongBody p.body) → IsCertain (replica_effect m.next m.answers c.vote_first.new.self (NodeInput.Receive p)) c.vote_first.new.self other.result) none.1
     other.ensures.certain)
 
 pub returns-clause-answer : goal.returns-clause-answer
@@ -50,7 +50,7 @@ returns-clause-answer g c =
           (vote_plan m.next m.answers server bytes header answer c.in-Some.action (Voted header.position header.ballot c.in-Some.action) c.in-Some.ensures.plan (sym (is_first.cast c.in-Some.action)) c.header_to-answer.ensures),
     ) in
     carried_out m.next m.answers h sent c.args.place bytes plan has c.vote_first.new.self c.vote_first.new.out.sent No c.requires.working
-    (subst (λ (done : Result (Unit {0}) WriteFault). OnOk done (Commits (turn_of m.next m.answers (server_of h) plan) h c.vote_first.new.self sent c.vote_first.new.out.sent)) c.in_ok-done.was c.in-Some-vote_first.ensures.ok) refl
+    (subst (λ (done : Result (Unit {0}) WriteFault). OnOk done (Commits (turn_of_plan m.next m.answers (server_of h) plan) h c.vote_first.new.self sent c.vote_first.new.out.sent)) c.in_ok-done.was c.in-Some-vote_first.ensures.ok) refl
 
 pub returns-in_err-done-clause-answer : goal.returns-in_err-done-clause-answer
 returns-in_err-done-clause-answer g c =

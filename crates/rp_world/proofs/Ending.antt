@@ -17,7 +17,7 @@ use Rattle.rp_rules.specs.declared.input.Input.{Input}
 use Rattle.rp_rules.specs.Inputs.{given_by}
 use Rattle.rp_world.specs.declared.node.Node.{Node}
 use Rattle.rp_world.specs.Going.{Goes, Answers, AnswersRestart, Refuses}
-use Rattle.rp_world.specs.Nodes.{Member, Represents, GoesBy, RefusedBy, IsCutBy, IsLeftTorn, IsResting, NotTaken, DescribesNothing, DescribesOpened, node_step}
+use Rattle.rp_world.specs.Nodes.{Member, Represents, GoesBy, RefusedBy, IsCutBy, IsLeftTorn, IsResting, NotTaken, DescribesNothing, DescribesOpened, failures_in, node_step}
 use Rattle.rp_world.proofs.Fields.{Fields, IsKept, as_seen, member, world, world_with, made_of}
 use Rattle.rp_world.proofs.Moving.{part, no_node, is_here, represents_now, still_nodes, moved, stayed, goes, answered, represents_after}
 use Rattle.rp_world.proofs.Placing.{Changed}
@@ -171,6 +171,11 @@ module _ {S D P : Type 0} (f : Fields S D P) (change : Changed f.nodes) where
       → IfErr answer (λ fault. (m : Member S) → RefusedBy f.disk m change.at.it change.new stop_effect fault) → Left f.disk here change.new
   left_by_stop (Ok done) ok err = let d = ok here was (represents_now f change.at) in (d.0.part, d.2)
   left_by_stop (Err fault) ok err = let d = err here was (represents_now f change.at) in (was, d.1)
+
+  pub same_by_stop : (answer : Result Unit Fault) → IfOk answer (λ done. (m : Member S) → GoesBy f.disk m change.at.it change.new stop_effect DescribesNothing done)
+      → IfErr answer (λ fault. (m : Member S) → RefusedBy f.disk m change.at.it change.new stop_effect fault) → failures_in f.disk change.new ≡ failures_in f.disk change.at.it
+  same_by_stop (Ok done) ok err = let d = ok here was (represents_now f change.at) in d.4
+  same_by_stop (Err fault) ok err = let d = err here was (represents_now f change.at) in d.2
 
   pub left_by_restart : (answer : Result (Option (ℕ × ℕ)) Fault) → IfOk answer (λ opened. GoesBy f.disk here change.at.it change.new (λ p. Ok (restart_part p)) DescribesOpened opened)
       → IfErr answer (λ fault. IsLeftTorn f.disk here change.at.it change.new) → Left f.disk here change.new

@@ -3,7 +3,6 @@ use Rattle.std.proofs.Common.{◌≡◌, ℕ, suc, ◌+◌, ◌<◌, None, Some,
 use Rattle.std.specs.Prelude.{IfOk, IfErr, IsSome}
 use Rattle.std.proofs.lemmas.List.{length-map}
 use Rattle.rp_base.specs.declared.fault.Fault.{Fault}
-use Rattle.rp_base.specs.declared.fault.Fault.TheVariants.{Device}
 use Rattle.rp_model.specs.declared.effect.Effect.{Effect}
 use Rattle.rp_model.specs.Effect.{NodeInput, node_effect, cut_if}
 use Rattle.rp_model.specs.Events.{Step}
@@ -12,13 +11,13 @@ use Rattle.rp_rules.specs.Inputs.{given_by}
 use Rattle.rp_rules.specs.declared.input.Input.{Input}
 use Rattle.rp_world.specs.Choosing.{IsOf}
 use Rattle.rp_world.specs.Going.{Answers, Counts}
-use Rattle.rp_world.specs.Nodes.{Member, IsCounted, IsCutBy, NotTaken, failures_in, node_step}
+use Rattle.rp_world.specs.Nodes.{Member, IsCutBy, NotTaken, failures_in, node_step}
 use Rattle.rp_world.specs.Shape.{part_by}
 use Rattle.rp_world.specs.Steps.{ClusterState}
 use Rattle.rp_world.proofs.Ending.{still, cut_so, not_cut, left_by_cut}
-use Rattle.rp_world.proofs.Failing.{counts, same_seen, writes}
+use Rattle.rp_world.proofs.Failing.{counts, same_seen}
 use Rattle.rp_world.proofs.Fields.{Fields, IsKept, as_seen, counts_of, first_seen, member, setting, world, world_with, setting_by}
-use Rattle.rp_world.proofs.Moving.{part, is_here}
+use Rattle.rp_world.proofs.Moving.{part, is_here, represents_now}
 use Rattle.rp_world.proofs.Placing.{Changed}
 use Rattle.rp_world.proofs.Reports.{as_fault, stated_of}
 
@@ -76,18 +75,16 @@ module _ {S D P : Type 0} (f : Fields S D P) (change : Changed f.nodes) {step : 
   is_after : counts_of f change.after ≡ counts_of f (slice_set f.nodes change.at.place change.new)
   is_after = ap (map (failures_in f.disk)) change.put
 
-  wrote : (fault : Fault) → CutsNot fault → fault ≡ Device → IsSome (step_writes (setting f) (world f) step)
-  wrote fault err device = subst IsSome (sym one.writes) (writes f change.at change.new one.given fault (err (member f me) one.given one.gives) device)
-
   -- and so is what is counted
-  pub counts_cut : (answer : Result Unit Fault) → IfErr answer CutsNot → IsCounted (failures_in f.disk change.at.it) (failures_in f.disk change.new) answer → (first : ℕ) (r : Result Effect Fault) → IsStated first answer r
-      → Counted r f.was
-  counts_cut (Ok done) err counted first r is_stated =
-      subst (λ x. Counted x f.was) (sym is_stated) (is_after ∙ same_seen f change.at change.new counted)
-  counts_cut (Err fault) err counted first r is_stated =
+  pub counts_cut : (answer : Result Unit Fault) → IfOk answer Cuts → IfErr answer CutsNot → (first : ℕ) (r : Result Effect Fault) → IsStated first answer r → Counted r f.was
+  counts_cut (Ok done) ok err first r is_stated =
+      let d = ok (member f me) one.given one.gives (part f change.at) (represents_now f change.at) in
+      subst (λ x. Counted x f.was) (sym is_stated) (is_after ∙ same_seen f change.at change.new d.3)
+  counts_cut (Err fault) ok err first r is_stated =
       let why = IsSome (step_writes (setting f) (world f) step) in
       subst (λ x. Counted x f.was) (sym is_stated)
       (as_seen f (Counted (as_fault fault))
       (subst (λ who. Counts why who (counts_of f f.nodes) (counts_of f change.after) (as_fault fault)) (sym one.node)
       (subst (λ l. Counts why (Some me) (counts_of f f.nodes) l (as_fault fault)) (sym is_after)
-      (counts f change.at change.new why fault (wrote fault err) counted))))
+      (subst (λ o. Counts (IsSome o) (Some me) (counts_of f f.nodes) (counts_of f (slice_set f.nodes change.at.place change.new)) (as_fault fault)) (sym one.writes)
+      (counts f change.at change.new one.given fault (err (member f me) one.given one.gives))))))

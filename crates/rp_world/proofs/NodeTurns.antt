@@ -14,18 +14,18 @@ use Rattle.rp_model.specs.Parts.{NodePart}
 use Rattle.rp_model.specs.World.{World, Transition, part_at, node_done_if, nothing_happens, commanded, chosen_effect, chosen_cut, chosen_record, step_effect, stepping, step_writes}
 use Rattle.rp_outbox.specs.Packets.{Sending}
 use Rattle.rp_world.specs.Going.{Goes, Answers, AnswersDelivery, Counts, CountsDelivery, stated}
-use Rattle.rp_world.specs.Nodes.{Member, Represents, GoesBy, IsLight, NotTaken, DescribesSending, IsCounted, failures_in, node_step}
+use Rattle.rp_world.specs.Nodes.{Member, Represents, GoesBy, IsLight, NotTaken, DescribesSending, node_step}
 use Rattle.rp_world.specs.Steps.{IsLightStep, ClusterState}
 use Rattle.rp_world.specs.declared.node.Node.{Node}
 use Rattle.rp_world.proofs.Ending.{none_here}
-use Rattle.rp_world.proofs.Failing.{counts, heard_counts, writes}
+use Rattle.rp_world.proofs.Failing.{counts, heard_counts, same_seen}
 use Rattle.rp_world.proofs.Fields.{Fields, IsKept, as_seen, counts_of, first_seen, made_of, member, now, sent_seen, setting, setting_by, world, world_with}
 use Rattle.rp_world.proofs.Hearing.{nothing_goes, heard_by_none, heard_resting, heard_running, heard_stepping, heard_record, cut_heard}
 use Rattle.rp_world.proofs.Light.{light_part}
 use Rattle.rp_world.proofs.Messages.{SentTo, at_place}
 use Rattle.rp_world.proofs.Moving.{part, is_here, represents_now, nodes_stay}
 use Rattle.rp_world.proofs.Placing.{Found}
-use Rattle.rp_world.proofs.Reports.{at_err, stated_of, stated_sent, as_fault, as_turn_fault}
+use Rattle.rp_world.proofs.Reports.{at_err, stated_of, stated_sent, as_fault}
 use Rattle.rp_world.proofs.Taking.{still_turned, still_refused, sent_more, turned, not_turned, takes_is, cut_is}
 
 -- the effect reports the number of the next message, and how many there are
@@ -56,18 +56,19 @@ module _ {S D P : Type 0} (f : Fields S D P) (at : Found f.nodes) (new : Node S 
       as_seen f (λ v. Goes v.world (takes v) (after later) effect)
       (turned f at new input dropped later by (takes (now f)) (takes_is f at new input) effect (counted_from f dropped later first_is count_is is))
 
-  module _ (fault : Fault) (by : NotTaken f.disk (member f at.me) at.it new (node_step f.next f.answers (member f at.me) input) fault) where
-    pub counts_refused : IsCounted (failures_in f.disk at.it) (failures_in f.disk new) (as_turn_fault fault) → Counted (as_fault fault) (now f)
-    counts_refused counted = counts f at new (IsSome (chosen_record (setting f) (commanded at.me input (part_at (world f).nodes at.me)))) fault (writes f at new input fault by) counted
+  pub same_given : (dropped : Dropped) (later : Sending) → GoesBy f.disk (member f at.me) at.it new (node_step f.next f.answers (member f at.me) input) (DescribesSending f.messages.sent later.sent) dropped
+      → counts_of f (slice_set f.nodes at.place new) ≡ f.was.failures
+  same_given dropped later by = let d = by (part f at) (represents_now f at) in same_seen f at new d.4
 
+  module _ (fault : Fault) (by : NotTaken f.disk (member f at.me) at.it new (node_step f.next f.answers (member f at.me) input) fault) where
     module _ (r : Result Unit Fault) (refuses : IsErrAnd r (λ e. e ≡ fault)) where
       pub answers_given : (later : Sending) → later.sent ≡ f.messages.sent → (effect : Effect) → Answered later (stated r effect) f.was
       answers_given later same effect =
           at_err (λ x. Answered later (stated x effect) f.was) fault r refuses
           (as_seen f (Answered later (as_fault fault)) (not_turned f at new input fault by later same _ _ (takes_is f at new input) (cut_is f at new input)))
 
-      pub counts_given : IsCounted (failures_in f.disk at.it) (failures_in f.disk new) (as_turn_fault fault) → Counted r f.was
-      counts_given counted = at_err (λ x. Counted x f.was) fault r refuses (as_seen f (Counted (as_fault fault)) (counts_refused counted))
+      pub counts_given : Counted r f.was
+      counts_given = at_err (λ x. Counted x f.was) fault r refuses (as_seen f (Counted (as_fault fault)) (counts f at new input fault by))
 
 -- what takes no memory in the world that the caller saw, takes none at the node
 pub light_given : {S D P : Type 0} (f : Fields S D P) (at : Found f.nodes) (input : NodeInput) (p : NodePart) → part_at f.was.world.nodes at.me ≡ Some p
@@ -139,6 +140,9 @@ module _ {S D P : Type 0} (f : Fields S D P) (at : Found f.nodes) {number : ℕ}
     pub more_heard : length f.messages.sent ≤ length later.sent
     more_heard = sent_more f at new input dropped later (by (member f at.me) m.packet (at_place m))
 
+    pub same_heard : counts_of f (slice_set f.nodes at.place new) ≡ f.was.failures
+    same_heard = same_given f at new input dropped later (by (member f at.me) m.packet (at_place m))
+
     pub goes_heard : Runs → {first count : ℕ} {effect : Effect} → first ≡ length f.was.world.sent → count ≡ length later.sent → effect ≡ stated_sent (first + 1) count dropped
         → Goes f.was.world (heard f number f.was) (with_node new later) effect
     goes_heard runs {effect = effect} first_is count_is is =
@@ -164,8 +168,8 @@ module _ {S D P : Type 0} (f : Fields S D P) (at : Found f.nodes) {number : ℕ}
           (as_seen f (IsAnswered later (as_fault fault))
           (not_turned f at new input fault (by (member f at.me) m.packet (at_place m)) later same _ _ (its_turn runs) (cut_heard (setting f) (world f) m (part f at) (is_here f at))))
 
-      pub counts_heard : IsCounted (failures_in f.disk at.it) (failures_in f.disk new) (as_turn_fault fault) → HasCounted r f.was
-      counts_heard counted =
+      pub counts_heard : HasCounted r f.was
+      counts_heard =
           at_err (λ x. HasCounted x f.was) fault r refuses
           (as_seen f (λ v. HasCounted (let x : Result Unit Fault = Err fault in x) v)
-          (heard_counts (setting f) (world f) m fault (counts_of f f.nodes) (counts_of f (slice_set f.nodes at.place new)) (counts_refused f at new input fault (by (member f at.me) m.packet (at_place m)) counted)))
+          (heard_counts (setting f) (world f) m fault (counts_of f f.nodes) (counts_of f (slice_set f.nodes at.place new)) (counts f at new input fault (by (member f at.me) m.packet (at_place m)))))

@@ -1,10 +1,9 @@
 use Rattle.std.proofs.Common.{◌≡◌, ◌-◌, ◌<◌, true, false, length, inl, refl, ap, arith}
 use Rattle.rp_model.specs.World.{commanded, chosen_effect}
 use Rattle.rp_world.proofs.Ending.{none_seen}
-use Rattle.rp_world.proofs.Failing.{same_seen}
 use Rattle.rp_world.proofs.Fields.{fields_of, member, same_setup, setting_by}
 use Rattle.rp_world.proofs.Moving.{part, represents_now}
-use Rattle.rp_world.proofs.NodeTurns.{goes_given, answers_given, counts_given, light_given}
+use Rattle.rp_world.proofs.NodeTurns.{goes_given, same_given, answers_given, counts_given, light_given}
 use Rattle.rp_world.proofs.Placing.{found_at, placed_at}
 use Rattle.rp_world.proofs.Taking.{still_turned, still_refused, sent_more}
 use Rattle.rp_world.proofs.world.World.give_input.Goals as goal
@@ -31,7 +30,7 @@ returns-in_err-dropped g c =
     record {
       answer = λ given gives. answers_given f at c.turn.new.self given c.in_err-dropped.field-0.0 (err.err (member f at.me) given gives) c.from_residual.result c.from_residual.ensures.1 c.turn.new.messages err.unsent c.args.effect.now;
       setup = same_setup f;
-      failures = λ given gives. counts_given f at c.turn.new.self given c.in_err-dropped.field-0.0 (err.err (member f at.me) given gives) c.from_residual.result c.from_residual.ensures.1 err.failures;
+      failures = λ given gives. counts_given f at c.turn.new.self given c.in_err-dropped.field-0.0 (err.err (member f at.me) given gives) c.from_residual.result c.from_residual.ensures.1;
       certain = λ given p gives short here light. let never : false ≡ true = err.certain (member f at.me) (part f at) given (represents_now f at) gives short (light_given f at given p here light) in cc;
     }
 
@@ -58,6 +57,6 @@ returns g c =
       answer = λ given gives. goes_given f at c.turn.new.self given c.in_ok-dropped.dropped c.turn.new.messages (c.in_ok-dropped.ensures.ok (member f at.me) given gives)
           c.messages-first.ensures.value c.messages.ensures.value c.of_step.ensures;
       setup = same_setup f;
-      failures = λ given gives. same_seen f at c.turn.new.self c.in_ok-dropped.ensures.failures;
+      failures = λ given gives. same_given f at c.turn.new.self given c.in_ok-dropped.dropped c.turn.new.messages (c.in_ok-dropped.ensures.ok (member f at.me) given gives);
       certain = λ given p gives short here light. refl;
     }

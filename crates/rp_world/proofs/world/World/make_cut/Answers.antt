@@ -20,7 +20,7 @@ returns-in-Err g c =
     record {
       answer = inl (record { resulted = none.cut c.args.kept; unchanged = refl });
       setup = refl;
-      failures = none_counted _ _ f.was.failures c.in-Err.fault none.reason;
+      failures = none_counted _ _ f.was.failures f.was.failures c.in-Err.fault none.reason refl;
     }
 
 pub remove-requires : goal.remove-requires
@@ -50,5 +50,5 @@ returns g c =
     record {
       answer = answers_cut f change one c.args.kept cut.result.1 cut.ensures.ok cut.ensures.err c.messages-first.ensures.value c.match-answer.result stated;
       setup = same_setup f;
-      failures = counts_cut f change one c.args.kept cut.result.1 cut.ensures.err cut.ensures.failures (c.messages-first.result + 1) c.match-answer.result stated;
+      failures = counts_cut f change one c.args.kept cut.result.1 cut.ensures.ok cut.ensures.err (c.messages-first.result + 1) c.match-answer.result stated;
     }

@@ -140,7 +140,7 @@ returns-in-Err g c =
     record {
       answer = inl (record { resulted = ap (λ step. step_effect s f.was.world (step_of step)) c.in-LeadRange.is ∙ refused.whole; unchanged = refl });
       setup = refl;
-      failures = none_counted _ _ f.was.failures c.in-Err.fault refused.none.reason;
+      failures = none_counted _ _ f.was.failures f.was.failures c.in-Err.fault refused.none.reason refl;
       certain = λ light.
           let refuses : step_effect s f.was.world (step_of c.args.step) ≡ Err c.in-Err.fault = ap (λ step. step_effect s f.was.world (step_of step)) c.in-LeadRange.is ∙ refused.whole in
           let resulted : step_effect s f.was.world (step_of c.args.step) ≡ Ok light.transition = light.resulted in

@@ -27,11 +27,11 @@ returns g c =
     record {
       answer = elim c.match-found.branch [
         | in-Ok b ↦ restart_ok f change b.in-Ok.is b.result-is restart.ok c.messages-first.ensures.value b.opened.ensures
-        | in-Err b ↦ restart_err f change b.in-Err.is b.result-is restart.err restart.rests restart.only
+        | in-Err b ↦ restart_err f change b.in-Err.is b.result-is restart.err restart.rests restart.why
       ];
       setup = same_setup f;
       failures = elim c.match-found.branch [
-        | in-Ok b ↦ counted_ok f change restart.failures b.in-Ok.is b.result-is
-        | in-Err b ↦ counted_err f change restart.failures b.in-Err.is b.result-is
+        | in-Ok b ↦ counted_ok f change b.in-Ok.is b.result-is restart.ok
+        | in-Err b ↦ counted_err f change b.in-Err.is b.result-is restart.why
       ];
     }

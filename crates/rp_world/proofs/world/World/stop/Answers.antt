@@ -2,7 +2,7 @@ use Rattle.std.proofs.Common.{refl, ap, arith}
 use Rattle.rp_model.specs.World.{stops}
 use Rattle.rp_world.proofs.Ending.{none_seen}
 use Rattle.rp_world.proofs.Fields.{fields_of, same_setup}
-use Rattle.rp_world.proofs.Leaving.{still_by_stop, stop_ok, stop_err, same_left}
+use Rattle.rp_world.proofs.Leaving.{still_by_stop, stop_ok, stop_err, stop_counts}
 use Rattle.rp_world.proofs.Placing.{changed, placed_at}
 use Rattle.rp_world.proofs.world.World.stop.Goals.{in-Ok, in-Err}
 use Rattle.rp_world.proofs.world.World.stop.Goals as goal
@@ -29,5 +29,5 @@ returns g c =
         | in-Err b ↦ stop_err f change b.in-Err.is b.result-is c.stop-node.ensures.err
       ];
       setup = same_setup f;
-      failures = same_left f change c.stop-node.ensures.failures;
+      failures = stop_counts f change c.stop-node.result.1 c.stop-node.ensures.ok c.stop-node.ensures.err;
     }

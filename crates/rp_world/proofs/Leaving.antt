@@ -1,35 +1,24 @@
 -- What a stop and a restart leave of a node that was taken from its place, and put back there.
-use Rattle.std.proofs.Common.{◌≡◌, ◌⊎◌, ℕ, ◌+◌, Option, Some, None, Result, Ok, Err, length, map, slice_set, inl, inr, sym, ap, subst, ◌∙◌}
+use Rattle.std.proofs.Common.{◌≡◌, ℕ, ◌+◌, Option, None, Result, Ok, Err, length, sym, ap, subst, ◌∙◌}
 use Rattle.std.specs.Prelude.{IfOk, IfErr}
 use Rattle.rp_base.specs.declared.fault.Fault.{Fault}
-use Rattle.rp_base.specs.declared.fault.Fault.TheVariants.{OutOfMemory, Device}
 use Rattle.rp_model.specs.declared.effect.Effect.{Effect}
 use Rattle.rp_model.specs.Effect.{stop_effect, restart_part}
-use Rattle.rp_model.specs.World.{World, stops, restarts, part_at}
-use Rattle.rp_world.specs.Failures.{AreCounted}
+use Rattle.rp_model.specs.World.{stops, restarts, part_at}
 use Rattle.rp_world.specs.Going.{AnswersStop, AnswersRestart}
 use Rattle.rp_world.specs.Steps.{ClusterState}
 use Rattle.rp_world.specs.Nodes.{Member, GoesBy, RefusedBy, IsLeftTorn, IsNotStarted, IsResting, DescribesNothing, DescribesOpened, failures_in}
-use Rattle.rp_world.proofs.Ending.{still, stopped, not_stopped, left_by_stop, same_by_stop, restarted, not_restarted, left_by_restart}
-use Rattle.rp_world.proofs.Failing.{same_seen, start_counts}
-use Rattle.rp_world.proofs.Fields.{Fields, IsKept, as_seen, counts_of, first_seen, member, world_with}
-use Rattle.rp_world.proofs.Moving.{part, represents_now}
+use Rattle.rp_world.proofs.Ending.{still, stopped, not_stopped, left_by_stop, restarted, not_restarted, left_by_restart}
+use Rattle.rp_world.proofs.Fields.{Fields, IsKept, as_seen, cluster_with, first_seen, member}
 use Rattle.rp_world.proofs.Placing.{Changed}
-use Rattle.rp_world.proofs.Reports.{as_fault, stated_of}
+use Rattle.rp_world.proofs.Reports.{stated_of}
 
 module _ {S D P : Type 0} (f : Fields S D P) (change : Changed f.nodes) where
   abbrev me : ℕ
   me = change.at.me
 
-  abbrev after : World
-  after = world_with f change.after f.tasks f.messages
-
-  left_is : counts_of f change.after ≡ counts_of f (slice_set f.nodes change.at.place change.new)
-  left_is = ap (map (failures_in f.disk)) change.put
-
-  -- the counts of failures are as before
-  same_left : failures_in f.disk change.new ≡ failures_in f.disk change.at.it → counts_of f change.after ≡ f.was.failures
-  same_left same = left_is ∙ same_seen f change.at change.new same
+  abbrev after : ClusterState P
+  after = cluster_with f change.after f.tasks f.messages
 
   stated_from : {first : ℕ} {opened : Option (ℕ × ℕ)} {stated : Effect} → first ≡ length f.was.world.sent → stated ≡ stated_of (first + 1) opened → stated ≡ stated_of (length f.messages.sent + 1) opened
   stated_from {opened = opened} first_is is = is ∙ ap (λ (k : ℕ). stated_of (k + 1) opened) (first_seen f first_is)
@@ -43,13 +32,10 @@ module _ {S D P : Type 0} (f : Fields S D P) (change : Changed f.nodes) where
   StopsNot fault = (m : Member S) → RefusedBy f.disk m change.at.it change.new stop_effect fault
 
   abbrev Stopped : Result Effect Fault → ClusterState P → Type 0
-  Stopped r v = AnswersStop v.world (stops v.world me (part_at v.world.nodes me)) after r
+  Stopped r v = AnswersStop v (stops v.world me (part_at v.world.nodes me)) after r
 
   pub still_by_stop : (answer : Result Unit Fault) → IfOk answer Stops → IfErr answer StopsNot → IsKept f change.after f.tasks
   still_by_stop answer ok err = still f change (left_by_stop f change answer ok err)
-
-  pub stop_counts : (answer : Result Unit Fault) → IfOk answer Stops → IfErr answer StopsNot → counts_of f change.after ≡ f.was.failures
-  stop_counts answer ok err = same_left (same_by_stop f change answer ok err)
 
   pub stop_ok : {answer : Result Unit Fault} {done : Unit} {first : ℕ} {stated : Effect} {r : Result Effect Fault} → answer ≡ Ok done → r ≡ Ok stated → IfOk answer Stops
       → first ≡ length f.was.world.sent → stated ≡ stated_of (first + 1) None → Stopped r f.was
@@ -76,11 +62,8 @@ module _ {S D P : Type 0} (f : Fields S D P) (change : Changed f.nodes) where
   abbrev Reasons : Fault → Type 0
   Reasons fault = IsNotStarted (failures_in f.disk change.at.it) (failures_in f.disk change.new) fault
 
-  reason_of : (fault : Fault) → Reasons fault → (fault ≡ OutOfMemory) ⊎ (fault ≡ Device)
-  reason_of fault why = elim why [ inl memory ↦ inl memory.0 | inr device ↦ inr device.0 ]
-
   abbrev Restarted : Result Effect Fault → ClusterState P → Type 0
-  Restarted r v = AnswersRestart v.world me (restarts v.world me (part_at v.world.nodes me)) after r
+  Restarted r v = AnswersRestart v me (restarts v.world me (part_at v.world.nodes me)) after r
 
   pub still_by_restart : (answer : Result (Option (ℕ × ℕ)) Fault) → IfOk answer Restarts → IfErr answer Torn → IsKept f change.after f.tasks
   still_by_restart answer ok err = still f change (left_by_restart f change answer ok err)
@@ -97,22 +80,4 @@ module _ {S D P : Type 0} (f : Fields S D P) (change : Changed f.nodes) where
       let left_torn = subst (λ a. IfErr a Torn) is torn in
       let rests = subst (λ a. IfErr a Rests) is resting in
       let why = subst (λ a. IfErr a Reasons) is only in
-      subst (λ x. Restarted x f.was) (sym result) (as_seen f (Restarted (Err fault)) (not_restarted f change fault (reason_of fault why) rests left_torn))
-
-  -- how often devices have failed
-  abbrev Counted : Result Effect Fault → Type 0
-  Counted r = AreCounted (Some me) f.was.failures (counts_of f change.after) r
-
-  pub counted_ok : {answer : Result (Option (ℕ × ℕ)) Fault} {opened : Option (ℕ × ℕ)} {stated : Effect} {r : Result Effect Fault} → answer ≡ Ok opened → r ≡ Ok stated → IfOk answer Restarts → Counted r
-  counted_ok is result ok =
-      let goes = subst (λ a. IfOk a Restarts) is ok in
-      let d = goes (part f change.at) (represents_now f change.at) in
-      subst Counted (sym result) (same_left d.4)
-
-  pub counted_err : {answer : Result (Option (ℕ × ℕ)) Fault} {fault : Fault} {r : Result Effect Fault} → answer ≡ Err fault → r ≡ Err fault → IfErr answer Reasons → Counted r
-  counted_err {fault = fault} is result only =
-      let why = subst (λ a. IfErr a Reasons) is only in
-      subst Counted (sym result)
-      (subst (λ l. AreCounted (Some me) f.was.failures l (as_fault fault)) (sym left_is)
-      (as_seen f (λ v. AreCounted (Some me) v.failures (counts_of f (slice_set f.nodes change.at.place change.new)) (as_fault fault))
-      (start_counts f change.at change.new fault why)))
+      subst (λ x. Restarted x f.was) (sym result) (as_seen f (Restarted (Err fault)) (not_restarted f change fault why rests left_torn))

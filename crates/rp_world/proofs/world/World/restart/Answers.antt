@@ -1,8 +1,8 @@
 use Rattle.std.proofs.Common.{inl, refl, ap, arith}
 use Rattle.rp_model.specs.World.{restarts}
 use Rattle.rp_world.proofs.Ending.{none_seen}
-use Rattle.rp_world.proofs.Fields.{fields_of, same_setup}
-use Rattle.rp_world.proofs.Leaving.{still_by_restart, restart_ok, restart_err, counted_ok, counted_err}
+use Rattle.rp_world.proofs.Fields.{fields_of}
+use Rattle.rp_world.proofs.Leaving.{still_by_restart, restart_ok, restart_err}
 use Rattle.rp_world.proofs.Placing.{changed, placed_at}
 use Rattle.rp_world.proofs.world.World.restart.Goals.{in-Ok, in-Err}
 use Rattle.rp_world.proofs.world.World.restart.Goals as goal
@@ -28,10 +28,5 @@ returns g c =
       answer = elim c.match-found.branch [
         | in-Ok b ↦ restart_ok f change b.in-Ok.is b.result-is restart.ok c.messages-first.ensures.value b.opened.ensures
         | in-Err b ↦ restart_err f change b.in-Err.is b.result-is restart.err restart.rests restart.why
-      ];
-      setup = same_setup f;
-      failures = elim c.match-found.branch [
-        | in-Ok b ↦ counted_ok f change b.in-Ok.is b.result-is restart.ok
-        | in-Err b ↦ counted_err f change b.in-Err.is b.result-is restart.why
       ];
     }

@@ -1,8 +1,8 @@
 use Rattle.std.proofs.Common.{refl, ap, arith}
 use Rattle.rp_model.specs.World.{stops}
 use Rattle.rp_world.proofs.Ending.{none_seen}
-use Rattle.rp_world.proofs.Fields.{fields_of, same_setup}
-use Rattle.rp_world.proofs.Leaving.{still_by_stop, stop_ok, stop_err, stop_counts}
+use Rattle.rp_world.proofs.Fields.{fields_of}
+use Rattle.rp_world.proofs.Leaving.{still_by_stop, stop_ok, stop_err}
 use Rattle.rp_world.proofs.Placing.{changed, placed_at}
 use Rattle.rp_world.proofs.world.World.stop.Goals.{in-Ok, in-Err}
 use Rattle.rp_world.proofs.world.World.stop.Goals as goal
@@ -28,6 +28,4 @@ returns g c =
         | in-Ok b ↦ stop_ok f change b.in-Ok.is b.result-is c.stop-node.ensures.ok c.messages-first.ensures.value b.no_effect.ensures
         | in-Err b ↦ stop_err f change b.in-Err.is b.result-is c.stop-node.ensures.err
       ];
-      setup = same_setup f;
-      failures = stop_counts f change c.stop-node.result.1 c.stop-node.ensures.ok c.stop-node.ensures.err;
     }

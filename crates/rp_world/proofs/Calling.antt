@@ -110,7 +110,7 @@ module _ {S D P : Type 0} (f : Fields S D P) (at : Found f.tasks) where
       (record {
         transition = task_done w at.me done;
         resulted = whole_is input (Ok done) resulted;
-        goes = goes_to f
+        goes = goes_to f f.nodes (slice_set f.tasks at.place new) later
             (ap (λ (ps : List TaskPart). made_of w.nodes ps later.sent) (tasks_moved f at new ∙ ap (with_part w.tasks at.me) part)
             ∙ ap (λ (ms : List Message). made_of w.nodes (with_part w.tasks at.me done.part) ms) sent)
             refl;
@@ -128,7 +128,7 @@ module _ {S D P : Type 0} (f : Fields S D P) (at : Found f.tasks) where
   runs_out input done later r resulted sent is =
       as_seen f (λ v. Answers v (call_meant (seen input v)) (cluster_with f f.nodes f.tasks later) r)
       (at_err (λ x. Answers (now f) (call_meant (whole input)) (cluster_with f f.nodes f.tasks later) x) OutOfMemory r is
-      (inr (inl (record { memory = refl; intended = task_done w at.me done; resulted = whole_is input (Ok done) resulted; unchanged = goes_to f (stays later sent) refl }))))
+      (inr (inl (record { memory = refl; intended = task_done w at.me done; resulted = whole_is input (Ok done) resulted; unchanged = goes_to f f.nodes f.tasks later (stays later sent) refl }))))
 
   -- the task is at its place
   to_same : (Q : List Caller → Type 0) → Q f.tasks → Q (slice_set f.tasks at.place at.it)

@@ -94,11 +94,11 @@ module _ {S D P : Type 0} (f : Fields S D P) where
   cluster_with nodes tasks messages = cluster_of f.disk f.config f.program nodes tasks messages
 
   -- the world changed so, and with it the counts of failures
-  pub fails_to : {nodes : List (Node S D P)} {tasks : List Caller} {messages : Sending} {after : World} → world_with nodes tasks messages ≡ after
+  pub fails_to : (nodes : List (Node S D P)) (tasks : List Caller) (messages : Sending) {after : World} → world_with nodes tasks messages ≡ after
       → cluster_with nodes tasks messages ≡ record now { world = after; failures = counts_of nodes }
-  fails_to {nodes = nodes} changed = ap (λ (w : World). let v : ClusterState P = record now { world = w; failures = counts_of nodes } in v) changed
+  fails_to nodes tasks messages changed = ap (λ (w : World). let v : ClusterState P = record now { world = w; failures = counts_of nodes } in v) changed
 
   -- or the world alone changed
-  pub goes_to : {nodes : List (Node S D P)} {tasks : List Caller} {messages : Sending} {after : World} → world_with nodes tasks messages ≡ after → counts_of nodes ≡ counts_of f.nodes
+  pub goes_to : (nodes : List (Node S D P)) (tasks : List Caller) (messages : Sending) {after : World} → world_with nodes tasks messages ≡ after → counts_of nodes ≡ counts_of f.nodes
       → cluster_with nodes tasks messages ≡ record now { world = after }
-  goes_to {after = after} changed same = fails_to changed ∙ ap (λ (l : List ℕ). let v : ClusterState P = record now { world = after; failures = l } in v) same
+  goes_to nodes tasks messages {after = after} changed same = fails_to nodes tasks messages changed ∙ ap (λ (l : List ℕ). let v : ClusterState P = record now { world = after; failures = l } in v) same

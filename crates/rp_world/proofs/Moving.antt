@@ -127,7 +127,7 @@ module _ {S D P : Type 0} (f : Fields S D P) (at : Found f.nodes) where
 
     pub stayed : Represents f.disk (member f at.me) new part → HasNotFailedHere → later.sent ≡ f.messages.sent → next_cluster ≡ now f
     stayed represents same sent =
-        goes_to f
+        goes_to f (slice_set f.nodes at.place new) f.tasks later
         (ap (λ (ps : List NodePart). made_of ps w.tasks later.sent) (nodes_stay new represents)
         ∙ ap (λ (ms : List Message). made_of w.nodes w.tasks ms) sent)
         (same_counts f at new same)
@@ -138,7 +138,7 @@ module _ {S D P : Type 0} (f : Fields S D P) (at : Found f.nodes) where
     goes whole done stated resulted represents same sent describes = record {
       transition = node_done w at.me done;
       resulted = resulted;
-      goes = goes_to f (moved done.part done.sends represents sent) (same_counts f at new same);
+      goes = goes_to f (slice_set f.nodes at.place new) f.tasks later (moved done.part done.sends represents sent) (same_counts f at new same);
       describes = describes;
     }
 
@@ -169,7 +169,7 @@ module _ {S D P : Type 0} (f : Fields S D P) (at : Found f.nodes) where
                         kept = kept;
                         transition = node_done w at.me (goes_on_as after);
                         resulted = is.cut kept ∙ ap (λ (r : Result (Done NodePart) Fault). node_done_if w at.me (cut_if kept part r)) device.3;
-                        goes = fails_to f (moved after [] device.4 (sent ∙ sym (append-nil f.messages.sent)));
+                        goes = fails_to f (slice_set f.nodes at.place new) f.tasks later (moved after [] device.4 (sent ∙ sym (append-nil f.messages.sent)));
                         rises = subst (λ who. RisesOnly who (counts_of f f.nodes) (counts_of f (slice_set f.nodes at.place new))) (sym is.node) (rises_at f at new device.6);
                       }))
                 ]

@@ -34,7 +34,7 @@ reply_of_text text m read packet is from = from ∙ ap (λ (bytes : List ℕ). r
 -- a step happens that changes a task alone
 goes_as : {S D P : Type 0} (f : Fields S D P) (tasks : List Caller) (step : Step) (effect : Effect) → IsDone (setting f) (world f) (Makes step) (world_with f f.nodes tasks f.messages) effect
     → Goes (now f) (step_meant (setting f) (world f) step).whole (cluster_with f f.nodes tasks f.messages) effect
-goes_as f tasks step effect done = record { transition = done.transition; resulted = done.resulted; goes = goes_to f done.world refl; describes = done.describes }
+goes_as f tasks step effect done = record { transition = done.transition; resulted = done.resulted; goes = goes_to f f.nodes tasks f.messages done.world refl; describes = done.describes }
 
 -- it is no reply, and changes nothing
 pub heard_no_reply : {S D P : Type 0} (f : Fields S D P) {number task : ℕ} (m : SentTo f.messages.sent number (Party.Task task)) → (1 ≤ task) × (task ≤ 8) → reply_in m.packet.body ≡ None
@@ -99,5 +99,5 @@ module _ {S D P : Type 0} (f : Fields S D P) (at : Found f.tasks) (new : Caller)
         memory = refl;
         intended = results.0;
         resulted = results.1;
-        unchanged = goes_to f (ap with_tasks (tasks_stay f at new (ap (λ (k : Caller). k.part) same))) refl;
+        unchanged = goes_to f f.nodes tasks f.messages (ap with_tasks (tasks_stay f at new (ap (λ (k : Caller). k.part) same))) refl;
       }))))

@@ -7,11 +7,11 @@ use Rattle.rp_world.proofs.Placing.{changed, placed_at}
 use Rattle.rp_world.proofs.world.World.stop.Goals.{in-Ok, in-Err}
 use Rattle.rp_world.proofs.world.World.stop.Goals as goal
 
-pub returns-then-place-len-clause-answer : goal.returns-then-place-len-clause-answer
-returns-then-place-len-clause-answer g c =
+pub returns-then-place-len : goal.returns-then-place-len
+returns-then-place-len g c =
     let f = fields_of g.M.Machine.next g.M.Machine.answers g.M.Machine.begin c.self.inside.messages c.self.invariant c.self.view_is in
     let none = none_seen f (placed_at c.get.ensures c.from-place.ensures) (omega (arith, c.if-place-len.true, c.len.ensures, c.self.inside.nodes.ok.0)) in
-    record { resulted = ap (stops f.was.world c.args.node) none; unchanged = refl }
+    record { answer = record { resulted = ap (stops f.was.world c.args.node) none; unchanged = refl } }
 
 pub invariant_of-self : goal.invariant_of-self
 invariant_of-self g c =

@@ -135,7 +135,7 @@ module _ {S D P : Type 0} (f : Fields S D P) (at : Found f.nodes) {number : ℕ}
     goes_heard runs {effect = effect} first_is count_is is =
         as_seen f (λ v. Goes v (heard f number v).whole (with_node new later) effect)
         (as_given (λ t. Goes (now f) t.whole (with_node new later) effect) runs
-        (turned f at new input dropped later (by (member f at.me) m.packet (at_place m)) _ (given_is f at new input) effect (counted_from f dropped later first_is count_is is)))
+        (turned f at new input dropped later (by (member f at.me) m.packet (at_place m)) (taken f at new input (now f)) (given_is f at new input) effect (counted_from f dropped later first_is count_is is)))
 
   -- or does not
   module _ (new : Node S D P) (fault : Fault)
@@ -149,4 +149,4 @@ module _ {S D P : Type 0} (f : Fields S D P) (at : Found f.nodes) {number : ℕ}
         at_err (λ x. Answers f.was (heard f number f.was) (with_node new later) (stated x effect)) fault r refuses
         (as_seen f (λ v. Answers v (heard f number v) (with_node new later) (as_fault fault))
         (as_given (λ t. Answers (now f) t (with_node new later) (as_fault fault)) runs
-        (not_turned f at new input fault (by (member f at.me) m.packet (at_place m)) later same _ (given_is f at new input))))
+        (not_turned f at new input fault (by (member f at.me) m.packet (at_place m)) later same (taken f at new input (now f)) (given_is f at new input))))

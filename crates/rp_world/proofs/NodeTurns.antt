@@ -1,5 +1,5 @@
 -- What the world answers where one of its nodes made a turn: given an input, or a message that is for it.
-use Rattle.std.proofs.Common.{◌≡◌, ℕ, suc, ◌+◌, ◌-◌, ◌≤◌, None, Some, Result, Ok, Err, List, Option, length, slice_get, slice_set, refl, sym, ap, subst, ◌∙◌}
+use Rattle.std.proofs.Common.{◌≡◌, ℕ, suc, ◌+◌, ◌-◌, ◌≤◌, None, Some, Result, Ok, List, Option, length, slice_get, slice_set, refl, sym, ap, subst, ◌∙◌}
 use Rattle.std.specs.Option.{IsSomeAnd}
 use Rattle.std.specs.Prelude.{IsSome, IsErrAnd}
 use Rattle.rp_base.specs.declared.fault.Fault.{Fault}

@@ -11,7 +11,7 @@ use Rattle.rp_model.specs.Effect.{Setting}
 use Rattle.rp_model.specs.declared.effect.Effect.{Effect}
 use Rattle.rp_model.specs.declared.event.Event.{Event as Taken}
 use Rattle.rp_model.specs.Events.{Event, Step, Submit, Again, Makes, Cut, Stop, Restart, event_of}
-use Rattle.rp_model.specs.World.{World, Transition, event_effect, node_of}
+use Rattle.rp_model.specs.World.{Transition, event_effect, node_of}
 use Rattle.rp_world.specs.Failures.{AreCounted, RisesOnly}
 use Rattle.rp_world.specs.Going.{Meant, Goes, Refuses, Fails, Answers, AnswersStop, AnswersRestart, call_meant, cut_meant, step_meant}
 use Rattle.rp_world.specs.Steps.{ClusterState, IsStep, setting_of}

@@ -1,4 +1,4 @@
-use Rattle.std.proofs.Common.{drop}
+use Rattle.std.proofs.Common.{◌≡◌, drop}
 use Rattle.rp_run.specs.Output.{opening_play, script_said}
 use Rattle.rp_run.specs.Runs.{HasParts, opening_cluster, run_setting}
 use Rattle.rp_run.proofs.RunParts.{Underway}

@@ -1,10 +1,5 @@
-<<<<<<< HEAD
 -- Steps make a history, and clusters of one setup share their setting.
 use Rattle.std.proofs.Common.{◌≡◌, Ok, List, [], ◌∷◌, ◌++◌, ap, subst}
-=======
--- What is answered is a step of the world, and steps make a history.
-use Rattle.std.proofs.Common.{◌≡◌, ℕ, Option, Result, Ok, Err, List, [], ◌∷◌, ◌++◌, inl, inr, ap, subst}
->>>>>>> main
 use Rattle.rp_base.specs.declared.action.Action.{Action}
 use Rattle.rp_base.specs.declared.reply.Answer.{Answer}
 use Rattle.rp_model.specs.declared.effect.Effect.{Effect}

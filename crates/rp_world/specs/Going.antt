@@ -1,6 +1,6 @@
 -- The result of a call of a cluster's parts (no public clause names it).
-use Rattle.std.specs.Prelude.{◌≡◌, ◌⊎◌, ℕ, Option, None, Some, Result, Ok, Err, List, length}
-use Rattle.std.specs.Prelude.{IsSome}
+use Rattle.std.specs.Prelude.{◌≡◌, ◌⊎◌, ℕ, Option, None, Some, Result, Ok, Err, IsSome}
+use Rattle.std.specs.Prelude.{length}
 use Rattle.rp_base.specs.declared.record.Rec.{Rec}
 use Rattle.rp_base.specs.declared.reply.Reply.{Reply}
 use Rattle.rp_codec.specs.Message.{Message}

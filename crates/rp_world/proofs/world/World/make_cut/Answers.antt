@@ -17,7 +17,7 @@ returns-in-Err g c =
     let f = fields_of g.M.Machine.next g.M.Machine.answers g.M.Machine.begin c.self.inside.messages c.self.invariant c.self.view_is in
     let none = c.in-Err.ensures.maker (setting_by f f.was) f.was.world (sym (sent_seen f)) (nodes_seen f c.deref.ensures.value) in
     record {
-      answer = inl (record { resulted = none.cut c.args.kept; unchanged = refl });
+      answer = inl (record { resulted = none c.args.kept; unchanged = refl });
     }
 
 pub remove-requires : goal.remove-requires

@@ -114,7 +114,6 @@ module _ {S : Type 0} (s : Setting S) where
         (last given)
 
     plan_answers : (plan : Plan) → Saw here input plan → TurnAnswers records (turn_of here plan)
-    plan_answers (plans.Pass dropped) saw = none_answered _
     plan_answers (plans.Promise header last) saw = one_answer _ (says me (bodies.Promise header.position header.ballot last) header.to) tt
     plan_answers (plans.PromiseRange p) saw = one_answer _ (says me (bodies.PromiseRange p.range p.ballot (last_votes records p.range)) p.to) tt
     plan_answers (plans.Vote header v) saw = one_answer _ (says me (bodies.Accepted header.position header.ballot v) header.to) tt
@@ -123,15 +122,10 @@ module _ {S : Type 0} (s : Setting S) where
     plan_answers (plans.Inform to i v) saw = one_answer _ (says me (bodies.Decided i v) to) tt
     plan_answers (plans.Answer task number reply) saw =
         one_answer _ (says_to_task me (bodies.Reply number reply) task) (kept_is_given task number (kept_by here) (given_by here) reply saw.kept)
-    plan_answers (plans.Await item) saw = none_answered _
     plan_answers (plans.Lead i b own) saw = says_all _ me (bodies.Prepare i b) (one_to s.config.nodes) (λ k. tt)
     plan_answers (plans.LeadRange range b) saw = says_all _ me (bodies.PrepareRange range b) (one_to s.config.nodes) (λ k. tt)
     plan_answers (plans.OfferPrepared i b v) saw = says_all _ me (bodies.Accept i b v) (one_to s.config.nodes) (λ k. tt)
-    plan_answers (plans.CountPromise promise) saw = none_answered _
-    plan_answers (plans.CountRangePromise p) saw = none_answered _
     plan_answers (plans.Offer promise v) saw = says_all _ me (bodies.Accept promise.position promise.ballot v) (one_to s.config.nodes) (λ k. tt)
-    plan_answers (plans.Yield i b bound) saw = none_answered _
-    plan_answers (plans.CountVote from i vote) saw = none_answered _
     plan_answers (plans.Learn i v) saw =
         learned_answers i v (says_to_others s.config.nodes me (bodies.Decided i v)) []
         (λ given. says_all given me (bodies.Decided i v) (filter (λ k. not (nat_eq k me)) (one_to s.config.nodes)) (λ k. tt)) none_answered
@@ -141,6 +135,7 @@ module _ {S : Type 0} (s : Setting S) where
     plan_answers (plans.Report first) saw = one_answer _ (report_of me first (applied_of records)) tt
     plan_answers (plans.AskMissing to) saw =
         mapped_answers _ (λ i. says me (bodies.Ask i) to) (missing_in_window s.config.max_positions records) (λ i h. tt)
+    plan_answers _ saw = none_answered _
 
   pub input_answers : (me : ℕ) (records : List Rec) (running : Running) (input : NodeInput) → TurnAnswersIf records (running_effect s me records running input)
   input_answers me records running input =

@@ -24,20 +24,10 @@ use Rattle.rp_agreement.proofs.Ordering.{decided_begins, applied_decided, all_de
 
 -- the answer is still one of more
 pub answer_more : (given more : List Answer) → ((answer : Answer) → Has answer given → Has answer more) → (to : Party) (body : Body) → SaysAnswer given to body → SaysAnswer more to body
-answer_more given more inside to (bodies.Call action) so = so
-answer_more given more inside to (bodies.Prepare i b) so = so
-answer_more given more inside to (bodies.Promise i b last) so = so
-answer_more given more inside to (bodies.Accept i b v) so = so
-answer_more given more inside to (bodies.Accepted i b v) so = so
-answer_more given more inside to (bodies.Decided i v) so = so
-answer_more given more inside to (bodies.Ask i) so = so
-answer_more given more inside to (bodies.Nack i b bound) so = so
 answer_more given more inside (Node k) (bodies.Reply number reply) so = absurd so
 answer_more given more inside (Task t) (bodies.Reply number reply) so = inside (record { task = t; number = number; reply = reply }) so
 answer_more given more inside Audit (bodies.Reply number reply) so = absurd so
-answer_more given more inside to (bodies.Report first applied stated) so = so
-answer_more given more inside to (bodies.PrepareRange range b) so = so
-answer_more given more inside to (bodies.PromiseRange range b votes) so = so
+answer_more given more inside to _ so = so
 
 pub still_answered : (given more : List Answer) → ((answer : Answer) → Has answer given → Has answer more) → (t : ℕ) (part : TaskPart) → IsAnswered given t part → IsAnswered more t part
 still_answered given more inside t part old = record { numbered = old.numbered; waits = old.waits; replied = λ answer h. inside answer (old.replied answer h) }

@@ -12,7 +12,7 @@ use Rattle.rp_codec.specs.declared.packet.Body.TheVariants as bodies
 use Rattle.rp_model.specs.Effect.{NodeInput}
 use Rattle.rp_model.specs.Node.{RunningNode, nodes_of}
 use Rattle.rp_model.specs.Parts.{NodePart}
-use Rattle.rp_model.specs.Receiving.{is_node, is_no_node_above, is_allowed, party_number}
+use Rattle.rp_model.specs.Receiving.{is_node, is_no_node_above, is_allowed, sender_number}
 use Rattle.rp_model.proofs.EveryPlan.{Came}
 use Rattle.rp_agreement.specs.Asked.{IsAsked}
 use Rattle.rp_agreement.specs.Inputs.{IsInput}
@@ -21,7 +21,7 @@ use Rattle.rp_agreement.proofs.Pendings.{reply_asked}
 
 module _ {S : Type 0} (n : RunningNode S) (node : ℕ → NodePart) (sent : List Message) (input : NodeInput) (sound : IsSound (nodes_of n) node sent) (right : IsInput sent input) where
   -- a packet that only nodes send came from one, to this node
-  node_said : (p to : Party) (from : ℕ) (body : Body) → Has (record { from = p; to = to; body = body }) sent → is_node n.me to ≡ true → party_number p ≡ from → (¬ IsCall from body)
+  node_said : (p to : Party) (from : ℕ) (body : Body) → Has (record { from = p; to = to; body = body }) sent → is_node n.me to ≡ true → sender_number p ≡ from → (¬ IsCall from body)
       → Has (record { from = Node from; to = Node n.me; body = body }) sent
   node_said (Node a) (Node k) from body h is number none =
       subst (λ (j : ℕ). Has (record { from = Node j; to = Node n.me; body = body }) sent) number
@@ -41,7 +41,7 @@ module _ {S : Type 0} (n : RunningNode S) (node : ℕ → NodePart) (sent : List
       let m = came.message in
       let config = n.setting.config in
       (and_parts (is_node n.me m.to) (is_no_node_above config.nodes m.from)
-      (and_parts (is_node n.me m.to && is_no_node_above config.nodes m.from) (is_allowed config.max_positions (party_number m.from) m.body) came.taken).0).0
+      (and_parts (is_node n.me m.to && is_no_node_above config.nodes m.from) (is_allowed config.max_positions (sender_number m.from) m.body) came.taken).0).0
 
   pub came_said : (from : ℕ) (body : Body) → Came n input from body → (¬ IsCall from body) → Has (record { from = Node from; to = Node n.me; body = body }) sent
   came_said from body came none = node_said came.message.from came.message.to from body (came_sent from body came) (for_here from body came) came.sender none

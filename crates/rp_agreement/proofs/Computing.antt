@@ -19,7 +19,7 @@ use Rattle.rp_codec.specs.Message.{Message}
 use Rattle.rp_codec.specs.declared.packet.Party.{Party}
 use Rattle.rp_codec.specs.declared.packet.Party.TheVariants.{Node, Task, Audit}
 use Rattle.rp_codec.specs.declared.packet.Body.{Body}
-use Rattle.rp_codec.specs.declared.packet.Body.TheVariants.{Call, Prepare, Promise, Accept, Accepted, Decided, Ask, Nack, Reply, Report, PrepareRange, PromiseRange}
+use Rattle.rp_codec.specs.declared.packet.Body.TheVariants.{Accepted}
 use Rattle.rp_machine.specs.Replay.{one_to}
 use Rattle.rp_model.specs.Facts.{HasVoted, IsDecided, IsOrder}
 use Rattle.rp_agreement.specs.Computed.{vote_by, vote_between, votes_sent, decided_at, decided_run, order_of}
@@ -32,21 +32,11 @@ abbrev IsVoteOf : Body → ℕ → HeardVote → Type 0
 IsVoteOf body a h = (h.0 ≡ a) × (body ≡ Accepted h.1 h.2.ballot h.2.action)
 
 vote_is : (a : ℕ) (body : Body) (h : HeardVote) → vote_by a body ≡ Some h → IsVoteOf body a h
-vote_is a (Call action) h e = absurd (cc)
-vote_is a (Prepare position ballot) h e = absurd (cc)
-vote_is a (Promise position ballot last) h e = absurd (cc)
-vote_is a (Accept position ballot action) h e = absurd (cc)
 vote_is a (Accepted position ballot action) h e =
     let stated : HeardVote = (a, position, record { ballot = ballot; action = action }) in
     let same : stated ≡ h = some_same e in
     (λ k. (sym same k).0, λ k. Accepted (same k).1 (same k).2.ballot (same k).2.action)
-vote_is a (Decided position action) h e = absurd (cc)
-vote_is a (Ask position) h e = absurd (cc)
-vote_is a (Nack position ballot bound) h e = absurd (cc)
-vote_is a (Reply number reply) h e = absurd (cc)
-vote_is a (Report first applied actions) h e = absurd (cc)
-vote_is a (PrepareRange range ballot) h e = absurd (cc)
-vote_is a (PromiseRange range ballot votes) h e = absurd (cc)
+vote_is a _ h e = absurd (cc)
 
 between_is : (sent : List Message) (from to : Party) (body : Body) (h : HeardVote) → Has (record { from = from; to = to; body = body }) sent → vote_between from to body ≡ Some h
     → HasVoted sent h.0 h.1 h.2.ballot h.2.action

@@ -57,18 +57,8 @@ one_either true one other left right = left
 one_either false one other left right = right
 
 one_heard : (t : ℕ) (part : TaskPart) (body : Body) → length (task_hears t part body).sends ≤ 1
-one_heard t part (bodies.Call action) = omega arith
-one_heard t part (bodies.Prepare i b) = omega arith
-one_heard t part (bodies.Promise i b last) = omega arith
-one_heard t part (bodies.Accept i b v) = omega arith
-one_heard t part (bodies.Accepted i b v) = omega arith
-one_heard t part (bodies.Decided i v) = omega arith
-one_heard t part (bodies.Ask i) = omega arith
-one_heard t part (bodies.Nack i b bound) = omega arith
 one_heard t part (bodies.Reply number reply) = one_either (takes part number) _ _ (omega arith) (omega arith)
-one_heard t part (bodies.Report first applied stated) = omega arith
-one_heard t part (bodies.PrepareRange range b) = omega arith
-one_heard t part (bodies.PromiseRange range b votes) = omega arith
+one_heard t part _ = omega arith
 
 one_taken : (config : Config) (t : ℕ) (part : TaskPart) (input : TaskInput) → IsOneIf (task_effect config t part input)
 one_taken config t part (tasks.Submit node object operation arg) = one_called t node part (may_call config node part (next_call t part object operation arg) part.outstanding)

@@ -107,31 +107,18 @@ module _ {S : Type 0} (s : Setting S) (me : ℕ) (records : List Rec) (running :
   few_to_all body = all_few s.config.nodes me body
 
   plan_few : (plan : Plan) → IsFew s records (turn_of here plan)
-  plan_few (plans.Pass dropped) = omega arith
-  plan_few (plans.Promise header last) = omega arith
-  plan_few (plans.PromiseRange p) = omega arith
-  plan_few (plans.Vote header v) = omega arith
-  plan_few (plans.Repeat to i b v) = omega arith
-  plan_few (plans.Refuse to i b bound) = omega arith
-  plan_few (plans.Inform to i v) = omega arith
-  plan_few (plans.Answer task number reply) = omega arith
-  plan_few (plans.Await item) = omega arith
   plan_few (plans.Lead i b own) = omega (arith, few_to_all (bodies.Prepare i b))
   plan_few (plans.LeadRange range b) = omega (arith, few_to_all (bodies.PrepareRange range b))
   plan_few (plans.OfferPrepared i b v) = omega (arith, few_to_all (bodies.Accept i b v))
-  plan_few (plans.CountPromise promise) = omega arith
-  plan_few (plans.CountRangePromise p) = omega arith
   plan_few (plans.Offer promise v) = omega (arith, few_to_all (bodies.Accept promise.position promise.ballot v))
-  plan_few (plans.Yield i b bound) = omega arith
-  plan_few (plans.CountVote from i vote) = omega arith
   plan_few (plans.Learn i v) =
       let stated : length (says_to_others s.config.nodes me (bodies.Decided i v)) ≤ s.config.nodes = others_few s.config.nodes me (bodies.Decided i v) in
       few_learned i v (says_to_others s.config.nodes me (bodies.Decided i v)) [] (omega (arith, stated))
   plan_few (plans.Follow from i v) =
       let asked : length (asks_for me from (missing_position (records ++ Learned i v ∷ []))) ≤ 1 = asking_few me from (missing_position (records ++ Learned i v ∷ [])) in
       few_learned i v [] (asks_for me from (missing_position (records ++ Learned i v ∷ []))) (omega (arith, asked))
-  plan_few (plans.Report first) = omega arith
   plan_few (plans.AskMissing to) = omega (arith, missing_few me to s.config.max_positions records)
+  plan_few _ = omega arith
 
 pub turn_few : {S : Type 0} (s : Setting S) (me : ℕ) (records : List Rec) (running : Running) (input : NodeInput) → IsFewIf s records (running_effect s me records running input)
 turn_few s me records running input =

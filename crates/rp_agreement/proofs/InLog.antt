@@ -36,7 +36,6 @@ not_above most i e = le-leb i most (ltb-false most i (is_not (nat_lt most i) e))
 
 module _ {S : Type 0} (node : RunningNode S) (input : NodeInput) where
   plan_in_log : (plan : Plan) → Saw node input plan → WritesInLog node.setting.config.max_positions (turn_of node plan).written
-  plan_in_log (plans.Pass dropped) saw = tt
   plan_in_log (plans.Promise header last) saw =
       let allowed = came_allowed node input header.to (bodies.Prepare header.position header.ballot) saw.came in
       not_above _ header.position (and_parts (not (nat_lt _ header.position)) (nat_eq (owner_of header.ballot) header.to) allowed).0
@@ -47,23 +46,11 @@ module _ {S : Type 0} (node : RunningNode S) (input : NodeInput) where
   plan_in_log (plans.Vote header v) saw =
       let allowed = came_allowed node input header.to (bodies.Accept header.position header.ballot v) saw.came in
       not_above _ header.position (and_parts (not (nat_lt _ header.position)) (nat_eq (owner_of header.ballot) header.to) allowed).0
-  plan_in_log (plans.Repeat to i b v) saw = tt
-  plan_in_log (plans.Refuse to i b bound) saw = tt
-  plan_in_log (plans.Inform to i v) saw = tt
-  plan_in_log (plans.Answer task number reply) saw = tt
-  plan_in_log (plans.Await item) saw = tt
   plan_in_log (plans.Lead i b own) saw = refl
   plan_in_log (plans.LeadRange range b) saw = refl
-  plan_in_log (plans.OfferPrepared i b v) saw = tt
-  plan_in_log (plans.CountPromise promise) saw = tt
-  plan_in_log (plans.CountRangePromise p) saw = tt
-  plan_in_log (plans.Offer promise v) saw = tt
-  plan_in_log (plans.Yield i b bound) saw = tt
-  plan_in_log (plans.CountVote from i vote) saw = tt
   plan_in_log (plans.Learn i v) saw = not_above _ i (came_allowed node input saw.from (bodies.Accepted i saw.ballot v) saw.vote.came)
   plan_in_log (plans.Follow from i v) saw = not_above _ i (came_allowed node input from (bodies.Decided i v) saw.came)
-  plan_in_log (plans.Report first) saw = tt
-  plan_in_log (plans.AskMissing to) saw = tt
+  plan_in_log _ saw = tt
 
 pub turn_in_log : {S : Type 0} (s : Setting S) (me : ℕ) (records : List Rec) (running : Running) (input : NodeInput)
     → InLogIf s.config.max_positions (running_effect s me records running input)

@@ -20,9 +20,9 @@ use Rattle.rp_codec.specs.declared.packet.Body.TheVariants as bodies
 use Rattle.rp_model.specs.Parts.{Running, NodePart, TaskPart, Turn, fresh_node, with_record}
 use Rattle.rp_model.specs.Texts.{written_for}
 use Rattle.rp_base.specs.Number.{window}
-use Rattle.rp_model.specs.Receiving.{party_number}
+use Rattle.rp_model.specs.Receiving.{sender_number}
 use Rattle.rp_model.specs.Tasks.{TaskInput, Submit, Again, Take, asks, next_call, may_call, calls_if, asks_again, takes, takes_reply, task_hears, task_effect}
-use Rattle.rp_model.specs.Effect.{Setting, Done, goes_on_as, NodeInput, Receive, Lead, LeadRange, Interrupt, Tick, Report, Ask, running_effect, turn_done_if, effect_while, node_effect, stop_part, cut_part, stops_while, cut_if, restart_while, untorn_part}
+use Rattle.rp_model.specs.Effect.{Setting, Done, goes_on_as, NodeInput, Receive, running_effect, turn_done_if, effect_while, node_effect, stop_part, cut_part, stops_while, cut_if, restart_while, untorn_part}
 use Rattle.rp_model.specs.Events.{Event}
 use Rattle.rp_model.specs.World.{World, opening_world, part_at, with_part, node_done}
 use Rattle.rp_model.proofs.AppliedGrowing.{applied_more}
@@ -116,18 +116,13 @@ module _ (w : World) (me : ℕ) (part after : NodePart) (here : part_at w.nodes 
 -- ---- a node's step
 
 -- who offered may have a vote
-may_vote : (w : World) (from to : Party) (body : Body) → SentNear w from to body → MayVote (IsNodeNear w) (party_number from) body
-may_vote w from to (bodies.Accept i b v) is = subst (λ (p : Party). IsNodeNear w (party_number p) i) (sym is.1) is.2
+may_vote : (w : World) (from to : Party) (body : Body) → SentNear w from to body → MayVote (IsNodeNear w) (sender_number from) body
+may_vote w from to (bodies.Accept i b v) is = subst (λ (p : Party). IsNodeNear w (sender_number p) i) (sym is.1) is.2
 may_vote w from to _ is = tt
 
 may_vote_for : (w : World) (input : NodeInput) → IsNearWorld w → IsInput w.sent input → MayVoteFor (IsNodeNear w) input
 may_vote_for w (Receive message) all is = may_vote w message.from message.to message.body (all.sent message is)
-may_vote_for w (Lead choice) all is = tt
-may_vote_for w (Interrupt source occurrence) all is = tt
-may_vote_for w (Tick now) all is = tt
-may_vote_for w (Report first) all is = tt
-may_vote_for w (Ask to) all is = tt
-may_vote_for w (LeadRange first count) all is = tt
+may_vote_for w _ all is = tt
 
 written_more : (records : List Rec) (written : Option Rec) → (more : List Rec) × (with_record records written ≡ records ++ more)
 written_more records None = ([], sym (append-nil records))

@@ -25,14 +25,14 @@ use Rattle.rp_base.specs.Number.{window}
 use Rattle.rp_agreement.proofs.Lists.{found_has}
 use Rattle.rp_agreement.proofs.RangedParts.{with_or_old}
 use Rattle.rp_base.proofs.Apart.{promised_there}
-use Rattle.rp_model.specs.Effect.{Setting, NodeInput, Receive, Lead, LeadRange, Interrupt, Tick, Report, Ask, running_effect}
+use Rattle.rp_model.specs.Effect.{Setting, NodeInput, Receive, running_effect}
 use Rattle.rp_model.specs.Leader.{is_out_of_reach, is_beyond, unlearned_in, refused_running}
 use Rattle.rp_model.specs.Learner.{missing_position, asks_for, missing_in_window, asks_for_each}
 use Rattle.rp_model.specs.Node.{RunningNode, running_node}
 use Rattle.rp_model.specs.Parts.{Running, Turn}
 use Rattle.rp_model.specs.Pending.{is_answered_by, replies_to}
 use Rattle.rp_model.specs.Plans.{once_counted, once_learned, report_of, turn_of}
-use Rattle.rp_model.specs.Receiving.{party_number}
+use Rattle.rp_model.specs.Receiving.{sender_number}
 use Rattle.rp_model.specs.Says.{says, says_to_all, says_to_others, says_to_task, sends, notes, writes}
 use Rattle.rp_model.specs.declared.plan.CountedPromise.{CountedPromise}
 use Rattle.rp_model.specs.declared.plan.Plan.{Plan}
@@ -129,13 +129,8 @@ in_reach most records i e = leb-false (first_unlearned records + window) i (no_s
 
 -- the input is an offer only of a node that may have a vote
 abbrev pub MayVoteFor : (ℕ → ℕ → Type 0) → NodeInput → Type 0
-MayVoteFor Votes (Receive message) = MayVote Votes (party_number message.from) message.body
-MayVoteFor Votes (Lead choice) = Unit {0}
-MayVoteFor Votes (LeadRange first count) = Unit {0}
-MayVoteFor Votes (Interrupt source occurrence) = Unit {0}
-MayVoteFor Votes (Tick now) = Unit {0}
-MayVoteFor Votes (Report first) = Unit {0}
-MayVoteFor Votes (Ask to) = Unit {0}
+MayVoteFor Votes (Receive message) = MayVote Votes (sender_number message.from) message.body
+MayVoteFor Votes _ = Unit {0}
 
 -- each new proposal of a range is near, where each position is
 ranged_near : (me : ℕ) (records : List Rec) (Votes : ℕ → ℕ → Type 0) (b : ℕ) (positions : List ℕ) (ps : List Proposal) → ((i : ℕ) → Has i positions → IsNear records i) → AreNear records ps
@@ -160,7 +155,7 @@ module _ {S : Type 0} (s : Setting S) (me : ℕ) (records : List Rec) (Votes : �
   may_come : (from : ℕ) (body : Body) → Came here input from body → MayVote Votes from body
   may_come from body came =
       let message = came.message in
-      subst (λ (k : ℕ). MayVote Votes k body) came.sender (subst (MayVote Votes (party_number message.from)) came.says (subst (MayVoteFor Votes) came.input_is may))
+      subst (λ (k : ℕ). MayVote Votes k body) came.sender (subst (MayVote Votes (sender_number message.from)) came.says (subst (MayVoteFor Votes) came.input_is may))
 
   -- the proposal at a position is near
   found_near : (i : ℕ) (p : Proposal) → proposal_at running.proposals i ≡ Some p → IsNear records p.position

@@ -29,7 +29,7 @@ use Rattle.rp_agreement.proofs.Lists.{found_has}
 use Rattle.rp_agreement.proofs.Offering.{offer_is_so}
 use Rattle.rp_agreement.proofs.RangedParts.{with_or_old}
 use Rattle.rp_agreement.proofs.Turns.{IsOffer}
-use Rattle.rp_model.specs.Effect.{Setting, NodeInput, Receive, Lead, LeadRange, Interrupt, Tick, Report, Ask, running_effect}
+use Rattle.rp_model.specs.Effect.{Setting, NodeInput, Interrupt, Tick, running_effect}
 use Rattle.rp_model.specs.Leader.{unlearned_in, refused_running}
 use Rattle.rp_model.specs.Learner.{missing_position, asks_for}
 use Rattle.rp_model.specs.Node.{RunningNode, running_node, kept_by, own_for}
@@ -99,13 +99,9 @@ module _ (P : Action → Type 0) where
 
   -- the action of an input that is an interrupt or a tick
   abbrev pub InputIs : NodeInput → Type 0
-  InputIs (Receive message) = Unit {0}
-  InputIs (Lead choice) = Unit {0}
-  InputIs (LeadRange first count) = Unit {0}
   InputIs (Interrupt source occurrence) = P (actions.Interrupt source occurrence)
   InputIs (Tick now) = P (actions.Tick now)
-  InputIs (Report first) = Unit {0}
-  InputIs (Ask to) = Unit {0}
+  InputIs _ = Unit {0}
 
   silent : (packets : List Message) → AreSilent packets → OffersAre packets
   silent packets none i b v offer = absurd (none _ offer.2 tt)

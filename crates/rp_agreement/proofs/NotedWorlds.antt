@@ -162,18 +162,8 @@ takes_one P t part number reply is =
     ]
 
 hears_body : (P : Action → Type 0) (t : ℕ) (part : TaskPart) (body : Body) → WaitsFor P part → AsksOnceDone P (task_hears t part body)
-hears_body P t part (bodies.Call action) is = keeps_waiting P part is
-hears_body P t part (bodies.Prepare position ballot) is = keeps_waiting P part is
-hears_body P t part (bodies.Promise position ballot last) is = keeps_waiting P part is
-hears_body P t part (bodies.Accept position ballot action) is = keeps_waiting P part is
-hears_body P t part (bodies.Accepted position ballot action) is = keeps_waiting P part is
-hears_body P t part (bodies.Decided position action) is = keeps_waiting P part is
-hears_body P t part (bodies.Ask position) is = keeps_waiting P part is
-hears_body P t part (bodies.Nack position ballot bound) is = keeps_waiting P part is
 hears_body P t part (bodies.Reply number reply) is = takes_one P t part number reply is
-hears_body P t part (bodies.Report first applied actions) is = keeps_waiting P part is
-hears_body P t part (bodies.PrepareRange range ballot) is = keeps_waiting P part is
-hears_body P t part (bodies.PromiseRange range ballot votes) is = keeps_waiting P part is
+hears_body P t part _ is = keeps_waiting P part is
 
 task_asks : (P : Action → Type 0) (config : Config) (t : ℕ) (part : TaskPart) (input : TaskInput) → WaitsFor P part → TaskMay (TaskIs P) t input → AsksOnceDoneIf P (task_effect config t part input)
 task_asks P config t part (tasks.Submit node object operation arg) is comes =

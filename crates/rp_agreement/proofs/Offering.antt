@@ -29,22 +29,13 @@ use Rattle.rp_agreement.proofs.Lists.{has_picked, highest_has}
 
 promise_so : (nodes : ℕ) (sent : List Message) (records : List Rec) (body : Body) (i b : ℕ) (last : Option Vote) → IsPromise body i b last → IsSo nodes sent records body
     → HasPromiseRecord records i b × Reports records i b last
-promise_so nodes sent records (bodies.Call action) i b last is so = absurd is
-promise_so nodes sent records (bodies.Prepare position ballot) i b last is so = absurd is
 promise_so nodes sent records (bodies.Promise position ballot vote) i b last is so =
     let Kept : ℕ → ℕ → Option Vote → Type 0 = λ j c o. HasPromiseRecord records j c × Reports records j c o in
     subst (Kept i b) is.2 (subst (λ (c : ℕ). Kept i c vote) is.1 (subst (λ (j : ℕ). Kept j ballot vote) is.0 ((Promised position ballot, so.0, (refl, refl)), so.1)))
-promise_so nodes sent records (bodies.Accept position ballot action) i b last is so = absurd is
-promise_so nodes sent records (bodies.Accepted position ballot action) i b last is so = absurd is
-promise_so nodes sent records (bodies.Decided position action) i b last is so = absurd is
-promise_so nodes sent records (bodies.Ask position) i b last is so = absurd is
-promise_so nodes sent records (bodies.Nack position ballot bound) i b last is so = absurd is
-promise_so nodes sent records (bodies.Reply number reply) i b last is so = absurd is
-promise_so nodes sent records (bodies.Report first applied actions) i b last is so = absurd is
-promise_so nodes sent records (bodies.PrepareRange range ballot) i b last is so = absurd is
 promise_so nodes sent records (bodies.PromiseRange range ballot votes) i b last is so =
     let Kept : ℕ → Option Vote → Type 0 = λ c o. HasPromiseRecord records i c × Reports records i c o in
     subst (Kept b) is.2 (subst (λ (c : ℕ). Kept c (placed_at votes i)) is.1 ((PromisedRange range ballot, so.0, (is.0, refl)), so.1 i is.0))
+promise_so nodes sent records _ i b last is so = absurd is
 
 -- a node that sent a promise keeps it
 pub promise_kept : (nodes : ℕ) (node : ℕ → NodePart) (sent : List Message) → IsSound nodes node sent → (a i b : ℕ) (last : Option Vote) → HasPromised sent a i b last

@@ -16,7 +16,7 @@ use Rattle.rp_base.proofs.Members.{has_right, has_passing, passes}
 use Rattle.rp_codec.specs.declared.packet.Body.{Body}
 use Rattle.rp_machine.specs.Asked.{last_occurrence}
 use Rattle.rp_machine.specs.Replay.{kept_of, replay_answers}
-use Rattle.rp_agreement.specs.Over.{asked_in, brought_by, AreKept, IsTaken, IsOverOnce}
+use Rattle.rp_agreement.specs.Over.{calls_in_body, brought_by, AreKept, IsTaken, IsOverOnce}
 use Rattle.rp_agreement.proofs.Lists.{some_same}
 use Rattle.rp_agreement.proofs.PendingOver.{not_over, so_stays}
 use Rattle.rp_model.specs.Effect.{Setting, NodeInput, Interrupt, Tick, running_effect}
@@ -59,7 +59,7 @@ module _ {S : Type 0} (s : Setting S) (records : List Rec) (running : Running) (
 brought_item : {S : Type 0} (node : RunningNode S) (input : NodeInput) (item : Action) → Brings node input item → Has item (brought_by input)
 brought_item node input item (ByCall from task number object operation arg came is) =
     subst (λ (given : NodeInput). Has item (brought_by given)) (sym came.input_is)
-    (subst (λ (body : Body). Has item (asked_in body)) (sym came.says) (inl refl))
+    (subst (λ (body : Body). Has item (calls_in_body body)) (sym came.says) (inl refl))
 brought_item node input item (ByInterrupt source occurrence given is) = subst (λ (input : NodeInput). Has item (brought_by input)) (sym given) (inl is)
 brought_item node input item (ByTick now given is) = subst (λ (input : NodeInput). Has item (brought_by input)) (sym given) (inl is)
 
@@ -84,27 +84,20 @@ module _ {S : Type 0} (s : Setting S) (me : ℕ) (records : List Rec) (running :
       elim (is_in b (proposal_at running.proposals i)) as (λ t. (let left : Running = if t then known else running in left.pending) ≡ running.pending) [ true ↦ refl | false ↦ refl ]
 
   plan_fate : (plan : Plan) → Saw here input plan → FateOf (turn_of here plan)
-  plan_fate (plans.Pass dropped) saw = inr (λ i v e. absurd cc, inl refl)
-  plan_fate (plans.Promise header last) saw = inr (λ i v e. absurd cc, inl refl)
-  plan_fate (plans.PromiseRange p) saw = inr (λ i v e. absurd cc, inl refl)
   plan_fate (plans.Vote header v) saw = inr (λ i v e. absurd cc, inl refl)
   plan_fate (plans.Repeat to i b v) saw = inr (λ i v e. absurd cc, inl refl)
   plan_fate (plans.Refuse to i b bound) saw = inr (λ i v e. absurd cc, inl refl)
   plan_fate (plans.Inform to i v) saw = inr (λ i v e. absurd cc, inl refl)
-  plan_fate (plans.Answer task number reply) saw = inr (λ i v e. absurd cc, inl refl)
   plan_fate (plans.Await item) saw = inr (λ i v e. absurd cc, inr (item, brought_item here input item saw.brought, refl))
   plan_fate (plans.Lead i b own) saw = inr (λ i v e. absurd cc, inl refl)
-  plan_fate (plans.LeadRange range b) saw = inr (λ i v e. absurd cc, inl refl)
   plan_fate (plans.OfferPrepared i b v) saw = inr (λ i v e. absurd cc, inl (offered_pending s.config.nodes v (proposal_at running.proposals i)))
   plan_fate (plans.CountPromise p) saw = inr (λ i v e. absurd cc, inl (promised_pending s.config.nodes p.ballot (p.from, p.last) (proposal_at running.proposals p.position)))
-  plan_fate (plans.CountRangePromise p) saw = inr (λ i v e. absurd cc, inl refl)
   plan_fate (plans.Offer p v) saw = inr (λ i v e. absurd cc, inl (promised_pending s.config.nodes p.ballot (p.from, p.last) (proposal_at running.proposals p.position)))
   plan_fate (plans.Yield i b bound) saw = inr (λ i v e. absurd cc, inl (refused_pending s.config.nodes i b bound))
   plan_fate (plans.CountVote from i vote) saw = inr (λ i v e. absurd cc, inl refl)
   plan_fate (plans.Learn i v) saw = inl (i, v, refl, refl)
   plan_fate (plans.Follow from i v) saw = inl (i, v, refl, refl)
-  plan_fate (plans.Report first) saw = inr (λ i v e. absurd cc, inl refl)
-  plan_fate (plans.AskMissing to) saw = inr (λ i v e. absurd cc, inl refl)
+  plan_fate _ saw = inr (λ i v e. absurd cc, inl refl)
 
 -- any input
 pub fate_of : {S : Type 0} (s : Setting S) (me : ℕ) (records : List Rec) (running : Running) (input : NodeInput) → FateIf s records running (brought_by input) (running_effect s me records running input)

@@ -7,7 +7,7 @@ use Rattle.rp_model.specs.Answers.{Happen}
 use Rattle.rp_model.specs.Events as events
 use Rattle.rp_model.specs.Events.{Step, Event, IsRightStep, Makes}
 use Rattle.rp_model.specs.World.{World, opening_world}
-use Rattle.rp_agreement.specs.Possible.{HasApplied, IsNotedAndApplied, three_nodes}
+use Rattle.rp_agreement.specs.Possible.{FirstHasApplied, IsNotedAndApplied, three_nodes}
 use Rattle.rp_agreement.specs.Noted.{IsNoted}
 use Rattle.rp_agreement.proofs.Playing.{deciding, learning, right_on, right_deciding, right_learning, history_of, two_decide, Votes}
 
@@ -18,7 +18,7 @@ noting note = Makes note ∷ (deciding 0 ++ learning 0)
 module _ {S : Type 0} (next : S → Action → S) (answers : S → Action → List Answer) (begin : S) where
   -- what that leads to
   abbrev Noted : Step → Action → Type 0
-  Noted note v = (w : World) × Happen (three_nodes 1 next answers begin) (opening_world 3) (noting note) w × Votes w.sent 9 1 1 9 v × Votes w.sent 10 2 1 9 v × HasApplied w v
+  Noted note v = (w : World) × Happen (three_nodes 1 next answers begin) (opening_world 3) (noting note) w × Votes w.sent 9 1 1 9 v × Votes w.sent 10 2 1 9 v × FirstHasApplied w v
 
   applied_so : (note : Step) (v : Action) → IsRightStep note → IsNoted (noting note) v → Noted note v → IsNotedAndApplied (three_nodes 1 next answers begin) v
   applied_so note v right noted played = record {

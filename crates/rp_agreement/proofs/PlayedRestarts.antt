@@ -8,7 +8,7 @@ use Rattle.rp_model.specs.Answers.{Happen, IsStopped}
 use Rattle.rp_model.specs.Events.{Event, Makes, Again, Cut, Restart, Deliver, Lead}
 use Rattle.rp_model.specs.World.{World, opening_world, step_writes}
 use Rattle.rp_agreement.specs.Computed.{order_of}
-use Rattle.rp_agreement.specs.Possible.{three_nodes, IsRunning, IsRepliedAfterRestart}
+use Rattle.rp_agreement.specs.Possible.{three_nodes, FirstRuns, IsRepliedAfterRestart}
 use Rattle.rp_agreement.proofs.Playing.{AllRight, calling, deciding, learning, right_on, right_calling, right_deciding, right_learning, history_of, history_on, GetsReply, Votes, two_decide, first_call, first_answer}
 
 -- node 1 stops where 3 bytes of the record are kept by which it leads
@@ -55,7 +55,7 @@ module _ {S : Type 0} (next : S → Action → S) (answers : S → Action → Li
   abbrev Ends : Reply → World → Type 0
   Ends reply w =
       (last : GetsReply (three_nodes 1 next answers begin) w 15 (first_answer reply)) × Votes last.transition.world.sent 11 1 1 9 first_call × Votes last.transition.world.sent 12 2 1 9 first_call
-      × IsRunning last.transition.world
+      × FirstRuns last.transition.world
 
   ends : (reply : Reply) → answers begin first_call ≡ first_answer reply ∷ [] → Ends reply (restarted_world (answers begin first_call))
   unfolding restart number_text

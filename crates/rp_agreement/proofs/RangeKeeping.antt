@@ -124,18 +124,8 @@ reply_nodes : (t : ℕ) (part : TaskPart) (number : ℕ) (reply : Reply) → Are
 reply_nodes t part number reply = either_nodes (takes part number) _ (goes_on_as part) (λ m h. absurd h) (λ m h. absurd h)
 
 heard_nodes : (t : ℕ) (part : TaskPart) (body : Body) → AreForNodes (task_hears t part body).sends
-heard_nodes t part (bodies.Call action) m h = absurd h
-heard_nodes t part (bodies.Prepare i b) m h = absurd h
-heard_nodes t part (bodies.Promise i b last) m h = absurd h
-heard_nodes t part (bodies.Accept i b v) m h = absurd h
-heard_nodes t part (bodies.Accepted i b v) m h = absurd h
-heard_nodes t part (bodies.Decided i v) m h = absurd h
-heard_nodes t part (bodies.Ask i) m h = absurd h
-heard_nodes t part (bodies.Nack i b bound) m h = absurd h
 heard_nodes t part (bodies.Reply number reply) m h = reply_nodes t part number reply m h
-heard_nodes t part (bodies.Report first applied stated) m h = absurd h
-heard_nodes t part (bodies.PrepareRange range b) m h = absurd h
-heard_nodes t part (bodies.PromiseRange range b votes) m h = absurd h
+heard_nodes t part _ m h = absurd h
 
 pub input_nodes : (config : Config) (sent : List Message) (t : ℕ) (part : TaskPart) (input : TaskInput) → IsTaskInput sent t input → AreForNodesIf (task_effect config t part input)
 input_nodes config sent t part (tasks.Submit node object operation arg) is =
@@ -155,17 +145,7 @@ called_packet t k (bodies.Call action) is theirs = record {
   ranges = record { from = call_task t action is.0 is.1; to = theirs; body = tt };
   rules = (tt, tt, is.0, is.1);
 }
-called_packet t k (bodies.Prepare i b) is theirs = absurd is
-called_packet t k (bodies.Promise i b last) is theirs = absurd is
-called_packet t k (bodies.Accept i b v) is theirs = absurd is
-called_packet t k (bodies.Accepted i b v) is theirs = absurd is
-called_packet t k (bodies.Decided i v) is theirs = absurd is
-called_packet t k (bodies.Ask i) is theirs = absurd is
-called_packet t k (bodies.Nack i b bound) is theirs = absurd is
-called_packet t k (bodies.Reply number reply) is theirs = absurd is
-called_packet t k (bodies.Report first applied stated) is theirs = absurd is
-called_packet t k (bodies.PrepareRange range b) is theirs = absurd is
-called_packet t k (bodies.PromiseRange range b votes) is theirs = absurd is
+called_packet t k _ is theirs = absurd is
 
 by_parties : (t k : ℕ) (from to : Party) (body : Body) → from ≡ Task t → to ≡ Node k → IsCall t body → IsNode k → IsPacket (record { from = from; to = to; body = body })
 by_parties t k from to body sender receiver is theirs =

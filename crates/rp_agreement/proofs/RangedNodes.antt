@@ -47,7 +47,7 @@ use Rattle.rp_model.specs.Node.{RunningNode, running_node, kept_by, given_by, ow
 use Rattle.rp_model.specs.Parts.{Running, Turn}
 use Rattle.rp_model.specs.Pending.{own_action}
 use Rattle.rp_model.specs.Plans.{offered_running, once_counted, once_learned, report_of, turn_of}
-use Rattle.rp_model.specs.Receiving.{party_number}
+use Rattle.rp_model.specs.Receiving.{sender_number}
 use Rattle.rp_model.specs.Says.{says, says_to_all, says_to_others, says_to_task, sends, writes}
 use Rattle.rp_model.specs.declared.plan.CountedPromise.{CountedPromise}
 use Rattle.rp_model.specs.declared.plan.Plan.{Plan}
@@ -238,18 +238,13 @@ missing_asked me to most records mine theirs high m h =
 -- ---- what came
 
 audit_says : (to : Party) (body : Body) → ¬ MaySay Audit to body
-audit_says to (bodies.Call action) may = may.0
-audit_says to (bodies.Prepare i b) may = may.0
 audit_says to (bodies.Promise i b last) may = may.0.0
 audit_says to (bodies.Accept i b v) may = may.0.0
 audit_says to (bodies.Accepted i b v) may = may.0.0
 audit_says to (bodies.Decided i v) may = may.0.0
-audit_says to (bodies.Ask i) may = may.0
 audit_says to (bodies.Nack i b bound) may = may.0.0
-audit_says to (bodies.Reply number reply) may = may.0
-audit_says to (bodies.Report first applied actions) may = may.0
-audit_says to (bodies.PrepareRange range b) may = may.0
 audit_says to (bodies.PromiseRange range b votes) may = may.0.0
+audit_says to _ may = may.0
 
 -- what came from a node is in range
 record FromNode (from : ℕ) (body : Body) : Type 0 where
@@ -258,7 +253,7 @@ record FromNode (from : ℕ) (body : Body) : Type 0 where
   to : Party
   may : MaySay (Node from) to body
 
-party_says : (p to : Party) (from : ℕ) (body : Body) → IsPacket (record { from = p; to = to; body = body }) → party_number p ≡ from → ((t : ℕ) → ¬ MaySay (Task t) to body) → FromNode from body
+party_says : (p to : Party) (from : ℕ) (body : Body) → IsPacket (record { from = p; to = to; body = body }) → sender_number p ≡ from → ((t : ℕ) → ¬ MaySay (Task t) to body) → FromNode from body
 party_says (Node a) to from body is number none = subst (λ (k : ℕ). FromNode k body) number (record { node = is.ranges.from; ranges = is.ranges.body; to = to; may = is.rules })
 party_says (Task t) to from body is number none = absurd (none t is.rules)
 party_says Audit to from body is number none = absurd (audit_says to body is.rules)

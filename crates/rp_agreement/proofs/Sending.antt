@@ -81,32 +81,19 @@ reported_written records (Some rec) first applied actions so =
 
 -- what a body says stays so, as packets are sent
 pub so_sent : (nodes : ℕ) (sent after : List Message) → Within sent after → (records : List Rec) (body : Body) → IsSo nodes sent records body → IsSo nodes after records body
-so_sent nodes sent after in_after records (bodies.Call action) so = so
-so_sent nodes sent after in_after records (bodies.Prepare i b) so = so
-so_sent nodes sent after in_after records (bodies.Promise i b last) so = so
 so_sent nodes sent after in_after records (bodies.Accept i b v) so = (so.0, justified_more nodes sent after in_after i b v so.1, asked_more sent after in_after v so.2)
-so_sent nodes sent after in_after records (bodies.Accepted i b v) so = so
-so_sent nodes sent after in_after records (bodies.Decided i v) so = so
-so_sent nodes sent after in_after records (bodies.Ask i) so = so
-so_sent nodes sent after in_after records (bodies.Nack i b bound) so = so
-so_sent nodes sent after in_after records (bodies.Reply number reply) so = so
-so_sent nodes sent after in_after records (bodies.Report first applied stated) so = so
-so_sent nodes sent after in_after records (bodies.PrepareRange range b) so = so
-so_sent nodes sent after in_after records (bodies.PromiseRange range b votes) so = so
+so_sent nodes sent after in_after records _ so = so
 
 -- and as its sender writes
 pub so_written : (nodes x : ℕ) (sent : List Message) (records : List Rec) (written : Option Rec) → MayWrite nodes sent x records written
     → (body : Body) → IsSo nodes sent records body → IsSo nodes sent (with_record records written) body
-so_written nodes x sent records written may (bodies.Call action) so = so
 so_written nodes x sent records written may (bodies.Prepare i b) so = record_stays (Started b) records written so
 so_written nodes x sent records written may (bodies.Promise i b last) so = (record_stays (Promised i b) records written so.0, reports_stay nodes x sent records written i b last may so.1)
 so_written nodes x sent records written may (bodies.Accept i b v) so = (record_stays (Started b) records written so.0, so.1, so.2)
 so_written nodes x sent records written may (bodies.Accepted i b v) so = record_stays (Voted i b v) records written so
 so_written nodes x sent records written may (bodies.Decided i v) so = record_stays (Learned i v) records written so
-so_written nodes x sent records written may (bodies.Ask i) so = so
-so_written nodes x sent records written may (bodies.Nack i b bound) so = so
-so_written nodes x sent records written may (bodies.Reply number reply) so = so
 so_written nodes x sent records written may (bodies.Report first applied stated) so = reported_written records written first applied stated so
 so_written nodes x sent records written may (bodies.PrepareRange range b) so = record_stays (Started b) records written so
 so_written nodes x sent records written may (bodies.PromiseRange range b votes) so =
     (record_stays (PromisedRange range b) records written so.0, λ i covered. reports_stay nodes x sent records written i b (placed_at votes i) may (so.1 i covered))
+so_written nodes x sent records written may _ so = so

@@ -166,18 +166,8 @@ reply_done t part number reply waits =
     ]
 
 hears_done : (t : ℕ) (part : TaskPart) (body : Body) → WaitsForOwn t part → IsTaskDone t (task_hears t part body)
-hears_done t part (bodies.Call action) waits = goes_on t part waits
-hears_done t part (bodies.Prepare i b) waits = goes_on t part waits
-hears_done t part (bodies.Promise i b last) waits = goes_on t part waits
-hears_done t part (bodies.Accept i b v) waits = goes_on t part waits
-hears_done t part (bodies.Accepted i b v) waits = goes_on t part waits
-hears_done t part (bodies.Decided i v) waits = goes_on t part waits
-hears_done t part (bodies.Ask i) waits = goes_on t part waits
-hears_done t part (bodies.Nack i b bound) waits = goes_on t part waits
 hears_done t part (bodies.Reply number reply) waits = reply_done t part number reply waits
-hears_done t part (bodies.Report first applied stated) waits = goes_on t part waits
-hears_done t part (bodies.PrepareRange range b) waits = goes_on t part waits
-hears_done t part (bodies.PromiseRange range b votes) waits = goes_on t part waits
+hears_done t part _ waits = goes_on t part waits
 
 done_if : (t : ℕ) (b : Bool) (fault : Fault) (done : Done TaskPart) → IsTaskDone t done → IsTaskDoneIf t (if b then Err fault else Ok done)
 done_if t true fault done is = tt

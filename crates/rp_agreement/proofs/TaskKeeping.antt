@@ -32,18 +32,8 @@ use Rattle.rp_agreement.proofs.Made.{made_stays, made_after, asks_in_turn}
 
 -- what a task says is no reply
 calls_answer : (given : List Answer) (to : Party) (u : ℕ) (body : Body) → IsCall u body → SaysAnswer given to body
-calls_answer given to u (bodies.Call action) is = tt
-calls_answer given to u (bodies.Prepare i b) is = tt
-calls_answer given to u (bodies.Promise i b last) is = tt
-calls_answer given to u (bodies.Accept i b v) is = tt
-calls_answer given to u (bodies.Accepted i b v) is = tt
-calls_answer given to u (bodies.Decided i v) is = tt
-calls_answer given to u (bodies.Ask i) is = tt
-calls_answer given to u (bodies.Nack i b bound) is = tt
 calls_answer given to u (bodies.Reply number reply) is = absurd is
-calls_answer given to u (bodies.Report first applied actions) is = tt
-calls_answer given to u (bodies.PrepareRange range b) is = tt
-calls_answer given to u (bodies.PromiseRange range b votes) is = tt
+calls_answer given to u _ is = tt
 
 module _ {S : Type 0} (s : Setting S) where
   -- a reply that was sent to a task is an answer of the order

@@ -92,18 +92,8 @@ reply_taken given t part number reply old stated =
 
 -- a body comes, which is an answer if it is a reply
 hears_answer : (given : List Answer) (t : ℕ) (part : TaskPart) (body : Body) → IsAnswered given t part → SaysAnswer given (Task t) body → IsAnswered given t (task_hears t part body).part
-hears_answer given t part (bodies.Call action) old stated = old
-hears_answer given t part (bodies.Prepare i b) old stated = old
-hears_answer given t part (bodies.Promise i b last) old stated = old
-hears_answer given t part (bodies.Accept i b v) old stated = old
-hears_answer given t part (bodies.Accepted i b v) old stated = old
-hears_answer given t part (bodies.Decided i v) old stated = old
-hears_answer given t part (bodies.Ask i) old stated = old
-hears_answer given t part (bodies.Nack i b bound) old stated = old
 hears_answer given t part (bodies.Reply number reply) old stated = reply_taken given t part number reply old stated
-hears_answer given t part (bodies.Report first applied actions) old stated = old
-hears_answer given t part (bodies.PrepareRange range b) old stated = old
-hears_answer given t part (bodies.PromiseRange range b votes) old stated = old
+hears_answer given t part _ old stated = old
 
 -- a call that is made is the next one
 abbrev IsNextIf : Action → Result Action Fault → Type 0
@@ -257,18 +247,8 @@ reply_went t part number reply =
     ]
 
 hears_went : (t : ℕ) (part : TaskPart) (body : Body) → WentOn t part (task_hears t part body)
-hears_went t part (bodies.Call action) = stayed t part
-hears_went t part (bodies.Prepare i b) = stayed t part
-hears_went t part (bodies.Promise i b last) = stayed t part
-hears_went t part (bodies.Accept i b v) = stayed t part
-hears_went t part (bodies.Accepted i b v) = stayed t part
-hears_went t part (bodies.Decided i v) = stayed t part
-hears_went t part (bodies.Ask i) = stayed t part
-hears_went t part (bodies.Nack i b bound) = stayed t part
 hears_went t part (bodies.Reply number reply) = reply_went t part number reply
-hears_went t part (bodies.Report first applied actions) = stayed t part
-hears_went t part (bodies.PrepareRange range b) = stayed t part
-hears_went t part (bodies.PromiseRange range b votes) = stayed t part
+hears_went t part _ = stayed t part
 
 pub task_went : (config : Config) (t : ℕ) (part : TaskPart) (input : TaskInput) → WentOnIf t part (task_effect config t part input)
 task_went config t part (Submit node object operation arg) =

@@ -25,18 +25,8 @@ IsSoundTurn nodes x records sent turn = IsSoundStep nodes x records sent turn.wr
 
 -- the body offers an action
 abbrev pub IsOffer : Body → Type 0
-IsOffer (bodies.Call action) = ⊥
-IsOffer (bodies.Prepare i b) = ⊥
-IsOffer (bodies.Promise i b last) = ⊥
 IsOffer (bodies.Accept i b v) = Unit {0}
-IsOffer (bodies.Accepted i b v) = ⊥
-IsOffer (bodies.Decided i v) = ⊥
-IsOffer (bodies.Ask i) = ⊥
-IsOffer (bodies.Nack i b bound) = ⊥
-IsOffer (bodies.Reply number reply) = ⊥
-IsOffer (bodies.Report first applied stated) = ⊥
-IsOffer (bodies.PrepareRange range b) = ⊥
-IsOffer (bodies.PromiseRange range b votes) = ⊥
+IsOffer _ = ⊥
 
 -- the packet is the node's, what it says is so, and it offers nothing
 pub record IsPlain (nodes x : ℕ) (sent : List Message) (records : List Rec) (m : Message) : Type 0 where

@@ -12,9 +12,7 @@ use Rattle.rp_codec.specs.Message.{Message}
 use Rattle.rp_codec.specs.declared.packet.Party.{Party}
 use Rattle.rp_codec.specs.declared.packet.Party.TheVariants.{Node, Task, Audit}
 use Rattle.rp_codec.specs.declared.packet.Body.{Body}
-use Rattle.rp_codec.specs.declared.packet.Body.TheVariants.{Call, Prepare, Promise, Accept}
-use Rattle.rp_codec.specs.declared.packet.Body.TheVariants.{Accepted, Decided, Ask, Nack, Reply}
-use Rattle.rp_codec.specs.declared.packet.Body.TheVariants.{Report, PrepareRange, PromiseRange}
+use Rattle.rp_codec.specs.declared.packet.Body.TheVariants.{Reply}
 use Rattle.rp_machine.specs.Calls.{CallName, calls_of, call_of}
 use Rattle.rp_machine.specs.Replay.{number_for, one_to, replay_answers}
 use Rattle.rp_model.specs.Effect.{Setting}
@@ -38,18 +36,8 @@ IsAnswerTo given Audit number reply = ⊥
 
 -- what the packet to this party replies, if it replies, is one of these answers
 abbrev pub SaysAnswer : List Answer → Party → Body → Type 0
-SaysAnswer given to (Call action) = Unit {0}
-SaysAnswer given to (Prepare i b) = Unit {0}
-SaysAnswer given to (Promise i b last) = Unit {0}
-SaysAnswer given to (Accept i b v) = Unit {0}
-SaysAnswer given to (Accepted i b v) = Unit {0}
-SaysAnswer given to (Decided i v) = Unit {0}
-SaysAnswer given to (Ask i) = Unit {0}
-SaysAnswer given to (Nack i b bound) = Unit {0}
 SaysAnswer given to (Reply number reply) = IsAnswerTo given to number reply
-SaysAnswer given to (Report first applied actions) = Unit {0}
-SaysAnswer given to (PrepareRange range b) = Unit {0}
-SaysAnswer given to (PromiseRange range b votes) = Unit {0}
+SaysAnswer given to _ = Unit {0}
 
 -- the answers that the actions lead to
 abbrev pub answers_of : {S : Type 0} → Setting S → List Action → List Answer

@@ -9,25 +9,13 @@ use Rattle.rp_codec.specs.Message.{Message}
 use Rattle.rp_codec.specs.declared.packet.Party.{Party}
 use Rattle.rp_codec.specs.declared.packet.Party.TheVariants.{Node, Task, Audit}
 use Rattle.rp_codec.specs.declared.packet.Body.{Body}
-use Rattle.rp_codec.specs.declared.packet.Body.TheVariants.{Call, Prepare, Promise, Accept}
-use Rattle.rp_codec.specs.declared.packet.Body.TheVariants.{Accepted, Decided, Ask, Nack, Reply}
-use Rattle.rp_codec.specs.declared.packet.Body.TheVariants.{Report, PrepareRange, PromiseRange}
+use Rattle.rp_codec.specs.declared.packet.Body.TheVariants.{Accepted}
 
 -- the vote of this node that a body reports, if it reports one
 abbrev pub vote_by : ℕ → Body → Option HeardVote
-vote_by a (Call action) = None
-vote_by a (Prepare position ballot) = None
-vote_by a (Promise position ballot last) = None
-vote_by a (Accept position ballot action) = None
 vote_by a (Accepted position ballot action) =
     Some (a, position, record { ballot = ballot; action = action })
-vote_by a (Decided position action) = None
-vote_by a (Ask position) = None
-vote_by a (Nack position ballot bound) = None
-vote_by a (Reply number reply) = None
-vote_by a (Report first applied actions) = None
-vote_by a (PrepareRange range ballot) = None
-vote_by a (PromiseRange range ballot votes) = None
+vote_by a _ = None
 
 -- the vote in a packet from node to node
 abbrev pub vote_between : Party → Party → Body → Option HeardVote

@@ -13,8 +13,7 @@ use Rattle.rp_codec.specs.declared.packet.Body.TheVariants.{Call}
 use Rattle.rp_machine.specs.Asked.{last_number, last_occurrence}
 use Rattle.rp_machine.specs.Calls.{CallName, calls_of, call_of}
 use Rattle.rp_machine.specs.Replay.{kept_of, replay_answers}
-use Rattle.rp_model.specs.Effect.{Setting, NodeInput, Receive, Lead, LeadRange, Interrupt, Tick}
-use Rattle.rp_model.specs.Effect.{Report, Ask}
+use Rattle.rp_model.specs.Effect.{Setting, NodeInput, Receive, Interrupt, Tick}
 use Rattle.rp_model.specs.Parts.{Running, Turn}
 use Rattle.rp_model.specs.declared.effect.Dropped.TheVariants.{Full}
 use Rattle.rp_agreement.specs.Answered.{named}
@@ -40,19 +39,16 @@ IsOverOnce s records i v item =
     (drop (length before) after) item
 
 -- the call that a packet asks for
-abbrev pub asked_in : Body → List Action
-asked_in (Call action) = action ∷ []
-asked_in body = []
+abbrev pub calls_in_body : Body → List Action
+calls_in_body (Call action) = action ∷ []
+calls_in_body body = []
 
 -- what an input brings to wait: the call that is asked for, the interrupt, the tick
 abbrev pub brought_by : NodeInput → List Action
-brought_by (Receive message) = asked_in message.body
-brought_by (Lead choice) = []
-brought_by (LeadRange first count) = []
+brought_by (Receive message) = calls_in_body message.body
 brought_by (Interrupt source occurrence) = actions.Interrupt source occurrence ∷ []
 brought_by (Tick now) = actions.Tick now ∷ []
-brought_by (Report first) = []
-brought_by (Ask to) = []
+brought_by _ = []
 
 -- the items that waited still do, in order, and one of these may come after them
 abbrev pub AreKept : Running → Turn → List Action → Type 0

@@ -39,8 +39,8 @@ HasOnlyReply w answer =
     (part : TaskPart) × (part_at w.tasks 1 ≡ Some part) × (part.replies ≡ answer ∷ [])
 
 -- node 1 has applied this action, and no other
-abbrev pub HasApplied : World → Action → Type 0
-HasApplied w v =
+abbrev pub FirstHasApplied : World → Action → Type 0
+FirstHasApplied w v =
     (part : NodePart) × (part_at w.nodes 1 ≡ Some part) × (applied_of part.records ≡ v ∷ [])
 
 -- Some history brings task 1 this reply, and no other.
@@ -57,11 +57,11 @@ pub record IsNotedAndApplied {S : Type 0} (s : Setting S) (v : Action) : Type 0 
   pub history : IsHistory s events world
   pub noted : IsNoted events v
   pub decided : IsDecided s.config.nodes world.sent 1 v
-  pub applied : HasApplied world v
+  pub applied : FirstHasApplied world v
 
 -- node 1 runs
-abbrev pub IsRunning : World → Type 0
-IsRunning w = (part : NodePart) × (part_at w.nodes 1 ≡ Some part) × IsSome part.running
+abbrev pub FirstRuns : World → Type 0
+FirstRuns w = (part : NodePart) × (part_at w.nodes 1 ≡ Some part) × IsSome part.running
 
 -- In some history node 1 stops within a step that writes a record, before anything is decided; it
 -- starts again, the call is decided, and task 1 gets this reply while node 1 runs.
@@ -80,7 +80,7 @@ pub record IsRepliedAfterRestart {S : Type 0} (s : Setting S) (call : Action) (a
   pub is_stopped : IsStopped stopped 1
   pub undecided : order_of s.config.nodes stopped.sent ≡ []
   pub history : IsHistory s (before ++ Cut step kept ∷ Restart 1 ∷ after) last
-  pub runs : IsRunning last
+  pub runs : FirstRuns last
   pub decided : IsDecided s.config.nodes last.sent 1 call
   pub replied : HasOnlyReply last answer
 

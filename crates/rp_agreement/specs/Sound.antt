@@ -21,7 +21,7 @@ use Rattle.rp_codec.specs.declared.packet.Party.{Party}
 use Rattle.rp_codec.specs.declared.packet.Party.TheVariants.{Node, Task, Audit}
 use Rattle.rp_codec.specs.declared.packet.Body.{Body}
 use Rattle.rp_codec.specs.declared.packet.Body.TheVariants.{Call, Prepare, Promise, Accept}
-use Rattle.rp_codec.specs.declared.packet.Body.TheVariants.{Accepted, Decided, Ask, Nack, Reply}
+use Rattle.rp_codec.specs.declared.packet.Body.TheVariants.{Accepted, Decided}
 use Rattle.rp_codec.specs.declared.packet.Body.TheVariants.{Report, PrepareRange, PromiseRange}
 use Rattle.rp_model.specs.Facts.{HasPromised, HasVoted, IsOffered, IsDecided}
 use Rattle.rp_model.specs.Parts.{Running}
@@ -39,7 +39,8 @@ IsReported all first applied actions =
     (applied ≤ length all)
     × (actions ≡ take (report_len first applied) (drop (first - 1) (take applied all)))
 
--- what a node's packet says is so, by the node's records and the packets sent
+-- what a node's packet says is so, by the node's records and the packets sent; a question, a
+-- refusal and a reply claim nothing
 abbrev pub IsSo : ℕ → List Message → List Rec → Body → Type 0
 IsSo nodes sent records (Call action) = ⊥
 IsSo nodes sent records (Prepare i b) = Has (Started b) records
@@ -48,30 +49,18 @@ IsSo nodes sent records (Accept i b v) =
     Has (Started b) records × IsJustified nodes sent i b v × IsAsked sent v
 IsSo nodes sent records (Accepted i b v) = Has (Voted i b v) records
 IsSo nodes sent records (Decided i v) = Has (Learned i v) records
-IsSo nodes sent records (Ask i) = Unit {0}
-IsSo nodes sent records (Nack i b bound) = Unit {0}
-IsSo nodes sent records (Reply number reply) = Unit {0}
 IsSo nodes sent records (Report first applied actions) =
     IsReported (applied_of records) first applied actions
 IsSo nodes sent records (PrepareRange range b) = Has (Started b) records
 IsSo nodes sent records (PromiseRange range b votes) =
     Has (PromisedRange range b) records
     × ((i : ℕ) → is_covered range i ≡ true → Reports records i b (placed_at votes i))
+IsSo nodes sent records _ = Unit {0}
 
 -- a task says nothing but calls of its own, which are right
 abbrev pub IsCall : ℕ → Body → Type 0
 IsCall t (Call action) = IsCallBy t action × IsRight action
-IsCall t (Prepare i b) = ⊥
-IsCall t (Promise i b last) = ⊥
-IsCall t (Accept i b v) = ⊥
-IsCall t (Accepted i b v) = ⊥
-IsCall t (Decided i v) = ⊥
-IsCall t (Ask i) = ⊥
-IsCall t (Nack i b bound) = ⊥
-IsCall t (Reply number reply) = ⊥
-IsCall t (Report first applied actions) = ⊥
-IsCall t (PrepareRange range b) = ⊥
-IsCall t (PromiseRange range b votes) = ⊥
+IsCall t _ = ⊥
 
 -- what a packet says is so, by who sent it
 abbrev pub SaysSo : ℕ → (ℕ → NodePart) → List Message → Party → Body → Type 0

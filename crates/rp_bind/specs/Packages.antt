@@ -59,8 +59,8 @@ module _ {Z : Type 0} where
       numbered (λ number name. task_line language (string_bytes name) number) 1 tasks
 
   -- what is before the objects
-  abbrev pub first_part : Language → List (String Z) → List ℕ
-  first_part language tasks = head language ++ (tasks_text language tasks ++ between language)
+  abbrev pub text_before_objects : Language → List (String Z) → List ℕ
+  text_before_objects language tasks = head language ++ (tasks_text language tasks ++ between language)
 
 -- the functions of the object of a number from 1; an object of a tally has none
 abbrev pub functions_of : Option ObjectDeclaration → List Function
@@ -78,11 +78,11 @@ is_truth (Some (functions.Truth condition)) = true
 is_truth _ = false
 
 -- what an operation of an object with these functions is, and its number among those of its kind
-abbrev pub kind_of : List Function → OperationName → Kind
-kind_of own (names.Function index) =
+abbrev pub operation_kind : List Function → OperationName → Kind
+operation_kind own (names.Function index) =
     if is_truth (slice_get own (index.number - 1)) then Truth else Value
-kind_of own (names.Procedure index) = Procedure
-kind_of own (names.Entry index) = Entry
+operation_kind own (names.Procedure index) = Procedure
+operation_kind own (names.Entry index) = Entry
 
 abbrev pub index_of : OperationName → ℕ
 index_of (names.Function index) = index.number
@@ -95,7 +95,7 @@ module _ {Z : Type 0} where
       → List (String Z × OperationName) → List ℕ
   operations_text language owner object own operations =
       flat_map (λ entry. operation_lines language owner object (string_bytes entry.0)
-      (kind_of own entry.1) (index_of entry.1)) operations
+      (operation_kind own entry.1) (index_of entry.1)) operations
 
   abbrev pub entries_of : {S : Type 0} → Option (IndexMap (String Z) OperationName S)
       → List (String Z × OperationName)
@@ -119,5 +119,5 @@ objects_text language declared =
 -- the packages of what a deck declares
 abbrev pub packages_text : Language → Declared → List ℕ
 packages_text language declared =
-    first_part language (keys declared.tasks)
+    text_before_objects language (keys declared.tasks)
     ++ (objects_text language declared ++ end language)

@@ -1,7 +1,7 @@
 //! The text of packages: what a deck declares, by its names and numbers.
 
 ghost use Rattle.std.specs.Prelude.{◌≡◌, ◌≤◌, ◌++◌, IfOk, option_copied, string_bytes};
-ghost use Rattle.rp_bind.specs.Packages.{between, end, first_part, functions_at, head, index_of, is_truth, kind_of, object_text, objects_text, operations_text, packages_text, tasks_text};
+ghost use Rattle.rp_bind.specs.Packages.{between, end, text_before_objects, functions_at, head, index_of, is_truth, operation_kind, object_text, objects_text, operations_text, packages_text, tasks_text};
 
 use crate::lines::{Kind, Language, ObjectEnd, ObjectHead, OperationLines, Party, TaskLine};
 use rp_deck_declarations::{DeckProgram, Declared};
@@ -91,7 +91,7 @@ fn write_first_part(
     tasks: &[String],
 ) -> Result<(), AllocError>
     ensures { IfOk result (λ _. string_bytes text.new
-        ≡ string_bytes text.old ++ first_part language tasks.now) }
+        ≡ string_bytes text.old ++ text_before_objects language tasks.now) }
 {
     text.push_str(head(language))?;
     write_tasks(text, language, tasks)?;
@@ -192,7 +192,7 @@ fn functions_at(program: &DeckProgram, number: usize) -> &[Function]
 
 /// What an operation of an object with these functions is.
 fn kind_of(operation: OperationName, functions: &[Function]) -> Kind
-    ensures { result ≡ kind_of functions.now operation }
+    ensures { result ≡ operation_kind functions.now operation }
 {
     match operation {
         OperationName::Function(index) => {

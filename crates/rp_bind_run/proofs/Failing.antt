@@ -3,7 +3,8 @@ use Rattle.std.proofs.Common.{◌≡◌, ℕ, Option, List, Result, Ok, Err, inl
 use Rattle.std.specs.Prelude.{IfErr, IsErrAnd}
 use Rattle.rp_base.specs.declared.fault.Fault.{Fault}
 use Rattle.rp_base.specs.declared.fault.Fault.TheVariants.{OutOfMemory, Device, Failed, BadPacket, NotRunning, BallotsSpent, LogFull, NoSuchMessage, TaskBusy, NumbersSpent, BadDeck, BadConfig, Io}
-use Rattle.rp_bind_run.specs.Prints.{AreGiven, FailsBinding, IsBindMeant}
+use Rattle.rp_bind_run.specs.Prints.{FailsBinding, IsBindMeant}
+use Rattle.rp_script.specs.Given.{AreGiven}
 use Rattle.rp_output.specs.Faults.{IsRunFault}
 use Rattle.rp_output.specs.Stream.{IsWriteFault}
 use Rattle.rp_script.specs.Faults.{IsBadDeck, IsProgramFault}

@@ -1,5 +1,5 @@
 -- The packages of the deck that a reader holds.
-use Rattle.std.specs.Prelude.{◌≡◌, ◌⊎◌, ◌≤◌, ℕ, length, List, Option, Some, None, Err, IfSome}
+use Rattle.std.specs.Prelude.{◌≡◌, ◌⊎◌, ℕ, List, Option, Some, None, Err}
 use Rattle.std.specs.Prelude.{String, string_bytes}
 use Rattle.std.specs.Io.KnownBytes.{Appends}
 use Rattle.std.specs.declared.alloc.Global.{Global}
@@ -11,13 +11,7 @@ use Rattle.rp_bind.specs.declared.deck_binding.Binding.TheVariants.{Packages, Re
 use Rattle.rp_bind.specs.declared.lines.Language.{Language}
 use Rattle.rp_output.specs.Stream.{Begins}
 use Rattle.rp_script.specs.Faults.{IsBadDeck, IsProgramFault}
-use Rattle.rp_script.specs.Given.{most_bytes}
-
--- some bytes, no more than a deck may have, and all that the reader gives, if it is known what it
--- gives
-pub record AreGiven (given : Option (List ℕ)) (bytes : List ℕ) : Type 0 where
-  pub all : IfSome given (λ whole. bytes ≡ whole)
-  pub short : length bytes ≤ most_bytes
+use Rattle.rp_script.specs.Given.{AreGiven}
 
 -- they are bound by this
 pub record BindsBytes (language : Language) (given : Option (List ℕ)) (binding : Binding)

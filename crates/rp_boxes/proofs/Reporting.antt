@@ -8,7 +8,7 @@ use Rattle.rp_base.proofs.Members.{has_left, has_right}
 use Rattle.rp_codec.specs.Message.{Message, IsPacket, MaySay}
 use Rattle.rp_codec.specs.Text.{text_of}
 use Rattle.rp_codec.specs.declared.packet.Body.{Body}
-use Rattle.rp_codec.specs.declared.packet.Body.TheVariants.{Call, Prepare, Promise, Accept, Accepted, Decided, Ask, Nack, Reply, Report, PrepareRange, PromiseRange}
+use Rattle.rp_codec.specs.declared.packet.Body.TheVariants.{Promise, Accept, Accepted, Decided, Nack, Report, PromiseRange}
 use Rattle.rp_codec.specs.declared.packet.Party.{Party}
 use Rattle.rp_codec.specs.declared.packet.Party.TheVariants.{Node, Task, Audit}
 use Rattle.rp_boxes.specs.Audits.{IsGotReport, report}
@@ -18,20 +18,16 @@ use Rattle.rp_boxes.specs.Seats.{SeatState, IsFetched}
 -- who reports to the audit is a node, and sends a report
 stated_by : (from : Party) (body : Body) → MaySay from Audit body
     → (node : ℕ) × (first : ℕ) × (applied : ℕ) × (actions : List Action) × (from ≡ Node node) × (body ≡ Report first applied actions)
-stated_by from (Call action) says = absurd says.1
-stated_by from (Prepare position ballot) says = absurd says.1
 stated_by from (Promise position ballot last) says = absurd says.0.1
 stated_by from (Accept position ballot action) says = absurd says.0.1
 stated_by from (Accepted position ballot action) says = absurd says.0.1
 stated_by from (Decided position action) says = absurd says.0.1
-stated_by from (Ask position) says = absurd says.1
 stated_by from (Nack position ballot bound) says = absurd says.0.1
-stated_by from (Reply number reply) says = absurd says.1
 stated_by (Node n) (Report first applied actions) says = (n, first, applied, actions, refl, refl)
 stated_by (Task t) (Report first applied actions) says = absurd says.0
 stated_by Audit (Report first applied actions) says = absurd says.0
-stated_by from (PrepareRange range ballot) says = absurd says.1
 stated_by from (PromiseRange range ballot votes) says = absurd says.0.1
+stated_by from _ says = absurd says.1
 
 is_report : (m : Message) → IsPacket m → m.to ≡ Audit → (node : ℕ) × (first : ℕ) × (applied : ℕ) × (actions : List Action) × (m ≡ report node first applied actions)
 is_report m right to =

@@ -9,9 +9,8 @@ use Rattle.rp_base.specs.declared.record.Rec.TheVariants.{PromisedRange}
 use Rattle.rp_base.specs.declared.reply.Answer.{Answer}
 use Rattle.rp_codec.specs.Message.{Message}
 use Rattle.rp_codec.specs.declared.packet.Body.{Body}
-use Rattle.rp_codec.specs.declared.packet.Body.TheVariants.{Call, Prepare, Promise, Accept}
-use Rattle.rp_codec.specs.declared.packet.Body.TheVariants.{Accepted, Decided, Ask, Nack, Reply}
-use Rattle.rp_codec.specs.declared.packet.Body.TheVariants.{Report, PrepareRange, PromiseRange}
+use Rattle.rp_codec.specs.declared.packet.Body.TheVariants.{Prepare, Accept, Accepted, Decided}
+use Rattle.rp_codec.specs.declared.packet.Body.TheVariants.{PrepareRange}
 use Rattle.rp_history.specs.Histories.{delivered_by}
 use Rattle.rp_history.specs.Views.{has_written, is_unheard}
 use Rattle.rp_history.specs.declared.happened.Happened.{Happened}
@@ -32,33 +31,18 @@ record_text (PromisedRange range ballot) = codes "promised_range " ++ range_text
 
 -- the record that a node writes when it takes a packet, if it writes one then
 abbrev pub record_for : Body → Option Rec
-record_for (Call action) = None
 record_for (Prepare position ballot) = Some (Promised position ballot)
-record_for (Promise position ballot last) = None
 record_for (Accept position ballot action) = Some (Voted position ballot action)
 record_for (Accepted position ballot action) = Some (Learned position action)
 record_for (Decided position action) = Some (Learned position action)
-record_for (Ask position) = None
-record_for (Nack position ballot bound) = None
-record_for (Reply number reply) = None
-record_for (Report first applied actions) = None
 record_for (PrepareRange range ballot) = Some (PromisedRange range ballot)
-record_for (PromiseRange range ballot votes) = None
+record_for _ = None
 
 -- the record that a leader writes before it sends a request, if it writes one then
 abbrev pub record_before : Body → Option Rec
-record_before (Call action) = None
 record_before (Prepare position ballot) = Some (Started ballot)
-record_before (Promise position ballot last) = None
-record_before (Accept position ballot action) = None
-record_before (Accepted position ballot action) = None
-record_before (Decided position action) = None
-record_before (Ask position) = None
-record_before (Nack position ballot bound) = None
-record_before (Reply number reply) = None
-record_before (Report first applied actions) = None
 record_before (PrepareRange range ballot) = Some (Started ballot)
-record_before (PromiseRange range ballot votes) = None
+record_before _ = None
 
 -- the record of an event, by the packet that it delivers or else sends first
 abbrev pub record_by : Event → Option Message → Option Rec

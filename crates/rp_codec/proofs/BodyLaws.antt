@@ -13,7 +13,7 @@ use Rattle.rp_codec.specs.declared.packet.Body.TheVariants as bodies
 use Rattle.rp_codec.specs.declared.kind.Kind.{Kind}
 use Rattle.rp_codec.specs.declared.kind.Kind.TheVariants.{Call, Prepare, Promise, Accept, Accepted, Decided, Ask, Nack, Reply as Answer, Report, PrepareRange, PromiseRange}
 use Rattle.rp_base.specs.Right.{IsReply}
-use Rattle.rp_codec.specs.Kind.{Role, ANode, ATask, TheAudit, sender_role, receiver_role, number_of, kind_of_body}
+use Rattle.rp_codec.specs.Kind.{Role, ANode, ATask, TheAudit, sender_role, receiver_role, number_of_kind, kind_of_body}
 use Rattle.rp_codec.specs.declared.version.Version.{Version}
 use Rattle.rp_codec.specs.Message.{IsBody, IsNodeParty, IsTaskParty, IsAudit, IsVoteBelow, MaySay, report_len}
 use Rattle.rp_codec.specs.Text.{number_text, position_text, ballot_text, action_text_at, reply_text, last_text_at, kind_number, body_text_at, HasActionText, HasBodyText, range_text, votes_text_at}
@@ -102,7 +102,7 @@ HasRole TheAudit party = IsAudit party
 
 -- what reading a body of this kind shows
 pub record IsSaid (v : Version) (kind : Kind) (from : Party) (body : Body) : Type 0 where
-  pub number : number_of kind ≡ kind_number body
+  pub number : number_of_kind kind ≡ kind_number body
   pub ranges : IsBody body
   pub has : HasBodyText v body
   pub rules : (to : Party) → HasRole (sender_role kind) from → HasRole (receiver_role kind) to

@@ -8,7 +8,7 @@ use Rattle.rp_base.specs.declared.fault.PacketReason.TheVariants.{Short, Long, V
 use Rattle.rp_codec.specs.declared.packet.Body.{Body}
 use Rattle.rp_codec.specs.declared.kind.Kind.{Kind}
 use Rattle.rp_codec.specs.declared.kind.Kind.TheVariants.{Call, Prepare, Promise, Accept, Accepted, Decided, Ask, Nack, Reply as Answer, Report, PrepareRange, PromiseRange}
-use Rattle.rp_codec.specs.Kind.{kind_of, number_of}
+use Rattle.rp_codec.specs.Kind.{kind_of, number_of_kind}
 use Rattle.rp_codec.specs.declared.version.Version.{Version}
 use Rattle.rp_codec.specs.declared.version.Version.TheVariants.{V2}
 use Rattle.rp_codec.specs.Version.{version_number, version_of}
@@ -26,13 +26,13 @@ use Rattle.rp_codec.proofs.PacketLaws.{TookSaid, said_took, packet_again}
 
 -- ---- the kind of a number
 
-choice : (b : Bool) (n : ℕ) (first kind : Kind) (others : Option Kind) → (b ≡ true → n ≡ number_of first) → (others ≡ Some kind → n ≡ number_of kind) → cond b (Some first) others ≡ Some kind → n ≡ number_of kind
+choice : (b : Bool) (n : ℕ) (first kind : Kind) (others : Option Kind) → (b ≡ true → n ≡ number_of_kind first) → (others ≡ Some kind → n ≡ number_of_kind kind) → cond b (Some first) others ≡ Some kind → n ≡ number_of_kind kind
 choice true n first kind others here there e =
     let same : first ≡ kind = cc in
-    here refl ∙ ap number_of same
+    here refl ∙ ap number_of_kind same
 choice false n first kind others here there e = there e
 
-number_from_kind : (n : ℕ) (kind : Kind) → kind_of n ≡ Some kind → n ≡ number_of kind
+number_from_kind : (n : ℕ) (kind : Kind) → kind_of n ≡ Some kind → n ≡ number_of_kind kind
 number_from_kind n kind e =
     choice (eqb n 1) n Call kind _ (λ t. eqb-true _ _ t)
     (choice (eqb n 2) n Prepare kind _ (λ t. eqb-true _ _ t)
@@ -58,7 +58,7 @@ Front bytes (Err UnknownVersion) = HasOtherVersion bytes
 Front bytes (Err UnknownKind) = HasNoKind bytes
 Front bytes (Err Field) = Unit {0}
 
-front_said : (v : Version) (kind : Kind) (n : ℕ) (rest : List ℕ) (r : Result (Message × List ℕ) PacketReason) → n ≡ number_of kind → Yields (TookSaid v kind rest) r → Front (version_number v ∷ n ∷ rest) r
+front_said : (v : Version) (kind : Kind) (n : ℕ) (rest : List ℕ) (r : Result (Message × List ℕ) PacketReason) → n ≡ number_of_kind kind → Yields (TookSaid v kind rest) r → Front (version_number v ∷ n ∷ rest) r
 front_said v kind n rest (Ok x) e took =
     (took.right.0, (v, took.right.1, ap (λ (k : ℕ). version_number v ∷ k ∷ rest) (e ∙ took.right.2) ∙ rw took.parts (simp append_assoc)))
 front_said v kind n rest (Err Short) e took = tt

@@ -69,18 +69,12 @@ body_long : (v : Version) (from to : Party) (f t : ℕ) (body : Body) (rest : Li
     → length_at (kind_number body) (framed v f t body ++ rest) (length (framed v f t body)) ≡ length (framed v f t body)
 unfolding number_text
 body_long v from to f t (bodies.Call action) rest rules = omega (arith, task_call_long v from to action rules)
-body_long v from to f t (bodies.Prepare position ballot) rest rules = refl
-body_long v from to f t (bodies.Promise position ballot None) rest rules = refl
 body_long v from to f t (bodies.Promise position ballot (Some vote)) rest rules = omega (arith, action_long v vote.action rest)
 body_long v from to f t (bodies.Accept position ballot action) rest rules = omega (arith, action_long v action rest)
 body_long v from to f t (bodies.Accepted position ballot action) rest rules = omega (arith, action_long v action rest)
 body_long v from to f t (bodies.Decided position action) rest rules = omega (arith, action_long v action rest)
-body_long v from to f t (bodies.Ask position) rest rules = refl
-body_long v from to f t (bodies.Nack position ballot bound) rest rules = refl
 body_long v from to f t (bodies.Reply number reply) rest rules = omega (arith, reply_long reply rest)
-body_long v from to f t (bodies.Report first applied actions) rest rules = refl
-body_long v from to f t (bodies.PrepareRange range ballot) rest rules = refl
-body_long v from to f t (bodies.PromiseRange range ballot votes) rest rules = refl
+body_long v from to f t _ rest rules = refl
 
 pub stated : (kind : ℕ) (bytes : List ℕ) → get_or bytes 1 0 ≡ kind → (p : Message) (rest : List ℕ) → IsPacket p → IsTextBefore p rest bytes
     → length_at kind bytes (length (text_of p)) ≡ length (text_of p)
@@ -126,19 +120,12 @@ place_of kind =
 
 body_within : (v : Version) (f t : ℕ) (body : Body) (rest : List ℕ) → place_of (kind_number body) < length (framed v f t body ++ rest)
 unfolding number_text
-body_within v f t (bodies.Call action) rest = omega arith
-body_within v f t (bodies.Prepare position ballot) rest = omega arith
-body_within v f t (bodies.Promise position ballot None) rest = omega arith
 body_within v f t (bodies.Promise position ballot (Some vote)) rest = omega arith
 body_within v f t (bodies.Accept position ballot action) rest = omega (arith, positive_action v action, length-append (action_text_at v action) rest)
 body_within v f t (bodies.Accepted position ballot action) rest = omega (arith, positive_action v action, length-append (action_text_at v action) rest)
 body_within v f t (bodies.Decided position action) rest = omega (arith, positive_action v action, length-append (action_text_at v action) rest)
-body_within v f t (bodies.Ask position) rest = omega arith
-body_within v f t (bodies.Nack position ballot bound) rest = omega arith
 body_within v f t (bodies.Reply number reply) rest = omega (arith, positive_reply reply, length-append (reply_text reply) rest)
-body_within v f t (bodies.Report first applied actions) rest = omega arith
-body_within v f t (bodies.PrepareRange range ballot) rest = omega arith
-body_within v f t (bodies.PromiseRange range ballot votes) rest = omega arith
+body_within v f t _ rest = omega arith
 
 pub within : (kind : ℕ) (bytes : List ℕ) → get_or bytes 1 0 ≡ kind → (p : Message) (rest : List ℕ) (v : Version) → bytes ≡ text_at v p ++ rest → place_of kind < length bytes
 within kind bytes is p rest v parts =
@@ -151,19 +138,8 @@ vote_place kind flag = if kind == 3 then (if flag == 0 then 0 else 23) else 0
 
 vote_within : (v : Version) (f t : ℕ) (body : Body) (rest : List ℕ) → vote_place (kind_number body) (get_or (framed v f t body ++ rest) 14 0) < length (framed v f t body ++ rest)
 unfolding number_text
-vote_within v f t (bodies.Call action) rest = omega arith
-vote_within v f t (bodies.Prepare position ballot) rest = omega arith
-vote_within v f t (bodies.Promise position ballot None) rest = omega arith
 vote_within v f t (bodies.Promise position ballot (Some vote)) rest = omega (arith, positive_action v vote.action, length-append (action_text_at v vote.action) rest)
-vote_within v f t (bodies.Accept position ballot action) rest = omega arith
-vote_within v f t (bodies.Accepted position ballot action) rest = omega arith
-vote_within v f t (bodies.Decided position action) rest = omega arith
-vote_within v f t (bodies.Ask position) rest = omega arith
-vote_within v f t (bodies.Nack position ballot bound) rest = omega arith
-vote_within v f t (bodies.Reply number reply) rest = omega arith
-vote_within v f t (bodies.Report first applied actions) rest = omega arith
-vote_within v f t (bodies.PrepareRange range ballot) rest = omega arith
-vote_within v f t (bodies.PromiseRange range ballot votes) rest = omega arith
+vote_within v f t _ rest = omega arith
 
 pub voted_within : (bytes : List ℕ) → get_or bytes 1 0 ≡ 3 → get_or bytes 14 0 ≢ 0 → (p : Message) (rest : List ℕ) (v : Version) → bytes ≡ text_at v p ++ rest → 23 < length bytes
 voted_within bytes is flag p rest v parts =

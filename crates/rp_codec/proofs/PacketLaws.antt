@@ -7,7 +7,7 @@ use Rattle.rp_codec.specs.declared.packet.Party.TheVariants.{Node, Task, Audit}
 use Rattle.rp_codec.specs.declared.packet.Body.{Body}
 use Rattle.rp_codec.specs.declared.packet.Body.TheVariants as bodies
 use Rattle.rp_codec.specs.declared.kind.Kind.{Kind}
-use Rattle.rp_codec.specs.Kind.{kind_of, number_of, kind_of_body, Role, ANode, ATask, TheAudit, sender_role, receiver_role}
+use Rattle.rp_codec.specs.Kind.{kind_of, number_of_kind, kind_of_body, Role, ANode, ATask, TheAudit, sender_role, receiver_role}
 use Rattle.rp_codec.specs.declared.version.Version.{Version}
 use Rattle.rp_codec.specs.Message.{Message, IsParty, IsNodeParty, IsTaskParty, IsAudit, MaySay, IsPacket}
 use Rattle.rp_codec.specs.Text.{party_text, kind_number, body_text_at, text_at, HasText}
@@ -86,7 +86,7 @@ abbrev pub said_text : Version → Message → List ℕ
 said_text v m = party_text m.from ++ party_text m.to ++ body_text_at v m.body
 
 abbrev pub IsPacketOf : Version → Kind → Message → Type 0
-IsPacketOf v kind m = IsPacket m × HasText v m × (number_of kind ≡ kind_number m.body)
+IsPacketOf v kind m = IsPacket m × HasText v m × (number_of_kind kind ≡ kind_number m.body)
 
 abbrev pub TookSaid : Version → Kind → List ℕ → Message × List ℕ → Type 0
 TookSaid v kind bytes = Took (said_text v) (IsPacketOf v kind) bytes
@@ -113,18 +113,13 @@ said_took v kind bytes h =
 -- a body's number names its kind, who may say the body may send that kind, and who may hear it may receive it
 of_kind : (from to : Party) (body : Body) → MaySay from to body
     → (kind_of (kind_number body) ≡ Some (kind_of_body body)) × HasRole (sender_role (kind_of_body body)) from × HasRole (receiver_role (kind_of_body body)) to
-of_kind from to (bodies.Call action) rules = (refl, rules.0, rules.1)
-of_kind from to (bodies.Prepare position ballot) rules = (refl, rules.0, rules.1)
 of_kind from to (bodies.Promise position ballot last) rules = (refl, rules.0.0, rules.0.1)
 of_kind from to (bodies.Accept position ballot action) rules = (refl, rules.0.0, rules.0.1)
 of_kind from to (bodies.Accepted position ballot action) rules = (refl, rules.0.0, rules.0.1)
 of_kind from to (bodies.Decided position action) rules = (refl, rules.0.0, rules.0.1)
-of_kind from to (bodies.Ask position) rules = (refl, rules.0, rules.1)
 of_kind from to (bodies.Nack position ballot bound) rules = (refl, rules.0.0, rules.0.1)
-of_kind from to (bodies.Reply number reply) rules = (refl, rules.0, rules.1)
-of_kind from to (bodies.Report first applied actions) rules = (refl, rules.0, rules.1)
-of_kind from to (bodies.PrepareRange range ballot) rules = (refl, rules.0, rules.1)
 of_kind from to (bodies.PromiseRange range ballot votes) rules = (refl, rules.0.0, rules.0.1)
+of_kind from to _ rules = (refl, rules.0, rules.1)
 
 said_again : (v : Version) (m : Message) (rest : List ℕ) → IsPacket m → HasText v m → said_at v (kind_of_body m.body) (said_text v m ++ rest) ≡ Ok (m, rest)
 unfolding said_at

@@ -79,17 +79,13 @@ has_votes (placed ∷ others) = All-cons (HasPlacedText V2) placed others (has_a
 
 has_body : (from to : _) (body : Body) → HasText V2 (record { from = from; to = to; body = body })
 has_body from to (bodies.Call action) = has_action action
-has_body from to (bodies.Prepare position ballot) = tt
 has_body from to (bodies.Promise position ballot last) = has_last last
 has_body from to (bodies.Accept position ballot action) = has_action action
 has_body from to (bodies.Accepted position ballot action) = has_action action
 has_body from to (bodies.Decided position action) = has_action action
-has_body from to (bodies.Ask position) = tt
-has_body from to (bodies.Nack position ballot bound) = tt
-has_body from to (bodies.Reply number reply) = tt
 has_body from to (bodies.Report first applied actions) = has_actions actions
-has_body from to (bodies.PrepareRange range ballot) = tt
 has_body from to (bodies.PromiseRange range ballot votes) = has_votes votes
+has_body from to _ = tt
 
 pub has_text : (m : Message) → HasText V2 m
 has_text m = has_body m.from m.to m.body
@@ -142,17 +138,13 @@ votes_same v (placed ∷ others) =
 body_same : (v : Version) (body : Body) → length (body_text_at v body) ≡ length (body_text_at V2 body)
 unfolding number_text
 body_same v (bodies.Call action) = action_same v action
-body_same v (bodies.Prepare position ballot) = refl
 body_same v (bodies.Promise position ballot last) = omega (arith, last_same v last)
 body_same v (bodies.Accept position ballot action) = omega (arith, action_same v action)
 body_same v (bodies.Accepted position ballot action) = omega (arith, action_same v action)
 body_same v (bodies.Decided position action) = omega (arith, action_same v action)
-body_same v (bodies.Ask position) = refl
-body_same v (bodies.Nack position ballot bound) = refl
-body_same v (bodies.Reply number reply) = refl
 body_same v (bodies.Report first applied actions) = omega (arith, actions_same v actions)
-body_same v (bodies.PrepareRange range ballot) = refl
 body_same v (bodies.PromiseRange range ballot votes) = omega (arith, votes_same v votes)
+body_same v _ = refl
 
 pub text_same : (v : Version) (m : Message) → length (text_at v m) ≡ length (text_of m)
 text_same v m = omega (arith, body_same v m.body)

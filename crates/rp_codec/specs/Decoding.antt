@@ -4,10 +4,7 @@ use Rattle.rp_base.specs.declared.fault.PacketReason.{PacketReason}
 use Rattle.rp_base.specs.declared.fault.PacketReason.TheVariants.{Long, Version as UnknownVersion}
 use Rattle.rp_base.specs.declared.fault.PacketReason.TheVariants.{Kind as UnknownKind}
 use Rattle.rp_codec.specs.declared.packet.Body.{Body}
-use Rattle.rp_codec.specs.declared.packet.Body.TheVariants.{Call, Prepare, Promise, Accept}
-use Rattle.rp_codec.specs.declared.packet.Body.TheVariants.{Accepted, Decided, Ask, Nack}
-use Rattle.rp_codec.specs.declared.packet.Body.TheVariants.{Reply as Answer, Report, PrepareRange}
-use Rattle.rp_codec.specs.declared.packet.Body.TheVariants.{PromiseRange}
+use Rattle.rp_codec.specs.declared.packet.Body.TheVariants.{Report, PromiseRange}
 use Rattle.rp_codec.specs.Message.{Message, IsPacket}
 use Rattle.rp_codec.specs.declared.version.Version.{Version}
 use Rattle.rp_codec.specs.Version.{version_number}
@@ -47,18 +44,9 @@ BeginsWithPacket bytes = (p : Message) × (rest : List ℕ) × IsPacket p × IsT
 
 -- a body that takes memory: a report, or a promise for a range
 abbrev pub IsLongBody : Body → Type 0
-IsLongBody (Call action) = ⊥
-IsLongBody (Prepare position ballot) = ⊥
-IsLongBody (Promise position ballot last) = ⊥
-IsLongBody (Accept position ballot action) = ⊥
-IsLongBody (Accepted position ballot action) = ⊥
-IsLongBody (Decided position action) = ⊥
-IsLongBody (Ask position) = ⊥
-IsLongBody (Nack position ballot bound) = ⊥
-IsLongBody (Answer number reply) = ⊥
 IsLongBody (Report first applied actions) = Unit {0}
-IsLongBody (PrepareRange range ballot) = ⊥
 IsLongBody (PromiseRange range ballot votes) = Unit {0}
+IsLongBody _ = ⊥
 
 -- bytes that are the text of such a packet
 abbrev pub IsLongText : List ℕ → Type 0

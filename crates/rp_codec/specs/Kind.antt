@@ -9,19 +9,19 @@ use Rattle.rp_codec.specs.declared.kind.Kind.TheVariants.{Decided, Ask, Nack, Re
 use Rattle.rp_codec.specs.declared.kind.Kind.TheVariants.{PrepareRange, PromiseRange}
 
 -- the number of a kind
-abbrev pub number_of : Kind → ℕ
-number_of Call = 1
-number_of Prepare = 2
-number_of Promise = 3
-number_of Accept = 4
-number_of Accepted = 5
-number_of Decided = 6
-number_of Ask = 7
-number_of Nack = 8
-number_of Reply = 9
-number_of Report = 10
-number_of PrepareRange = 12
-number_of PromiseRange = 13
+abbrev pub number_of_kind : Kind → ℕ
+number_of_kind Call = 1
+number_of_kind Prepare = 2
+number_of_kind Promise = 3
+number_of_kind Accept = 4
+number_of_kind Accepted = 5
+number_of_kind Decided = 6
+number_of_kind Ask = 7
+number_of_kind Nack = 8
+number_of_kind Reply = 9
+number_of_kind Report = 10
+number_of_kind PrepareRange = 12
+number_of_kind PromiseRange = 13
 
 -- the kind of a body
 abbrev pub kind_of_body : Body → Kind

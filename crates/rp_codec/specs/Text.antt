@@ -21,7 +21,7 @@ use Rattle.rp_codec.specs.declared.packet.Body.TheVariants.{Accepted, Decided, A
 use Rattle.rp_codec.specs.declared.packet.Body.TheVariants.{Reply as Answer, Report, PrepareRange}
 use Rattle.rp_codec.specs.declared.packet.Body.TheVariants.{PromiseRange}
 use Rattle.rp_codec.specs.declared.version.Version.{Version}
-use Rattle.rp_codec.specs.Kind.{number_of, kind_of_body}
+use Rattle.rp_codec.specs.Kind.{number_of_kind, kind_of_body}
 use Rattle.rp_codec.specs.declared.version.Version.TheVariants.{V1, V2}
 use Rattle.rp_codec.specs.Version.{version_number}
 use Rattle.rp_codec.specs.Message.{Message}
@@ -133,7 +133,7 @@ list_text item_text front items = front ++ length items ∷ flat_map item_text i
 
 -- the number of a packet's kind
 abbrev pub kind_number : Body → ℕ
-kind_number body = number_of (kind_of_body body)
+kind_number body = number_of_kind (kind_of_body body)
 
 -- what a body says, but for a report's actions and the votes of a promise for a range
 abbrev pub short_body_text : Body → List ℕ

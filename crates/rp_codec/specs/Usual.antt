@@ -73,8 +73,8 @@ abbrev pub reply_sent : SentReply → Message
 reply_sent r = record { from = Node r.from; to = Task r.task; body = bodies.Reply r.number r.reply }
 
 -- the action is a call
-abbrev pub IsCall : Action → Type 0
-IsCall actions.Noop = ⊥
-IsCall (actions.Call task number object operation arg) = Unit {0}
-IsCall (actions.Interrupt source occurrence) = ⊥
-IsCall (actions.Tick now) = ⊥
+abbrev pub IsCallAction : Action → Type 0
+IsCallAction actions.Noop = ⊥
+IsCallAction (actions.Call task number object operation arg) = Unit {0}
+IsCallAction (actions.Interrupt source occurrence) = ⊥
+IsCallAction (actions.Tick now) = ⊥

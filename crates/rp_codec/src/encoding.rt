@@ -57,16 +57,7 @@ pub fn encode_onto(packet: &Packet, out: &mut Vec<u8>) -> Result<(), AllocError>
     match packet.body() {
         Body::Report { actions, .. } => put_list(out, &front, actions.as_slice()),
         Body::PromiseRange { votes, .. } => put_list(out, &front, votes.as_slice()),
-        Body::Call { .. }
-        | Body::Prepare { .. }
-        | Body::Promise { .. }
-        | Body::Accept { .. }
-        | Body::Accepted { .. }
-        | Body::Decided { .. }
-        | Body::Ask { .. }
-        | Body::Nack { .. }
-        | Body::Reply { .. }
-        | Body::PrepareRange { .. } => out.extend_from_slice(front.as_slice()),
+        _ => out.extend_from_slice(front.as_slice()),
     }
 }
 

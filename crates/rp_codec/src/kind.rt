@@ -1,7 +1,7 @@
 //! The kinds of packets.
 
 ghost use Rattle.std.specs.Prelude.{◌≡◌};
-ghost use Rattle.rp_codec.specs.Kind.{kind_of, kind_in, kind_of_body, number_of};
+ghost use Rattle.rp_codec.specs.Kind.{kind_of, kind_in, kind_of_body, number_of_kind};
 
 use crate::packet::Body;
 
@@ -26,7 +26,7 @@ impl Kind {
     /// Its number, the second byte of each text.
     #[inline(always)]
     pub(crate) fn number(self) -> u8
-        ensures { result ≡ number_of self }
+        ensures { result ≡ number_of_kind self }
     {
         match self {
             Kind::Call => 1,

@@ -6,10 +6,10 @@ ghost use Rattle.std.specs.Prelude.{◌≡◌, ◌↔◌, ◌+◌, [], ◌∷◌
 ghost use Rattle.std.specs.Int.{w32};
 ghost use Rattle.rp_base.specs.declared.record.Rec.TheVariants.{Started, Promised, Voted, Learned};
 ghost use Rattle.rp_base.specs.declared.reply.Reply.TheVariants.{Value};
-ghost use Rattle.rp_codec.specs.Kind.{number_of};
+ghost use Rattle.rp_codec.specs.Kind.{number_of_kind};
 ghost use Rattle.rp_codec.specs.Text.{number_text, signed_text, position_text, ballot_text, operation_text, action_text, vote_text, text_of};
 ghost use Rattle.rp_codec.specs.Record.{record_text};
-ghost use Rattle.rp_codec.specs.Usual.{IsCall, prepare_at, promise_at, accept_at, accepted_at, decided_of, reply_sent};
+ghost use Rattle.rp_codec.specs.Usual.{IsCallAction, prepare_at, promise_at, accept_at, accepted_at, decided_of, reply_sent};
 
 use crate::fields::VERSION;
 use crate::kind::Kind;
@@ -21,7 +21,7 @@ use rp_base::{Action, Ballot, Operation, Position};
 /// Whether the action is a call.
 #[inline(always)]
 pub fn is_call(action: &Action) -> bool
-    ensures { IsTrue result ↔ IsCall action.now }
+    ensures { IsTrue result ↔ IsCallAction action.now }
 {
     matches!(action, Action::Call { .. })
 }
@@ -89,7 +89,7 @@ fn operation_bytes(operation: Operation) -> [u8; 2]
 
 #[inline(always)]
 fn call_bytes(action: &Action) -> [u8; 17]
-    requires { IsCall action.now }
+    requires { IsCallAction action.now }
     ensures { result ≡ action_text action.now }
 {
     let Action::Call {
@@ -119,7 +119,7 @@ fn bound_bytes(position: Position, ballot: Ballot) -> [u8; 10]
 /// A position, a ballot, and a call.
 #[inline(always)]
 fn vote_bytes(position: Position, ballot: Ballot, action: &Action) -> [u8; 27]
-    requires { IsCall action.now }
+    requires { IsCallAction action.now }
     ensures { result ≡ vote_text position ballot action.now }
 {
     let rest: [u8; 25] = joined(&ballot_bytes(ballot), &call_bytes(action));
@@ -129,7 +129,7 @@ fn vote_bytes(position: Position, ballot: Ballot, action: &Action) -> [u8; 27]
 /// The version, a kind, and who says it to whom.
 #[inline(always)]
 fn head_bytes(kind: Kind, header: Header) -> [u8; 4]
-    ensures { result ≡ 2 ∷ number_of kind ∷ header.from ∷ header.to ∷ [] }
+    ensures { result ≡ 2 ∷ number_of_kind kind ∷ header.from ∷ header.to ∷ [] }
 {
     [VERSION, kind.number(), header.from.get(), header.to.get()]
 }
@@ -156,7 +156,7 @@ pub fn promise_text(header: Header) -> [u8; 15]
 /// The text of an accept whose action is a call.
 #[inline(always)]
 pub fn accept_text(header: Header, action: &Action) -> [u8; 31]
-    requires { IsCall action.now }
+    requires { IsCallAction action.now }
     ensures { result ≡ text_of (accept_at header action.now) }
 {
     let body = vote_bytes(header.position, header.ballot, action);
@@ -166,7 +166,7 @@ pub fn accept_text(header: Header, action: &Action) -> [u8; 31]
 /// The text of a vote for a call.
 #[inline(always)]
 pub fn accepted_text(header: Header, action: &Action) -> [u8; 31]
-    requires { IsCall action.now }
+    requires { IsCallAction action.now }
     ensures { result ≡ text_of (accepted_at header action.now) }
 {
     let body = vote_bytes(header.position, header.ballot, action);
@@ -176,7 +176,7 @@ pub fn accepted_text(header: Header, action: &Action) -> [u8; 31]
 /// The text of a decided call.
 #[inline]
 pub fn decided_text(decision: &SentDecision) -> [u8; 23]
-    requires { IsCall decision.now.action }
+    requires { IsCallAction decision.now.action }
     ensures { result ≡ text_of (decided_of decision.now) }
 {
     let head = [
@@ -226,7 +226,7 @@ pub fn promised_text(position: Position, ballot: Ballot) -> [u8; 12]
 /// The text of a record of a vote for a call.
 #[inline(always)]
 pub fn voted_text(position: Position, ballot: Ballot, action: &Action) -> [u8; 29]
-    requires { IsCall action.now }
+    requires { IsCallAction action.now }
     ensures { result ≡ record_text (Voted position ballot action.now) }
 {
     joined(&[VERSION, 3], &vote_bytes(position, ballot, action))
@@ -235,7 +235,7 @@ pub fn voted_text(position: Position, ballot: Ballot, action: &Action) -> [u8; 2
 /// The text of a record of a call that is learned.
 #[inline]
 pub fn learned_text(position: Position, action: &Action) -> [u8; 21]
-    requires { IsCall action.now }
+    requires { IsCallAction action.now }
     ensures { result ≡ record_text (Learned position action.now) }
 {
     let call = call_bytes(action);

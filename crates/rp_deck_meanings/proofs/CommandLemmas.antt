@@ -12,7 +12,7 @@ use Rattle.rp_object.specs.declared.program.Profile.{Profile}
 use Rattle.rp_deck_declarations.specs.ScriptNames.{DeclaredNames, declared_names}
 use Rattle.rp_deck_objects.specs.ObjectViews.{OperationsText, object_operations}
 use Rattle.rp_deck.specs.Script.{IsUpTo}
-use Rattle.rp_deck_text.specs.ScriptText.{argument_words, name_numbered, operation_name_in, operations_numbered, operation_name, submit_words, AreOperations, AreDeclared, IsOneOf, IsCallOf, IsTimerOf, IsSubmitOf, IsStepOf, IsCommandOf}
+use Rattle.rp_deck_text.specs.ScriptText.{argument_words, name_numbered, operation_name_in, operations_numbered, operation_name, submit_words, AreOperations, AreDeclared, IsOneOf, HasOperation, IsTimerOf, IsSubmitOf, IsStepOf, IsCommandOf}
 use Rattle.rp_deck_text.specs.ScriptText as reader
 use Rattle.rp_deck_meanings.specs.Names.{IsAmong, place_in, number_in, is_among}
 use Rattle.rp_deck_meanings.specs.Named.{NamedPart, NamedObject, NamedHandler, NamedStep, NamedCommand, NamedDeck, function_names, procedure_names, operation_names, task_names, object_names, handler_names}
@@ -33,7 +33,7 @@ call_words d task node object true b f p e arg = refl
 call_words d task node object false true f p e arg = refl
 call_words d task node object false false f p e arg = refl
 
-is_submit : (d : DeclaredNames) (object : ℕ) (a b : Bool) (f p e : ℕ) (arg : ℤ) → IsCallOf d object (chosen a b f p e) → FitsSigned w64 arg → IsSubmitOf d object (chosen a b f p e) arg
+is_submit : (d : DeclaredNames) (object : ℕ) (a b : Bool) (f p e : ℕ) (arg : ℤ) → HasOperation d object (chosen a b f p e) → FitsSigned w64 arg → IsSubmitOf d object (chosen a b f p e) arg
 is_submit d object true b f p e arg call fits = (call, fits)
 is_submit d object false true f p e arg call fits = (call, fits)
 is_submit d object false false f p e arg call fits = (call, fits)
@@ -122,7 +122,7 @@ module _ (deck : NamedDeck) (right : IsRight deck) where
         (get_or_from_slice_get names.operations (number - 1) (object_operations (whole (at_object object among).object)) (record { names = []; operations = [] }) (own_there object among))
         ∙ (operation_is parts_of operation (at_object object among).is.operations_named among_own).0
 
-    is_call : IsCallOf names number (operation_from 0 0 0 parts_of operation)
+    is_call : HasOperation names number (operation_from 0 0 0 parts_of operation)
     is_call = record {
       own = object_operations (whole (at_object object among).object);
       object_is = in_range object (object_names deck.objects) among;

@@ -96,7 +96,7 @@ with_objects_is d (object ∷ rest) =
       drafts = (ap (λ (o : ObjectText). (d.drafts ++ o ∷ []) ++ map whole rest) (whole_is object) ∙ append_assoc d.drafts (whole object ∷ []) (map whole rest)) k;
     })
 
-objects_same : (profile : Profile) (rest : List NamedObject) → AllByRecursion (IsRightObject profile) rest → objects_of.objects_lines profile (map declared_object rest) ≡ flat_map (written.object_lines profile) rest
+objects_same : (profile : Profile) (rest : List NamedObject) → AllByRecursion (IsRightObject profile) rest → objects_of.objects_lines profile (map declared_object rest) ≡ flat_map (written.named_object_lines profile) rest
 objects_same profile [] are = refl
 objects_same profile (object ∷ rest) are =
     λ k. ((codes "object" ∷ object.name ∷ decimal object.ceiling ∷ []) ∷ parts_same profile object are.0 [] object.parts refl are.0.parts k) ++ objects_same profile rest are.1 k

@@ -7,8 +7,8 @@ use Rattle.rp_object.specs.declared.program.Profile.TheVariants.{Jorvik}
 use Rattle.rp_deck.specs.Script.{IsUpTo}
 use Rattle.rp_deck_meanings.specs.Named.{NamedExpr}
 use Rattle.rp_deck_meanings.specs.Named.{NamedExpr as exprs}
-use Rattle.rp_deck_meanings.specs.NamedTexts.{text_of}
-use Rattle.rp_deck_meanings.specs.RightDecks.{HasNames, IsRightObject, IsRightHandler, IsRight, IsWholeBody, expr_nodes}
+use Rattle.rp_deck_meanings.specs.NamedTexts.{named_deck_text}
+use Rattle.rp_deck_meanings.specs.RightDecks.{HasNames, IsRightObject, IsRightHandler, IsRight, IsWholeBody, named_expr_nodes}
 use Rattle.rp_deck_meanings.specs.Example.{sets_n, example_parts, example, example_text}
 
 small : (n : ℕ) → n ≤ 100 → FitsSigned w64 (pos n)
@@ -24,7 +24,7 @@ abbrev truths : List (List ℕ)
 truths = codes "some" ∷ []
 
 -- a body that sets n
-sets_is : (value : NamedExpr) → HasNames wholes truths value → expr_nodes value ≤ 32 → IsWholeBody wholes truths (sets_n value)
+sets_is : (value : NamedExpr) → HasNames wholes truths value → named_expr_nodes value ≤ 32 → IsWholeBody wholes truths (sets_n value)
 sets_is value names few = (
   ((tt, omega arith, refl, (names, few)), omega arith, refl, ((small 0 (omega arith), refl), omega arith)),
   omega arith,
@@ -96,6 +96,6 @@ example_is = record {
   );
 }
 
-pub example_written : text_of example ≡ example_text
+pub example_written : named_deck_text example ≡ example_text
 unfolding digits
 example_written = refl

@@ -13,7 +13,7 @@ use Rattle.rp_deck_meanings.specs.Named.{NamedCond as conds}
 use Rattle.rp_deck_meanings.specs.Named.{NamedBody as bodies}
 use Rattle.rp_deck_meanings.specs.NamedTexts.{expr_words, cond_words, body_lines}
 use Rattle.rp_deck_meanings.specs.NamedMeanings.{expr_meant, cond_meant, body_meant}
-use Rattle.rp_deck_meanings.specs.RightDecks.{expr_nodes, cond_nodes, statements, HasNames, HasCondNames, IsRightBody}
+use Rattle.rp_deck_meanings.specs.RightDecks.{named_expr_nodes, named_cond_nodes, statements, HasNames, HasCondNames, IsRightBody}
 
 -- the component with the place of a name has that name
 pub record Finds (names : List (List ℕ)) (declared : List Component) (whole truths before_ints before_bools : List (List ℕ)) : Type 0 where
@@ -22,7 +22,7 @@ pub record Finds (names : List (List ℕ)) (declared : List Component) (whole tr
 
 -- as many nodes and statements
 module _ (whole truths : List (List ℕ)) where
-  pub nodes_same : (e : NamedExpr) → texts.expr_nodes (expr_meant whole truths e) ≡ expr_nodes e
+  pub nodes_same : (e : NamedExpr) → texts.expr_nodes (expr_meant whole truths e) ≡ named_expr_nodes e
   nodes_same (exprs.Number number) = refl
   nodes_same exprs.Arg = refl
   nodes_same exprs.Out = refl
@@ -30,7 +30,7 @@ module _ (whole truths : List (List ℕ)) where
   nodes_same (exprs.Add a b) = λ i. 1 + (nodes_same a i + nodes_same b i)
   nodes_same (exprs.Sub a b) = λ i. 1 + (nodes_same a i + nodes_same b i)
 
-  pub cond_nodes_same : (c : NamedCond) → texts.cond_nodes (cond_meant whole truths c) ≡ cond_nodes c
+  pub cond_nodes_same : (c : NamedCond) → texts.cond_nodes (cond_meant whole truths c) ≡ named_cond_nodes c
   cond_nodes_same (conds.Constant truth) = refl
   cond_nodes_same (conds.Named name) = refl
   cond_nodes_same (conds.Less a b) = λ i. 1 + (nodes_same a i + nodes_same b i)

@@ -220,7 +220,7 @@ module _ (profile : Profile) (object : NamedObject) (right : IsRightObject profi
       ap (λ (l : List (List ℕ)). codes "truth" ∷ l) (cond_same (component_names before) (components_from 0 0 before) (int_names object.parts) (bool_names object.parts) (int_names before) (bool_names before) (finds_before before rest e) truth is.0)
 
   ended_same : (before rest : List NamedPart) (body : NamedBody) → before ++ rest ≡ object.parts → IsWholeBody (int_names before) (bool_names before) body
-      → parts.ended (so_far object before) (body_meant (int_names object.parts) (bool_names object.parts) body) ≡ written.ended body
+      → parts.ended (so_far object before) (body_meant (int_names object.parts) (bool_names object.parts) body) ≡ written.lines_with_end body
   ended_same before rest body e is =
       ap (λ (l : List (List (List ℕ))). l ++ (codes "end" ∷ []) ∷ []) (body_same (component_names before) (components_from 0 0 before) (int_names object.parts) (bool_names object.parts) (int_names before) (bool_names before) (finds_before before rest e) 0 body is.0)
 

@@ -11,7 +11,7 @@ use Rattle.rp_deck_text.specs.ObjectTexts.{ObjectsText, IsObjectsText, objects_d
 use Rattle.rp_deck_text.specs.ScriptText.{AreDeclared, IsCommandOf, command_words, text_of_lines, numbered_commands}
 use Rattle.rp_deck_meanings.specs.Named.{NamedDeck}
 use Rattle.rp_deck_meanings.specs.NamedTexts as written
-use Rattle.rp_deck_meanings.specs.NamedTexts.{text_of}
+use Rattle.rp_deck_meanings.specs.NamedTexts.{named_deck_text}
 use Rattle.rp_deck_meanings.specs.NamedMeanings.{command_meant, deck_meant}
 use Rattle.rp_deck_meanings.specs.RightDecks.{IsRight}
 use Rattle.rp_deck_meanings.proofs.DeckLemmas.{declarations, draft_made, declarations_are, lines_same, declared_is}
@@ -22,7 +22,7 @@ abbrev pub ReadBack : Type 0
 ReadBack = (t : ObjectsText) (commands : List CommandText) → IsObjectsText t → AreDeclared (declared_names (objects_draft t)) → AllByRecursion (IsCommandOf (declared_names (objects_draft t))) commands
     → meaning_of Script (objects_text t commands) ≡ Ok (objects_deck t commands)
 
-text_same : (deck : NamedDeck) → IsRight deck → objects_text (declarations deck) (map (command_meant deck) deck.script) ≡ text_of deck
+text_same : (deck : NamedDeck) → IsRight deck → objects_text (declarations deck) (map (command_meant deck) deck.script) ≡ named_deck_text deck
 text_same deck right =
     ap (λ (d : DraftText). text_of_lines (declared_lines (declarations deck) ++ map (command_words (declared_names d)) (map (command_meant deck) deck.script))) (draft_made deck)
     ∙ (λ k. text_of_lines (lines_same deck right k ++ commands_same deck right deck.script right.script k))
@@ -32,7 +32,7 @@ deck_same deck right =
     (λ k. deck_of (draft_made deck k) (numbered_commands (1 + length (lines_same deck right k)) (map (command_meant deck) deck.script)))
     ∙ ap (λ (d : DeclaredText). record { declared = d; script = numbered_commands (1 + length (written.declaration_lines deck)) (map (command_meant deck) deck.script) }) (declared_is deck)
 
-pub means_it : ReadBack → (deck : NamedDeck) → IsRight deck → meaning_of Script (text_of deck) ≡ Ok (deck_meant deck)
+pub means_it : ReadBack → (deck : NamedDeck) → IsRight deck → meaning_of Script (named_deck_text deck) ≡ Ok (deck_meant deck)
 means_it back deck right =
     let draft = draft_made deck in
     let declared = subst (λ (d : DraftText). AreDeclared (declared_names d)) (sym draft) (names_are_declared deck right) in

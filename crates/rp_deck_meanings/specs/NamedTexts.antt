@@ -54,8 +54,8 @@ body_lines (bodies.If before condition first second) =
     ∷ (body_lines first
     ++ ((codes "else" ∷ []) ∷ (body_lines second ++ (codes "end" ∷ []) ∷ []))))
 
-abbrev pub ended : NamedBody → List Line
-ended body = body_lines body ++ (codes "end" ∷ []) ∷ []
+abbrev pub lines_with_end : NamedBody → List Line
+lines_with_end body = body_lines body ++ (codes "end" ∷ []) ∷ []
 
 abbrev pub result_words : NamedResult → Line
 result_words (Value value) = codes "value" ∷ expr_words value
@@ -69,13 +69,13 @@ part_lines profile (ABool bool) = (codes "bool" ∷ bool.name ∷ truth_word boo
 part_lines profile (AFunction function) =
     (codes "function" ∷ function.name ∷ result_words function.result) ∷ []
 part_lines profile (AProcedure procedure) =
-    (codes "procedure" ∷ procedure.name ∷ []) ∷ ended procedure.body
+    (codes "procedure" ∷ procedure.name ∷ []) ∷ lines_with_end procedure.body
 part_lines profile (AnEntry entry) =
     (codes "entry" ∷ entry.name ∷ codes "when" ∷ entry.barrier ∷ queue_words profile entry.longest)
-    ∷ ended entry.body
+    ∷ lines_with_end entry.body
 
-abbrev pub object_lines : Profile → NamedObject → List Line
-object_lines profile object =
+abbrev pub named_object_lines : Profile → NamedObject → List Line
+named_object_lines profile object =
     (codes "object" ∷ object.name ∷ decimal object.ceiling ∷ [])
     ∷ flat_map (part_lines profile) object.parts
 
@@ -110,7 +110,7 @@ declaration_lines deck =
     ∷ (positions_lines deck.positions
     ++ (profile_lines deck.profile
     ++ (map task_line deck.tasks
-    ++ (flat_map (object_lines (profile_of deck)) deck.objects
+    ++ (flat_map (named_object_lines (profile_of deck)) deck.objects
     ++ (map (handler_line (codes "interrupt")) deck.interrupts
     ++ (map (handler_line (codes "timer")) deck.timers ++ (codes "script" ∷ []) ∷ []))))))
 
@@ -140,5 +140,5 @@ command_words (commands.Lose first last) = codes "lose" ∷ decimal first ∷ de
 command_words commands.Drain = codes "drain" ∷ []
 command_words commands.Show = codes "show" ∷ []
 
-abbrev pub text_of : NamedDeck → List ℕ
-text_of deck = text_of_lines (declaration_lines deck ++ map command_words deck.script)
+abbrev pub named_deck_text : NamedDeck → List ℕ
+named_deck_text deck = text_of_lines (declaration_lines deck ++ map command_words deck.script)

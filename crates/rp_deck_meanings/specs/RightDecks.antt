@@ -33,20 +33,20 @@ AreNames names = IsTrue (are_names names)
 -- ---- expressions, conditions and bodies of an object
 
 -- how many nodes there are
-abbrev pub expr_nodes : NamedExpr → ℕ
-expr_nodes (exprs.Add first second) = 1 + (expr_nodes first + expr_nodes second)
-expr_nodes (exprs.Sub first second) = 1 + (expr_nodes first + expr_nodes second)
-expr_nodes _ = 1
+abbrev pub named_expr_nodes : NamedExpr → ℕ
+named_expr_nodes (exprs.Add first second) = 1 + (named_expr_nodes first + named_expr_nodes second)
+named_expr_nodes (exprs.Sub first second) = 1 + (named_expr_nodes first + named_expr_nodes second)
+named_expr_nodes _ = 1
 
-abbrev pub cond_nodes : NamedCond → ℕ
-cond_nodes (conds.Constant truth) = 1
-cond_nodes (conds.Named name) = 1
-cond_nodes (conds.Less first second) = 1 + (expr_nodes first + expr_nodes second)
-cond_nodes (conds.LessOrEqual first second) = 1 + (expr_nodes first + expr_nodes second)
-cond_nodes (conds.Equal first second) = 1 + (expr_nodes first + expr_nodes second)
-cond_nodes (conds.Not negated) = 1 + cond_nodes negated
-cond_nodes (conds.And first second) = 1 + (cond_nodes first + cond_nodes second)
-cond_nodes (conds.Or first second) = 1 + (cond_nodes first + cond_nodes second)
+abbrev pub named_cond_nodes : NamedCond → ℕ
+named_cond_nodes (conds.Constant truth) = 1
+named_cond_nodes (conds.Named name) = 1
+named_cond_nodes (conds.Less first second) = 1 + (named_expr_nodes first + named_expr_nodes second)
+named_cond_nodes (conds.LessOrEqual first second) = 1 + (named_expr_nodes first + named_expr_nodes second)
+named_cond_nodes (conds.Equal first second) = 1 + (named_expr_nodes first + named_expr_nodes second)
+named_cond_nodes (conds.Not negated) = 1 + named_cond_nodes negated
+named_cond_nodes (conds.And first second) = 1 + (named_cond_nodes first + named_cond_nodes second)
+named_cond_nodes (conds.Or first second) = 1 + (named_cond_nodes first + named_cond_nodes second)
 
 -- how many statements there are
 abbrev pub statements : NamedBody → ℕ
@@ -79,10 +79,10 @@ module _ (whole truths : List (List ℕ)) where
 
   -- at most 32 nodes
   abbrev pub IsRightExpr : NamedExpr → Type 0
-  IsRightExpr value = HasNames value × (expr_nodes value ≤ 32)
+  IsRightExpr value = HasNames value × (named_expr_nodes value ≤ 32)
 
   abbrev pub IsRightCond : NamedCond → Type 0
-  IsRightCond value = HasCondNames value × (cond_nodes value ≤ 32)
+  IsRightCond value = HasCondNames value × (named_cond_nodes value ≤ 32)
 
   -- each statement is within n `if`s, of which there are at most 7
   abbrev pub IsRightBody : ℕ → NamedBody → Type 0

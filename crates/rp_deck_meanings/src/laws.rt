@@ -10,7 +10,7 @@ ghost use Rattle.rp_deck_meanings.specs.Example.{example, example_text};
 ghost use Rattle.rp_deck_meanings.specs.Named.{NamedDeck};
 ghost use Rattle.rp_deck_meanings.specs.NamedMeanings.{deck_meant};
 ghost use Rattle.rp_deck_meanings.specs.NamedPrograms.{IsProgramOf};
-ghost use Rattle.rp_deck_meanings.specs.NamedTexts.{text_of};
+ghost use Rattle.rp_deck_meanings.specs.NamedTexts.{named_deck_text};
 ghost use Rattle.rp_deck_meanings.specs.RightDecks.{IsRight};
 ghost use Rattle.rp_deck_meanings.specs.Tallies.{IsRightTally, NamedTally, tally_meant, tally_text};
 ghost use Rattle.rp_deck_readings.specs.Readings.{IsDeckOfObjects};
@@ -27,7 +27,7 @@ pub fn decks_mean_what_they_say()
     //   priorities, ceilings, ranges, first values, barriers, queues, bodies and handlers are as
     //   they are written
     ensures { (deck : NamedDeck) → IsRight deck
-        → meaning_of Script (text_of deck) ≡ Ok (deck_meant deck) }
+        → meaning_of Script (named_deck_text deck) ≡ Ok (deck_meant deck) }
 {
     object_decks_are_read_back();
 }
@@ -55,5 +55,5 @@ pub fn programs_are_as_declared()
 pub fn an_example_is_right()
     // claim: A deck with most kinds of lines is right, and its text is the one that is shown
     ensures right { IsRight example }
-    ensures text { text_of example ≡ example_text }
+    ensures text { named_deck_text example ≡ example_text }
 {}

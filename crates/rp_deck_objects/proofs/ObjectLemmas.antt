@@ -22,7 +22,7 @@ use Rattle.rp_deck_bodies.specs.declared.names.Component.{Component}
 use Rattle.rp_deck_bodies.specs.declared.names.Component.TheVariants.{Int, Bool}
 use Rattle.rp_deck_objects.specs.declared.objects.Head.TheVariants.{Entry}
 use Rattle.rp_deck_bodies.specs.Counted.{IsCounted, AreCounted, WhereCounted}
-use Rattle.rp_deck_objects.specs.ObjectLimits.{HeadKeeps, HasRoom, KeepsComponents}
+use Rattle.rp_deck_objects.specs.ObjectLimits.{HeadKeeps, HasRoomForOperation, KeepsComponents}
 use Rattle.rp_deck_bodies.proofs.CountedLemmas.{all_front}
 use Rattle.rp_deck_bodies.proofs.ListLemmas.{all_last, all_weaker}
 use Rattle.rp_deck_objects.proofs.StoreLemmas.{one_more_counted, more_numbered, more_hold}
@@ -158,11 +158,11 @@ same_entries Ravenscar before after same keeps =
     (subst (λ (v : Vec DeclaredEntry Global). length v.items ≤ 1) (sym same) keeps.0, subst (λ (v : Vec DeclaredEntry Global). All (λ entry. entry.longest ≡ 1) v.items) (sym same) keeps.1)
 same_entries Jorvik before after same keeps = tt
 
-pub few_entries : (profile : Profile) (operations : Operations) (barrier longest : ℕ) → HasRoom profile operations (Entry barrier longest) → length operations.entries.items < 4
+pub few_entries : (profile : Profile) (operations : Operations) (barrier longest : ℕ) → HasRoomForOperation profile operations (Entry barrier longest) → length operations.entries.items < 4
 few_entries Ravenscar operations barrier longest room = omega (arith, room)
 few_entries Jorvik operations barrier longest room = room
 
-pub entry_keeps : (profile : Profile) (before after : Operations) (entry : DeclaredEntry) → after.entries.items ≡ before.entries.items ++ entry ∷ [] → HasRoom profile before (Entry entry.barrier entry.longest) → HeadKeeps profile (Entry entry.barrier entry.longest)
+pub entry_keeps : (profile : Profile) (before after : Operations) (entry : DeclaredEntry) → after.entries.items ≡ before.entries.items ++ entry ∷ [] → HasRoomForOperation profile before (Entry entry.barrier entry.longest) → HeadKeeps profile (Entry entry.barrier entry.longest)
     → KeepsProfile profile before → KeepsProfile profile after
 entry_keeps Ravenscar before after entry is room single keeps = (
   omega (arith, ap length is, length-append before.entries.items (entry ∷ []), room),

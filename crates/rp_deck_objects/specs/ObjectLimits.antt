@@ -31,9 +31,9 @@ module _ {Y S : Type 0} where
       All (λ name. has_operation (operation_of name) declared ≡ true) (values names)
 
 -- there is room for one more operation of this kind
-abbrev pub HasRoom : Profile → Operations → Head → Type 0
-HasRoom profile operations Procedure = length operations.procedures.items < 8
-HasRoom profile operations (Entry barrier longest) =
+abbrev pub HasRoomForOperation : Profile → Operations → Head → Type 0
+HasRoomForOperation profile operations Procedure = length operations.procedures.items < 8
+HasRoomForOperation profile operations (Entry barrier longest) =
     length operations.entries.items < most_entries profile
 
 -- a barrier is counted, and at most 8 calls wait
@@ -50,7 +50,7 @@ HeadKeeps Jorvik head = Unit {0}
 -- an operation whose body may begin: there is room for it, its name is new, and it fits
 pub record MayBegin (profile : Profile) (o : ObjectDraft) (name : List ℕ) (head : Head)
     : Type 0 where
-  pub room : HasRoom profile o.operations head
+  pub room : HasRoomForOperation profile o.operations head
   pub new : is_declared name (key_names o.operation_names) ≡ false
   pub fits : WhereCounted (values o.component_names) (λ limits. HeadFits limits head)
   pub keeps : HeadKeeps profile head
@@ -96,12 +96,12 @@ pub record MayDeclare (profile : Profile) (o : ObjectDraft) : Type 0 where
   pub none : o.open_operation ≡ None
 
 -- no procedure is lost
-abbrev pub Grows : ObjectDraft → ObjectDraft → Type 0
-Grows old new = length (object_text old).procedures ≤ length (object_text new).procedures
+abbrev pub KeepsProcedures : ObjectDraft → ObjectDraft → Type 0
+KeepsProcedures old new = length (object_text old).procedures ≤ length (object_text new).procedures
 
 -- what each line that declares keeps, if it was read: the limits, under each profile, and the
 -- procedures
 abbrev pub KeepsObject : ObjectDraft → ObjectDraft → Result (Unit {0}) LineError → Type 0
 KeepsObject old new result =
     ((profile : Profile) → MayDeclare profile old → OnOk result (IsObject profile new))
-    × OnOk result (Grows old new)
+    × OnOk result (KeepsProcedures old new)

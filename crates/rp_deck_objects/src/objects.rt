@@ -103,7 +103,7 @@ impl ObjectDraft {
     ghost use Rattle.std.specs.Prelude.{option_map, string_bytes, is_some};
     ghost use Rattle.rp_deck_objects.specs.ObjectViews.{function_text, operation_text, object_text, operation_of, protected_text, protected_of, object_operations, own_operations};
     ghost use Rattle.rp_deck_objects.specs.Objects.{empty_object, component_name_at, with_int, int_line, with_bool, bool_line, function_of, with_function, function_line, procedure_line, entry_line, begun_line, completed_as, operation_line, part_line, object_step};
-    ghost use Rattle.rp_deck_objects.specs.ObjectLimits.{MayBegin, IsOpenIn, IsObject, MayDeclare, Grows, KeepsObject};
+    ghost use Rattle.rp_deck_objects.specs.ObjectLimits.{MayBegin, IsOpenIn, IsObject, MayDeclare, KeepsProcedures, KeepsObject};
     ghost use Rattle.rp_deck_bodies.specs.BodyViews.{body_draft_text};
     ghost use Rattle.rp_words.specs.Tables.{find, is_declared, key_names};
 
@@ -184,7 +184,7 @@ impl ObjectDraft {
         ensures read { Makes (λ _. object_text self.new) result
             (object_step profile (object_text self.old) (text_of line.entry)) }
         ensures object { OnOk result (IsObject profile self.new) }
-        ensures grows { OnOk result (Grows self.old self.new) }
+        ensures grows { OnOk result (KeepsProcedures self.old self.new) }
     {
         match self.open_operation.take() {
             Some(operation) => self.read_body_line(alloc, profile, operation, line),
@@ -210,7 +210,7 @@ impl ObjectDraft {
             (operation_line (object_text self.old) (operation_text operation)
             (text_of line.entry)) }
         ensures object { OnOk result (IsObject profile self.new) }
-        ensures grows { OnOk result (Grows self.old self.new) }
+        ensures grows { OnOk result (KeepsProcedures self.old self.new) }
     {
         if operation
             .body
@@ -234,7 +234,7 @@ impl ObjectDraft {
         ensures read { Makes (λ _. object_text self.new) result
             (part_line profile (object_text self.old) part (unread words.entry)) }
         ensures object { OnOk result (IsObject profile self.new) }
-        ensures grows { OnOk result (Grows self.old self.new) }
+        ensures grows { OnOk result (KeepsProcedures self.old self.new) }
     {
         match part {
             Some(Part::Int) => self.read_int(alloc, words),
@@ -422,7 +422,7 @@ impl ObjectDraft {
         ensures read { Makes (λ _. object_text self.new) result
             (entry_line profile (object_text self.old) (unread words.entry)) }
         ensures object { OnOk result (IsObject profile self.new) }
-        ensures grows { OnOk result (Grows self.old self.new) }
+        ensures grows { OnOk result (KeepsProcedures self.old self.new) }
     {
         if self.operations.entries.len() >= most_entries(profile) {
             return Err(LineError::Bad(DeckReason::TooMany));
@@ -449,7 +449,7 @@ impl ObjectDraft {
             (begun_line (object_text self.old) name.now head (unread words.entry)) }
         ensures object { (profile : Profile) → MayDeclare profile self.old
             → MayBegin profile self.old name.now head → OnOk result (IsObject profile self.new) }
-        ensures grows { OnOk result (Grows self.old self.new) }
+        ensures grows { OnOk result (KeepsProcedures self.old self.new) }
     {
         words.end()?;
         let name = String::from_str(alloc, name)?;
@@ -467,7 +467,7 @@ impl ObjectDraft {
             (object_text self.old)) }
         ensures memory { IfErr result (λ error. error ≡ LineError.OutOfMemory) }
         ensures object { OnOk result (IsObject profile self.new) }
-        ensures grows { OnOk result (Grows self.old self.new) }
+        ensures grows { OnOk result (KeepsProcedures self.old self.new) }
     {
         let body = operation.body.into_statements();
         match operation.head {

@@ -20,7 +20,7 @@ use Rattle.rp_entry.specs.Operations.{of_index}
 use Rattle.rp_entry.specs.Queue.{State, queue_at, all_calls}
 use Rattle.rp_entry.specs.Replies.{reply_of, function_reply}
 use Rattle.rp_entry.specs.Actions.{Request, calls_function, calls_procedure, calls_entry, event, with_caller}
-use Rattle.rp_entry.specs.Results.{Acted, Next, Serviced, replies_with, with_queue_first, next_call, served, serviced_from, serviced, ran_for, function_called, procedure_called, entry_called, event_handled, acted}
+use Rattle.rp_entry.specs.Results.{Acted, Next, Serviced, replies_with, with_queue_first, next_to_serve, served, serviced_from, serviced, ran_for, function_called, procedure_called, entry_called, event_handled, acted}
 use Rattle.rp_deck_bodies.specs.Bodies.{BodyText}
 use Rattle.rp_deck_bodies.specs.BodyViews.{body_text}
 use Rattle.rp_deck_objects.specs.Objects.{FunctionText, EntryText}
@@ -76,14 +76,14 @@ or_first : (b : Bool) (one : Next) (other : Option Next) → option_map next_tex
 or_first true one other = refl
 or_first false one other = refl
 
-next_is : (store : Store) (entries : List Entry) (queues : List (List Waiting)) → option_map next_text (next_call store entries queues) ≡ next_as store (map entry_text entries) queues
+next_is : (store : Store) (entries : List Entry) (queues : List (List Waiting)) → option_map next_text (next_to_serve store entries queues) ≡ next_as store (map entry_text entries) queues
 next_is store [] queues = refl
 next_is store (entry ∷ entries) [] = refl
-next_is store (entry ∷ entries) ([] ∷ queues) = queue_first [] (next_call store entries queues) ∙ ap (with_queue []) (next_is store entries queues)
+next_is store (entry ∷ entries) ([] ∷ queues) = queue_first [] (next_to_serve store entries queues) ∙ ap (with_queue []) (next_is store entries queues)
 next_is store (entry ∷ entries) ((call ∷ rest) ∷ queues) =
     let first : Next = record { entry = entry; call = call; left = rest ∷ queues } in
-    or_first (bool_value store entry.barrier) first (with_queue_first (call ∷ rest) (next_call store entries queues))
-    ∙ ap (λ (o : Option NextAs). cond {A = Option NextAs} (bool_value store entry.barrier) (Some (next_text first)) o) (queue_first (call ∷ rest) (next_call store entries queues) ∙ ap (with_queue (call ∷ rest)) (next_is store entries queues))
+    or_first (bool_value store entry.barrier) first (with_queue_first (call ∷ rest) (next_to_serve store entries queues))
+    ∙ ap (λ (o : Option NextAs). cond {A = Option NextAs} (bool_value store entry.barrier) (Some (next_text first)) o) (queue_first (call ∷ rest) (next_to_serve store entries queues) ∙ ap (with_queue (call ∷ rest)) (next_is store entries queues))
 
 -- ---- servicing
 
@@ -111,7 +111,7 @@ serviced_is : (most : ℕ) (entries : List Entry) (store : Store) (queues : List
 unfolding serviced_as
 serviced_is zero entries store queues = refl
 serviced_is (suc most) entries store queues =
-    serve_is (serviced_from most entries) (serviced_as most (map entry_text entries)) (serviced_is most entries) store queues (next_call store entries queues)
+    serve_is (serviced_from most entries) (serviced_as most (map entry_text entries)) (serviced_is most entries) store queues (next_to_serve store entries queues)
     ∙ ap (serve_as (serviced_as most (map entry_text entries)) store queues) (next_is store entries queues)
 
 -- ---- requests

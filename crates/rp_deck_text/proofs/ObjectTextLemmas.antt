@@ -16,7 +16,7 @@ use Rattle.rp_deck_declarations.specs.Declaring.{on_line, declarations_from, dec
 use Rattle.rp_deck_text.specs.DraftTexts.{at_object, Declares}
 use Rattle.rp_deck_declarations.specs.Drafts.{DraftText, empty_draft, profile_line, has_body, is_in_body, allows, profile_of, object_line, handler_at, handled_at, interrupt_line, timer_line}
 use Rattle.rp_deck_objects.specs.Objects.{empty_object}
-use Rattle.rp_deck_text.specs.ObjectTexts.{DeclaredObject, DeclaredHandler, with_object, object_lines, IsObjectOf, with_objects, objects_lines, AreObjectsOf, handler_of, IsHandlerOf, with_interrupt, with_timer, handler_words, with_interrupts, with_timers, AreInterruptsOf, AreTimersOf, handlers_lines, ObjectsText, profile_word, profile_words, tasks_draft, objects_draft, declared_lines, IsObjectsText}
+use Rattle.rp_deck_text.specs.ObjectTexts.{DeclaredObject, DeclaredHandler, with_object, object_lines, IsTextOfObject, with_objects, objects_lines, AreObjectsOf, handler_of, IsHandlerOf, with_interrupt, with_timer, handler_words, with_interrupts, with_timers, AreInterruptsOf, AreTimersOf, handlers_lines, ObjectsText, profile_word, profile_words, tasks_draft, objects_draft, declared_lines, IsObjectsText}
 use Rattle.rp_deck_text.specs.PartTexts.{IsNew, shut, with_parts, parts_lines}
 use Rattle.rp_deck.specs.Script.{IsUpTo}
 use Rattle.rp_deck_text.specs.ScriptText.{spaced, line_of, numbered_lines}
@@ -27,7 +27,7 @@ use Rattle.rp_deck_text.proofs.TextsLemmas.{numbered_append}
 use Rattle.rp_deck_text.proofs.BodyTextLemmas.{last_is, both_declare, one_declares}
 use Rattle.rp_deck_text.proofs.PartTextLemmas.{parts_declare, and_none}
 
-object_back : (d : DraftText) (o : DeclaredObject) → IsObjectOf d o
+object_back : (d : DraftText) (o : DeclaredObject) → IsTextOfObject d o
     → object_line d (spaced (o.name ∷ decimal o.ceiling ∷ [])) ≡ Ok (at_object (record d { objects = d.objects ++ o.name ∷ [] }) d.drafts (empty_object o.name o.ceiling))
 unfolding object_line
 object_back d o is =
@@ -60,7 +60,7 @@ not_within d kind outside allowed =
 objects_allowed : (d : DraftText) → d.is_tally ≡ false → not d.is_tally ≡ true
 objects_allowed d other = ap not other
 
-pub object_declares : (d : DraftText) (o : DeclaredObject) → is_in_body d ≡ false → d.is_tally ≡ false → IsObjectOf d o → Declares d (object_lines (profile_of d) o) (with_object d o)
+pub object_declares : (d : DraftText) (o : DeclaredObject) → is_in_body d ≡ false → d.is_tally ≡ false → IsTextOfObject d o → Declares d (object_lines (profile_of d) o) (with_object d o)
 object_declares d o outside other is =
     let more : DraftText = record d { objects = d.objects ++ o.name ∷ [] } in
     let begun : DraftText = at_object more d.drafts (empty_object o.name o.ceiling) in

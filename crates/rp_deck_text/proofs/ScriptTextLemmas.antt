@@ -22,7 +22,7 @@ use Rattle.rp_deck.specs.Script.{IsUpTo, IsMessage}
 use Rattle.rp_deck_objects.specs.ObjectViews.{OperationsText}
 use Rattle.rp_deck_declarations.specs.ScriptNames.{DeclaredNames}
 use Rattle.rp_deck.specs.ScriptLines.{declared_at, operation_at, timer_at, message_at, argument_at, position_at, last_at, lead_at, range_at, deliver_at, interrupt_at, tick_at, step_from, call_at, arm_at, disarm_at, again_at, cut_at, lose_at, CommandText, Take, Lose, Drain, Show, verb_named, command_at, command_line}
-use Rattle.rp_deck_text.specs.ScriptText.{spaced, line_of, step_words, argument_words, submit_words, event_words, command_words, name_numbered, same_operation, operation_name_in, operation_name, operations_numbered, is_distinct, are_names, AreDeclared, IsOneOf, IsCallOf, IsTimerOf, IsSubmitOf, IsStepOf, MayBeCut, IsEventOf, IsCommandOf}
+use Rattle.rp_deck_text.specs.ScriptText.{spaced, line_of, step_words, argument_words, submit_words, event_words, command_words, name_numbered, same_operation, operation_name_in, operation_name, operations_numbered, is_distinct, are_names, AreDeclared, IsOneOf, HasOperation, IsTimerOf, IsSubmitOf, IsStepOf, MayBeCut, IsEventOf, IsCommandOf}
 use Rattle.rp_words.proofs.WordsLemmas.{both}
 use Rattle.rp_words.proofs.TablesLemmas.{found_step}
 use Rattle.rp_deck_text.proofs.SpacedLemmas.{is_solid, word_back, word_there, signed_solid, decimal_solid, name_back, number_back, integer_back, dotted_back, dotted_solid, end_back}
@@ -155,7 +155,7 @@ by_name (name ∷ names) (first ∷ rest) operation same all distinct even one =
     by here miss = let e : same_operation operation operation ≡ false = subst (λ (o : Operation). same_operation o operation ≡ false) here miss in cc
 
 -- its name is a name
-pub named_operation : (d : DeclaredNames) (object : ℕ) (operation : Operation) → AreDeclared d → IsCallOf d object operation → same_operation operation operation ≡ true → is_name (operation_name d object operation) ≡ true
+pub named_operation : (d : DeclaredNames) (object : ℕ) (operation : Operation) → AreDeclared d → HasOperation d object operation → same_operation operation operation ≡ true → is_name (operation_name d object operation) ≡ true
 named_operation d object operation right call same =
     let own = right.operations (object - 1) call.own call.own_is in
     let names_are = both (list_all is_name call.own.names) (is_distinct call.own.names) own.names in
@@ -163,7 +163,7 @@ named_operation d object operation right call same =
     subst (λ (o : OperationsText). is_name (operation_name_in o.names o.operations operation) ≡ true) (sym numbered_own)
     (by_name call.own.names call.own.operations operation same names_are.0 names_are.1 own.even call.operation_is).name_is
 
-pub operation_back : (d : DeclaredNames) (object : ℕ) (operation : Operation) (words : List (List ℕ)) → AreDeclared d → IsCallOf d object operation → same_operation operation operation ≡ true
+pub operation_back : (d : DeclaredNames) (object : ℕ) (operation : Operation) (words : List (List ℕ)) → AreDeclared d → HasOperation d object operation → same_operation operation operation ≡ true
     → operation_at d (spaced ((name_numbered d.objects object ++ 46 ∷ operation_name d object operation) ∷ words)) ≡ Ok (object, operation, spaced words)
 unfolding operation_at
 operation_back d object operation words right call same =
@@ -265,7 +265,7 @@ tick_back d node now right within small =
 -- ---- events
 
 call_back : (d : DeclaredNames) (task node object : ℕ) (operation : Operation) (arg : ℤ) → AreDeclared d → IsUpTo (length d.tasks) task → IsUpTo d.nodes node
-    → IsCallOf d object operation → same_operation operation operation ≡ true → FitsSigned w64 arg
+    → HasOperation d object operation → same_operation operation operation ≡ true → FitsSigned w64 arg
     → call_at d (spaced (name_numbered d.tasks task ∷ decimal node ∷ (name_numbered d.objects object ++ 46 ∷ operation_name d object operation) ∷ argument_words arg)) ≡ Ok (Submit task node object operation arg, spaced [])
 unfolding call_at
 call_back d task node object operation arg right is within call same fits =

@@ -14,7 +14,7 @@ use Rattle.rp_deck.specs.declared.deck.Mode.TheVariants.{Script}
 use Rattle.rp_deck.specs.Script.{IsUpTo}
 use Rattle.rp_deck_declarations.specs.ScriptNames.{DeclaredNames}
 use Rattle.rp_deck.specs.ScriptLines.{CommandText, Take, Lose, Drain, Show, script_of}
-use Rattle.rp_deck_text.specs.ScriptText.{numbered_lines, spaced, joined, line_of, text_of_lines, script_text, numbered_commands, name_numbered, operation_name, step_words, argument_words, submit_words, event_words, command_words, AreDeclared, IsCallOf, IsSubmitOf, IsStepOf, IsEventOf, IsCommandOf}
+use Rattle.rp_deck_text.specs.ScriptText.{numbered_lines, spaced, joined, line_of, text_of_lines, script_text, numbered_commands, name_numbered, operation_name, step_words, argument_words, submit_words, event_words, command_words, AreDeclared, HasOperation, IsSubmitOf, IsStepOf, IsEventOf, IsCommandOf}
 use Rattle.rp_words.specs.Lines.{is_line_feed, in_front, lines_of, LineText, is_skipped, text_at, texts_from}
 use Rattle.rp_words.specs.Words.{begins_with, is_blank, without_blanks, is_at_end, first_word, after_word, is_name}
 use Rattle.rp_words.proofs.WordsLemmas.{both, and_true}
@@ -158,7 +158,7 @@ argument_solid (pos (suc n)) fits = (signed_solid (pos (suc n)) fits, tt)
 argument_solid (negsuc n) fits = (signed_solid (negsuc n) fits, tt)
 
 call_line : (d : DeclaredNames) (task node object : ℕ) (operation : Operation) (arg : ℤ) → AreDeclared d → IsUpTo (length d.tasks) task → IsUpTo d.nodes node
-    → is_name (operation_name d object operation) ≡ true → IsCallOf d object operation → FitsSigned w64 arg
+    → is_name (operation_name d object operation) ≡ true → HasOperation d object operation → FitsSigned w64 arg
     → AreSolid (name_numbered d.tasks task ∷ decimal node ∷ (name_numbered d.objects object ++ 46 ∷ operation_name d object operation) ∷ argument_words arg)
 call_line d task node object operation arg right is within name call fits =
     (name_solid (name_numbered d.tasks task) (numbered d.tasks task right.tasks is).name, (small_node d node right within, (dotted_solid (name_numbered d.objects object) (operation_name d object operation) (numbered d.objects object right.objects call.object_is).name name, argument_solid arg fits)))

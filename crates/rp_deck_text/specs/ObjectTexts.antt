@@ -47,8 +47,8 @@ object_lines profile o =
     (codes "object" ∷ o.name ∷ decimal o.ceiling ∷ [])
     ∷ parts_lines profile (empty_object o.name o.ceiling) o.parts
 
-abbrev pub IsObjectOf : DraftText → DeclaredObject → Type 0
-IsObjectOf d o =
+abbrev pub IsTextOfObject : DraftText → DeclaredObject → Type 0
+IsTextOfObject d o =
     (length d.objects < 8) × IsNew d.objects o.name × IsUpTo 30 o.ceiling
     × ArePartsOf (profile_of d) (empty_object o.name o.ceiling) o.parts
 
@@ -62,7 +62,7 @@ objects_lines profile (o ∷ os) = object_lines profile o ++ objects_lines profi
 
 abbrev pub AreObjectsOf : DraftText → List DeclaredObject → Type 0
 AreObjectsOf d [] = Unit {0}
-AreObjectsOf d (o ∷ os) = IsObjectOf d o × AreObjectsOf (with_object d o) os
+AreObjectsOf d (o ∷ os) = IsTextOfObject d o × AreObjectsOf (with_object d o) os
 
 -- ---- interrupts and timing events
 

@@ -160,7 +160,7 @@ IsOneOf [] operation = ⊥
 IsOneOf (first ∷ rest) operation = (first ≡ operation) ⊎ IsOneOf rest operation
 
 -- the object of this number has the operation
-pub record IsCallOf (d : DeclaredNames) (object : ℕ) (operation : Operation) : Type 0 where
+pub record HasOperation (d : DeclaredNames) (object : ℕ) (operation : Operation) : Type 0 where
   pub own : OperationsText
   pub object_is : IsUpTo (length d.objects) object
   pub own_is : slice_get d.operations (object - 1) ≡ Some own
@@ -176,7 +176,7 @@ pub record IsTimerOf (d : DeclaredNames) (object timer : ℕ) : Type 0 where
 abbrev pub IsSubmitOf : DeclaredNames → ℕ → Operation → ℤ → Type 0
 IsSubmitOf d object (operations.SetTimer timer) arg = IsTimerOf d object timer × FitsSigned w64 arg
 IsSubmitOf d object (operations.CancelTimer timer) arg = IsTimerOf d object timer × (arg ≡ pos 0)
-IsSubmitOf d object operation arg = IsCallOf d object operation × FitsSigned w64 arg
+IsSubmitOf d object operation arg = HasOperation d object operation × FitsSigned w64 arg
 
 abbrev pub IsStepOf : DeclaredNames → Step → Type 0
 IsStepOf d (Deliver message) = IsMessage message

@@ -108,13 +108,13 @@ effect_lines lanes line effect (suc n) =
     effect_lines lanes line effect n ++ (effect_line lanes line effect n ++ 10 ∷ [])
 
 -- all of it
-abbrev pub effect_text : ℕ → ℕ → List ℕ → List ℕ
-effect_text lanes line effect = effect_lines lanes line effect (text_lines effect)
+abbrev pub effect_line_text : ℕ → ℕ → List ℕ → List ℕ
+effect_line_text lanes line effect = effect_lines lanes line effect (text_lines effect)
 
 abbrev pub row_text : ℕ → Row → List ℕ
 row_text lanes row = if row.is_drawn
     then (row_element lanes row ++ 10 ∷ [])
-    ++ effect_text lanes row.line (string_bytes row.label.effect.text)
+    ++ effect_line_text lanes row.line (string_bytes row.label.effect.text)
     else []
 
 -- how many bytes are written of a moment at most, by the letters of what an actor does

@@ -19,18 +19,18 @@ is_stop Restart = false
 is_stop State = false
 
 -- a mark that says that a node starts again
-abbrev pub is_restart : Kind → Bool
-is_restart Act = false
-is_restart Record = false
-is_restart Torn = false
-is_restart Stop = false
-is_restart Restart = true
-is_restart State = false
+abbrev pub is_restart_mark : Kind → Bool
+is_restart_mark Act = false
+is_restart_mark Record = false
+is_restart_mark Torn = false
+is_restart_mark Stop = false
+is_restart_mark Restart = true
+is_restart_mark State = false
 
 -- the mark says that the node of this lane starts again
 abbrev pub restarts : ℕ → Option Mark → Bool
 restarts lane None = false
-restarts lane (Some mark) = is_restart mark.kind && nat_eq mark.lane lane
+restarts lane (Some mark) = is_restart_mark mark.kind && nat_eq mark.lane lane
 
 -- the last line that a page has
 abbrev pub within_page : ℕ → ℕ

@@ -3,7 +3,7 @@
 ghost use Rattle.std.specs.Prelude.{◌≡◌, ◌+◌, ◌*◌, ◌++◌, ◌≤◌, ◌<◌, ◌^◌, true, IfErr, IfOk, OnOk, length, string_bytes, flat_map};
 ghost use Rattle.std.specs.List.{sum_by};
 ghost use Rattle.rp_drawing.specs.Drawings.{end_kind, page_text, way_curve, way_text, IsDrawnBy};
-ghost use Rattle.rp_drawing.specs.Lines.{effect_line, effect_text, head_text, lane_text, lanes_text, mark_kind, mark_text, name_text, names_from, names_text, row_bytes, row_element, row_text, text_point};
+ghost use Rattle.rp_drawing.specs.Lines.{effect_line, effect_line_text, head_text, lane_text, lanes_text, mark_kind, mark_text, name_text, names_from, names_text, row_bytes, row_element, row_text, text_point};
 ghost use Rattle.rp_drawing.specs.Pages.{line_y};
 ghost use Rattle.rp_drawing.specs.Stops.{within_page};
 ghost use Rattle.rp_drawing.specs.Ways.{IsDown, AreDown};
@@ -345,7 +345,7 @@ fn write_effect(
     effect: &Words,
 ) -> Result<(), Fault>
     ensures effect { OnOk result (string_bytes text.new
-        ≡ string_bytes text.old ++ effect_text page.lanes line (string_bytes effect.now.text)) }
+        ≡ string_bytes text.old ++ effect_line_text page.lanes line (string_bytes effect.now.text)) }
     ensures short { OnOk result (length (string_bytes text.new)
         ≤ length (string_bytes text.old) + (108 + 3 * length (string_bytes effect.now.text))) }
     ensures fault { IfErr result (λ fault. fault ≡ Fault.OutOfMemory) }

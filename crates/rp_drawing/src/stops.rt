@@ -1,7 +1,7 @@
 //! How the lane of a node looks while the node is stopped.
 
 ghost use Rattle.std.specs.Prelude.{◌≡◌, ℕ, ◌+◌, ◌*◌, ◌++◌, ◌≤◌, ◌<◌, ◌^◌, IfErr, IfOk, OnOk, if◌then◌else◌, length, slice_index, string_bytes};
-ghost use Rattle.rp_drawing.specs.Stops.{is_restart, is_stop, mark_y, restarts, stop_by, stop_text, stops_text, within_page};
+ghost use Rattle.rp_drawing.specs.Stops.{is_restart_mark, is_stop, mark_y, restarts, stop_by, stop_text, stops_text, within_page};
 
 use crate::elements::{Look, MOST_SHORT_BYTES, Point, Upright, add_element};
 use crate::page::Page;
@@ -120,7 +120,7 @@ fn is_stop(kind: Kind) -> bool
 
 /// Whether a mark says that a node starts again.
 fn is_restart(kind: Kind) -> bool
-    ensures { result ≡ is_restart kind }
+    ensures { result ≡ is_restart_mark kind }
 {
     matches!(kind, Kind::Restart)
 }

@@ -24,7 +24,7 @@ use Rattle.rp_entry.specs.Operations.{of_index}
 use Rattle.rp_entry.specs.Queue.{State, queue_at, all_calls}
 use Rattle.rp_entry.specs.Replies.{reply_of, function_reply}
 use Rattle.rp_entry.specs.Actions.{Request, calls_function, calls_procedure, calls_entry, event, with_caller}
-use Rattle.rp_entry.specs.Results.{Acted, Next, next_call, served, serviced_from, replies_with, ran_for, function_called, procedure_called, entry_called, event_handled, acted}
+use Rattle.rp_entry.specs.Results.{Acted, Next, next_to_serve, served, serviced_from, replies_with, ran_for, function_called, procedure_called, entry_called, event_handled, acted}
 
 -- each of these replies fits
 abbrev pub AreReplies : List Answer → Type 0
@@ -62,7 +62,7 @@ next_fits later store queues (Some next) fits =
 
 serviced_fits : (most : ℕ) (entries : List Entry) (store : Store) (queues : List (List Waiting)) → AreReplies (serviced_from most entries store queues).0
 serviced_fits zero entries store queues = nobody
-serviced_fits (suc most) entries store queues = next_fits (serviced_from most entries) store queues (next_call store entries queues) (serviced_fits most entries)
+serviced_fits (suc most) entries store queues = next_fits (serviced_from most entries) store queues (next_to_serve store entries queues) (serviced_fits most entries)
 
 ran_fits : (caller : CallOutcome → Option CallOutcome) (operations : Operations) (body : List Stmt) (arg : ℤ) (before : State)
     → ((outcome : CallOutcome) → OutcomeFits outcome → IfSome (caller outcome) OutcomeFits)

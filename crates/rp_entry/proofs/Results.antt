@@ -19,7 +19,7 @@ use Rattle.rp_entry.specs.Queue.{State, IsOpen, IsReady, IsServiced, queue_at, a
 use Rattle.rp_entry.specs.Replies.{reply_of}
 use Rattle.rp_entry.specs.Servicing.{Serves, Services, ends, goes_on}
 use Rattle.rp_entry.specs.Actions.{Request, Runs, Acts, calls_function, calls_procedure, calls_entry, event, function, procedure, open_entry, closed_entry, full_queue, handler, no_function, no_procedure, no_entry, no_handler, with_caller}
-use Rattle.rp_entry.specs.Results.{Acted, Next, with_queue_first, next_call, Serviced, served, serviced_from, serviced, replies_with, ran_for, function_called, procedure_called, entry_called, event_handled, acted}
+use Rattle.rp_entry.specs.Results.{Acted, Next, with_queue_first, next_to_serve, Serviced, served, serviced_from, serviced, replies_with, ran_for, function_called, procedure_called, entry_called, event_handled, acted}
 use Rattle.rp_entry.proofs.Acting.{acts_one_end}
 use Rattle.rp_entry.proofs.Queues.{one_less}
 
@@ -77,13 +77,13 @@ first_entry store entry queue entries queues closed ready =
     let is : ready.entry ≡ entry = cc in
     elim (closed (subst (λ (e : Entry). IsOpen e store) is ready.at_barrier)) [ inl nobody ↦ absurd (cc) | inr never ↦ never ]
 
-finds : (store : Store) (entries : List Entry) (queues : List (List Waiting)) → Finds store entries queues (next_call store entries queues)
+finds : (store : Store) (entries : List Entry) (queues : List (List Waiting)) → Finds store entries queues (next_to_serve store entries queues)
 finds store [] queues = λ place ready. let none = ready.declared in absurd (cc)
 finds store (entry ∷ entries) [] = λ place ready. let none = ready.waits in absurd (cc)
 finds store (entry ∷ entries) ([] ∷ queues) =
-    found_after store entry [] entries queues (first_entry store entry [] entries queues (λ up. inl refl)) (next_call store entries queues) (finds store entries queues)
+    found_after store entry [] entries queues (first_entry store entry [] entries queues (λ up. inl refl)) (next_to_serve store entries queues) (finds store entries queues)
 finds store (entry ∷ entries) ((call ∷ rest) ∷ queues) =
-    let others = next_call store entries queues in
+    let others = next_to_serve store entries queues in
     let here : Next = record { entry = entry; call = call; left = rest ∷ queues } in
     elim (bool_value store entry.barrier) as (λ b. bool_value store entry.barrier ≡ b → Finds store (entry ∷ entries) ((call ∷ rest) ∷ queues) (cond b (Some here) (with_queue_first (call ∷ rest) others))) [
       | true ↦ λ up. record { place = 0; rest = rest; declared = refl; at_barrier = up; waits = refl; left = refl; least = λ other below ready. absurd (omega (arith, below)) }
@@ -125,7 +125,7 @@ services_from : (operations : Operations) (most : ℕ) (store : Store) (queues :
     → IsServicedFrom operations (at_stores store queues) (serviced_from most operations.entries.items store queues)
 services_from operations zero store queues few = ends (nobody_left operations store queues few)
 services_from operations (suc most) store queues few =
-    next_served operations most store queues (services_from operations most) few (next_call store operations.entries.items queues) (finds store operations.entries.items queues)
+    next_served operations most store queues (services_from operations most) few (next_to_serve store operations.entries.items queues) (finds store operations.entries.items queues)
 
 -- servicing of all calls that wait
 pub services_all : (operations : Operations) (before : State) → IsServicedFrom operations before (serviced operations before.store before.queues)

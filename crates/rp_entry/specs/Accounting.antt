@@ -10,8 +10,8 @@ use Rattle.rp_entry.specs.Actions.{Request, calls_function, calls_procedure, cal
 use Rattle.rp_entry.specs.Queue.{State, queue_at}
 
 -- a waiting call by its task and number
-abbrev pub name_of : Waiting → ℕ × ℕ
-name_of call = (call.task, call.number)
+abbrev pub waiting_key : Waiting → ℕ × ℕ
+waiting_key call = (call.task, call.number)
 
 -- the call that an answer is for
 abbrev pub answered_caller : Answer → ℕ × ℕ
@@ -21,7 +21,7 @@ answered_caller answer = (answer.task, answer.number)
 -- same order
 abbrev pub KeepsCallers : List Waiting → List Answer → List Waiting → Type 0
 KeepsCallers waited replied waiting =
-    map answered_caller replied ++ map name_of waiting ≡ map name_of waited
+    map answered_caller replied ++ map waiting_key waiting ≡ map waiting_key waited
 
 -- what a request puts into a queue: its call, if the outcome is that it waits
 abbrev pub joins : Request → Option CallOutcome → List Waiting

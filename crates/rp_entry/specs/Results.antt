@@ -44,15 +44,15 @@ with_queue_first queue (Some next) = Some (record next { left = queue ∷ next.l
 
 -- the call to be served next at these components, if there is one: the first of the first open
 -- entry that has a caller
-abbrev pub next_call : Store → List Entry → List (List Waiting) → Option Next
-next_call store [] queues = None
-next_call store (entry ∷ entries) [] = None
-next_call store (entry ∷ entries) ([] ∷ queues) =
-    with_queue_first [] (next_call store entries queues)
-next_call store (entry ∷ entries) ((call ∷ rest) ∷ queues) =
+abbrev pub next_to_serve : Store → List Entry → List (List Waiting) → Option Next
+next_to_serve store [] queues = None
+next_to_serve store (entry ∷ entries) [] = None
+next_to_serve store (entry ∷ entries) ([] ∷ queues) =
+    with_queue_first [] (next_to_serve store entries queues)
+next_to_serve store (entry ∷ entries) ((call ∷ rest) ∷ queues) =
     if bool_value store entry.barrier
     then Some (record { entry = entry; call = call; left = rest ∷ queues })
-    else with_queue_first (call ∷ rest) (next_call store entries queues)
+    else with_queue_first (call ∷ rest) (next_to_serve store entries queues)
 
 -- the answers given, and the state in which servicing ends
 abbrev pub Serviced : Type 0
@@ -73,7 +73,7 @@ served later store queues (Some next) =
 abbrev pub serviced_from : ℕ → List Entry → Store → List (List Waiting) → Serviced
 serviced_from zero entries store queues = ([], record { store = store; queues = queues })
 serviced_from (suc most) entries store queues =
-    served (serviced_from most entries) store queues (next_call store entries queues)
+    served (serviced_from most entries) store queues (next_to_serve store entries queues)
 
 -- servicing of all calls that wait
 abbrev pub serviced : Operations → Store → List (List Waiting) → Serviced

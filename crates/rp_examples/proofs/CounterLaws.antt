@@ -19,7 +19,7 @@ use Rattle.rp_base.specs.declared.reply.Reply.TheVariants.{Value, NoSuchOperatio
 use Rattle.rp_machine.specs.Calls.{MayApply, AccountsFor}
 use Rattle.rp_machine.proofs.AtOnce.{none_answered, own_answered}
 use Rattle.rp_examples.specs.Counter.{begun, increased, after_add, called, counter_next}
-use Rattle.rp_examples.specs.Counter.{counter_answers, counter_image, Runs}
+use Rattle.rp_examples.specs.Counter.{counter_answers, counter_image, IsCounterOf}
 use Rattle.rp_examples.specs.declared.counter.BoundedCounter.{BoundedCounter}
 use Rattle.rp_examples.specs.declared.program.CounterProgram.{CounterProgram}
 
@@ -36,7 +36,7 @@ small program n within = omega (arith, program.fits)
 value_fits : (program : CounterProgram) (n : ℕ) → n ≤ program.most → IsReply (Value (pos n))
 value_fits program n within = record { sfits = small program n within }
 
-sum_fits : (program : CounterProgram) (counter : BoundedCounter) → Runs program counter
+sum_fits : (program : CounterProgram) (counter : BoundedCounter) → IsCounterOf program counter
     → (sum : ℕ) (b : Bool)
     → nat_le sum counter.most ≡ b
     → Fits program.most (after_add counter (if b then Some sum else None))
@@ -46,14 +46,14 @@ sum_fits program counter runs sum true e =
 sum_fits program counter runs sum false e =
     record { within = omega (arith, runs.bound, runs.within); reply = tt }
 
-add_fits : (program : CounterProgram) (counter : BoundedCounter) → Runs program counter → (arg : ℤ)
+add_fits : (program : CounterProgram) (counter : BoundedCounter) → IsCounterOf program counter → (arg : ℤ)
     → Fits program.most (after_add counter (increased counter arg))
 add_fits program counter runs (pos n) =
     sum_fits program counter runs (counter.count + n) (nat_le (counter.count + n) counter.most) refl
 add_fits program counter runs (negsuc n) =
     record { within = omega (arith, runs.bound, runs.within); reply = tt }
 
-procedure_fits : (program : CounterProgram) (counter : BoundedCounter) → Runs program counter
+procedure_fits : (program : CounterProgram) (counter : BoundedCounter) → IsCounterOf program counter
     → (arg : ℤ)
     (adds resets : Bool)
     → Fits program.most (if adds then after_add counter (increased counter arg)
@@ -64,7 +64,7 @@ procedure_fits program counter runs arg false true =
 procedure_fits program counter runs arg false false =
     record { within = omega (arith, runs.bound, runs.within); reply = tt }
 
-call_fits : (program : CounterProgram) (counter : BoundedCounter) → Runs program counter
+call_fits : (program : CounterProgram) (counter : BoundedCounter) → IsCounterOf program counter
     → (operation : Operation)
     (arg : ℤ) → Fits program.most (called counter operation arg)
 call_fits program counter runs (Procedure index) arg =
@@ -79,13 +79,13 @@ call_fits program counter runs (CancelTimer index) arg =
     record { within = omega (arith, runs.bound, runs.within); reply = tt }
 
 -- the start is a state of the program
-pub Runs-begun : (program : CounterProgram) → Runs program (begun program)
+pub Runs-begun : (program : CounterProgram) → IsCounterOf program (begun program)
 Runs-begun program = record { bound = refl; within = omega arith }
 
 -- an action leads to a state of the program
 pub Runs-next : (program : CounterProgram) (counter : BoundedCounter) (action : Action)
-    → Runs program counter
-    → IsRight action → MayApply [] action → Runs program (counter_next counter action)
+    → IsCounterOf program counter
+    → IsRight action → MayApply [] action → IsCounterOf program (counter_next counter action)
 Runs-next program counter Noop runs right may = runs
 Runs-next program counter (Call task number object operation arg) runs right may = record {
   bound = runs.bound;
@@ -101,8 +101,8 @@ same_counter s t most count =
     ap₂ (λ (m n : ℕ). let c : BoundedCounter = record { most = m; count = n } in c) most count
 
 -- counters of one program that look the same are the same
-pub counter_image-injective : (program : CounterProgram) (s t : BoundedCounter) → Runs program s
-    → Runs program t
+pub counter_image-injective : (program : CounterProgram) (s t : BoundedCounter) → IsCounterOf program s
+    → IsCounterOf program t
     → counter_image s ≡ counter_image t → s ≡ t
 counter_image-injective program s t first second e =
     let line = append_cancel_left (codes "count ") (decimal s.count ++ codes "\n")
@@ -119,7 +119,7 @@ counter_image-injective program s t first second e =
 -- ---- a call is answered at once
 
 pub counter_accounts : (program : CounterProgram) (counter : BoundedCounter) (action : Action)
-    → Runs program counter
+    → IsCounterOf program counter
     → IsRight action → MayApply [] action
     → AccountsFor [] action (counter_answers counter action) []
 counter_accounts program counter Noop runs right may = none_answered Noop refl
@@ -131,7 +131,7 @@ counter_accounts program counter (Tick now) runs right may = none_answered (Tick
 
 -- the value of each reply has 64 signed bits
 pub counter_replies : (program : CounterProgram) (counter : BoundedCounter) (action : Action)
-    → Runs program counter
+    → IsCounterOf program counter
     → IsRight action → MayApply [] action
     → (answer : Answer) → Has answer (counter_answers counter action) → IsReply answer.reply
 counter_replies program counter Noop runs right may answer h = absurd h

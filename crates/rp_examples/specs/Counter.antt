@@ -18,7 +18,7 @@ abbrev pub begun : CounterProgram → BoundedCounter
 begun program = record { most = program.most; count = 0 }
 
 -- a state of the program
-pub record Runs (program : CounterProgram) (counter : BoundedCounter) : Type 0 where
+pub record IsCounterOf (program : CounterProgram) (counter : BoundedCounter) : Type 0 where
   pub bound : counter.most ≡ program.most
   pub within : counter.count ≤ counter.most
 

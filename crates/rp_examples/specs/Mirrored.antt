@@ -3,7 +3,7 @@ use Rattle.std.specs.Prelude.{◌≡◌, Bool, true, false, Option, Some, None}
 use Rattle.rp_store.specs.Disk.{Disk}
 
 -- two devices hold the same, and a stop leaves the same of both for sure
-pub record AreAlike (main spare : Disk) : Type 0 where
+pub record HoldTheSame (main spare : Disk) : Type 0 where
   pub contents : spare.contents ≡ main.contents
   pub stable : spare.stable ≡ main.stable
 

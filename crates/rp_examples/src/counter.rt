@@ -1,7 +1,7 @@
 //! A machine: a counter with a bound and a reset.
 
 ghost use Rattle.std.specs.Prelude.{◌≡◌, []};
-ghost use Rattle.rp_examples.specs.Counter.{begun, with_count, increased, called, counter_next, counter_answers, counter_image, Runs};
+ghost use Rattle.rp_examples.specs.Counter.{begun, with_count, increased, called, counter_next, counter_answers, counter_image, IsCounterOf};
 
 use crate::program::CounterProgram;
 use rp_base::{Action, Answer, Answers, Operation, Reply};
@@ -68,7 +68,7 @@ impl Machine for BoundedCounter {
 
     ghost image = { counter_image };
 
-    ghost runs = { Runs };
+    ghost runs = { IsCounterOf };
 
     fn start(alloc: Global, program: &CounterProgram) -> Result<Self, AllocError> {
         Ok(BoundedCounter {

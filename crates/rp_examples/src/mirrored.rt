@@ -2,7 +2,7 @@
 
 ghost use Rattle.std.specs.Prelude.{◌≡◌, suc, is_ok, IfErr, if◌then◌else◌};
 ghost use Rattle.rp_store.specs.Disk.{empty_disk};
-ghost use Rattle.rp_examples.specs.Mirrored.{AreAlike, copies_left, is_left};
+ghost use Rattle.rp_examples.specs.Mirrored.{HoldTheSame, copies_left, is_left};
 
 use rp_base::Fault;
 use rp_store::{Count, CutDevice, Device};
@@ -34,7 +34,7 @@ struct Copies<D: Device> {
 impl<D: Device> Model for MirroredDevice<D> {
     ghost use Rattle.std.specs.Prelude.{IfSome};
     ghost use Rattle.rp_store.specs.Disk.{Disk};
-    ghost use Rattle.rp_examples.specs.Mirrored.{AreAlike};
+    ghost use Rattle.rp_examples.specs.Mirrored.{HoldTheSame};
 
     ghost Value = { Disk };
 
@@ -49,7 +49,7 @@ impl<D: Device> Model for MirroredDevice<D> {
     } };
 
     ghost invariant = { λ d. IfSome d.copies.spare (λ spare.
-        AreAlike (D.disk d.copies.main) (D.disk spare)) };
+        HoldTheSame (D.disk d.copies.main) (D.disk spare)) };
 }
 
 impl<D: Device> MirroredDevice<D> {

@@ -11,7 +11,7 @@ use Rattle.rp_orders.specs.Orders.{IsReached, IsGiven, IsStuck, IsFinal, LeadAli
 use Rattle.rp_orders.specs.declared.guard.Guard.{Guard}
 use Rattle.rp_explore.specs.declared.giver.Giver.{Giver}
 use Rattle.rp_explore.specs.Listed.{order_at, AreOrdersOf, AreGuarded, AreDistinct}
-use Rattle.rp_explore.specs.Searched.{Searched, Found, MayFollowAt, Gives, IsEarlier, AllReached, WaitsFirst, LeadsBeyond, AreFindings}
+use Rattle.rp_explore.specs.Searched.{Searched, Found, MayFollowAt, GivesAtAction, IsEarlier, AllReached, WaitsFirst, LeadsBeyond, AreFindings}
 use Rattle.rp_explore.specs.Explored.{greatest_length, IsNeverStuck, IsFirstStuck, GivesAt, IsFirstGiver}
 use Rattle.rp_explore.proofs.Lists.{has_at, place_in}
 use Rattle.rp_explore.proofs.SearchLemmas.{alike_flip, alike_join}
@@ -62,12 +62,12 @@ module _ {S : Type 0} (next : S → Action → S) (answers : S → Action → Li
       m.missing.missing (closed.goes_on (order_at orders b.place) (get_or may m.index Noop) (has_at orders b.place [] b.within) (has_at may m.index Noop m.within) m.may_follow)
 
   -- an order and an action that give an answer, by their places
-  gives_at : (at index : ℕ) (answer : Answer) → at < length orders → index < length may → Gives next answers s at index answer → GivesAt next answers s.begin s.guards may orders at index answer
+  gives_at : (at index : ℕ) (answer : Answer) → at < length orders → index < length may → GivesAtAction next answers s at index answer → GivesAt next answers s.begin s.guards may orders at index answer
   gives_at at index answer lt below gives =
       let parts = (gives_parts next answers s at index answer).0 gives in
       record { within = lt; may_happen = below; may_follow = parts.0; gives = parts.1 }
 
-  at_gives : (at index : ℕ) (answer : Answer) → GivesAt next answers s.begin s.guards may orders at index answer → Gives next answers s at index answer
+  at_gives : (at index : ℕ) (answer : Answer) → GivesAt next answers s.begin s.guards may orders at index answer → GivesAtAction next answers s at index answer
   at_gives at index answer g = (gives_parts next answers s at index answer).1 (g.may_follow, g.gives)
 
   module _ (found : Found) (all_found : AreFindings next answers s (length orders) found) where

@@ -13,13 +13,13 @@ use Rattle.rp_orders.specs.Guards.{is_allowed}
 use Rattle.rp_orders.specs.declared.guard.Guard.{Guard}
 use Rattle.rp_explore.specs.declared.giver.Giver.{Giver}
 use Rattle.rp_explore.specs.Listed.{order_at}
-use Rattle.rp_explore.specs.Searched.{Searched, Extends, MayFollowAt, Gives, IsEarlier, IsGivenBefore, IsFirstOfAll, AreGiven, IsNoted, given_next}
+use Rattle.rp_explore.specs.Searched.{Searched, Extends, MayFollowAt, GivesAtAction, IsEarlier, IsGivenBefore, IsFirstOfAll, AreGivenBefore, AreAnswersNoted, given_next}
 use Rattle.rp_explore.proofs.Lists.{has_at}
 use Rattle.rp_explore.proofs.VisitLemmas.{moved, back}
 
 -- ---- what is noted
 
-pub noted_none : (giver : Giver) (old : List Answer) (givers : List Giver) → IsNoted [] giver old givers old givers
+pub noted_none : (giver : Giver) (old : List Answer) (givers : List Giver) → AreAnswersNoted [] giver old givers old givers
 noted_none giver old givers = record {
   more = [];
   replies = sym (append-nil old);
@@ -30,7 +30,7 @@ noted_none giver old givers = record {
 }
 
 -- an answer that was given before
-pub noted_old : (x : Answer) (giver : Giver) (old : List Answer) (givers : List Giver) → Has x old → IsNoted (x ∷ []) giver old givers old givers
+pub noted_old : (x : Answer) (giver : Giver) (old : List Answer) (givers : List Giver) → Has x old → AreAnswersNoted (x ∷ []) giver old givers old givers
 noted_old x giver old givers there = record {
   more = [];
   replies = sym (append-nil old);
@@ -41,7 +41,7 @@ noted_old x giver old givers there = record {
 }
 
 -- and one that was not
-pub noted_new : (x : Answer) (giver : Giver) (old new : List Answer) (givers more_givers : List Giver) → (¬ Has x old) → new ≡ old ++ x ∷ [] → more_givers ≡ givers ++ giver ∷ [] → IsNoted (x ∷ []) giver old givers new more_givers
+pub noted_new : (x : Answer) (giver : Giver) (old new : List Answer) (givers more_givers : List Giver) → (¬ Has x old) → new ≡ old ++ x ∷ [] → more_givers ≡ givers ++ giver ∷ [] → AreAnswersNoted (x ∷ []) giver old givers new more_givers
 noted_new x giver old new givers more_givers none is by =
     let apart : (a : Answer) → Has a (x ∷ []) → ¬ Has a old = λ a h there. elim h [ inl same ↦ none (subst (λ (y : Answer). Has y old) same there) | inr empty ↦ absurd empty ] in
     record {
@@ -53,7 +53,7 @@ noted_new x giver old new givers more_givers none is by =
       once = λ set. subst (λ (xs : List Answer). IsSet xs) (sym is) (set_append old (x ∷ []) set ((λ h. h), tt) apart);
     }
 
-pub noted_join : (some rest : List Answer) (giver : Giver) (a b c : List Answer) (x y z : List Giver) → IsNoted some giver a x b y → IsNoted rest giver b y c z → IsNoted (some ++ rest) giver a x c z
+pub noted_join : (some rest : List Answer) (giver : Giver) (a b c : List Answer) (x y z : List Giver) → AreAnswersNoted some giver a x b y → AreAnswersNoted rest giver b y c z → AreAnswersNoted (some ++ rest) giver a x c z
 noted_join some rest giver a b c x y z one other = record {
   more = one.more ++ other.more;
   replies = other.replies ∙ ap (λ (xs : List Answer). xs ++ other.more) one.replies ∙ append_assoc a one.more other.more;
@@ -86,7 +86,7 @@ module _ {S : Type 0} (next : S → Action → S) (answers : S → Action → Li
   gives_it index answer begin guards may order = Has answer (given_next next answers guards (replay_of next answers begin order) (get_or may index Noop))
 
   -- an action that the guards let be decided gives what it gives
-  pub gives_parts : (s : Searched S) (place index : ℕ) (answer : Answer) → Gives next answers s place index answer
+  pub gives_parts : (s : Searched S) (place index : ℕ) (answer : Answer) → GivesAtAction next answers s place index answer
       ↔ (MayFollowAt next answers s place index × Has answer (answers_after next answers (replay_of next answers s.begin (order_at s.listed.orders place)) (get_or s.listed.may index Noop)))
   gives_parts s place index answer =
       let r = replay_of next answers s.begin (order_at s.listed.orders place) in
@@ -144,16 +144,16 @@ module _ {S : Type 0} (next : S → Action → S) (answers : S → Action → Li
     pub given_more : (place k : ℕ) (given more_given : List Answer) (givers more_givers : List Giver) (gave : List Answer) (applied : Applied S) → place < length old.listed.orders
         → applied.begin ≡ old.begin → applied.actions ≡ order_at old.listed.orders place
         → gave ≡ given_next next answers old.guards (outcome next answers applied) (get_or old.listed.may k Noop)
-        → IsNoted gave (record { place = place; action = k }) given givers more_given more_givers
-        → AreGiven next answers old place k given givers → AreGiven next answers new place (k + 1) more_given more_givers
+        → AreAnswersNoted gave (record { place = place; action = k }) given givers more_given more_givers
+        → AreGivenBefore next answers old place k given givers → AreGivenBefore next answers new place (k + 1) more_given more_givers
     given_more place k given more_given givers more_givers gave applied lt starts acts gives noted before =
         let this : Giver = record { place = place; action = k } in
         let same : applied ≡ record { begin = old.begin; actions = order_at old.listed.orders place } = λ i. record { begin = starts i; actions = acts i } in
         let is : gave ≡ given_next next answers old.guards (replay_of next answers old.begin (order_at old.listed.orders place)) (get_or old.listed.may k Noop) =
         gives ∙ ap (λ (a : Applied S). given_next next answers old.guards (outcome next answers a) (get_or old.listed.may k Noop)) same in
-        let now : (answer : Answer) → Has answer gave → Gives next answers new place k answer =
+        let now : (answer : Answer) → Has answer gave → GivesAtAction next answers new place k answer =
         λ answer h. moved (gives_it k answer) old new place e lt (subst (λ (xs : List Answer). Has answer xs) is h) in
-        let shown : (answer : Answer) → Gives next answers new place k answer → Has answer gave =
+        let shown : (answer : Answer) → GivesAtAction next answers new place k answer → Has answer gave =
         λ answer g. subst (λ (xs : List Answer). Has answer xs) (sym is) (back (gives_it k answer) old new place e lt g) in
         let there : (answer : Answer) → Has answer given → Has answer more_given = λ answer h. subst (λ (xs : List Answer). Has answer xs) (sym noted.replies) (has_left answer given noted.more h) in
         record {
@@ -200,7 +200,7 @@ module _ {S : Type 0} (next : S → Action → S) (answers : S → Action → Li
       where
         given_now : (place k : ℕ) (answer : Answer) (given more_given gave : List Answer) → place < length old.listed.orders
             → (IsGivenBefore next answers old place k answer → Has answer given) → (Has answer given → Has answer more_given) → (Has answer gave → Has answer more_given)
-            → (Gives next answers new place k answer → Has answer gave)
+            → (GivesAtAction next answers new place k answer → Has answer gave)
             → IsGivenBefore next answers new place (k + 1) answer → Has answer more_given
         given_now place k answer given more_given gave lt was stays all shown b = elim b.earlier [
           | inl before ↦ stays (was (before_back place k answer lt (record { at = b.at; index = b.index; earlier = inl before; gives = b.gives })))
@@ -208,7 +208,7 @@ module _ {S : Type 0} (next : S → Action → S) (answers : S → Action → Li
             | inl less ↦ stays (was (before_back place k answer lt (record { at = b.at; index = b.index; earlier = inr (here.0, less); gives = b.gives })))
             | inr rest ↦
                 let last : b.index ≡ k = omega (arith, here.1) in
-                all (shown (subst (λ (p : ℕ). Gives next answers new p k answer) here.0 (subst (λ (j : ℕ). Gives next answers new b.at j answer) last b.gives)))
+                all (shown (subst (λ (p : ℕ). GivesAtAction next answers new p k answer) here.0 (subst (λ (j : ℕ). GivesAtAction next answers new b.at j answer) last b.gives)))
           ]
         ]
 
@@ -222,7 +222,7 @@ module _ {S : Type 0} (next : S → Action → S) (answers : S → Action → Li
     | inr here ↦ absurd (omega (arith, here.1))
   ]
 
-  pub given_next_order : (s : Searched S) (place : ℕ) (given : List Answer) (givers : List Giver) → AreGiven next answers s place (length s.listed.may) given givers → AreGiven next answers s (place + 1) 0 given givers
+  pub given_next_order : (s : Searched S) (place : ℕ) (given : List Answer) (givers : List Giver) → AreGivenBefore next answers s place (length s.listed.may) given givers → AreGivenBefore next answers s (place + 1) 0 given givers
   given_next_order s place given givers g = record {
     replies = λ answer. (
       λ h. let b = (g.replies answer).0 h in record { at = b.at; index = b.index; earlier = next_earlier s place b.at b.index b.earlier; gives = b.gives },

@@ -12,21 +12,21 @@ abbrev pub state_at : {S : Type 0} → (S → Action → S) → (S → Action �
 state_at next answers begin orders place = replay_state next answers begin (order_at orders place)
 
 -- a property is asked of the order at the place: of each, or of those after which nothing changes
-abbrev pub IsAsked : Exploration → Bool → ℕ → Type 0
-IsAsked found is_final_only place =
+abbrev pub IsAskedAt : Exploration → Bool → ℕ → Type 0
+IsAskedAt found is_final_only place =
     (is_final_only ≡ false) ⊎ IsTrue (slice_index_or found.finals place false)
 
 module _ (found : Exploration) (is_final_only : Bool) (holds : ℕ → Type 0) where
   -- it holds after each of which it is asked
   abbrev pub IsNeverBroken : Type 0
   IsNeverBroken = (place : ℕ) → place < length found.orders
-      → IsAsked found is_final_only place → holds place
+      → IsAskedAt found is_final_only place → holds place
 
   -- it does not hold after the order at the place, of which it is asked, and holds after each
   -- earlier one of which it is
   pub record IsFirstBroken (place : ℕ) : Type 0 where
     pub within : place < length found.orders
-    pub asked : IsAsked found is_final_only place
+    pub asked : IsAskedAt found is_final_only place
     pub broken : ¬ holds place
     pub first : (earlier : ℕ) → earlier < place
-        → IsAsked found is_final_only earlier → holds earlier
+        → IsAskedAt found is_final_only earlier → holds earlier

@@ -56,7 +56,7 @@ pub record IsLayered {S : Type 0} (s : Searched S) (place : ℕ) : Type 0 where
       → length (order_at s.listed.orders other) ≤ length (order_at s.listed.orders place) + 1
 
 -- Of these answers those that were not given before are noted, each once, with what gave them.
-pub record IsNoted (answers : List Answer) (giver : Giver) (old : List Answer)
+pub record AreAnswersNoted (answers : List Answer) (giver : Giver) (old : List Answer)
     (givers : List Giver) (new : List Answer) (more_givers : List Giver) : Type 0 where
   pub more : List Answer
   pub replies : new ≡ old ++ more
@@ -134,8 +134,8 @@ module _ {S : Type 0} (next : S → Action → S) (answers : S → Action → Li
       if is_allowed guards r.kept r.given action then answers_after next answers r action else []
 
   -- one of the actions after the order at the place gives the answer
-  abbrev pub Gives : Searched S → ℕ → ℕ → Answer → Type 0
-  Gives s place index answer = Has answer (given_next s.guards
+  abbrev pub GivesAtAction : Searched S → ℕ → ℕ → Answer → Type 0
+  GivesAtAction s place index answer = Has answer (given_next s.guards
       (replay_of next answers s.begin (order_at s.listed.orders place))
       (slice_index_or s.listed.may index Noop))
 
@@ -144,17 +144,17 @@ module _ {S : Type 0} (next : S → Action → S) (answers : S → Action → Li
     pub at : ℕ
     pub index : ℕ
     pub earlier : IsEarlier s place count at index
-    pub gives : Gives s at index answer
+    pub gives : GivesAtAction s at index answer
 
   -- the order and the action are the first that give the answer, and they were tried earlier
   pub record IsFirstOfAll (s : Searched S) (place count : ℕ) (answer : Answer) (giver : Giver)
       : Type 0 where
     pub earlier : IsEarlier s place count giver.place giver.action
-    pub gives : Gives s giver.place giver.action answer
+    pub gives : GivesAtAction s giver.place giver.action answer
     pub first : ¬ IsGivenBefore s giver.place giver.action answer
 
   -- what was given until then, and what gave each answer first
-  pub record AreGiven (s : Searched S) (place count : ℕ) (given : List Answer)
+  pub record AreGivenBefore (s : Searched S) (place count : ℕ) (given : List Answer)
       (givers : List Giver) : Type 0 where
     pub replies : (answer : Answer) → Has answer given ↔ IsGivenBefore s place count answer
     pub set : IsSet given
@@ -192,7 +192,7 @@ module _ {S : Type 0} (next : S → Action → S) (answers : S → Action → Li
   pub record AreFindings (s : Searched S) (count : ℕ) (found : Found) : Type 0 where
     pub whole : MatchBool found.is_whole
         ((place : ℕ) → place < count → AllReached s place (length s.listed.may)) (LeadsBeyond s)
-    pub given : AreGiven s count 0 found.replies found.givers
+    pub given : AreGivenBefore s count 0 found.replies found.givers
     pub finals : AreMarked s count found.finals
     pub stuck : (task : ℕ) → IsTask task
         → WaitsFirst s task count (slice_index_or found.stuck (task - 1) None)

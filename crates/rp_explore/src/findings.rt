@@ -4,7 +4,7 @@ ghost use Rattle.std.specs.Prelude.{◌≡◌, ◌↔◌, ◌++◌, ◌∷◌, [
 ghost use Rattle.rp_base.specs.Number.{IsTask};
 ghost use Rattle.rp_machine.specs.Asked.{waits};
 ghost use Rattle.rp_machine.specs.Numbered.{outcome};
-ghost use Rattle.rp_explore.specs.Searched.{IsNoted};
+ghost use Rattle.rp_explore.specs.Searched.{AreAnswersNoted};
 
 use crate::giver::Giver;
 use indexmap::IndexSet;
@@ -33,7 +33,7 @@ impl Given {
 
     /// Notes the answers that were not given before, with what gave them.
     pub fn note(&mut self, answers: &[Answer], giver: Giver) -> Result<(), AllocError>
-        ensures { OnOk result (IsNoted answers.now giver self.old.replies.keys
+        ensures { OnOk result (AreAnswersNoted answers.now giver self.old.replies.keys
             self.old.givers.items self.new.replies.keys self.new.givers.items) }
     {
         for answer in answers {
@@ -44,7 +44,7 @@ impl Given {
 
     /// Notes the answer, if it was not given before, with what gave it.
     fn note_one(&mut self, answer: &Answer, giver: Giver) -> Result<(), AllocError>
-        ensures { OnOk result (IsNoted (answer.now ∷ []) giver self.old.replies.keys
+        ensures { OnOk result (AreAnswersNoted (answer.now ∷ []) giver self.old.replies.keys
             self.old.givers.items self.new.replies.keys self.new.givers.items) }
     {
         if self.replies.contains(answer) {

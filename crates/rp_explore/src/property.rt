@@ -1,7 +1,7 @@
 //! Properties of states, and the first order after which one does not hold.
 
 ghost use Rattle.std.specs.Prelude.{◌↔◌, IsTrue, IfOk, MatchOption};
-ghost use Rattle.rp_explore.specs.Broken.{IsAsked, IsNeverBroken, IsFirstBroken, state_at};
+ghost use Rattle.rp_explore.specs.Broken.{IsAskedAt, IsNeverBroken, IsFirstBroken, state_at};
 
 use crate::explored::Explored;
 use crate::replays::replayed;
@@ -39,7 +39,7 @@ pub fn first_broken<M: Machine, P: Property<M>>(
 
 /// Whether the property is asked of the order at the place.
 fn is_asked(explored: &Explored, is_final_only: bool, place: usize) -> bool
-    ensures { IsTrue result ↔ IsAsked explored.now is_final_only place }
+    ensures { IsTrue result ↔ IsAskedAt explored.now is_final_only place }
 {
     !is_final_only || explored.is_final(place)
 }

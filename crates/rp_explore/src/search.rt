@@ -6,7 +6,7 @@ ghost use Rattle.rp_machine.specs.Numbered.{outcome};
 ghost use Rattle.rp_orders.specs.Orders.{AreRight, AreAmong, LeadAlike};
 ghost use Rattle.rp_explore.specs.Listed.{order_at, further, AreOrdersOf, AreGuarded, AreDistinct};
 ghost use Rattle.rp_explore.specs.Findings.{found_of};
-ghost use Rattle.rp_explore.specs.Searched.{Grows, Extends, IsAt, IsMissing, MayFollowAt, AllReached, SomeMissing, AreQuiet, IsLayered, AreNear, AreGiven, AreFindings, given_next};
+ghost use Rattle.rp_explore.specs.Searched.{Grows, Extends, IsAt, IsMissing, MayFollowAt, AllReached, SomeMissing, AreQuiet, IsLayered, AreNear, AreGivenBefore, AreFindings, given_next};
 
 use crate::findings::{Findings, Given, Tried, note_waits};
 use crate::giver::Giver;
@@ -213,7 +213,7 @@ impl<'a, M: Machine> Search<'a, M> {
         requires actions { visited.now.state.now.actions
             ≡ order_at self.old.listed.orders visited.now.place }
         requires layered { IsLayered self.old visited.now.place }
-        requires before { AreGiven M.next M.answers self.old visited.now.place 0
+        requires before { AreGivenBefore M.next M.answers self.old visited.now.place 0
             given.old.replies.keys given.old.givers.items }
         ensures extends { OnOk result (Extends self.old self.new) }
         ensures whole { IfOk result (λ tried. MatchBool tried.is_whole
@@ -222,7 +222,7 @@ impl<'a, M: Machine> Search<'a, M> {
             (length self.old.listed.may))) }
         ensures quiet { IfOk result (λ tried. IsTrue tried.is_quiet
             ↔ AreQuiet M.next M.answers self.new visited.now.place (length self.old.listed.may)) }
-        ensures given { OnOk result (AreGiven M.next M.answers self.new visited.now.place
+        ensures given { OnOk result (AreGivenBefore M.next M.answers self.new visited.now.place
             (length self.old.listed.may) given.new.replies.keys given.new.givers.items) }
         ensures layered { OnOk result (IsLayered self.new visited.now.place) }
         ensures near { OnOk result

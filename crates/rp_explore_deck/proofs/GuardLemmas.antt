@@ -14,7 +14,7 @@ use Rattle.rp_base.proofs.Members.{has_split}
 use Rattle.rp_deck.specs.ScriptLines.{LineCommand, CommandText, Take}
 use Rattle.rp_deck_declarations.specs.Declaring.{on_line}
 use Rattle.rp_explore_deck.specs.GuardLines.{calls_above, guard_of, guards_of}
-use Rattle.rp_explore_deck.specs.PlannedActions.{is_call_of, calls_among, actions_of, action_asked, with_action, with_line, planned_after, HasCall}
+use Rattle.rp_explore_deck.specs.PlannedActions.{is_call_of, calls_among, actions_of, action_asked, with_planned, with_line, planned_after, HasCall}
 use Rattle.rp_explore_deck.specs.declared.actions.PlannedAction.{PlannedAction}
 use Rattle.rp_explore_deck.specs.declared.guard_lines.GuardLine.{GuardLine}
 use Rattle.rp_machine.specs.Replay.{number_for}
@@ -71,7 +71,7 @@ new_call planned caller task is =
     let same : caller ≡ task = eqb-true caller task is in
     rw is (ap (λ (t : ℕ). Some (calls_among t planned + 1)) same)
 
-line_keeps : (planned : List PlannedAction) (number : ℕ) (command : CommandText) → AllCalls planned → AllCalls (with_action planned number (action_asked planned command))
+line_keeps : (planned : List PlannedAction) (number : ℕ) (command : CommandText) → AllCalls planned → AllCalls (with_planned planned number (action_asked planned command))
 line_keeps planned number (Take (Submit task node object operation arg)) all =
     let p : PlannedAction = record { action = actions.Call task (calls_among task planned + 1) object operation arg; node = node; line = number } in
     chosen (list_any (λ (q : PlannedAction). same_action q.action p.action) planned) planned p all (λ (t : ℕ) is. new_call planned task t is)

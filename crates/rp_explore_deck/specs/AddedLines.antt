@@ -39,8 +39,8 @@ abbrev pub is_guard : LineText → Bool
 is_guard line = is_some (guard_named line.first)
 
 -- the number of a line is among these
-abbrev pub is_among : List ℕ → ℕ → Bool
-is_among numbers number = list_any (nat_eq number) numbers
+abbrev pub is_line_among : List ℕ → ℕ → Bool
+is_line_among numbers number = list_any (nat_eq number) numbers
 
 abbrev pub with_line : List ℕ → LineText → List ℕ
 with_line numbers line = with_member nat_eq numbers line.number
@@ -75,7 +75,7 @@ added_lines lines =
     record { rules = rules_after [] lines; guards = guards_after [] (after_script lines) }
 
 abbrev pub is_added : Added → ℕ → Bool
-is_added added number = is_among added.rules number || is_among added.guards number
+is_added added number = is_line_among added.rules number || is_line_among added.guards number
 
 -- ---- the deck without them
 
@@ -98,7 +98,7 @@ abbrev pub read_lines : {X : Type 0} → List ℕ → (LineText → Result X Dec
     → List LineText → Result (List X) BadLine
 read_lines numbers read before [] = Ok before
 read_lines numbers read before (line ∷ lines) =
-    if is_among numbers line.number
+    if is_line_among numbers line.number
     then on_line line.number (read line)
     (λ x. read_lines numbers read (before ++ x ∷ []) lines)
     else read_lines numbers read before lines

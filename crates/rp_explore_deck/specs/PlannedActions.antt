@@ -40,14 +40,14 @@ AsksRight (Take (Submit task node object operation arg)) =
 AsksRight _ = Unit {0}
 
 -- an action that is there already is not added again
-abbrev pub with_action : List PlannedAction → ℕ → Option (Action × ℕ) → List PlannedAction
-with_action planned line None = planned
-with_action planned line (Some asked) =
+abbrev pub with_planned : List PlannedAction → ℕ → Option (Action × ℕ) → List PlannedAction
+with_planned planned line None = planned
+with_planned planned line (Some asked) =
     if list_any (λ p. same_action p.action asked.0) planned then planned
     else planned ++ record { action = asked.0; node = asked.1; line = line } ∷ []
 
 abbrev pub with_line : List PlannedAction → LineCommand → List PlannedAction
-with_line planned line = with_action planned line.number (action_asked planned line.command)
+with_line planned line = with_planned planned line.number (action_asked planned line.command)
 
 -- the actions that the lines of a script ask for, after these
 abbrev pub planned_after : List PlannedAction → List LineCommand → List PlannedAction

@@ -5,7 +5,7 @@ ghost use Rattle.std.specs.List.{list_any};
 ghost use Rattle.rp_base.specs.Action.{IsRight, same_action};
 ghost use Rattle.rp_deck.specs.DeckViews.{line_command, command_text};
 ghost use Rattle.rp_orders.specs.Orders.{AreRight};
-ghost use Rattle.rp_explore_deck.specs.PlannedActions.{is_call_of, calls_among, action_asked, AsksRight, with_action, planned_after, actions_of};
+ghost use Rattle.rp_explore_deck.specs.PlannedActions.{is_call_of, calls_among, action_asked, AsksRight, with_planned, planned_after, actions_of};
 
 use rp_base::{Action, NodeId, TaskId};
 use rp_deck::{Command, Line};
@@ -90,7 +90,7 @@ fn action_asked(planned: &[PlannedAction], command: &Command) -> Option<(Action,
 /// Adds an action that is not there yet.
 fn add_action(planned: &mut Vec<PlannedAction>, more: PlannedAction) -> Result<(), AllocError>
     ensures added { OnOk result (planned.new.items
-        ≡ with_action planned.old.items more.line (Some (more.action, more.node))) }
+        ≡ with_planned planned.old.items more.line (Some (more.action, more.node))) }
     ensures few { OnOk result (length planned.new.items ≤ length planned.old.items + 1) }
     ensures right { OnOk result (AreRight (actions_of planned.old.items) → IsRight more.action
         → AreRight (actions_of planned.new.items)) }

@@ -2,7 +2,7 @@
 
 ghost use Rattle.std.specs.Prelude.{◌≡◌, ◌+◌, ◌^◌, ◌<◌, [], length, IfOk};
 ghost use Rattle.rp_deck.specs.Meaning.{texts_of};
-ghost use Rattle.rp_explore_deck.specs.AddedLines.{guard_named, is_among, rules_after, after_script, guards_after, added_lines, is_added, plain_text};
+ghost use Rattle.rp_explore_deck.specs.AddedLines.{guard_named, is_line_among, rules_after, after_script, guards_after, added_lines, is_added, plain_text};
 ghost use Rattle.rp_words.specs.Ahead.{ahead};
 
 use crate::rules::RuleKind;

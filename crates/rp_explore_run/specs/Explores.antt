@@ -1,7 +1,7 @@
 -- What is printed of the search over every order of a deck, and of the bytes of a deck.
 use Rattle.std.specs.Prelude.{◌≡◌, ◌⊎◌, ◌-◌, ◌<◌, ◌≤◌, ℕ, pos, false, Option, Ok, Err}
 use Rattle.std.specs.Prelude.{List, [], ◌∷◌, length, map, max, replicate, slice_index_or, None}
-use Rattle.std.specs.Prelude.{IfSome, IsTrue, MatchOption, ◌↔◌}
+use Rattle.std.specs.Prelude.{IsTrue, MatchOption, ◌↔◌}
 use Rattle.std.specs.Arc.{arc_value}
 use Rattle.std.specs.Io.KnownBytes.{Appends}
 use Rattle.std.specs.List.{AllZip}
@@ -39,7 +39,7 @@ use Rattle.rp_orders.specs.declared.guard.Guard.{Guard}
 use Rattle.rp_output.specs.Stream.{Begins}
 use Rattle.rp_run.specs.Output.{names_of}
 use Rattle.rp_script.specs.Faults.{IsBadDeck, IsProgramFault}
-use Rattle.rp_script.specs.Given.{most_bytes}
+use Rattle.rp_script.specs.Given.{AreGiven}
 
 -- What a search found, of these actions under these guards and of at most n states: orders to
 -- different states, whether they lead to all states, exactly the replies that they give, with what
@@ -107,12 +107,6 @@ abbrev pub IsExplored : Plan → List (List ℕ) → ExploreRequest → Printed 
 IsExplored plan = IsExploredBy plan.deck.program plan
 
 -- ---- bytes
-
--- some bytes, no more than a deck may have, and all that the reader gives, if it is known what it
--- gives
-pub record AreGiven (given : Option (List ℕ)) (bytes : List ℕ) : Type 0 where
-  pub all : IfSome given (λ whole. bytes ≡ whole)
-  pub short : length bytes ≤ most_bytes
 
 -- what is printed of the deck that the reader's bytes mean
 pub record ExploresAs (request : ExploreRequest) (given : Option (List ℕ)) (verdict : Verdict)

@@ -27,14 +27,14 @@ use Rattle.rp_model.specs.declared.event.Step.{Step}
 use Rattle.rp_model.specs.declared.event.Step.TheVariants as steps
 
 -- the party is this node
-abbrev pub is_node : Party → ℕ → Bool
-is_node (Node other) node = nat_eq other node
-is_node (Task task) node = false
-is_node Audit node = false
+abbrev pub is_this_node : Party → ℕ → Bool
+is_this_node (Node other) node = nat_eq other node
+is_this_node (Task task) node = false
+is_this_node Audit node = false
 
 -- a packet from a node to itself
 abbrev pub is_to_itself : Party → Party → Bool
-is_to_itself (Node sender) to = is_node to sender
+is_to_itself (Node sender) to = is_this_node to sender
 is_to_itself (Task task) to = false
 is_to_itself Audit to = false
 
@@ -169,14 +169,14 @@ is_unheard h = is_unheard_by h.event h.before.is_stopped
 
 -- The kind of an event's mark. There is none where a stopped node does not hear a packet, or where
 -- a node that is to start again is running already.
-abbrev pub kind_of : Happened → Event → Option Kind
-kind_of h (events.Submit task node object operation arg) = Some kinds.Act
-kind_of h (events.Again task node) = Some kinds.Act
-kind_of h (events.Node step) =
+abbrev pub mark_kind_of : Happened → Event → Option Kind
+mark_kind_of h (events.Submit task node object operation arg) = Some kinds.Act
+mark_kind_of h (events.Again task node) = Some kinds.Act
+mark_kind_of h (events.Node step) =
     if is_unheard h then None else if has_written h then Some kinds.Record else Some kinds.Act
-kind_of h (events.Cut step kept) = if has_written h then Some kinds.Torn else Some kinds.Stop
-kind_of h (events.Stop node) = Some kinds.Stop
-kind_of h (events.Restart node) = if is_some h.effect.opened then Some kinds.Restart else None
+mark_kind_of h (events.Cut step kept) = if has_written h then Some kinds.Torn else Some kinds.Stop
+mark_kind_of h (events.Stop node) = Some kinds.Stop
+mark_kind_of h (events.Restart node) = if is_some h.effect.opened then Some kinds.Restart else None
 
 -- the colour of the packet's ballot, 0 if there is no packet
 abbrev pub packet_colour : Option Message → ℕ
@@ -192,7 +192,7 @@ mark_on stage colour (Some kind) (Some actor) =
 
 -- the mark of an event
 abbrev pub mark_of : Stage → Happened → Option Mark
-mark_of stage h = mark_on stage (packet_colour h.packet) (kind_of h h.event) h.actor
+mark_of stage h = mark_on stage (packet_colour h.packet) (mark_kind_of h h.event) h.actor
 
 -- what is drawn of an event, with the words for it and for what its actor did, and what a page says
 -- of it

@@ -2,7 +2,7 @@
 
 ghost use Rattle.std.specs.Prelude.{◌≡◌};
 ghost use Rattle.rp_history.specs.Histories.{delivered_by};
-ghost use Rattle.rp_history.specs.Views.{actor_of, has_written, is_unheard, kind_of, label_of, mark_of, packet_colour};
+ghost use Rattle.rp_history.specs.Views.{actor_of, has_written, is_unheard, mark_kind_of, label_of, mark_of, packet_colour};
 
 use crate::stage::Stage;
 use crate::view::colour_of;
@@ -129,7 +129,7 @@ impl Happened {
     /// The kind of the mark, or `None` if the event has no mark: nobody acts where a packet is not
     /// heard, or where a node that is to start again is running already.
     fn kind(&self) -> Option<Kind>
-        ensures { result ≡ kind_of self.now self.now.event }
+        ensures { result ≡ mark_kind_of self.now self.now.event }
     {
         match self.event {
             Event::Submit { .. } | Event::Again { .. } => Some(Kind::Act),

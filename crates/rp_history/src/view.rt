@@ -1,7 +1,7 @@
 //! Which part of a run is drawn.
 
 ghost use Rattle.std.specs.Prelude.{◌≡◌};
-ghost use Rattle.rp_history.specs.Views.{colour_of, is_about, is_event_drawn, is_from, is_node, is_part, is_to, is_to_itself, is_within, named_ballot, names_position, shows, shows_all};
+ghost use Rattle.rp_history.specs.Views.{colour_of, is_about, is_event_drawn, is_from, is_this_node, is_part, is_to, is_to_itself, is_within, named_ballot, names_position, shows, shows_all};
 
 use rp_base::{Ballot, NodeId, Position};
 use rp_codec::{Body, Packet, Party};
@@ -105,7 +105,7 @@ fn is_to_itself(from: Party, to: Party) -> bool
 
 /// Whether a party is this node.
 fn is_node(party: Party, node: NodeId) -> bool
-    ensures { result ≡ is_node party node }
+    ensures { result ≡ is_this_node party node }
 {
     match party {
         Party::Node(other) => other.get() == node.get(),

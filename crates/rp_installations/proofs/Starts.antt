@@ -27,7 +27,7 @@ use Rattle.rp_model.specs.Node.{RunningNode, running_node, own_for}
 use Rattle.rp_model.specs.Parts.{Running, Turn}
 use Rattle.rp_model.specs.Pending.{own_action, stays, replies_to}
 use Rattle.rp_model.specs.Plans.{once_learned, turn_of}
-use Rattle.rp_model.specs.Receiving.{is_for_node, on_body, party_number}
+use Rattle.rp_model.specs.Receiving.{is_for_node, on_body, sender_number}
 use Rattle.rp_model.specs.Says.{says_to_others, writes}
 use Rattle.rp_model.specs.declared.effect.Dropped.TheVariants.{No, Foreign}
 use Rattle.rp_model.specs.declared.plan.Plan.{Plan}
@@ -81,17 +81,8 @@ module _ {S : Type 0} (config : Config) (next : S → Action → S) (answers : S
 
   body_alike : (from : ℕ) (body : Body) → on_body here from body ≡ on_body there from body
   body_alike from (bodies.Call action) = call_alike action
-  body_alike from (bodies.Prepare i b) = refl
-  body_alike from (bodies.Promise i b last) = refl
-  body_alike from (bodies.Accept i b v) = refl
   body_alike from (bodies.Accepted i b v) = ap (λ (plan : Plan). cond {A = Plan} (is_beyond records i) (plans.Pass No) plan) (vote_alike from i (record { ballot = b; action = v }) (learned_at records i))
-  body_alike from (bodies.Decided i v) = refl
-  body_alike from (bodies.Ask i) = refl
-  body_alike from (bodies.Nack i b bound) = refl
-  body_alike from (bodies.Reply number reply) = refl
-  body_alike from (bodies.Report first applied actions) = refl
-  body_alike from (bodies.PrepareRange range b) = refl
-  body_alike from (bodies.PromiseRange range b votes) = refl
+  body_alike from _ = refl
 
   begins_alike : (i : ℕ) → begins_if here i ≡ begins_if there i
   begins_alike i = ap (λ (own : Action). cond {A = Result Plan Fault} (is_exhausted here) (Err BallotsSpent) (Ok (plans.Lead i (ballot_of here) own))) (own_alike i)
@@ -109,15 +100,12 @@ module _ {S : Type 0} (config : Config) (next : S → Action → S) (answers : S
 
   plan_alike : (input : NodeInput) → plan_of here input ≡ plan_of there input
   plan_alike (NodeInput.Receive m) =
-      ap (λ (plan : Plan). (let r : Result Plan Fault = Ok (cond {A = Plan} (is_for_node config me m) plan (plans.Pass Foreign)) in r)) (body_alike (party_number m.from) m.body)
+      ap (λ (plan : Plan). (let r : Result Plan Fault = Ok (cond {A = Plan} (is_for_node config me m) plan (plans.Pass Foreign)) in r)) (body_alike (sender_number m.from) m.body)
   plan_alike (NodeInput.Lead choice) = lead_alike choice
-  plan_alike (NodeInput.LeadRange first count) = refl
   plan_alike (NodeInput.Interrupt source occurrence) =
       ap (λ (kept : List Action). (let r : Result Plan Fault = Ok (cond {A = Plan} (nat_lt (last_occurrence source kept) occurrence) (adds_pending running.pending (actions.Interrupt source occurrence)) (plans.Pass No)) in r))
       (alike.kept applied)
-  plan_alike (NodeInput.Tick now) = refl
-  plan_alike (NodeInput.Report first) = refl
-  plan_alike (NodeInput.Ask to) = refl
+  plan_alike _ = refl
 
   -- ---- and a plan does the same
 
@@ -135,27 +123,9 @@ module _ {S : Type 0} (config : Config) (next : S → Action → S) (answers : S
       λ n. turn (alike.kept after n) (alike.given applied n) (alike.given after n)
 
   turn_alike : (plan : Plan) → turn_of here plan ≡ turn_of there plan
-  turn_alike (plans.Pass dropped) = refl
-  turn_alike (plans.Promise header last) = refl
-  turn_alike (plans.PromiseRange p) = refl
-  turn_alike (plans.Vote header v) = refl
-  turn_alike (plans.Repeat to i b v) = refl
-  turn_alike (plans.Refuse to i b bound) = refl
-  turn_alike (plans.Inform to i v) = refl
-  turn_alike (plans.Answer task number reply) = refl
-  turn_alike (plans.Await item) = refl
-  turn_alike (plans.Lead i b own) = refl
-  turn_alike (plans.LeadRange range b) = refl
-  turn_alike (plans.OfferPrepared i b v) = refl
-  turn_alike (plans.CountPromise promise) = refl
-  turn_alike (plans.CountRangePromise p) = refl
-  turn_alike (plans.Offer promise v) = refl
-  turn_alike (plans.Yield i b bound) = refl
-  turn_alike (plans.CountVote from i vote) = refl
   turn_alike (plans.Learn i v) = learns_alike i v (says_to_others config.nodes me (bodies.Decided i v)) []
   turn_alike (plans.Follow from i v) = learns_alike i v [] (asks_for me from (missing_position (records ++ Learned i v ∷ [])))
-  turn_alike (plans.Report first) = refl
-  turn_alike (plans.AskMissing to) = refl
+  turn_alike _ = refl
 
   turned_alike : (found : Result Plan Fault) → turn_if here found ≡ turn_if there found
   turned_alike (Ok plan) = ap (λ (turn : Turn). (let r : Result Turn Fault = Ok turn in r)) (turn_alike plan)

@@ -7,7 +7,7 @@ use Rattle.std.proofs.lemmas.Cmp.{nat_cmp_total}
 use Rattle.std.proofs.lemmas.Bool.{cases_eq, cases_lt}
 use Rattle.std.proofs.Math.Logic.{⊎_elim}
 use Rattle.rp_base.specs.declared.action.Action.{Action}
-use Rattle.rp_log.specs.Contents.{Contents, Places, HasRoom, with_room}
+use Rattle.rp_log.specs.Contents.{Contents, Places, IsReservedAt, with_room}
 use Rattle.rp_log.specs.Holding.{Ahead, place_ahead, next_place, places_of, front_place, place_of, IsAhead, reserved_count, Fits}
 use Rattle.rp_log.proofs.Places.{same, same_is, same_apart, shown, inserted, front_past, next_reserved, ahead_written}
 use Rattle.rp_log.proofs.Views.{seen, learned_of, next_none, room_front}
@@ -164,7 +164,7 @@ reserved_one front reserved after old new taken log p view none here =
     let room : with_room log p ≡ record log { places = insert log.places p None } = ap (λ b. if b then log else record log { places = insert log.places p None }) (sym none) in
     ap (λ (m : Places). record { places = m; taken = take taken front }) made ∙ ap (λ (l : Contents). record l { places = insert l.places p None }) view ∙ sym room
 
-room_in : (log : Contents) (p : ℕ) (b : Bool) → is_some (get log.places p) ≡ b → HasRoom (cond b log (record log { places = insert log.places p None })) p
+room_in : (log : Contents) (p : ℕ) (b : Bool) → is_some (get log.places p) ≡ b → IsReservedAt (cond b log (record log { places = insert log.places p None })) p
 room_in log p true there = there
 room_in log p false none =
     let here : get (insert log.places p None) p ≡ Some None =
@@ -172,8 +172,8 @@ room_in log p false none =
     ap is_some here
 
 -- what is reserved has room
-pub has_room_after : (log new : Contents) (p : ℕ) → new ≡ with_room log p → HasRoom new p
-has_room_after log new p is = subst (λ (l : Contents). HasRoom l p) (sym is) (room_in log p (is_some (get log.places p)) refl)
+pub has_room_after : (log new : Contents) (p : ℕ) → new ≡ with_room log p → IsReservedAt new p
+has_room_after log new p is = subst (λ (l : Contents). IsReservedAt l p) (sym is) (room_in log p (is_some (get log.places p)) refl)
 
 -- ---- a reservation
 

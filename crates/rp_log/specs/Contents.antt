@@ -31,8 +31,8 @@ abbrev pub empty_log : Contents
 empty_log = record { places = empty; taken = [] }
 
 -- the position is reserved, so that an action can be learned there without memory
-abbrev pub HasRoom : Contents → ℕ → Type 0
-HasRoom log i = IsSome (get log.places i)
+abbrev pub IsReservedAt : Contents → ℕ → Type 0
+IsReservedAt log i = IsSome (get log.places i)
 
 -- the action learned at a position, if any
 abbrev pub action_at : Contents → ℕ → Option Action

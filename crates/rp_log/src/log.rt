@@ -2,7 +2,7 @@
 
 ghost use Rattle.std.specs.Prelude.{◌≡◌, ℕ, ◌<◌, ◌≤◌, ◌^◌, [], ◌∷◌, ◌++◌, length, is_some, Some, None, IsSome, IfSome, IfNone, OnOk, OnErr, option_copied, option_map};
 ghost use Rattle.std.specs.FinMap.{get};
-ghost use Rattle.rp_log.specs.Contents.{empty_log, HasRoom, action_at, IsLearned, with_room, with_action, next_to_take, ready_of, IsTakenInOrder};
+ghost use Rattle.rp_log.specs.Contents.{empty_log, IsReservedAt, action_at, IsLearned, with_room, with_action, next_to_take, ready_of, IsTakenInOrder};
 
 use crate::front::{learn_ahead, learn_next, learned_at};
 use crate::pages::Pages;
@@ -66,9 +66,9 @@ impl Log {
     pub fn reserve(&mut self, position: Position) -> Result<(), AllocError>
         // claim (ok, err, refused): Reserving and learning change one position and no other
         ensures ok { OnOk result (self.new ≡ with_room self.old position) }
-        ensures room { OnOk result (HasRoom self.new position) }
+        ensures room { OnOk result (IsReservedAt self.new position) }
         ensures err { OnErr result (self.new ≡ self.old) }
-        ensures refused { OnErr result (¬ HasRoom self.old position) }
+        ensures refused { OnErr result (¬ IsReservedAt self.old position) }
     {
         if self.has_room(position) {
             return Ok(());
@@ -103,7 +103,7 @@ impl Log {
     /// are learned ahead of it, each of which it passes once in the log's life.
     #[inline(always)]
     pub fn learn(&mut self, position: Position, action: &Action)
-        requires { HasRoom self.old position }
+        requires { IsReservedAt self.old position }
         ensures { self.new ≡ with_action self.old position action.now }
     {
         if self.is_learned(position) {

@@ -24,7 +24,7 @@ use Rattle.rp_entry.specs.Actions.{Runs, Acts, calls_function, calls_procedure, 
 use Rattle.rp_entry.proofs.Acting.{missing, one_item}
 use Rattle.rp_entry.proofs.Queues.{index_there}
 use Rattle.rp_manual.proofs.Assigning.{fits_is, fits_from}
-use Rattle.rp_manual.specs.ObjectRules.{left_by, end_of, RunsForCaller, JoinsLast}
+use Rattle.rp_manual.specs.ObjectRules.{left_by, outcome_at_end, RunsForCaller, JoinsLast}
 
 -- ---- barriers
 
@@ -45,7 +45,7 @@ runs_for_caller : {operations : Operations} {body other : List Stmt} {arg : ℤ}
 runs_for_caller {operations} {body} {other} {arg} {before} {after} {outcome} {replied} same ran =
     let run : body_effect other arg before.store ≡ (ran.store, ran.ended) = ap (λ (b : List Stmt). body_effect b arg before.store) (sym same) ∙ ran.run in
     let left : left_by other arg before ≡ ran.store = ap (λ (r : Store × Outcome). r.0) run in
-    let ended : end_of other arg before ≡ ran.ended = ap (λ (r : Store × Outcome). r.1) run in
+    let ended : outcome_at_end other arg before ≡ ran.ended = ap (λ (r : Store × Outcome). r.1) run in
     record {
       value = λ out is. ap Some (ran.replied ∙ ap (λ (o : Outcome). Reply (reply_of o)) (sym ended ∙ is));
       exception = λ is. ap Some (ran.replied ∙ ap (λ (o : Outcome). Reply (reply_of o)) (sym ended ∙ is));

@@ -22,7 +22,7 @@ use Rattle.rp_object.specs.declared.program.TimingEvent.{TimingEvent}
 use Rattle.rp_object.specs.declared.program.ObjectDeclaration.{ObjectDeclaration}
 use Rattle.rp_object.specs.declared.program.Declarations.{Declarations}
 use Rattle.rp_object.specs.Program.{operations_of, has_operation, is_some_and, is_offered, is_declared, is_within_ceiling}
-use Rattle.rp_object.specs.State.{ProgramState, Running, name_of}
+use Rattle.rp_object.specs.State.{ProgramState, Running, call_name_of}
 use Rattle.rp_object.specs.Step.{Result, ends_with, with_object, with_timer, object_acts, asks, allowed, called, handled, own_answer}
 use Rattle.rp_manual.specs.ProgramRules as rules
 use Rattle.rp_manual.specs.ProgramRules.{Offers, IsRequestOf, IsDeclaredCall, IsUndeclared, IsRefusedWith, ChangesObject, ChangesTimer, RepliesFirst, IsCallOf}
@@ -87,7 +87,7 @@ module _ (program : Declarations) (task priority object : ℕ) (declared : Objec
 pub refused_with : (running : Running) (call : Waiting) (object : ℕ) (operation : Operation) (reply : Replies) → called running.program running.state call object operation ≡ ends_with (Reply reply) running.state → IsRefusedWith running call object operation reply
 refused_with running call object operation reply does = record {
   unchanged = ap (λ (r : Result). record running { state = r.after }) does;
-  replied = ap (λ (r : Result). own_answer (name_of call) r.caller ++ r.replied) does;
+  replied = ap (λ (r : Result). own_answer (call_name_of call) r.caller ++ r.replied) does;
 }
 
 module _ (program : Declarations) (before : ProgramState) (call : Waiting) (object : ℕ) where
@@ -161,7 +161,7 @@ no_caller : {operations : Operations} {before after : State} {index : ℕ} {call
 no_caller (handler there ran) = refl
 no_caller (no_handler none) = refl
 
-replies_first : (call : Waiting) (outcome : CallOutcome) (served : List Answer) → RepliesFirst call outcome served (own_answer (name_of call) (Some outcome) ++ served)
+replies_first : (call : Waiting) (outcome : CallOutcome) (served : List Answer) → RepliesFirst call outcome served (own_answer (call_name_of call) (Some outcome) ++ served)
 replies_first call (Reply reply) served = refl
 replies_first call Waits served = refl
 
@@ -176,7 +176,7 @@ changes_object running number object new there = record {
 }
 
 abbrev pub call_result : Running → Waiting → ℕ → Protected → Request → Result → Type 0
-call_result running call number object request result = IsCallOf running call number object request (own_answer (name_of call) result.caller ++ result.replied) (record running { state = result.after })
+call_result running call number object request result = IsCallOf running call number object request (own_answer (call_name_of call) result.caller ++ result.replied) (record running { state = result.after })
 
 pub is_call_of : (running : Running) (call : Waiting) (number : ℕ) (object : Protected) (request : Request) → of_index running.state.objects number ≡ Some object → IsOfTask request → call_result running call number object request (asks running.state number request)
 is_call_of running call number object request there task =
@@ -185,12 +185,12 @@ is_call_of running call number object request there task =
     let has = has_outcome acts task in
     let new : Protected = record object { state = did.after } in
     let does : object_acts running.state number request (Some object) ≡ asks running.state number request = sym (ap (object_acts running.state number request) there) in
-    let is : IsCallOf running call number object request (own_answer (name_of call) did.caller ++ did.replied) (record running { state = with_object running.state number new }) = record {
+    let is : IsCallOf running call number object request (own_answer (call_name_of call) did.caller ++ did.replied) (record running { state = with_object running.state number new }) = record {
       outcome = has.0;
       served = did.replied;
       state = did.after;
       action = subst (λ (c : Option CallOutcome). Acts object.operations object.state request c did.replied did.after) has.1 acts;
-      replies = subst (λ (c : Option CallOutcome). RepliesFirst call has.0 did.replied (own_answer (name_of call) c ++ did.replied)) (sym has.1) (replies_first call has.0 did.replied);
+      replies = subst (λ (c : Option CallOutcome). RepliesFirst call has.0 did.replied (own_answer (call_name_of call) c ++ did.replied)) (sym has.1) (replies_first call has.0 did.replied);
       follows = changes_object running number object new there;
     } in
     subst (call_result running call number object request) does is
@@ -209,7 +209,7 @@ changes_timer running number was time there = record {
 abbrev pub timer_result : Running → Waiting → ℕ → Option ℤ → Replies → Result → Type 0
 timer_result running call number time reply result =
     ChangesTimer number time running (record running { state = result.after })
-    × (own_answer (name_of call) result.caller ++ result.replied ≡ record { task = call.task; number = call.number; reply = reply } ∷ [])
+    × (own_answer (call_name_of call) result.caller ++ result.replied ≡ record { task = call.task; number = call.number; reply = reply } ∷ [])
 
 pub is_timer_of : (running : Running) (call : Waiting) (number : ℕ) (was time : Option ℤ) (reply : Replies) (result : Result) → of_index running.state.timers number ≡ Some was → result ≡ ends_with (Reply reply) (with_timer running.state number time) → timer_result running call number time reply result
 is_timer_of running call number was time reply result there does =

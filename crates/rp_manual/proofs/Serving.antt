@@ -19,7 +19,7 @@ use Rattle.rp_entry.specs.Actions.{Request, Acts}
 use Rattle.rp_entry.proofs.Acting.{one_item}
 use Rattle.rp_entry.proofs.Queues.{index_there, place_there}
 use Rattle.rp_object.proofs.MachineLaws.Queues.{acts_serviced}
-use Rattle.rp_manual.specs.ObjectRules.{end_of, NobodyWaitsAtOpen, IsNextAt, IsFirstOpen, IsServedFirst}
+use Rattle.rp_manual.specs.ObjectRules.{outcome_at_end, NobodyWaitsAtOpen, IsNextAt, IsFirstOpen, IsServedFirst}
 use Rattle.rp_manual.proofs.Acting.{opens, is_there}
 
 -- ---- an index from 1 and its place from 0
@@ -102,7 +102,7 @@ module _ {operations : Operations} {before : State} {index : ℕ} {entry : Entry
       let is_rest : step.ready.rest ≡ rest = ap rest_of queue in
       let run : body_effect entry.body.items call.arg before.store ≡ (between.store, step.ended) =
       ap (λ (e : Entry). body_effect e.body.items call.arg before.store) (sym is_entry) ∙ ap (λ (c : Waiting). body_effect step.ready.entry.body.items c.arg before.store) (sym is_call) ∙ step.run in
-      let ended : end_of entry.body.items call.arg before ≡ step.ended = ap (λ (r : Store × Outcome). r.1) run in
+      let ended : outcome_at_end entry.body.items call.arg before ≡ step.ended = ap (λ (r : Store × Outcome). r.1) run in
       let reply : answer.reply ≡ reply_of step.ended = ap (λ (a : Answer). a.reply) step.replied in
       let below = place_there before.queues (index - 1) call rest next.waits in
       let queues : between.queues ≡ set before.queues (index - 1) rest = step.left ∙ ap (λ (p : ℕ). set before.queues p step.ready.rest) place ∙ ap (set before.queues (index - 1)) is_rest in

@@ -22,16 +22,16 @@ use Rattle.rp_entry.specs.Servicing.{Services}
 abbrev pub left_by : List Stmt → ℤ → State → Store
 left_by body arg before = (body_effect body arg before.store).0
 
-abbrev pub end_of : List Stmt → ℤ → State → Outcome
-end_of body arg before = (body_effect body arg before.store).1
+abbrev pub outcome_at_end : List Stmt → ℤ → State → Outcome
+outcome_at_end body arg before = (body_effect body arg before.store).1
 
 -- A body runs for its caller: that gets its out value, or Constraint_Error if it raised, and the
 -- queues are serviced from the components that it left, whether it raised or not.
 pub record RunsForCaller (operations : Operations) (body : List Stmt) (arg : ℤ) (before : State)
     (caller : Option CallOutcome)
     (replied : List Answer) (after : State) : Type 0 where
-  pub value : (out : ℤ) → end_of body arg before ≡ Out out → caller ≡ Some (Reply (Value out))
-  pub exception : end_of body arg before ≡ Raised → caller ≡ Some (Reply ConstraintError)
+  pub value : (out : ℤ) → outcome_at_end body arg before ≡ Out out → caller ≡ Some (Reply (Value out))
+  pub exception : outcome_at_end body arg before ≡ Raised → caller ≡ Some (Reply ConstraintError)
   pub serviced : Services operations (record before { store = left_by body arg before }) replied
       after
 
@@ -73,9 +73,9 @@ pub record IsServedFirst (operations : Operations) (before : State) (index : ℕ
   pub first : replied ≡ answer ∷ others
   pub task : answer.task ≡ call.task
   pub number : answer.number ≡ call.number
-  pub value : (out : ℤ) → end_of entry.body.items call.arg before ≡ Out out
+  pub value : (out : ℤ) → outcome_at_end entry.body.items call.arg before ≡ Out out
       → answer.reply ≡ Value out
-  pub exception : end_of entry.body.items call.arg before ≡ Raised → answer.reply ≡ ConstraintError
+  pub exception : outcome_at_end entry.body.items call.arg before ≡ Raised → answer.reply ≡ ConstraintError
   pub store : between.store ≡ left_by entry.body.items call.arg before
   pub queue : queue_at between.queues (index - 1) ≡ rest
   pub unchanged : (place : ℕ) → place ≢ index - 1

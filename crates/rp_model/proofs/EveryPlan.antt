@@ -38,7 +38,7 @@ use Rattle.rp_model.specs.Node.{RunningNode, nodes_of, kept_by, given_by, own_fo
 use Rattle.rp_model.specs.Parts.{Running, Turn}
 use Rattle.rp_model.specs.Pending.{most_pending, is_same_call}
 use Rattle.rp_model.specs.Plans.{turn_of, promised_running, offered_running, once_counted, heard_running}
-use Rattle.rp_model.specs.Receiving.{is_node, is_no_node_above, is_allowed, is_for_node, party_number, on_body}
+use Rattle.rp_model.specs.Receiving.{is_node, is_no_node_above, is_allowed, is_for_node, sender_number, on_body}
 use Rattle.rp_model.specs.declared.effect.Dropped.TheVariants.{No, Full, Foreign}
 use Rattle.rp_model.specs.declared.plan.CountedPromise.{CountedPromise}
 use Rattle.rp_model.specs.declared.plan.RangePromise.{RangePromise}
@@ -65,7 +65,7 @@ module _ {S : Type 0} (node : RunningNode S) (input : NodeInput) where
     pub message : Message
     pub input_is : input ≡ Receive message
     pub taken : is_for_node node.setting.config node.me message ≡ true
-    pub sender : party_number message.from ≡ from
+    pub sender : sender_number message.from ≡ from
     pub says : message.body ≡ body
 
   -- ---- an acceptor's answers
@@ -374,16 +374,15 @@ module _ {S : Type 0} (node : RunningNode S) (input : NodeInput) where
   body_saw from (bodies.Decided i v) came = decision_saw from i v came (learned_at node.records i) refl
   body_saw from (bodies.Ask i) came = ask_saw from i came (learned_at node.records i) refl
   body_saw from (bodies.Nack i b bound) came = (from, came)
-  body_saw from (bodies.Reply number reply) came = tt
-  body_saw from (bodies.Report first applied stated) came = tt
   body_saw from (bodies.PrepareRange range b) came =
       range_saw from range b came (is_above_bounds node.records range b) refl (λ i is. found_test (λ (k : ℕ). nat_lt b (bound_at node.records k)) i (positions_of range) is)
   body_saw from (bodies.PromiseRange range b votes) came = came
+  body_saw from _ came = tt
 
   saw : (given : NodeInput) → input ≡ given → SawIf (plan_of node given)
   saw (Receive message) is =
       either (is_for_node node.setting.config node.me message) _ (plans.Pass Foreign)
-      (λ taken. body_saw (party_number message.from) message.body (record { message = message; input_is = is; taken = taken; sender = refl; says = refl })) (λ _. tt)
+      (λ taken. body_saw (sender_number message.from) message.body (record { message = message; input_is = is; taken = taken; sender = refl; says = refl })) (λ _. tt)
   saw (Lead choice) is = lead_saw choice is
   saw (LeadRange first count) is = lead_range_saw first count is (range_of first count) refl
   saw (Interrupt source occurrence) is =
@@ -404,8 +403,8 @@ module _ {S : Type 0} (node : RunningNode S) (input : NodeInput) where
   came_allowed from body came =
       let m = came.message in
       let config = node.setting.config in
-      let allowed = (and_parts (is_node node.me m.to && is_no_node_above config.nodes m.from) (is_allowed config.max_positions (party_number m.from) m.body) came.taken).1 in
-      ap (λ (k : ℕ). is_allowed config.max_positions k body) (sym came.sender) ∙ ap (is_allowed config.max_positions (party_number m.from)) (sym came.says) ∙ allowed
+      let allowed = (and_parts (is_node node.me m.to && is_no_node_above config.nodes m.from) (is_allowed config.max_positions (sender_number m.from) m.body) came.taken).1 in
+      ap (λ (k : ℕ). is_allowed config.max_positions k body) (sym came.sender) ∙ ap (is_allowed config.max_positions (sender_number m.from)) (sym came.says) ∙ allowed
 
   -- ---- what a plan makes of the proposal that it is about
 
@@ -464,17 +463,14 @@ module _ {S : Type 0} (node : RunningNode S) (input : NodeInput) (P : Fault → 
       (one_of (nat_eq (length (unlearned_in node.records range)) 0) (Ok _) _ tt (one_of (is_exhausted node) (Err BallotsSpent) (Ok _) spent tt))
 
   refused : (given : NodeInput) → input ≡ given → IfErr (plan_of node given) P
-  refused (Receive message) is = tt
   refused (Lead choice) is =
       let i = chosen_position (nodes_of node) node.records node.running choice in
       one_of (is_some (learned_at node.records i)) (Ok _) _ tt
       (one_of (is_out_of_reach node.setting.config.max_positions node.records i) (Err LogFull) (leads_at node i (proposal_at node.running.proposals i)) full
       (leads_refused i (proposal_at node.running.proposals i)))
   refused (LeadRange first count) is = range_refused (range_of first count) (range first count is)
-  refused (Interrupt source occurrence) is = tt
-  refused (Tick now) is = tt
-  refused (Report first) is = tt
   refused (Ask to) is = one_of (in_range 1 (nodes_of node) to && not (nat_eq to node.me)) (Ok (plans.AskMissing to)) (Err BadConfig) tt (asked to is)
+  refused _ is = tt
 
   pub plan_refused : IfErr (plan_of node input) P
   plan_refused = refused input refl

@@ -28,7 +28,7 @@ use Rattle.rp_model.specs.Leader.{is_beyond, unlearned_in}
 use Rattle.rp_model.specs.Learner.{missing_position, asks_for, on_vote}
 use Rattle.rp_model.specs.Node.{RunningNode, running_node}
 use Rattle.rp_model.specs.Plans.{written_by, promised_running, offered_running, started_running, report_of, once_learned, turn_of}
-use Rattle.rp_model.specs.Receiving.{is_for_node, party_number, on_body}
+use Rattle.rp_model.specs.Receiving.{is_for_node, sender_number, on_body}
 use Rattle.rp_model.specs.Effect as inputs
 use Rattle.rp_model.specs.Effect.{Setting, NodeInput, plan_of, turn_if, running_effect}
 use Rattle.rp_model.specs.Forgetting.{is_open, KnowsAlike, AreAlikeTurns, AreAlikeAnswers}
@@ -206,28 +206,13 @@ module _ (grown : (records : List Rec) (rec : Rec) (i : ℕ) → learned_at (rec
       body_decided : (from : ℕ) (body : Body) → on_body there from body ≡ on_body here from body
       body_decided from (bodies.Accepted i b v) =
           ap (λ (plan : Plan). if is_beyond records i then plans.Pass No else plan) (vote_decided from i (record { ballot = b; action = v }) (learned_at records i) refl)
-      body_decided from (bodies.Call action) = refl
-      body_decided from (bodies.Prepare i b) = refl
-      body_decided from (bodies.Promise i b last) = refl
-      body_decided from (bodies.Accept i b v) = refl
-      body_decided from (bodies.Decided i v) = refl
-      body_decided from (bodies.Ask i) = refl
-      body_decided from (bodies.Nack i b bound) = refl
-      body_decided from (bodies.Reply number reply) = refl
-      body_decided from (bodies.Report first applied actions) = refl
-      body_decided from (bodies.PrepareRange range b) = refl
-      body_decided from (bodies.PromiseRange range b votes) = refl
+      body_decided from _ = refl
 
       plan_decided : (input : NodeInput) → plan_of there input ≡ plan_of here input
       plan_decided (inputs.Receive message) =
           ap (λ (plan : Plan). let r : Result Plan Fault = Ok (if is_for_node s.config me message then plan else plans.Pass Foreign) in r)
-          (body_decided (party_number message.from) message.body)
-      plan_decided (inputs.Lead choice) = refl
-      plan_decided (inputs.LeadRange first count) = refl
-      plan_decided (inputs.Interrupt source occurrence) = refl
-      plan_decided (inputs.Tick now) = refl
-      plan_decided (inputs.Report first) = refl
-      plan_decided (inputs.Ask to) = refl
+          (body_decided (sender_number message.from) message.body)
+      plan_decided _ = refl
 
       -- ---- and a plan does the same
 
@@ -242,10 +227,6 @@ module _ (grown : (records : List Rec) (rec : Rec) (i : ℕ) → learned_at (rec
       plan_alike input (plans.Promise header last) saw = quiet (written_by (plans.Promise header last)) _ No one refl
       plan_alike input (plans.PromiseRange p) saw = quiet (written_by (plans.PromiseRange p)) _ No one refl
       plan_alike input (plans.Vote header v) saw = quiet (written_by (plans.Vote header v)) _ No one refl
-      plan_alike input (plans.Repeat to i b v) saw = quiet None _ No one refl
-      plan_alike input (plans.Refuse to i b bound) saw = quiet None _ No one refl
-      plan_alike input (plans.Inform to i v) saw = quiet None _ No one refl
-      plan_alike input (plans.Answer task number reply) saw = quiet None _ No one refl
       plan_alike input (plans.Await item) saw = quiet None _ No (record one { pending = one.pending ++ item ∷ [] }) refl
       plan_alike input (plans.Lead i b own) saw = quiet (Some (Started b)) _ No (started_running one i b own) refl
       plan_alike input (plans.LeadRange range b) saw = quiet (Some (Started b)) _ No (record one { proposals = with_range one.proposals b (unlearned_in records range) }) refl
@@ -272,7 +253,7 @@ module _ (grown : (records : List Rec) (rec : Rec) (i : ℕ) → learned_at (rec
       plan_alike input (plans.Learn i v) saw = learns_alike i v (says_to_others s.config.nodes me (bodies.Decided i v)) []
       plan_alike input (plans.Follow from i v) saw = learns_alike i v [] (asks_for me from (missing_position (records ++ Learned i v ∷ [])))
       plan_alike input (plans.Report first) saw = quiet None (report_of me first (applied_of records) ∷ []) No one refl
-      plan_alike input (plans.AskMissing to) saw = quiet None _ No one refl
+      plan_alike input _ saw = quiet None _ No one refl
 
       input_alike : (input : NodeInput) → AreAlikeAnswers records (running_effect s me records one input) (running_effect s me records other input)
       input_alike input =

@@ -13,22 +13,13 @@ use Rattle.rp_codec.specs.declared.packet.Body.{Body}
 use Rattle.rp_codec.specs.declared.packet.Body.TheVariants as bodies
 
 -- the body promises the ballot at the position, with this last vote; one for a range does at each
--- of its positions
+-- of its positions; no other kind promises
 abbrev pub IsPromise : Body → ℕ → ℕ → Option Vote → Type 0
-IsPromise (bodies.Call action) i b last = ⊥
-IsPromise (bodies.Prepare position ballot) i b last = ⊥
 IsPromise (bodies.Promise position ballot stated) i b last =
     (position ≡ i) × (ballot ≡ b) × (stated ≡ last)
-IsPromise (bodies.Accept position ballot action) i b last = ⊥
-IsPromise (bodies.Accepted position ballot action) i b last = ⊥
-IsPromise (bodies.Decided position action) i b last = ⊥
-IsPromise (bodies.Ask position) i b last = ⊥
-IsPromise (bodies.Nack position ballot bound) i b last = ⊥
-IsPromise (bodies.Reply number reply) i b last = ⊥
-IsPromise (bodies.Report first applied actions) i b last = ⊥
-IsPromise (bodies.PrepareRange range ballot) i b last = ⊥
 IsPromise (bodies.PromiseRange range ballot votes) i b last =
     (is_covered range i ≡ true) × (ballot ≡ b) × (placed_at votes i ≡ last)
+IsPromise _ i b last = ⊥
 
 -- a node said that it promises, with this last vote
 abbrev pub HasPromised : List Message → ℕ → ℕ → ℕ → Option Vote → Type 0

@@ -7,24 +7,22 @@ use Rattle.std.specs.List.{list_any}
 use Rattle.rp_base.specs.declared.fault.Fault.{Fault}
 use Rattle.rp_base.specs.declared.fault.Fault.TheVariants.{BallotsSpent, LogFull}
 use Rattle.rp_base.specs.declared.record.Rec.{Rec}
-use Rattle.rp_base.specs.declared.record.Rec.TheVariants.{Started}
 use Rattle.rp_base.specs.Number.{window}
 use Rattle.rp_base.specs.Ballot.{number_of, greatest_with, next_ballot, round_of}
 use Rattle.rp_base.specs.Records.{started_of, learned_at, first_unlearned}
 use Rattle.rp_base.specs.Promises.{offer_of}
-use Rattle.rp_base.specs.declared.placed.PlacedVote.{PlacedVote}
 use Rattle.rp_base.specs.Ranges.{Range, positions_of}
 use Rattle.rp_base.specs.Proposals.{Proposal, proposal_at}
 use Rattle.rp_base.specs.Proposals.{is_in, takes_promise, with_promise, is_promised}
 use Rattle.rp_base.specs.Proposals.{is_prepared, with_range, once_promised}
 use Rattle.rp_base.specs.Proposals.{is_given_up}
-use Rattle.rp_codec.specs.declared.packet.Body.TheVariants as bodies
 use Rattle.rp_model.specs.Parts.{Running}
 use Rattle.rp_model.specs.Parts.{Turn}
-use Rattle.rp_model.specs.Says.{says_to_all, notes, writes}
+use Rattle.rp_model.specs.Says.{notes}
 use Rattle.rp_model.specs.Node.{RunningNode, nodes_of, own_for}
 use Rattle.rp_model.specs.declared.effect.Dropped.TheVariants.{No}
 use Rattle.rp_model.specs.declared.plan.CountedPromise.{CountedPromise}
+use Rattle.rp_model.specs.declared.plan.CountedRange.{CountedRange}
 use Rattle.rp_model.specs.declared.plan.Plan.{Plan}
 use Rattle.rp_model.specs.declared.plan.Plan.TheVariants as plans
 
@@ -75,11 +73,9 @@ unlearned_in records range = filter (λ i. is_none (learned_at records i)) (posi
 
 -- a proposal begins at each unlearned position of the range in the ballot, in place of another
 -- there, which is given up first
-abbrev pub begins_range : ℕ → ℕ → List Rec → Running → Range → ℕ → Turn
-begins_range nodes me records running range b =
-    writes (Started b)
-    (record running { proposals = with_range running.proposals b (unlearned_in records range) })
-    (says_to_all nodes me (bodies.PrepareRange range b))
+abbrev pub begun_running : List Rec → Running → Range → ℕ → Running
+begun_running records running range b =
+    record running { proposals = with_range running.proposals b (unlearned_in records range) }
 
 module _ {S : Type 0} (node : RunningNode S) where
   -- the next ballot of the node
@@ -132,10 +128,10 @@ module _ {S : Type 0} (node : RunningNode S) where
 
 -- PromiseRange: a node promised for a range, and reported its last votes there; noted at each
 -- proposal that takes it
-abbrev pub on_promise_range : ℕ → Running → ℕ → Range → ℕ → List PlacedVote → Turn
-on_promise_range nodes running from range b votes =
+abbrev pub on_promise_range : ℕ → Running → CountedRange → Turn
+on_promise_range nodes running p =
     notes (record running
-    { proposals = map (once_promised nodes from range b votes) running.proposals })
+    { proposals = map (once_promised nodes p.from p.range p.ballot p.votes) running.proposals })
 
 -- a promise that counts: if it makes a majority the action is offered to all, else it is noted
 abbrev pub counts_promise : ℕ → CountedPromise → Proposal → Plan

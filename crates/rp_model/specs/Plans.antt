@@ -18,7 +18,7 @@ use Rattle.rp_codec.specs.declared.packet.Body.TheVariants as bodies
 use Rattle.rp_model.specs.Parts.{Running}
 use Rattle.rp_model.specs.Parts.{Turn}
 use Rattle.rp_model.specs.Node.{RunningNode, nodes_of}
-use Rattle.rp_model.specs.Leader.{begins_range, on_promise_range, on_nack}
+use Rattle.rp_model.specs.Leader.{begun_running, on_promise_range, on_nack}
 use Rattle.rp_model.specs.Learner.{learns, asks_for, missing_position}
 use Rattle.rp_model.specs.Learner.{asks_for_each, missing_in_window}
 use Rattle.rp_model.specs.Says.{says, says_to_all, says_to_others, says_to_task, sends, notes}
@@ -119,14 +119,14 @@ module _ {S : Type 0} (node : RunningNode S) where
   turn_of (Lead i b own) = writes (Started b) (started_running node.running i b own)
       (says_to_all (nodes_of node) node.me (bodies.Prepare i b))
   turn_of (LeadRange range b) =
-      begins_range (nodes_of node) node.me node.records node.running range b
+      writes (Started b) (begun_running node.records node.running range b)
+      (says_to_all (nodes_of node) node.me (bodies.PrepareRange range b))
   turn_of (OfferPrepared i b v) =
       sends (offered_running (nodes_of node) node.running v
       (proposal_at node.running.proposals i))
       (says_to_all (nodes_of node) node.me (bodies.Accept i b v))
   turn_of (CountPromise promise) = notes (once_counted promise)
-  turn_of (CountRangePromise p) =
-      on_promise_range (nodes_of node) node.running p.from p.range p.ballot p.votes
+  turn_of (CountRangePromise p) = on_promise_range (nodes_of node) node.running p
   turn_of (Offer promise v) =
       sends (once_counted promise)
       (says_to_all (nodes_of node) node.me (bodies.Accept promise.position promise.ballot v))

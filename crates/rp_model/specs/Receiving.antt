@@ -32,11 +32,11 @@ is_no_node_above nodes (Node k) = not (nat_lt nodes k)
 is_no_node_above nodes (Task t) = true
 is_no_node_above nodes Audit = true
 
--- the party's number among the nodes or the tasks
-abbrev pub party_number : Party → ℕ
-party_number (Node k) = k
-party_number (Task t) = t
-party_number Audit = 0
+-- the number of a sender among the nodes or the tasks
+abbrev pub sender_number : Party → ℕ
+sender_number (Node k) = k
+sender_number (Task t) = t
+sender_number Audit = 0
 
 -- the range begins and ends within the log
 abbrev pub is_range_within : ℕ → Range → Bool
@@ -64,10 +64,10 @@ is_allowed most from (PromiseRange range ballot votes) = is_range_within most ra
 abbrev pub is_for_node : Config → ℕ → Message → Bool
 is_for_node config me message =
     is_node me message.to && is_no_node_above config.nodes message.from
-    && is_allowed config.max_positions (party_number message.from) message.body
+    && is_allowed config.max_positions (sender_number message.from) message.body
 
 module _ {S : Type 0} (node : RunningNode S) where
-  -- by what the packet says
+  -- by what the packet says: a reply or a report tells a node nothing
   abbrev pub on_body : ℕ → Body → Plan
   on_body from (Call action) = on_call node action
   on_body from (Prepare i b) = on_prepare node from i b
@@ -78,16 +78,15 @@ module _ {S : Type 0} (node : RunningNode S) where
   on_body from (Decided i v) = on_decided node from i v
   on_body from (Ask i) = on_ask node from i
   on_body from (Nack i b bound) = plans.Yield i b bound
-  on_body from (Reply number reply) = plans.Pass No
-  on_body from (Report first applied actions) = plans.Pass No
   on_body from (PrepareRange range b) = on_prepare_range node from range b
   on_body from (PromiseRange range b votes) =
       plans.CountRangePromise
       (record { from = from; range = range; ballot = b; votes = votes })
+  on_body from _ = plans.Pass No
 
   -- a packet arrives at a node
   abbrev pub receives : Message → Plan
   receives message =
       if is_for_node node.setting.config node.me message
-      then on_body (party_number message.from) message.body
+      then on_body (sender_number message.from) message.body
       else plans.Pass Foreign

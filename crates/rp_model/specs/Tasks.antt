@@ -73,18 +73,8 @@ takes_reply task part number reply =
 
 -- a body arrives at a task: only a reply means something to it
 abbrev pub task_hears : ℕ → TaskPart → Body → Done TaskPart
-task_hears task part (bodies.Call action) = goes_on_as part
-task_hears task part (bodies.Prepare position ballot) = goes_on_as part
-task_hears task part (bodies.Promise position ballot last) = goes_on_as part
-task_hears task part (bodies.Accept position ballot action) = goes_on_as part
-task_hears task part (bodies.Accepted position ballot action) = goes_on_as part
-task_hears task part (bodies.Decided position action) = goes_on_as part
-task_hears task part (bodies.Ask position) = goes_on_as part
-task_hears task part (bodies.Nack position ballot bound) = goes_on_as part
 task_hears task part (bodies.Reply number reply) = takes_reply task part number reply
-task_hears task part (bodies.Report first applied actions) = goes_on_as part
-task_hears task part (bodies.PrepareRange range ballot) = goes_on_as part
-task_hears task part (bodies.PromiseRange range ballot votes) = goes_on_as part
+task_hears task part _ = goes_on_as part
 
 -- The result of an input for a task, or its refusal, after which the task is as it was.
 abbrev pub task_effect : Config → ℕ → TaskPart → TaskInput → Result (Done TaskPart) Fault

@@ -28,7 +28,7 @@ use Rattle.rp_machine.specs.Calls.{CallName, call_of, MayApply}
 use Rattle.rp_object.specs.declared.program.ObjectDeclaration.{ObjectDeclaration}
 use Rattle.rp_object.specs.declared.program.Declarations.{Declarations}
 use Rattle.rp_object.specs.Program.{DeclarationFits}
-use Rattle.rp_object.specs.State.{ProgramState, Running, name_of}
+use Rattle.rp_object.specs.State.{ProgramState, Running, call_name_of}
 use Rattle.rp_object.specs.Step.{Result, object_acts, asks, with_object, called, own_answer, waiting_at, tasks_of}
 use Rattle.rp_object.specs.Reached.{HaveQueues}
 use Rattle.rp_object.specs.InMemory.{IsMade, AreObjects, tasks_at, waiting_count}
@@ -83,8 +83,8 @@ asks_still {held} {now} is {from} {number} same equal object caller replied some
 
 -- those that wait and a request's own call, if it is to wait, are of distinct tasks
 pub record MayJoin (objects : List Protected) (request : Request) (caller : Option CallOutcome) : Type 0 where
-  pub tasks : (task : ℕ) → Has task (tasks_of (map name_of (joins request caller) ++ flat_map waiting_at objects)) → IsTask task
-  pub apart : IsSet (tasks_of (map name_of (joins request caller) ++ flat_map waiting_at objects))
+  pub tasks : (task : ℕ) → Has task (tasks_of (map call_name_of (joins request caller) ++ flat_map waiting_at objects)) → IsTask task
+  pub apart : IsSet (tasks_of (map call_name_of (joins request caller) ++ flat_map waiting_at objects))
 
 -- each object has its queues
 made_each : (declared : List ObjectDeclaration) (objects : List Protected) → AllByRecursion DeclarationFits declared → AllZip IsMade declared objects → HaveQueues objects
@@ -113,7 +113,7 @@ module _ {program : Declarations} {timers : List (Option ℤ)} where
   -- nobody joins them
   pub nobody_joins : (objects : List Protected) (request : Request) (caller : Option CallOutcome) → AreObjects program objects timers → joins request caller ≡ [] → MayJoin objects request caller
   nobody_joins objects request caller held none =
-      let all : tasks_of (flat_map waiting_at objects) ≡ tasks_of (map name_of (joins request caller) ++ flat_map waiting_at objects) = ap (λ (l : List Waiting). tasks_of (map name_of l ++ flat_map waiting_at objects)) (sym none) in
+      let all : tasks_of (flat_map waiting_at objects) ≡ tasks_of (map call_name_of (joins request caller) ++ flat_map waiting_at objects) = ap (λ (l : List Waiting). tasks_of (map call_name_of l ++ flat_map waiting_at objects)) (sym none) in
       record {
         tasks = λ task has. held.tasks task (subst (λ (l : List ℕ). Has task l) (sym all) has);
         apart = subst (λ (l : List ℕ). IsSet l) all held.apart;
@@ -137,8 +137,8 @@ module _ {program : Declarations} {timers : List (Option ℤ)} where
     at_place = slice_get_read objects (length objects) place object refl below read
 
     -- those that wait, the one that joins them, those that are answered and those that wait after
-    leaves : Perm (map name_of (joins request caller) ++ flat_map waiting_at objects) (map call_of replied ++ flat_map waiting_at (set objects place new))
-    leaves = among objects place object new (map name_of (joins request caller)) (map call_of replied) at_place (one_leaves (has_each objects place object (objects_each objects held) at_place) acts)
+    leaves : Perm (map call_name_of (joins request caller) ++ flat_map waiting_at objects) (map call_of replied ++ flat_map waiting_at (set objects place new))
+    leaves = among objects place object new (map call_name_of (joins request caller)) (map call_of replied) at_place (one_leaves (has_each objects place object (objects_each objects held) at_place) acts)
 
     -- an action keeps what is held
     pub objects_after : new.operations ≡ object.operations → MayJoin objects request caller → AreObjects program (set objects place new) timers
@@ -161,7 +161,7 @@ module _ {program : Declarations} {timers : List (Option ℤ)} where
     pub answered_count : joins request caller ≡ [] → length replied + waiting_count (set objects place new) ≡ waiting_count objects
     answered_count none =
         let waiting = flat_map waiting_at (set objects place new) in
-        omega (arith, length_permuted leaves, ap (λ (l : List Waiting). length (map name_of l ++ flat_map waiting_at objects)) none, length-append (map call_of replied) waiting, length-map replied call_of)
+        omega (arith, length_permuted leaves, ap (λ (l : List Waiting). length (map call_name_of l ++ flat_map waiting_at objects)) none, length-append (map call_of replied) waiting, length-map replied call_of)
 
   -- no more wait than there are tasks
   pub count_short : (objects : List Protected) → AreObjects program objects timers → waiting_count objects ≤ 8
@@ -171,12 +171,12 @@ module _ {program : Declarations} {timers : List (Option ℤ)} where
   pub few_answers : (state : ProgramState) (call : Waiting) (object : ℕ) (operation : Operation) (outcome : CallOutcome) (replied : List Answer) (after : ProgramState)
       → AreObjects program state.objects timers → IsTask call.task → ¬ Has call.task (tasks_at state.objects)
       → called program state call object operation ≡ record { caller = Some outcome; replied = replied; after = after }
-      → length (own_answer (name_of call) (Some outcome)) + length replied ≤ 8
+      → length (own_answer (call_name_of call) (Some outcome)) + length replied ≤ 8
   few_answers state call object operation outcome replied after held task free does =
       let all = flat_map waiting_at state.objects in
-      let own = own_answer (name_of call) (Some outcome) in
+      let own = own_answer (call_name_of call) (Some outcome) in
       let waiting = flat_map waiting_at after.objects in
-      let perm : Perm (name_of call ∷ all) (map call_of (own ++ replied) ++ waiting) = subst (λ (r : Result). Perm (name_of call ∷ all) (map call_of (own_answer (name_of call) r.caller ++ r.replied) ++ flat_map waiting_at r.after.objects)) does
+      let perm : Perm (call_name_of call ∷ all) (map call_of (own ++ replied) ++ waiting) = subst (λ (r : Result). Perm (call_name_of call ∷ all) (map call_of (own_answer (call_name_of call) r.caller ++ r.replied) ++ flat_map waiting_at r.after.objects)) does
       (called_leaves program state (sym held.all_objects) (objects_each state.objects held) call object operation) in
       let inside : (other : ℕ) → Has other (call.task ∷ tasks_at state.objects) → IsTask other = λ other has. elim has [ inl is ↦ subst IsTask (sym is) task | inr was ↦ held.tasks other was ] in
       let few = few_tasks (call.task ∷ tasks_at state.objects) (free, held.apart) inside in
@@ -203,7 +203,7 @@ events_count {held = held} is {place} {index} object new {replied} holds below r
 
 -- ---- who waits at one object
 
-tasks_named : (calls : List Waiting) → tasks_of (map name_of calls) ≡ map (λ (call : Waiting). call.task) calls
+tasks_named : (calls : List Waiting) → tasks_of (map call_name_of calls) ≡ map (λ (call : Waiting). call.task) calls
 tasks_named [] = refl
 tasks_named (call ∷ rest) = ap (λ (l : List ℕ). call.task ∷ l) (tasks_named rest)
 

@@ -53,8 +53,8 @@ first_state program = record {
 }
 
 -- the name of a call that waits
-abbrev pub name_of : Waiting → CallName
-name_of call = record { task = call.task; number = call.number }
+abbrev pub call_name_of : Waiting → CallName
+call_name_of call = record { task = call.task; number = call.number }
 
 -- a state of a program, for the proofs, as the tuple of its parts
 abbrev pub running_code : Coded Running

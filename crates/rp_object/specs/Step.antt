@@ -24,7 +24,7 @@ use Rattle.rp_object.specs.declared.program.Handler.{Handler}
 use Rattle.rp_object.specs.declared.program.Declarations.{Declarations}
 use Rattle.rp_object.specs.Program.{is_declared, is_within_ceiling, interrupt_handler}
 use Rattle.rp_object.specs.Program.{timer_handler}
-use Rattle.rp_object.specs.State.{ProgramState, Running, name_of}
+use Rattle.rp_object.specs.State.{ProgramState, Running, call_name_of}
 use Rattle.rp_object.specs.Timers.{due_events}
 
 -- the result of something that happens: the outcome of the call that it is, if it is one, the
@@ -157,7 +157,7 @@ objects_answers running action =
 
 -- the calls that wait at one object, entry by entry
 abbrev pub waiting_at : Protected → List CallName
-waiting_at object = map name_of (all_calls object.state.queues)
+waiting_at object = map call_name_of (all_calls object.state.queues)
 
 -- the calls that wait, by the numbers of their objects
 abbrev pub objects_waiting : Running → List CallName

@@ -5,7 +5,7 @@ ghost use Rattle.rp_base.specs.declared.reply.Answer.{Answer};
 ghost use Rattle.rp_entry.specs.Actions.{calls_function, calls_procedure, calls_entry, event};
 ghost use Rattle.rp_base.specs.Sets.{Has};
 ghost use Rattle.rp_machine.specs.Calls.{MayApply};
-ghost use Rattle.rp_object.specs.State.{Running, unset, first_object, first_state, name_of};
+ghost use Rattle.rp_object.specs.State.{Running, unset, first_object, first_state, call_name_of};
 ghost use Rattle.std.specs.Arc.{arc_value};
 ghost use Rattle.std.specs.List.{All};
 ghost use Rattle.rp_object.specs.Program.{is_declared, interrupt_handler, DeclarationFits};
@@ -221,7 +221,7 @@ impl Objects {
               after =
                   self.new.state;
             } }
-        ensures few { length (own_answer (name_of call) (Some result.outcome))
+        ensures few { length (own_answer (call_name_of call) (Some result.outcome))
             + length result.served ≤ 8 }
         ensures program { self.new.program ≡ self.old.program }
     {

@@ -21,17 +21,9 @@ to_another me body text to place is next = ap (λ (t : List ℕ). slice_set t 3 
 
 same_rules : (me k : ℕ) (body : Body) → MaySay (Node me) (Node me) body → MaySay (Node me) (Node k) body
 same_rules me k (bodies.Call action) may = absurd may.0
-same_rules me k (bodies.Prepare position ballot) may = may
-same_rules me k (bodies.Promise position ballot last) may = may
-same_rules me k (bodies.Accept position ballot action) may = may
-same_rules me k (bodies.Accepted position ballot action) may = may
-same_rules me k (bodies.Decided position action) may = may
-same_rules me k (bodies.Ask position) may = may
-same_rules me k (bodies.Nack position ballot bound) may = may
 same_rules me k (bodies.Reply number reply) may = absurd may.1
 same_rules me k (bodies.Report first applied actions) may = absurd may.1
-same_rules me k (bodies.PrepareRange range ballot) may = may
-same_rules me k (bodies.PromiseRange range ballot votes) may = may
+same_rules me k _ may = may
 
 -- what a node may say to itself, it may say to each node
 pub to_any_node : (me k : ℕ) (body : Body) → IsPacket (says me body me) → IsNode k → IsPacket (says me body k)

@@ -3,5 +3,5 @@ use Rattle.std.specs.Prelude.{ℕ, List, drop}
 use Rattle.rp_output.specs.declared.short_line.ShortLine.{ShortLine}
 
 -- what was put together
-abbrev pub text_of : ShortLine → List ℕ
-text_of line = drop line.start line.bytes
+abbrev pub short_line_text : ShortLine → List ℕ
+short_line_text line = drop line.start line.bytes

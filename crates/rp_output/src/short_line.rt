@@ -21,11 +21,11 @@ pub struct ShortLine {
 impl ShortLine {
     ghost use Rattle.std.specs.Fmt.{signed_decimal};
     ghost use Rattle.rp_output.specs.Printed.{reply_text_of, reply_line_of};
-    ghost use Rattle.rp_output.specs.ShortLine.{text_of};
+    ghost use Rattle.rp_output.specs.ShortLine.{short_line_text};
 
     /// Nothing yet.
     pub fn new() -> Self
-        ensures text { text_of result ≡ [] }
+        ensures text { short_line_text result ≡ [] }
         ensures room { result.start ≡ 80 }
     {
         ShortLine {
@@ -36,7 +36,7 @@ impl ShortLine {
 
     /// What was put together.
     pub fn as_slice(&self) -> &[u8]
-        ensures { result.now ≡ text_of self.now }
+        ensures { result.now ≡ short_line_text self.now }
     {
         &self.bytes[self.start..]
     }
@@ -44,7 +44,7 @@ impl ShortLine {
     /// Puts these bytes in front.
     fn put(&mut self, text: &[u8])
         requires { length text.now ≤ self.old.start }
-        ensures text { text_of self.new ≡ text.now ++ text_of self.old }
+        ensures text { short_line_text self.new ≡ text.now ++ short_line_text self.old }
         ensures room { self.new.start + length text.now ≡ self.old.start }
     {
         let start = self.start - text.len();
@@ -55,7 +55,7 @@ impl ShortLine {
     /// Puts the number in front.
     fn put_number(&mut self, number: u64)
         requires { 20 ≤ self.old.start }
-        ensures text { text_of self.new ≡ decimal number ++ text_of self.old }
+        ensures text { short_line_text self.new ≡ decimal number ++ short_line_text self.old }
         ensures room { self.old.start ≤ self.new.start + 20 }
     {
         self.start = write_digits(number, &mut self.bytes, self.start);
@@ -64,7 +64,7 @@ impl ShortLine {
     /// Puts the number in front, with its sign if it is below 0.
     fn put_integer(&mut self, number: i64)
         requires { 21 ≤ self.old.start }
-        ensures text { text_of self.new ≡ signed_decimal number ++ text_of self.old }
+        ensures text { short_line_text self.new ≡ signed_decimal number ++ short_line_text self.old }
         ensures room { self.old.start ≤ self.new.start + 21 }
     {
         self.put_number(number.unsigned_abs());
@@ -76,7 +76,7 @@ impl ShortLine {
     /// Puts the words for a reply in front.
     fn put_reply(&mut self, reply: Reply)
         requires { 30 ≤ self.old.start }
-        ensures text { text_of self.new ≡ reply_text_of reply ++ text_of self.old }
+        ensures text { short_line_text self.new ≡ reply_text_of reply ++ short_line_text self.old }
         ensures room { self.old.start ≤ self.new.start + 30 }
     {
         match reply {
@@ -96,9 +96,9 @@ impl ShortLine {
     pub fn put_reply_line(&mut self, line: &ReplyLine<'_>)
         requires name { length line.now.task.now ≤ 16 }
         requires room { self.old.start ≡ 80 }
-        ensures { text_of self.new
+        ensures { short_line_text self.new
             ≡ reply_line_of line.now.task.now line.now.number line.now.reply
-            ++ (10 ∷ text_of self.old) }
+            ++ (10 ∷ short_line_text self.old) }
     {
         self.put(b"\n");
         self.put_reply(line.reply);

@@ -34,12 +34,7 @@ use Rattle.rp_base.specs.declared.action.Action.{Action}
 
 comes_later : (sent later : List Message) (input : NodeInput) → AllSent sent later → MayCome sent input → MayCome later input
 comes_later sent later (nodes.Receive message) all may = all message may
-comes_later sent later (nodes.Lead choice) all may = may
-comes_later sent later (nodes.LeadRange first count) all may = may
-comes_later sent later (nodes.Interrupt source occurrence) all may = may
-comes_later sent later (nodes.Tick now) all may = may
-comes_later sent later (nodes.Report first) all may = may
-comes_later sent later (nodes.Ask to) all may = may
+comes_later sent later _ all may = may
 
 pub steps_stay : {S : Type 0} (s : Setting S) (sent later : List Message) (me : ℕ) (part : NodePart) (steps : List PendingStep) → AllSent sent later → AreSteps s sent me part steps → AreSteps s later me part steps
 steps_stay s sent later me part [] all are = tt
@@ -152,12 +147,7 @@ runs_if s me part input done (Some known) is effect = (known, is)
 -- whether the packet is for this node
 abbrev pub IsFor : ℕ → NodeInput → Bool → Type 0
 IsFor me (nodes.Receive message) b = is_node me message.to ≡ b
-IsFor me (nodes.Lead choice) b = Unit {0}
-IsFor me (nodes.LeadRange first count) b = Unit {0}
-IsFor me (nodes.Interrupt source occurrence) b = Unit {0}
-IsFor me (nodes.Tick now) b = Unit {0}
-IsFor me (nodes.Report first) b = Unit {0}
-IsFor me (nodes.Ask to) b = Unit {0}
+IsFor me _ b = Unit {0}
 
 pub party_is : (me : ℕ) (party : Party) → is_node me party ≡ true → party ≡ parties.Node me
 party_is me (parties.Node k) e = ap (λ (n : ℕ). parties.Node n) (eqb-true k me e)

@@ -150,12 +150,7 @@ writes_for s me part turn rec (nodes.Receive message) writes effect =
       | inl own ↦ own
       | inr foreign ↦ let none : turn.written ≡ None = (lost s me part turn message foreign effect).written in absurd (cc)
     ]
-writes_for s me part turn rec (nodes.Lead choice) writes effect = tt
-writes_for s me part turn rec (nodes.LeadRange first count) writes effect = tt
-writes_for s me part turn rec (nodes.Interrupt source occurrence) writes effect = tt
-writes_for s me part turn rec (nodes.Tick now) writes effect = tt
-writes_for s me part turn rec (nodes.Report first) writes effect = tt
-writes_for s me part turn rec (nodes.Ask to) writes effect = tt
+writes_for s me part turn rec _ writes effect = tt
 
 torn_part : (kept : ℕ) (part : NodePart) (rec : Rec) → kept < length (record_text rec) → cut_part kept part (Some rec) ≡ record { records = part.records; torn = kept; running = None }
 torn_part kept part rec less =

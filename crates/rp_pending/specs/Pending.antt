@@ -30,13 +30,9 @@ MayCome sent (Ask to) = IsNode to
 
 -- the interrupt or the tick that the input has a node note
 abbrev pub noted_by : NodeInput → List Action
-noted_by (Receive message) = []
-noted_by (Lead choice) = []
-noted_by (LeadRange first count) = []
 noted_by (Interrupt source occurrence) = actions.Interrupt source occurrence ∷ []
 noted_by (Tick now) = actions.Tick now ∷ []
-noted_by (Report first) = []
-noted_by (Ask to) = []
+noted_by _ = []
 
 -- those that the steps noted
 abbrev pub noted_in : List PendingStep → List Action

@@ -11,7 +11,7 @@ use Rattle.rp_model.specs.Effect.{Setting}
 use Rattle.rp_model.specs.Events.{Event, IsRightEvent, Makes, Deliver}
 use Rattle.rp_model.specs.Parts.{NodePart, TaskPart}
 use Rattle.rp_model.specs.World.{World, Transition, event_effect, part_at}
-use Rattle.rp_possible.specs.Possible.{HasReplies, HasApplied}
+use Rattle.rp_possible.specs.Possible.{HasReplies, HasAppliedAll}
 
 some_same : {A : Type 0} {x y : A} → Some x ≡ Some y → x ≡ y
 some_same {A} {x} {y} e = ap (λ (o : Option A). unwrap_or o x) e
@@ -90,7 +90,7 @@ has_node : (o : Option NodePart) (actions : List Action) → applied_by o ≡ So
 has_node None actions is = absurd (cc)
 has_node (Some part) actions is = (part, refl, some_same is)
 
-pub has_applied : (o : Option World) (node : ℕ) (actions : List Action) → applied_in o node ≡ Some actions → (w : World) × (o ≡ Some w) × HasApplied w node actions
+pub has_applied : (o : Option World) (node : ℕ) (actions : List Action) → applied_in o node ≡ Some actions → (w : World) × (o ≡ Some w) × HasAppliedAll w node actions
 has_applied None node actions is = absurd (cc)
 has_applied (Some w) node actions is = (w, refl, has_node (part_at w.nodes node) actions is)
 

@@ -122,8 +122,8 @@ late_nodes waits next replies late begin =
     }
 
 -- the node has applied these actions
-abbrev pub HasApplied : World → ℕ → List Action → Type 0
-HasApplied w node actions =
+abbrev pub HasAppliedAll : World → ℕ → List Action → Type 0
+HasAppliedAll w node actions =
     (part : NodePart) × (part_at w.nodes node ≡ Some part)
     × (applied_of part.records ≡ actions)
 
@@ -138,7 +138,7 @@ pub record IsServedLater {S : Type 0} (s : Setting S) (leader : ℕ) (call : Act
   pub middle : World
   pub world : World
   pub first : Reaches s before middle
-  pub waiting : HasApplied middle 1 (call ∷ [])
+  pub waiting : HasAppliedAll middle 1 (call ∷ [])
   pub plain : list_all is_plain (before ++ after) ≡ true
   pub led : list_all (is_led_by leader) after ≡ true
   pub reached : Reaches s (before ++ after) world

@@ -8,14 +8,14 @@ use Rattle.rp_base.specs.Right.{IsReply}
 use Rattle.rp_base.specs.declared.reply.Reply.{Reply}
 use Rattle.rp_base.specs.declared.reply.Reply.TheVariants.{Value, Truth, ConstraintError, ProgramError, NoSuchOperation}
 use Rattle.rp_output.specs.Printed.{reply_text_of, reply_line_of, opened_line_of, running_line_of, full_line_of, applied_line_of, stopped_line_of, limit_line_of}
-use Rattle.rp_printed_texts.specs.Reading.{ReplyTaken, NodeOpened, NodeRunning, NodeFull, NodeApplied, NodeStopped, StepRefused, DrainEnded, words_in, reply_in, taken_in, state_in, step_in, before_colon, read_line, HasNoSpace}
+use Rattle.rp_printed_texts.specs.Reading.{ReplyTaken, NodeOpened, NodeRunning, NodeFull, NodeApplied, NodeStopped, StepRefused, DrainEnded, words_in, printed_reply, taken_in, state_in, step_in, before_colon, read_line, HasNoSpace}
 use Rattle.rp_printed_texts.proofs.WordsRead.{word_first, word_last, number_solid, value_back, numeral, colon_solid, digits_before, signed_back, signed_solid}
 
 -- ---- replies
 
-reply_back : (reply : Reply) → IsReply reply → reply_in (words_in (reply_text_of reply)) ≡ Some reply
+reply_back : (reply : Reply) → IsReply reply → printed_reply (words_in (reply_text_of reply)) ≡ Some reply
 reply_back (Value z) fits =
-    ap (λ (w : List (List ℕ)). reply_in (codes "value" ∷ w)) (word_last (signed_decimal z) (signed_solid z fits))
+    ap (λ (w : List (List ℕ)). printed_reply (codes "value" ∷ w)) (word_last (signed_decimal z) (signed_solid z fits))
     ∙ ap (λ (v : ℤ). Some (Value v)) (signed_back z fits)
 reply_back (Truth true) fits = refl
 reply_back (Truth false) fits = refl

@@ -58,17 +58,17 @@ exception_in word =
     else if is_word word (codes "No_Such_Operation") then Some NoSuchOperation
     else None
 
-abbrev pub reply_in : List (List ℕ) → Option Reply
-reply_in (kind ∷ value ∷ []) =
+abbrev pub printed_reply : List (List ℕ) → Option Reply
+printed_reply (kind ∷ value ∷ []) =
     if is_word kind (codes "value") then Some (Value (signed_in value))
     else if is_word kind (codes "truth") then truth_in value else None
-reply_in (name ∷ []) = exception_in name
-reply_in _ = None
+printed_reply (name ∷ []) = exception_in name
+printed_reply _ = None
 
 -- the words after `reply`
 abbrev pub taken_in : List (List ℕ) → Option LineRead
 taken_in (task ∷ number ∷ reply) =
-    option_map (λ r. ReplyTaken task (digits_value 10 number) r) (reply_in reply)
+    option_map (λ r. ReplyTaken task (digits_value 10 number) r) (printed_reply reply)
 taken_in _ = None
 
 -- the words after `node`

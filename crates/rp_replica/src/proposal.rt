@@ -8,7 +8,7 @@ ghost use Rattle.rp_base.specs.declared.record.Rec.TheVariants.{Started};
 ghost use Rattle.rp_codec.specs.declared.packet.Body.TheVariants as bodies;
 ghost use Rattle.rp_base.specs.Proposals.{proposal_at};
 ghost use Rattle.rp_base.specs.WriteFaults.{fault_of};
-ghost use Rattle.rp_model.specs.Leader.{begins_range, on_promise_range, on_nack};
+ghost use Rattle.rp_model.specs.Leader.{begun_running, on_promise_range, on_nack};
 ghost use Rattle.rp_model.specs.Says.{says_to_all, notes, sends, writes};
 ghost use Rattle.rp_replica.specs.Committing.{Commits};
 ghost use Rattle.rp_replica.specs.State.{after_turn, server_of};
@@ -65,8 +65,9 @@ impl<M: Machine, D: Device> Replica<M, D> {
     ) -> Result<(), WriteFault>
         requires working { self.old.failed ≡ false }
         requires may { MayBeginRange (server_of self.old) range ballot }
-        ensures ok { OnOk result (Commits (begins_range self.old.config.nodes self.old.me
-            self.old.records self.old.running range ballot)
+        ensures ok { OnOk result (Commits (writes (Started ballot)
+            (begun_running self.old.records self.old.running range ballot)
+            (says_to_all self.old.config.nodes self.old.me (bodies.PrepareRange range ballot)))
             self.old self.new out.old.sent out.new.sent) }
         ensures err { IfErr result (λ fault.
             Stops (Some (Started ballot)) self.old self.new (fault_of fault)) }
@@ -162,8 +163,7 @@ impl<M: Machine, D: Device> Replica<M, D> {
         requires working { self.old.failed ≡ false }
         requires may { MayBeginRange (server_of self.old) range ballot }
         ensures ok { OnOk result (self.new ≡ after_turn self.old (writes (Started ballot)
-            (begins_range self.old.config.nodes self.old.me self.old.records self.old.running
-            range ballot).running [])) }
+            (begun_running self.old.records self.old.running range ballot) [])) }
         ensures err { IfErr result (λ fault.
             Stops (Some (Started ballot)) self.old self.new (fault_of fault)) }
     {
@@ -183,9 +183,8 @@ impl<M: Machine, D: Device> Replica<M, D> {
     /// A promise for a range counts at each proposal that takes it.
     pub(crate) fn note_range(&mut self, promise: &CountedRange)
         requires may { MayCountRange (server_of self.old) promise.now }
-        ensures { self.new ≡ after_turn self.old (on_promise_range self.old.config.nodes
-            self.old.running promise.now.from promise.now.range promise.now.ballot
-            promise.now.votes) }
+        ensures { self.new ≡ after_turn self.old
+            (on_promise_range self.old.config.nodes self.old.running promise.now) }
     {
         let CountedRange {
             from,

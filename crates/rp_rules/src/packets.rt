@@ -6,7 +6,7 @@ ghost use Rattle.rp_base.specs.Ballot.{owner_of};
 ghost use Rattle.rp_codec.specs.Decoding.{IsLongBody};
 ghost use Rattle.rp_codec.specs.Message.{IsNodeParty, IsPacket};
 ghost use Rattle.rp_codec.specs.declared.packet.Party.TheVariants.{Node};
-ghost use Rattle.rp_model.specs.Receiving.{is_for_node, is_allowed, is_range_within, is_node, is_no_node_above, party_number, on_body, receives};
+ghost use Rattle.rp_model.specs.Receiving.{is_for_node, is_allowed, is_range_within, is_node, is_no_node_above, sender_number, on_body, receives};
 ghost use Rattle.rp_rules.specs.Inputs.{node_of};
 ghost use Rattle.rp_rules.specs.Plans.{MayCommit};
 
@@ -128,9 +128,7 @@ fn on_node<M: Machine>(
             ballot: *ballot,
             bound: *bound,
         },
-        Body::Call { .. } | Body::Reply { .. } | Body::Report { .. } => {
-            *plan = Plan::Pass(Dropped::No);
-        }
+        _ => *plan = Plan::Pass(Dropped::No),
     }
     Ok(())
 }
@@ -140,7 +138,7 @@ fn on_node<M: Machine>(
 fn on_task<M: Machine>(server: &Server<M>, packet: &Packet, plan: &mut Plan)
     requires sender { ¬ IsNodeParty packet.now.from }
     ensures plan { plan.new ≡ on_body (node_of M.next M.answers server.now)
-        (party_number packet.now.from) packet.now.body }
+        (sender_number packet.now.from) packet.now.body }
     ensures may { MayCommit server.now plan.new }
 {
     match *packet.body() {
@@ -174,7 +172,7 @@ fn is_no_node_above(nodes: u8, party: Party) -> bool
 /// Whether the position, or each of a range, is within the log, and who asks for a ballot owns it.
 #[inline(always)]
 fn is_allowed(max_positions: u16, from: Party, body: &Body) -> bool
-    ensures { result ≡ is_allowed max_positions (party_number from) body.now }
+    ensures { result ≡ is_allowed max_positions (sender_number from) body.now }
 {
     match *body {
         Body::Call { .. } | Body::Reply { .. } | Body::Report { .. } => true,
@@ -207,7 +205,7 @@ fn is_range_within(max_positions: u16, range: PositionRange) -> bool
 /// Whether the ballot is the party's own.
 #[inline(always)]
 fn owns(party: Party, ballot: Ballot) -> bool
-    ensures { result ≡ nat_eq (owner_of ballot) (party_number party) }
+    ensures { result ≡ nat_eq (owner_of ballot) (sender_number party) }
 {
     let number = match party {
         Party::Node(node) => node.get(),

@@ -250,18 +250,8 @@ reply_steps t part message number reply =
     ]
 
 hears_steps : (t : ℕ) (part : TaskPart) (message : Message) (body : Body) → StepsOn t part (Take message) (task_hears t part body)
-hears_steps t part message (bodies.Call action) = stays t part (Take message) refl
-hears_steps t part message (bodies.Prepare i b) = stays t part (Take message) refl
-hears_steps t part message (bodies.Promise i b last) = stays t part (Take message) refl
-hears_steps t part message (bodies.Accept i b v) = stays t part (Take message) refl
-hears_steps t part message (bodies.Accepted i b v) = stays t part (Take message) refl
-hears_steps t part message (bodies.Decided i v) = stays t part (Take message) refl
-hears_steps t part message (bodies.Ask i) = stays t part (Take message) refl
-hears_steps t part message (bodies.Nack i b bound) = stays t part (Take message) refl
 hears_steps t part message (bodies.Reply number reply) = reply_steps t part message number reply
-hears_steps t part message (bodies.Report first applied printed) = stays t part (Take message) refl
-hears_steps t part message (bodies.PrepareRange range b) = stays t part (Take message) refl
-hears_steps t part message (bodies.PromiseRange range b votes) = stays t part (Take message) refl
+hears_steps t part message _ = stays t part (Take message) refl
 
 task_steps : (config : Config) (t : ℕ) (part : TaskPart) (input : TaskInput) → StepsOnIf t part input (task_effect config t part input)
 task_steps config t part (Submit node object operation arg) =

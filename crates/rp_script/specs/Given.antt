@@ -14,6 +14,12 @@ use Rattle.rp_script.specs.Faults.{IsBadDeck, IsProgramFault}
 abbrev pub most_bytes : ℕ
 most_bytes = 1048576
 
+-- some bytes, no more than a deck may have, and all that the reader gives, if it is known what it
+-- gives
+pub record AreGiven (given : Option (List ℕ)) (bytes : List ℕ) : Type 0 where
+  pub all : IfSome given (λ whole. bytes ≡ whole)
+  pub short : length bytes ≤ most_bytes
+
 -- Some bytes, no more than a deck may have, mean this in a mode, and they are all that the reader
 -- gives, if it is known what it gives.
 pub record Means (mode : Mode) (given : Option (List ℕ)) (meaning : Result DeckText BadLine)

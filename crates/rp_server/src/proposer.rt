@@ -14,7 +14,7 @@ ghost use Rattle.rp_base.specs.declared.action.Action.{Action};
 ghost use Rattle.rp_base.specs.declared.record.Rec.TheVariants.{Started};
 ghost use Rattle.rp_codec.specs.Record.{record_text};
 ghost use Rattle.rp_base.specs.Number.{window};
-ghost use Rattle.rp_model.specs.Leader.{is_free_position, is_out_of_reach, least_free, starts_above, unlearned_in, begins_range, on_promise_range, on_nack};
+ghost use Rattle.rp_model.specs.Leader.{is_free_position, is_out_of_reach, least_free, starts_above, unlearned_in, begun_running, on_promise_range, on_nack};
 ghost use Rattle.rp_model.specs.Says.{notes, writes};
 ghost use Rattle.rp_proposer.specs.Proposing.{prepared_by, progress_in, unskipped};
 ghost use Rattle.rp_proposer.specs.declared.proposal.Progress.TheVariants.{Offer};
@@ -161,8 +161,7 @@ impl<M: Machine> Server<M> {
         ensures put { OnOk result
             (IsPut D.disk (record_text (Started ballot)) store.old store.new) }
         ensures begun { OnOk result (self.new ≡ server_after self.old (writes (Started ballot)
-            (begins_range self.old.config.nodes self.old.me self.old.records self.old.running
-            range ballot).running [])) }
+            (begun_running self.old.records self.old.running range ballot) [])) }
         ensures unchanged { OnErr result (self.new ≡ self.old) }
         ensures err { IfErr result (λ fault.
             IsNotPut D.disk (record_text (Started ballot)) store.old (fault_of fault) store.new) }
@@ -227,7 +226,12 @@ impl<M: Machine> Server<M> {
         requires sender { from ≤ self.old.config.nodes }
         requires right { AllByRecursion (λ placed. IsRightVote placed.vote) votes.now }
         ensures { self.new ≡ server_after self.old (on_promise_range self.old.config.nodes
-            self.old.running from range ballot votes.now) }
+            self.old.running (record {
+              from = from;
+              range = range;
+              ballot = ballot;
+              votes = votes.now;
+            })) }
     {
         self.proposer.note_range(from, range, ballot, votes);
     }

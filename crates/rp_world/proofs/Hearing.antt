@@ -114,18 +114,8 @@ heard_of task part None = goes_on_as part
 heard_of task part (Some (number, reply)) = takes_reply task part number reply
 
 hears : (task : ℕ) (part : TaskPart) (body : Body) → task_hears task part body ≡ heard_of task part (reply_in body)
-hears task part (bodies.Call action) = refl
-hears task part (bodies.Prepare position ballot) = refl
-hears task part (bodies.Promise position ballot last) = refl
-hears task part (bodies.Accept position ballot action) = refl
-hears task part (bodies.Accepted position ballot action) = refl
-hears task part (bodies.Decided position action) = refl
-hears task part (bodies.Ask position) = refl
-hears task part (bodies.Nack position ballot bound) = refl
 hears task part (bodies.Reply number reply) = refl
-hears task part (bodies.Report first applied actions) = refl
-hears task part (bodies.PrepareRange range ballot) = refl
-hears task part (bodies.PromiseRange range ballot votes) = refl
+hears task part _ = refl
 
 record IsQuiet (done : Done TaskPart) : Type 0 where
   pub sends : done.sends ≡ []

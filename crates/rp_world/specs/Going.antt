@@ -5,10 +5,7 @@ use Rattle.rp_base.specs.declared.record.Rec.{Rec}
 use Rattle.rp_base.specs.declared.reply.Reply.{Reply}
 use Rattle.rp_codec.specs.Message.{Message}
 use Rattle.rp_codec.specs.declared.packet.Body.{Body}
-use Rattle.rp_codec.specs.declared.packet.Body.TheVariants.{Call, Prepare, Promise, Accept}
-use Rattle.rp_codec.specs.declared.packet.Body.TheVariants.{Accepted, Decided, Ask, Nack}
-use Rattle.rp_codec.specs.declared.packet.Body.TheVariants.{Reply as Answer, Report, PrepareRange}
-use Rattle.rp_codec.specs.declared.packet.Body.TheVariants.{PromiseRange}
+use Rattle.rp_codec.specs.declared.packet.Body.TheVariants.{Reply as Answer}
 use Rattle.rp_base.specs.declared.fault.Fault.{Fault}
 use Rattle.rp_base.specs.declared.fault.PacketReason.{PacketReason}
 use Rattle.rp_base.specs.declared.fault.Fault.TheVariants.{OutOfMemory, Device, NotRunning}
@@ -120,18 +117,8 @@ AnswersRestart old me effect new (Err fault) =
 
 -- the number and the reply in a body, if it is a reply
 abbrev pub reply_in : Body → Option (ℕ × Reply)
-reply_in (Call action) = None
-reply_in (Prepare position ballot) = None
-reply_in (Promise position ballot last) = None
-reply_in (Accept position ballot action) = None
-reply_in (Accepted position ballot action) = None
-reply_in (Decided position action) = None
-reply_in (Ask position) = None
-reply_in (Nack position ballot bound) = None
 reply_in (Answer number reply) = Some (number, reply)
-reply_in (Report first applied actions) = None
-reply_in (PrepareRange range ballot) = None
-reply_in (PromiseRange range ballot votes) = None
+reply_in _ = None
 
 -- the same of bytes: of the packet that they encode, if they encode one
 abbrev pub reply_read : Result Message PacketReason → Option (ℕ × Reply)

@@ -39,7 +39,7 @@ use Rattle.rp_entry.proofs.Permuting.{in_front, at_end, some_first, back, has_pe
 use Rattle.rp_entry.proofs.Permuting.{set_permuted, has_left, has_right, has_either, set_left}
 use Rattle.rp_entry.proofs.Permuting.{apart}
 use Rattle.rp_machine.specs.Calls.{CallName, call_of, calls_of, AccountsFor}
-use Rattle.rp_object.specs.State.{ProgramState, name_of}
+use Rattle.rp_object.specs.State.{ProgramState, call_name_of}
 use Rattle.rp_object.specs.declared.program.Handler.{Handler}
 use Rattle.rp_object.specs.declared.program.Declarations.{Declarations}
 use Rattle.rp_object.specs.Program.{operations_of, has_operation, is_some_and, object_has}
@@ -56,9 +56,9 @@ use Rattle.rp_object.proofs.MachineLaws.Queues.{acts_many}
 abbrev named : ℕ × ℕ → CallName
 named p = record { task = p.0; number = p.1 }
 
-names_same : (calls : List Waiting) → map named (map entry.name_of calls) ≡ map name_of calls
+names_same : (calls : List Waiting) → map named (map entry.waiting_key calls) ≡ map call_name_of calls
 names_same [] = refl
-names_same (call ∷ rest) = ap (λ (l : List CallName). name_of call ∷ l) (names_same rest)
+names_same (call ∷ rest) = ap (λ (l : List CallName). call_name_of call ∷ l) (names_same rest)
 
 answers_same : (replied : List Answer)
     → map named (map entry.answered_caller replied) ≡ map call_of replied
@@ -75,17 +75,17 @@ pub one_leaves : {operations : Operations} {before after : State} {request : Req
     {caller : Option CallOutcome}
     {replied : List Answer} → length before.queues ≡ length operations.entries.items
     → Acts operations before request caller replied after
-    → Perm (map name_of (joins request caller) ++ map name_of (all_calls before.queues))
-    (map call_of replied ++ map name_of (all_calls after.queues))
+    → Perm (map call_name_of (joins request caller) ++ map call_name_of (all_calls before.queues))
+    (map call_of replied ++ map call_name_of (all_calls after.queues))
 one_leaves {before = before} {after = after} {request = request} {caller = caller}
     {replied = replied} each acts =
     let own = joins request caller in
     let waited = all_calls before.queues in
     let waiting = all_calls after.queues in
-    chain (permuted (sym (map_append name_of own waited) ∙ sym (names_same (own ++ waited))))
+    chain (permuted (sym (map_append call_name_of own waited) ∙ sym (names_same (own ++ waited))))
     (chain (mapped_permuted named (acts_leave each acts))
-    (permuted (map_append named (map entry.answered_caller replied) (map entry.name_of waiting)
-    ∙ ap (λ (l : List CallName). l ++ map named (map entry.name_of waiting)) (answers_same replied)
+    (permuted (map_append named (map entry.answered_caller replied) (map entry.waiting_key waiting)
+    ∙ ap (λ (l : List CallName). l ++ map named (map entry.waiting_key waiting)) (answers_same replied)
     ∙ ap (λ (l : List CallName). map call_of replied ++ l) (names_same waiting))))
 
 abbrev pub all_waiting : List Protected → List CallName
@@ -137,7 +137,7 @@ joins_none (event handler) = refl
 -- the calls that an action of an object leaves and answers
 abbrev Accounts : ProgramState → Request → Result → Type 0
 Accounts before request result =
-    Perm (map name_of (joins request result.caller) ++ all_waiting before.objects)
+    Perm (map call_name_of (joins request result.caller) ++ all_waiting before.objects)
     (map call_of result.replied ++ all_waiting result.after.objects)
 
 object_accounts : (before : ProgramState) (number : ℕ) (request : Request)
@@ -145,14 +145,14 @@ object_accounts : (before : ProgramState) (number : ℕ) (request : Request)
     → HaveQueues before.objects → of_index before.objects number ≡ found
     → Accounts before request (object_acts before number request found)
 object_accounts before number request None each none =
-    permuted (ap (λ (l : List Waiting). map name_of l ++ all_waiting before.objects)
+    permuted (ap (λ (l : List Waiting). map call_name_of l ++ all_waiting before.objects)
     (joins_none request))
 object_accounts before zero request (Some object) each there = absurd (cc)
 object_accounts before (suc place) request (Some object) each there =
     let did = acted object.operations object.state request in
     let new : Protected = record object { state = did.after } in
     let where_is : suc place - 1 ≡ place = omega arith in
-    chain (among before.objects place object new (map name_of (joins request did.caller))
+    chain (among before.objects place object new (map call_name_of (joins request did.caller))
     (map call_of did.replied) there
     (one_leaves (has_each before.objects place object each there)
     (is_acted object.operations object.state request)))
@@ -253,15 +253,15 @@ entry_answers operations (Some entry) index call before =
 -- the call and those that wait, those that are answered and those that wait after
 abbrev CallLeaves : ProgramState → Waiting → Result → Type 0
 CallLeaves before call result =
-    Perm (name_of call ∷ all_waiting before.objects)
-    (map call_of (own_answer (name_of call) result.caller ++ result.replied)
+    Perm (call_name_of call ∷ all_waiting before.objects)
+    (map call_of (own_answer (call_name_of call) result.caller ++ result.replied)
     ++ all_waiting result.after.objects)
 
 over_leaves : (before : ProgramState) (call : Waiting) (result : Result) (r : CallReply)
     → result.caller ≡ Some (Reply r) → Leaves before result → CallLeaves before call result
 over_leaves before call result r over leaves =
-    subst (λ (c : Option CallOutcome). Perm (name_of call ∷ all_waiting before.objects)
-    (map call_of (own_answer (name_of call) c ++ result.replied)
+    subst (λ (c : Option CallOutcome). Perm (call_name_of call ∷ all_waiting before.objects)
+    (map call_of (own_answer (call_name_of call) c ++ result.replied)
     ++ all_waiting result.after.objects)) (sym over)
     (following leaves)
 
@@ -272,14 +272,14 @@ outcome_leaves : (before : ProgramState) (index : ℕ) (call : Waiting) (result 
 outcome_leaves before index call result (Reply r) is accounts =
     over_leaves before call result r is
     (subst (λ (c : Option CallOutcome). Perm
-    (map name_of (joins (calls_entry index call) c) ++ all_waiting before.objects)
+    (map call_name_of (joins (calls_entry index call) c) ++ all_waiting before.objects)
     (map call_of result.replied ++ all_waiting result.after.objects)) is accounts)
 outcome_leaves before index call result Waits is accounts =
-    subst (λ (c : Option CallOutcome). Perm (name_of call ∷ all_waiting before.objects)
-    (map call_of (own_answer (name_of call) c ++ result.replied)
+    subst (λ (c : Option CallOutcome). Perm (call_name_of call ∷ all_waiting before.objects)
+    (map call_of (own_answer (call_name_of call) c ++ result.replied)
     ++ all_waiting result.after.objects)) (sym is)
     (subst (λ (c : Option CallOutcome). Perm
-    (map name_of (joins (calls_entry index call) c) ++ all_waiting before.objects)
+    (map call_name_of (joins (calls_entry index call) c) ++ all_waiting before.objects)
     (map call_of result.replied ++ all_waiting result.after.objects)) is accounts)
 
 -- an object that is there answers its caller

@@ -14,7 +14,7 @@ use Rattle.rp_object.specs.declared.program.ObjectDeclaration.{ObjectDeclaration
 use Rattle.rp_object.specs.declared.program.TimingEvent.{TimingEvent}
 use Rattle.rp_object.specs.declared.program.Declarations.{Declarations}
 use Rattle.rp_object.specs.Program.{operations_of, DeclarationFits, IsProgram}
-use Rattle.rp_object.specs.State.{Running, first_object, unset, first_state, name_of}
+use Rattle.rp_object.specs.State.{Running, first_object, unset, first_state, call_name_of}
 use Rattle.rp_object.specs.Step.{waiting_at, objects_waiting, objects_next, objects_answers}
 use Rattle.rp_object.specs.Reached.{IsObjectOf, IsStateOf}
 use Rattle.rp_object.proofs.MachineLaws.Accounting.{step_leaves, step_accounts}
@@ -25,7 +25,7 @@ pub nobody : (declared : List ObjectDeclaration)
     → flat_map waiting_at (map first_object declared) ≡ []
 nobody [] = refl
 nobody (one ∷ rest) =
-    ap (λ (l : List Waiting). map name_of l ++ flat_map waiting_at (map first_object rest))
+    ap (λ (l : List Waiting). map call_name_of l ++ flat_map waiting_at (map first_object rest))
     (no_call (operations_of one).entries.items) ∙ nobody rest
 
 -- nobody waits at the start

@@ -6,15 +6,15 @@ use Rattle.rp_base.specs.declared.reply.Answer.{Answer}
 use Rattle.rp_machine.specs.Numbered.{Applied, outcome}
 use Rattle.rp_explore.specs.Explored.{Exploration}
 use Rattle.rp_explore.specs.Listed.{order_at}
-use Rattle.rp_explore.specs.Broken.{IsAsked, state_at}
+use Rattle.rp_explore.specs.Broken.{IsAskedAt, state_at}
 use Rattle.rp_explore.proofs.property.first_broken.Goals as goal
 
 -- what holds of all before and of one more, where it is asked, holds of all up to it
-one_more : (found : Exploration) (is_final_only : Bool) (holds : ℕ → Type 0) (place : ℕ) → ((earlier : ℕ) → earlier < place → IsAsked found is_final_only earlier → holds earlier)
-    → (IsAsked found is_final_only place → holds place) → (earlier : ℕ) → earlier < place + 1 → IsAsked found is_final_only earlier → holds earlier
+one_more : (found : Exploration) (is_final_only : Bool) (holds : ℕ → Type 0) (place : ℕ) → ((earlier : ℕ) → earlier < place → IsAskedAt found is_final_only earlier → holds earlier)
+    → (IsAskedAt found is_final_only place → holds place) → (earlier : ℕ) → earlier < place + 1 → IsAskedAt found is_final_only earlier → holds earlier
 one_more found is_final_only holds place before now earlier below asked = elim (cases_lt earlier place) [
   | inl less ↦ before earlier less asked
-  | inr rest ↦ let same : earlier ≡ place = omega arith in subst holds (sym same) (now (subst (λ (p : ℕ). IsAsked found is_final_only p) same asked))
+  | inr rest ↦ let same : earlier ≡ place = omega arith in subst holds (sym same) (now (subst (λ (p : ℕ). IsAskedAt found is_final_only p) same asked))
 ]
 
 -- the machine is in the state after the order

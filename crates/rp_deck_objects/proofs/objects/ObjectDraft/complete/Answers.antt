@@ -9,7 +9,7 @@ use Rattle.indexmap.specs.IndexMap.{values}
 use Rattle.rp_deck_objects.specs.declared.objects.Head.{Head}
 use Rattle.rp_deck_objects.specs.declared.objects.Head.TheVariants as heads
 use Rattle.rp_deck_objects.specs.declared.names.OperationName.TheVariants.{Procedure, Entry}
-use Rattle.rp_deck_objects.specs.ObjectLimits.{HasRoom, HeadFits, HeadKeeps}
+use Rattle.rp_deck_objects.specs.ObjectLimits.{HasRoomForOperation, HeadFits, HeadKeeps}
 use Rattle.rp_deck_objects.proofs.Naming.{last_numbered, procedure_more, entry_more, named_after}
 use Rattle.rp_deck_objects.proofs.ObjectLemmas.{procedure_fits, entry_fits, entry_keeps, few_entries, same_entries}
 use Rattle.rp_deck_objects.proofs.objects.ObjectDraft.complete.Goals as goal
@@ -23,7 +23,7 @@ returns-in_ok-push-in-Entry-2-clause-object c =
     let body = c.into_statements-body.result in
     let head : Head = heads.Entry c.in-Entry.barrier c.in-Entry.longest in
     let is : c.args.operation.head ≡ head = c.in-Entry.is in
-    let room = subst (λ h. HasRoom c.args.profile self.operations h) is begun.room in
+    let room = subst (λ h. HasRoomForOperation c.args.profile self.operations h) is begun.room in
     let entry : DeclaredEntry = record { barrier = c.in-Entry.barrier; longest = c.in-Entry.longest; body = body } in
     let after : Operations = record { functions = self.operations.functions; procedures = self.operations.procedures; entries = c.push-in-Entry-2.new.self } in
     let number : index.number ≡ length self.operations.entries.items + 1 = search rules in
@@ -52,7 +52,7 @@ returns-in_ok-push-in-Procedure-clause-object c =
     let body = c.into_statements-body.result in
     let after : Operations = record { functions = self.operations.functions; procedures = c.push.new.self; entries = self.operations.entries } in
     let number : index.number ≡ length self.operations.procedures.items + 1 = search rules in
-    let room = subst (λ h. HasRoom c.args.profile self.operations h) c.in-Procedure.is c.requires.operation.begun.room in
+    let room = subst (λ h. HasRoomForOperation c.args.profile self.operations h) c.in-Procedure.is c.requires.operation.begun.room in
     let has : is_some (of_index after.procedures.items index.number) ≡ true =
     subst (λ l. is_some (of_index l index.number) ≡ true) (sym c.in_ok-push-in-Procedure.ensures.items) (last_numbered self.operations.procedures.items body index.number number) in
     on_ok_weaker c.insert_string_in_map.result (λ more. record {

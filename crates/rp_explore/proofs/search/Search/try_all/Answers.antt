@@ -3,7 +3,7 @@ use Rattle.std.proofs.Common.{◌≡◌, ◌≤◌, ◌<◌, ◌+◌, ℕ, Bool,
 use Rattle.rp_base.specs.declared.action.Action.{Action}
 use Rattle.rp_explore.specs.declared.giver.Giver.{Giver}
 use Rattle.rp_explore.specs.Listed.{further}
-use Rattle.rp_explore.specs.Searched.{Searched, Extends, AllReached, SomeMissing, AreNear, AreGiven, IsNoted}
+use Rattle.rp_explore.specs.Searched.{Searched, Extends, AllReached, SomeMissing, AreNear, AreGivenBefore, AreAnswersNoted}
 use Rattle.rp_explore.proofs.GivenLemmas.{given_more}
 use Rattle.rp_explore.proofs.LayerLemmas.{layered_more, near_more}
 use Rattle.rp_explore.proofs.VisitLemmas.{extends_self, extends_join, grows_extends, longer, order_stays, whole_more, quiet_more}
@@ -51,7 +51,7 @@ loop-action-preserved g c =
     let e = grows_extends old new (further old.listed c.args.visited.now.place k) room c.in_ok-at.ensures.grows in
     let layered = layered_more old new c.args.visited.now.place k lt before.layered c.in_ok-at.ensures.grows in
     let giver : Giver = record { place = c.args.visited.now.place; action = k } in
-    let noted : IsNoted c.as_slice.result.now giver c.loop-action.given.replies.keys c.loop-action.given.givers.items c.note.new.self.replies.keys c.note.new.self.givers.items = c.in_ok-note.ensures in
+    let noted : AreAnswersNoted c.as_slice.result.now giver c.loop-action.given.replies.keys c.loop-action.given.givers.items c.note.new.self.replies.keys c.note.new.self.givers.items = c.in_ok-note.ensures in
     record {
       extends = extends_join first old new before.extends e;
       whole = subst (λ (b : Bool). MatchBool b (AllReached m.next m.answers new c.args.visited.now.place (k + 1)) (SomeMissing m.next m.answers new c.args.visited.now.place (k + 1))) (sym c.with-tried.ensures.whole)
@@ -72,7 +72,7 @@ returns-clause-given g c =
     let old : Searched _ = c.args.self.now in
     let may : c.may-action-end.result.now ≡ old.listed.may = c.may-action-end.ensures.value ∙ ap (λ (v : Searched _). v.listed.may) c.self.view_is in
     let all : c.loop-action.action ≡ length old.listed.may = omega (arith, c.loop-action-test.false, c.loop-action.auto.action-end, ap length may) in
-    subst (λ (n : ℕ). AreGiven m.next m.answers c.loop-action.self c.args.visited.now.place n c.loop-action.given.replies.keys c.loop-action.given.givers.items) all c.loop-action.invariant.given
+    subst (λ (n : ℕ). AreGivenBefore m.next m.answers c.loop-action.self c.args.visited.now.place n c.loop-action.given.replies.keys c.loop-action.given.givers.items) all c.loop-action.invariant.given
 
 pub returns-clause-near : goal.returns-clause-near
 returns-clause-near g c =

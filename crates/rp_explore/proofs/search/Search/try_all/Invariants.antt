@@ -1,5 +1,5 @@
 use Rattle.std.proofs.Common.{◌↔◌, IsTrue, MatchBool}
-use Rattle.rp_explore.specs.Searched.{Extends, AllReached, SomeMissing, AreQuiet, IsLayered, AreNear, AreGiven}
+use Rattle.rp_explore.specs.Searched.{Extends, AllReached, SomeMissing, AreQuiet, IsLayered, AreNear, AreGivenBefore}
 use Rattle.rp_explore.proofs.search.Search.try_all.Given as goal
 
 -- the clauses, for the actions so far
@@ -11,5 +11,5 @@ invariant-loop-action g l =
       quiet : IsTrue l.tried.is_quiet ↔ AreQuiet m.next m.answers l.self l.visited.place l.action;
       layered : IsLayered l.self l.visited.place;
       near : AreNear m.next m.answers l.self l.visited.place l.action;
-      given : AreGiven m.next m.answers l.self l.visited.place l.action l.given.replies.keys l.given.givers.items;
+      given : AreGivenBefore m.next m.answers l.self l.visited.place l.action l.given.replies.keys l.given.givers.items;
     }

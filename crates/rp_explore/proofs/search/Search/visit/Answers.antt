@@ -8,7 +8,7 @@ use Rattle.rp_machine.specs.Numbered.{Applied, outcome}
 use Rattle.rp_explore.specs.declared.findings.Given.{Given}
 use Rattle.rp_explore.specs.Findings.{found_of}
 use Rattle.rp_explore.specs.Listed.{order_at}
-use Rattle.rp_explore.specs.Searched.{Searched, Found, Extends, AllReached, SomeMissing, LeadsBeyond, AreQuiet, IsLayered, AreNear, AreGiven, WaitsFirst, AreFindings}
+use Rattle.rp_explore.specs.Searched.{Searched, Found, Extends, AllReached, SomeMissing, LeadsBeyond, AreQuiet, IsLayered, AreNear, AreGivenBefore, WaitsFirst, AreFindings}
 use Rattle.rp_explore.proofs.VisitLemmas.{order_stays}
 use Rattle.rp_explore.proofs.LayerLemmas.{layered_next, near_after}
 use Rattle.rp_explore.proofs.GivenLemmas.{given_next_order}
@@ -29,7 +29,7 @@ found_after : {S : Type 0} (next : S → Action → S) (answers : S → Action �
     → MatchBool is_whole (AllReached next answers new place (length old.listed.may)) (SomeMissing next answers new place (length old.listed.may))
     → IsTrue is_quiet ↔ AreQuiet next answers new place (length old.listed.may)
     → IsLayered new place → AreNear next answers new place (length old.listed.may)
-    → AreGiven next answers new place (length old.listed.may) after.replies after.givers
+    → AreGivenBefore next answers new place (length old.listed.may) after.replies after.givers
     → order ≡ order_at old.listed.orders place
     → after.is_whole ≡ (before.is_whole && is_whole) → after.finals ≡ before.finals ++ is_quiet ∷ [] → after.depth ≡ max before.depth (length order)
     → ((task : ℕ) → IsTask task → WaitsFirst next answers new task (place + 1) (get_or after.stuck (task - 1) None))
@@ -39,7 +39,7 @@ found_after next answers old new place before after is_whole is_quiet order e lt
     record {
       whole = subst (λ (b : Bool). MatchBool b ((p : ℕ) → p < place + 1 → AllReached next answers new p (length new.listed.may)) (LeadsBeyond next answers new)) (sym wholes)
           (whole_after next answers old new place before.is_whole is_whole e lt was.whole whole);
-      given = given_next_order next answers new place after.replies after.givers (subst (λ (n : ℕ). AreGiven next answers new place n after.replies after.givers) size given);
+      given = given_next_order next answers new place after.replies after.givers (subst (λ (n : ℕ). AreGivenBefore next answers new place n after.replies after.givers) size given);
       finals = marked_more next answers old new place before.finals after.finals is_quiet e lt marks quiet was.finals;
       stuck = stuck;
       layered = λ more. layered_next new place more layered;
@@ -63,7 +63,7 @@ returns-then-not-tried-clause-after g c =
     let long : c.in_ok-order.order.len ≡ length c.in_ok-order.order.items = omega (arith, c.in_ok-order.order.ok.0) in
     found_after m.next m.answers old new c.args.place (found_of c.args.findings.now) (found_of c.note_order.new.self) tried.is_whole tried.is_quiet c.in_ok-order.order.items
     e c.requires.place c.requires.before ensured.whole ensured.quiet ensured.layered ensured.near
-    (subst (λ (gs : Given). AreGiven m.next m.answers new c.args.place (length old.listed.may) gs.replies.keys gs.givers.items) (sym noted.given) ensured.given)
+    (subst (λ (gs : Given). AreGivenBefore m.next m.answers new c.args.place (length old.listed.may) gs.replies.keys gs.givers.items) (sym noted.given) ensured.given)
     (c.in_ok-order.ensures.value ∙ ap (λ (v : Searched _). order_at v.listed.orders c.args.place) c.self.view_is)
     noted.whole noted.finals (noted.depth ∙ ap (max c.args.findings.now.depth) (c.len.ensures ∙ long))
     (λ task is.
@@ -93,7 +93,7 @@ returns-clause-after g c =
     let long : c.in_ok-order.order.len ≡ length c.in_ok-order.order.items = omega (arith, c.in_ok-order.order.ok.0) in
     found_after m.next m.answers old new c.args.place (found_of c.args.findings.now) last tried.is_whole tried.is_quiet c.in_ok-order.order.items
     e c.requires.place c.requires.before ensured.whole ensured.quiet ensured.layered ensured.near
-    (subst (λ (gs : Given). AreGiven m.next m.answers new c.args.place (length old.listed.may) gs.replies.keys gs.givers.items) (sym noted.given) ensured.given)
+    (subst (λ (gs : Given). AreGivenBefore m.next m.answers new c.args.place (length old.listed.may) gs.replies.keys gs.givers.items) (sym noted.given) ensured.given)
     (c.in_ok-order.ensures.value ∙ ap (λ (v : Searched _). order_at v.listed.orders c.args.place) c.self.view_is)
     noted.whole noted.finals (noted.depth ∙ ap (max c.args.findings.now.depth) (c.len.ensures ∙ long))
     (λ task is.

@@ -1,6 +1,6 @@
 -- What a stop within the write of a record leaves.
 use Rattle.std.proofs.Common.{◌≡◌, ℕ, zero, suc, ◌+◌, ◌≤◌, Bool, true, false, cond, Option, Some, None, List, [], ◌∷◌, ◌++◌, length, take, refl, sym, ap, subst, ◌∙◌, arith, inl, inr}
-use Rattle.std.specs.Prelude.{Result, Ok, Err, OnErr, IfErr, nat_le, filter}
+use Rattle.std.specs.Prelude.{Result, Ok, Err, OnErr, IfErr, IfSome, nat_le, filter}
 use Rattle.std.specs.List.{AllByRecursion}
 use Rattle.std.proofs.lemmas.Bool.{cases_lt, le-leb, lt-leb}
 use Rattle.rp_base.specs.declared.record.Rec.{Rec}
@@ -205,3 +205,10 @@ module _ {S D : Type 0} (disk : D → Disk) (server : ServerState S) (old new : 
       subst (λ (k : ReplicaState S). Stops (Some rec) k (replica_of after (disk new.device) new.failed) (fault_of fault)) at
       (subst (λ (k : ServerState S). Stops (Some rec) (replica_of server (disk old.device) old.failed) (replica_of k (disk new.device) new.failed) (fault_of fault)) (sym same)
       (stops_by (fault_of fault) on_device may err))
+
+  -- the same, where it was to be written in one case alone
+  pub write_fails_if : {T : Type 0} (r : Option (Result T WriteFault)) (after : ServerState S) (h : ReplicaState S) → IfSome r (λ done. OnErr done (after ≡ server)) → IfSome r (λ done. IfErr done (λ fault. IsNotPut disk (record_text rec) old (fault_of fault) new))
+      → IsOnDisk server.config.max_positions (disk old.device) old.failed server.records → MayWrite server.config.max_positions (Some rec) → replica_of server (disk old.device) old.failed ≡ h
+      → IfSome r (λ done. IfErr done (λ fault. Stops (Some rec) h (replica_of after (disk new.device) new.failed) (fault_of fault)))
+  write_fails_if None after h same err on_device may at = tt
+  write_fails_if (Some done) after h same err on_device may at = write_fails done after h same err on_device may at

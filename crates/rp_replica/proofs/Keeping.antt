@@ -1,8 +1,8 @@
 -- A replica's device and records once a record is written, or was to be.
-use Rattle.std.proofs.Common.{◌≡◌, ℕ, Bool, true, false, cond, if◌then◌else◌, List, [], ◌∷◌, ◌++◌, length, take, Option, Some, refl, sym, ap, subst, ◌∙◌, arith}
+use Rattle.std.proofs.Common.{◌≡◌, ℕ, Bool, true, false, cond, if◌then◌else◌, List, [], ◌∷◌, ◌++◌, length, take, Option, Some, None, refl, sym, ap, subst, ◌∙◌, arith}
 use Rattle.std.proofs.lemmas.List.{append-nil}
 use Rattle.std.proofs.lemmas.List.Elements.{filter-append}
-use Rattle.std.specs.Prelude.{Result, Ok, Err, OnOk, OnErr, IfErr}
+use Rattle.std.specs.Prelude.{Result, Ok, Err, OnOk, OnErr, IfErr, IfSome, IfNone}
 use Rattle.rp_base.specs.declared.fault.Fault.{Fault}
 use Rattle.rp_base.specs.declared.fault.Fault.TheVariants.{OutOfMemory, Device, Failed}
 use Rattle.rp_base.specs.declared.fault.WriteFault.{WriteFault}
@@ -106,3 +106,12 @@ module _ {S D : Type 0} (disk : D → Disk) (before after : ServerState S) (old 
   disk_written (Err fault) put goes same err d may =
       subst (λ (k : ServerState S). IsOnDisk k.config.max_positions (disk new.device) new.failed k.records) (sym same)
       (disk_refused disk old new rec before.config.max_positions before.records (fault_of fault) d err)
+
+  -- the same, where it was to be written in one case alone
+  pub disk_written_if : {T : Type 0} (r : Option (Result T WriteFault)) → IfSome r (λ done. OnOk done (IsPut disk (record_text rec) old new)) → IfSome r (λ done. OnOk done (after ≡ server_after before turn))
+      → IfSome r (λ done. OnErr done (after ≡ before)) → IfSome r (λ done. IfErr done (λ fault. IsNotPut disk (record_text rec) old (fault_of fault) new)) → IfNone r ((after ≡ before) × (new ≡ old))
+      → IsOnDisk before.config.max_positions (disk old.device) old.failed before.records → MayWrite before.config.max_positions (Some rec) → IsOnDisk after.config.max_positions (disk new.device) new.failed after.records
+  disk_written_if (Some done) put goes same err none d may = disk_written done put goes same err d may
+  disk_written_if None put goes same err none d may =
+      subst (λ (k : ServerState S). IsOnDisk k.config.max_positions (disk new.device) new.failed k.records) (sym none.0)
+      (subst (λ (k : Stored D). IsOnDisk before.config.max_positions (disk k.device) k.failed before.records) (sym none.1) d)

@@ -1,10 +1,12 @@
 //! A plan, committed: memory is reserved, the record is written, the state is updated, and the
 //! packets are given out.
 
-ghost use Rattle.std.specs.Prelude.{◌≡◌, ◌++◌, ◌∷◌, ◌<◌, [], Some, None, length, OnOk, OnErr, IfErr, IfOk, IsOk, IsOkUnless, true, false};
-ghost use Rattle.rp_base.specs.Action.{IsCount};
+ghost use Rattle.std.specs.Prelude.{◌≡◌, ◌++◌, ◌∷◌, ◌<◌, [], Some, None, length, OnOk, OnErr, IfErr, IfOk, IfSome, IfNone, IsOk, IsOkUnless, true, false};
+ghost use Rattle.rp_acceptor.specs.First.{IsFirstPromise, IsFirstVote};
+ghost use Rattle.rp_base.specs.Action.{IsCount, IsRight};
 ghost use Rattle.rp_base.specs.Right.{IsRightRecord};
 ghost use Rattle.rp_base.specs.declared.fault.WriteFault.TheVariants as faults;
+ghost use Rattle.rp_base.specs.declared.record.Rec.TheVariants.{Promised};
 ghost use Rattle.rp_base.specs.WriteFaults.{fault_of};
 ghost use Rattle.rp_codec.specs.Decoding.{IsLongBody};
 ghost use Rattle.rp_codec.specs.Message.{MaySay};
@@ -20,11 +22,13 @@ ghost use Rattle.rp_replica.specs.State.{after_turn, server_of};
 ghost use Rattle.rp_model.specs.declared.plan.Plan.TheVariants as plans;
 ghost use Rattle.rp_model.specs.Plans.{written_by};
 ghost use Rattle.rp_rules.specs.Plans.{turn_of, MayCommit, OnlySends, TakesNoMemory};
-ghost use Rattle.rp_server.specs.Invariant.{IsAnswer};
+ghost use Rattle.rp_server.specs.Invariant.{IsAnswer, vote_record};
 ghost use Rattle.rp_replica.specs.Turning.{Stops};
 
 use crate::replica::Replica;
-use rp_base::{Action, Answer, NodeId, Rec, Reply, TaskId, Vote, WriteFault};
+use rp_base::{
+    Action, Answer, Ballot, NodeId, PlacedVote, Position, Rec, Reply, TaskId, Vote, WriteFault,
+};
 use rp_codec::{Body, Header, VoteTail, voted_by};
 use rp_machine::Machine;
 use rp_model::{Plan, RightAction};
@@ -140,32 +144,75 @@ impl<M: Machine, D: Device> Replica<M, D> {
         Ok(())
     }
 
-    /// The same, whose texts are made of how that of the accept ends.
+    /// Writes a promise with no vote to report, and sends it, if a `Prepare` is answered with it.
+    /// `None` changes nothing, and says nothing.
     #[inline(always)]
-    pub(crate) fn vote_by(
+    pub(crate) fn promise_first(
+        &mut self,
+        out: &mut Outbox,
+        header: &Header,
+    ) -> Option<Result<(), WriteFault>>
+        requires working { self.old.failed ≡ false }
+        requires may { MayCommit (server_of self.old) (plans.Promise header.now None) }
+        ensures first { IfSome result (λ _.
+            IsFirstPromise self.old.records header.now.position header.now.ballot) }
+        ensures ok { IfSome result (λ done. OnOk done (Commits
+            (turn_of M.next M.answers (server_of self.old) (plans.Promise header.now None))
+            self.old self.new out.old.sent out.new.sent)) }
+        ensures err { IfSome result (λ done. IfErr done (λ fault.
+            Stops (written_by (plans.Promise header.now None))
+            self.old self.new (fault_of fault))) }
+        ensures unsent { IfSome result (λ done. OnErr done (out.new.sent ≡ out.old.sent)) }
+        ensures none { IfNone result ((self.new ≡ self.old) × (out.new.sent ≡ out.old.sent)) }
+    {
+        let header = *header;
+        out.reserve(1).ok()?;
+        let kept = self.keep_first_promise(header.position, header.ballot)?;
+        if kept.is_ok() {
+            out.promise(header, None);
+        }
+        Some(kept)
+    }
+
+    /// Casts a vote, and sends it, if it is the first at its position and an `Accept` is answered
+    /// with it; its texts are made of how that of the accept ends. `None` changes nothing, and says
+    /// nothing.
+    #[inline(always)]
+    pub(crate) fn vote_first(
         &mut self,
         out: &mut Outbox,
         header: &Header,
         action: &Action,
         tail: &VoteTail,
-    ) -> Result<(), WriteFault>
+    ) -> Option<Result<(), WriteFault>>
         requires working { self.old.failed ≡ false }
         requires may { MayCommit (server_of self.old) (plans.Vote header.now action.now) }
         requires tail { tail.now ≡ vote_text header.now.position header.now.ballot action.now }
-        ensures ok { OnOk result (Commits
+        ensures first { IfSome result (λ _.
+            IsFirstVote self.old.records header.now.position header.now.ballot) }
+        ensures ok { IfSome result (λ done. OnOk done (Commits
             (turn_of M.next M.answers (server_of self.old) (plans.Vote header.now action.now))
-            self.old self.new out.old.sent out.new.sent) }
-        ensures err { IfErr result (λ fault.
+            self.old self.new out.old.sent out.new.sent)) }
+        ensures err { IfSome result (λ done. IfErr done (λ fault.
             Stops (written_by (plans.Vote header.now action.now))
-            self.old self.new (fault_of fault)) }
-        ensures unsent { OnErr result (out.new.sent ≡ out.old.sent) }
+            self.old self.new (fault_of fault))) }
+        ensures unsent { IfSome result (λ done. OnErr done (out.new.sent ≡ out.old.sent)) }
+        ensures none { IfNone result ((self.new ≡ self.old) × (out.new.sent ≡ out.old.sent)) }
     {
         let (header, action) = (*header, *action);
-        out.reserve(1)?;
-        let rec = Rec::Voted(header.position, header.ballot, action);
-        self.keep_text(&rec, &voted_by(tail))?;
-        out.accepted_by(header, &action, tail);
-        Ok(())
+        let placed = PlacedVote {
+            position: header.position,
+            vote: Vote {
+                ballot: header.ballot,
+                action,
+            },
+        };
+        out.reserve(1).ok()?;
+        let kept = self.keep_first_vote(&placed, &voted_by(tail))?;
+        if kept.is_ok() {
+            out.accepted_by(header, &action, tail);
+        }
+        Some(kept)
     }
 
     /// Commits a plan that writes nothing and changes nothing.
@@ -276,19 +323,47 @@ impl<M: Machine, D: Device> Replica<M, D> {
     {
         self.server.keep(&mut self.store, rec)
     }
-    /// The same, where this is the text of the record.
+
+    /// Writes the promise of the ballot at the position, as `Server::keep_first_promise`.
     #[inline(always)]
-    fn keep_text(&mut self, rec: &Rec, text: &[u8]) -> Result<(), WriteFault>
+    fn keep_first_promise(
+        &mut self,
+        position: Position,
+        ballot: Ballot,
+    ) -> Option<Result<(), WriteFault>>
         requires working { self.old.failed ≡ false }
-        requires right { IsRightRecord rec.now }
-        requires place { is_in_log self.old.config.max_positions rec.now ≡ true }
-        requires answer { IsAnswer rec.now }
-        requires text { text.now ≡ record_text rec.now }
-        ensures ok { OnOk result (self.new ≡ after_turn self.old
-            (writes rec.now self.old.running [])) }
-        ensures err { IfErr result (λ fault.
-            Stops (Some rec.now) self.old self.new (fault_of fault)) }
+        requires place { is_in_log self.old.config.max_positions (Promised position ballot)
+            ≡ true }
+        ensures first { IfSome result (λ _. IsFirstPromise self.old.records position ballot) }
+        ensures ok { IfSome result (λ done. OnOk done (self.new
+            ≡ after_turn self.old (writes (Promised position ballot) self.old.running []))) }
+        ensures err { IfSome result (λ done. IfErr done (λ fault.
+            Stops (Some (Promised position ballot)) self.old self.new (fault_of fault))) }
+        ensures none { IfNone result (self.new ≡ self.old) }
     {
-        self.server.keep_text(&mut self.store, rec, text)
+        self.server.keep_first_promise(&mut self.store, position, ballot)
+    }
+
+    /// Writes a vote, whose record's text this is, as `Server::keep_first_vote`.
+    #[inline(always)]
+    fn keep_first_vote(
+        &mut self,
+        placed: &PlacedVote,
+        text: &[u8],
+    ) -> Option<Result<(), WriteFault>>
+        requires working { self.old.failed ≡ false }
+        requires right { IsRight placed.now.vote.action }
+        requires place { is_in_log self.old.config.max_positions (vote_record placed.now)
+            ≡ true }
+        requires text { text.now ≡ record_text (vote_record placed.now) }
+        ensures first { IfSome result (λ _. IsFirstVote self.old.records
+            placed.now.position placed.now.vote.ballot) }
+        ensures ok { IfSome result (λ done. OnOk done (self.new
+            ≡ after_turn self.old (writes (vote_record placed.now) self.old.running []))) }
+        ensures err { IfSome result (λ done. IfErr done (λ fault.
+            Stops (Some (vote_record placed.now)) self.old self.new (fault_of fault))) }
+        ensures none { IfNone result (self.new ≡ self.old) }
+    {
+        self.server.keep_first_vote(&mut self.store, placed, text)
     }
 }

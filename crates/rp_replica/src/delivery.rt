@@ -11,7 +11,7 @@ ghost use Rattle.rp_replica.specs.Turning.{AnswersOnto, IsCertain};
 
 use crate::laws::texts_are_packets;
 use crate::replica::Replica;
-use rp_base::{AcceptAnswer, Fault, PrepareAnswer, Vote, last_votes_lie_below};
+use rp_base::{Fault, Vote};
 use rp_codec::{Kind, decision_of, decision_tail, vote_tail};
 use rp_learner::VoteStatus;
 use rp_machine::Machine;
@@ -54,7 +54,7 @@ impl<M: Machine, D: Device> Replica<M, D> {
         }
     }
 
-    /// A prepare that is promised is answered with a promise.
+    /// A prepare that is promised is answered with a promise, mostly with no vote to report.
     #[inline(never)]
     fn deliver_prepare(
         &mut self,
@@ -72,21 +72,17 @@ impl<M: Machine, D: Device> Replica<M, D> {
             → IsCertain (effect_of M.next M.answers self.old (inputs.NodeInput.Receive m))
             self.old result }
     {
-        last_votes_lie_below();
-        self.server.has_right_records();
         let Some(header) = prepare_for(&self.server, out.text(place).unwrap()) else {
             return self.deliver_other(alloc, out, place);
         };
-        match self.server.prepare(header.position, header.ballot) {
-            PrepareAnswer::Promise { last, rec: _ } => {
-                let answer = self
-                    .server
-                    .header_to(header.from, header.position, header.ballot);
-                self.promise(out, &answer, &last)?;
-                Ok(Dropped::No)
-            }
-            _ => self.deliver_other(alloc, out, place),
-        }
+        let answer = self
+            .server
+            .header_to(header.from, header.position, header.ballot);
+        let Some(done) = self.promise_first(out, &answer) else {
+            return self.deliver_other(alloc, out, place);
+        };
+        done?;
+        Ok(Dropped::No)
     }
 
     /// A promise counts, and at a majority the action is offered to all.
@@ -118,7 +114,7 @@ impl<M: Machine, D: Device> Replica<M, D> {
         Ok(Dropped::No)
     }
 
-    /// An accept that gets a vote is answered with it.
+    /// An accept that gets a vote is answered with it, mostly the first at its position.
     #[inline(never)]
     fn deliver_accept(
         &mut self,
@@ -143,16 +139,14 @@ impl<M: Machine, D: Device> Replica<M, D> {
         let Some(tail) = vote_tail(text) else {
             return self.deliver_other(alloc, out, place);
         };
-        match self.server.accept(header.position, header.ballot, &action) {
-            AcceptAnswer::Vote { rec: _vote } => {
-                let answer = self
-                    .server
-                    .header_to(header.from, header.position, header.ballot);
-                self.vote_by(out, &answer, &action, &tail)?;
-                Ok(Dropped::No)
-            }
-            _ => self.deliver_other(alloc, out, place),
-        }
+        let answer = self
+            .server
+            .header_to(header.from, header.position, header.ballot);
+        let Some(done) = self.vote_first(out, &answer, &action, &tail) else {
+            return self.deliver_other(alloc, out, place);
+        };
+        done?;
+        Ok(Dropped::No)
     }
 
     /// A vote counts, and at a majority the action is learned.

@@ -3,6 +3,7 @@ use Rattle.std.specs.Prelude.{◌≡◌, ℕ, suc, ◌+◌, ◌<◌, ◌≤◌, 
 use Rattle.std.specs.Prelude.{length, map, filter}
 use Rattle.std.specs.List.{AllByRecursion}
 use Rattle.rp_base.specs.declared.config.Config.{Config}
+use Rattle.rp_base.specs.declared.placed.PlacedVote.{PlacedVote}
 use Rattle.rp_base.specs.declared.record.Rec.{Rec}
 use Rattle.rp_base.specs.declared.record.Rec.TheVariants.{Started, Promised, Voted, Learned}
 use Rattle.rp_base.specs.declared.record.Rec.TheVariants.{PromisedRange}
@@ -104,6 +105,10 @@ IsAnswer (Promised position ballot) = Unit {0}
 IsAnswer (Voted position ballot action) = Unit {0}
 IsAnswer (Learned position action) = ⊥
 IsAnswer (PromisedRange range ballot) = Unit {0}
+
+-- the record of a vote at its position
+abbrev pub vote_record : PlacedVote → Rec
+vote_record placed = Voted placed.position placed.vote.ballot placed.vote.action
 
 -- every record is at a position of the log, or at none
 abbrev pub AllInLog : ℕ → List Rec → Type 0

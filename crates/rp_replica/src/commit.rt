@@ -341,7 +341,8 @@ impl<M: Machine, D: Device> Replica<M, D> {
             Stops (Some (Promised position ballot)) self.old self.new (fault_of fault))) }
         ensures none { IfNone result (self.new ≡ self.old) }
     {
-        self.server.keep_first_promise(&mut self.store, position, ballot)
+        self.server
+            .keep_first_promise(&mut self.store, position, ballot)
     }
 
     /// Writes a vote, whose record's text this is, as `Server::keep_first_vote`.

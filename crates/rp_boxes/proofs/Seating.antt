@@ -133,7 +133,7 @@ module _ {P : Type 0} (first later left last : Unseated P) (config : Config) (pr
   same_last = ap shared passed ∙ (ap shared more ∙ same_later)
 
   same_table : first.table ≡ audit.table
-  same_table = sym (ap (λ (seat_state : SeatState P). seat_state.table) audit_is)
+  same_table = sym (ap (λ (seat_state : SeatState P). seat_state.setup.table) audit_is)
 
   stated : shared first ≡ (audit.table, config, program)
   stated = λ i. (same_table i, configured i, begun i)

@@ -62,19 +62,19 @@ module _ {S P : Type 0} (next : S → Action → S) (answers : S → Action → 
   abbrev view : View
   view = known_together audit.seat nodes tasks
 
-  node_here : (seat : SeatState P) → Has seat nodes → Has (seat.number, seat.part) view
+  node_here : (seat : SeatState P) → Has seat nodes → Has (seat.setup.number, seat.part) view
   node_here seat has =
-      has_left (seat.number, seat.part) ((0, audit.seat.part) ∷ map of_node nodes) (map of_task tasks) (inr (has_mapped of_node seat nodes has))
+      has_left (seat.setup.number, seat.part) ((0, audit.seat.part) ∷ map of_node nodes) (map of_task tasks) (inr (has_mapped of_node seat nodes has))
 
-  task_here : (seat : SeatState P) → Has seat tasks → Has (7 + seat.number, seat.part) view
+  task_here : (seat : SeatState P) → Has seat tasks → Has (7 + seat.setup.number, seat.part) view
   task_here seat has =
-      has_right (7 + seat.number, seat.part) ((0, audit.seat.part) ∷ map of_node nodes) (map of_task tasks) (has_mapped of_task seat tasks has)
+      has_right (7 + seat.setup.number, seat.part) ((0, audit.seat.part) ∷ map of_node nodes) (map of_task tasks) (has_mapped of_task seat tasks has)
 
   -- a call of a task of the world that takes effect is one that its seat made
   pub made_at : (order : List Action) → IsWorldOrder s view order → (seat : SeatState P) → Has seat tasks → (n place : ℕ)
-      → IsPlace next answers (begin audit.seat.program) order (named seat.number n) place → n ≤ calls_so_far (task_of seat.part.role)
+      → IsPlace next answers (begin audit.seat.setup.program) order (named seat.setup.number n) place → n ≤ calls_so_far (task_of seat.part.role)
   made_at order of_world seat has n place at =
-      subst (λ (p : Part). n ≤ calls_so_far (task_of p.role)) (of_world.world.knows (7 + seat.number) seat.part (task_here seat has)).0 (of_world.made seat.number n place at).2
+      subst (λ (p : Part). n ≤ calls_so_far (task_of p.role)) (of_world.world.knows (7 + seat.setup.number) seat.part (task_here seat has)).0 (of_world.made seat.setup.number n place at).2
 
   module _ (parts : ℕ → Part) (world : IsWorldOf s view parts) (laws : OrderLaws s) (follow : ReportsFollow) where
     abbrev order : List Action
@@ -82,15 +82,15 @@ module _ {S P : Type 0} (next : S → Action → S) (answers : S → Action → 
 
     -- what is known of a node is what it has reported
     has_reported : AreAllReported audit.seat.part audit.known → (seat : SeatState P) → Has seat nodes → (before : ℕ) (action : Action)
-        → slice_get (known_of audit.known seat.number) before ≡ Some action → ReportSays seat.part.sent seat.number before action
+        → slice_get (known_of audit.known seat.setup.number) before ≡ Some action → ReportSays seat.part.sent seat.setup.number before action
     has_reported are seat has before action is =
-        let stated = are.stated seat.number before action is in
-        let packet = report seat.number stated.first stated.applied stated.actions in
+        let stated = are.stated seat.setup.number before action is in
+        let packet = report seat.setup.number stated.first stated.applied stated.actions in
         let got : Has packet (parts 0).got = subst (λ (p : Part). Has packet p.got) (sym (world.knows 0 audit.seat.part (inl refl)).0) stated.among in
         let by = is_sent parts 16 packet (world.is.gets 0 (omega arith) packet got).1 in
-        let from : seat.number ≡ by.0 = world.is.sends by.0 by.1 packet by.2 in
-        let sent : Has packet (parts seat.number).sent = subst (λ (k : ℕ). Has packet (parts k).sent) (sym from) by.2 in
-        let own = (world.knows seat.number seat.part (node_here seat has)).0 in
+        let from : seat.setup.number ≡ by.0 = world.is.sends by.0 by.1 packet by.2 in
+        let sent : Has packet (parts seat.setup.number).sent = subst (λ (k : ℕ). Has packet (parts k).sent) (sym from) by.2 in
+        let own = (world.knows seat.setup.number seat.part (node_here seat has)).0 in
         says_among stated (subst (λ (p : Part). Has packet p.sent) own sent)
 
     pub together : AppliedBegin → AreAllReported audit.seat.part audit.known → AreTogether next answers begin audit nodes tasks
@@ -99,11 +99,11 @@ module _ {S P : Type 0} (next : S → Action → S) (answers : S → Action → 
       of_world = world_order s view parts world laws;
       known = known_begins s view parts world laws.exists follow audit.seat.part (inl refl) audit.known are;
       nodes_are = all_members (IsNodeOf order audit.known) nodes (λ seat has. record {
-        applied = subst (λ (p : Part). IsPrefix (applied_of (node_of p.role).records) order) (world.knows seat.number seat.part (node_here seat has)).0
-            (applied s.config.nodes (node_among parts) (all_sent parts 16) world.is.good.kept.sound order (laws.exists s.config.nodes (all_sent parts 16)) seat.number);
+        applied = subst (λ (p : Part). IsPrefix (applied_of (node_of p.role).records) order) (world.knows seat.setup.number seat.part (node_here seat has)).0
+            (applied s.config.nodes (node_among parts) (all_sent parts 16) world.is.good.kept.sound order (laws.exists s.config.nodes (all_sent parts 16)) seat.setup.number);
         reported = has_reported are seat has;
       });
-      tasks_are = all_members (IsTaskOf next answers (begin audit.seat.program) order) tasks (λ seat has. of_order s view parts world seat.number seat.part (task_here seat has) laws);
+      tasks_are = all_members (IsTaskOf next answers (begin audit.seat.setup.program) order) tasks (λ seat has. of_order s view parts world seat.setup.number seat.part (task_here seat has) laws);
       carried = λ x y sender receiver there here.
           let from = world.knows x sender there in
           let to = world.knows y receiver here in

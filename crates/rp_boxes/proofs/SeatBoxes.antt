@@ -126,10 +126,12 @@ module _ {M P : Type 0} (step : BoxStep M P) where
 
   abbrev seat_state : TableId → Part → SeatState P
   seat_state table q = record {
-    table = table;
-    config = step.board.shared.key.config;
-    program = step.board.shared.key.program.value;
-    number = step.number;
+    setup = record {
+      table = table;
+      config = step.board.shared.key.config;
+      program = step.board.shared.key.program.value;
+      number = step.number;
+    };
     failures = step.failures;
     part = q;
   }

@@ -137,7 +137,7 @@ module _ {M D P : Type 0} {machine : Ghosts M P} (at : NodeStep machine D) where
 
   -- what the seat is to a contract, with this place
   abbrev pub seat_state : TableId → ℕ → Part → SeatState P
-  seat_state table failures part = record { table = table; config = key.config; program = key.program.value; number = number; failures = failures; part = part }
+  seat_state table failures part = record { setup = record { table = table; config = key.config; program = key.program.value; number = number }; failures = failures; part = part }
 
   -- as it is
   abbrev seat : SeatState P

@@ -132,14 +132,14 @@ module _ {P : Type 0} (first later left last : Unseated P) (config : Config) (pr
   same_last : shared last ≡ shared first
   same_last = ap shared passed ∙ (ap shared more ∙ same_later)
 
-  same_table : first.table ≡ audit.table
-  same_table = sym (ap (λ (seat_state : SeatState P). seat_state.table) audit_is)
+  same_table : first.table ≡ audit.setup.table
+  same_table = sym (ap (λ (seat_state : SeatState P). seat_state.setup.table) audit_is)
 
-  stated : shared first ≡ (audit.table, config, program)
+  stated : shared first ≡ (audit.setup.table, config, program)
   stated = λ i. (same_table i, configured i, begun i)
 
   seats_at : (unseated : Unseated P) (actor : ℕ) (failed : List ℕ) (seats : List (SeatState P)) → shared unseated ≡ shared first
-      → AreFirstSeats unseated.table unseated.config unseated.program actor failed seats → AreFirstSeats audit.table config program actor failed seats
+      → AreFirstSeats unseated.table unseated.config unseated.program actor failed seats → AreFirstSeats audit.setup.table config program actor failed seats
   seats_at unseated actor failed seats same are = subst (λ (z : TableId × Config × P). AreFirstSeats z.0 z.1 z.2 actor failed seats) (same ∙ stated) are
 
   pub all_seats : length nodes ≡ later.config.nodes → AreFirstSeats later.table later.config later.program 1 failures nodes

@@ -123,13 +123,13 @@ pub record TaskEvent (M P : Type 0) : Type 0 where
 abbrev pub state_at : {M P : Type 0} → Inside M P → Place → SeatState P
 state_at inside place =
     let key = (arc_value inside.board).shared.key in
-    record { table = place.table_id; config = key.config; program = key.program.value; number = inside.number; failures = 0; part = part_in place.me.0 }
+    record { setup = record { table = place.table_id; config = key.config; program = key.program.value; number = inside.number }; failures = 0; part = part_in place.me.0 }
 
 -- as it is
 abbrev pub state : {M P : Type 0} → Inside M P → SeatState P
 state inside = state_at inside inside.place
 
-pub refused_state : {M P : Type 0} (inside : Inside M P) → IsSeated inside → (input : TaskInput) (fault : Fault) → task_effect (state inside).config inside.number inside.task.part input ≡ Err fault
+pub refused_state : {M P : Type 0} (inside : Inside M P) → IsSeated inside → (input : TaskInput) (fault : Fault) → task_effect (state inside).setup.config inside.number inside.task.part input ≡ Err fault
     → IsNoTaskTurn (state inside) input (state inside) fault
 refused_state inside seated input fault results = record { unchanged = refl; task = inside.task.part; was = seated.1.place.is; why = inr results }
 
@@ -154,11 +154,11 @@ module _ {M P : Type 0} (s : Submission M P) where
 
   -- what the stub may call is the next call, and gives the result of the input
   abbrev pub IsSubmitted : Result Action Fault → Type 0
-  IsSubmitted r = IsMadeIf (its_next s.arg) r × (task_effect (state s.inside).config s.inside.number task submit ≡ calls_if s.inside.number s.node task r)
+  IsSubmitted r = IsMadeIf (its_next s.arg) r × (task_effect (state s.inside).setup.config s.inside.number task submit ≡ calls_if s.inside.number s.node task r)
 
   pub submitted : {read : ℤ} {may : Result Action Fault} (r : Result Action Fault) → read ≡ s.arg → may ≡ may_call s.inside.config s.node task (its_next read) task.outstanding → may ≡ r → IsSubmitted r
   submitted r is found resulted =
-      let config = (state s.inside).config in
+      let config = (state s.inside).setup.config in
       let here : may_call config s.node task (its_next s.arg) task.outstanding ≡ r =
       sym (found ∙ (λ i. may_call (s.seated.1.shared i) s.node task (its_next (is i)) task.outstanding)) ∙ resulted in (
         subst (IsMadeIf (its_next s.arg)) here (made config s.node task (its_next s.arg) task.outstanding),
@@ -246,7 +246,7 @@ module _ {M P : Type 0} (event : TaskEvent M P) where
         task = inside.task.part;
         was = event.seated.1.place.is;
         done = event.done;
-        results = ap (task_effect (state inside).config inside.number inside.task.part) (sym takes) ∙ event.results;
+        results = ap (task_effect (state inside).setup.config inside.number inside.task.part) (sym takes) ∙ event.results;
         after = after_is;
         stated = stated;
       }

@@ -18,9 +18,9 @@ same_running : (a b : Running) → Some a ≡ Some b → a ≡ b
 same_running a b e = cc
 
 module _ {S P : Type 0} (next : S → Action → S) (answers : S → Action → List Answer) (begin : P → S) (seat : SeatState P) (replica : ReplicaState S)
-    (place : IsNodePlace seat.config (begin seat.program) seat.number replica seat.part) where
+    (place : IsNodePlace seat.setup.config (begin seat.setup.program) seat.setup.number replica seat.part) where
   abbrev member : Member S
-  member = member_of seat.number seat.config (begin seat.program)
+  member = member_of seat.setup.number seat.setup.config (begin seat.setup.program)
 
   abbrev is_uncounted : Bool
   is_uncounted = has_uncounted (kept_of next answers replica.begin (applied_of replica.records)) replica.running.pending
@@ -50,10 +50,10 @@ module _ {S P : Type 0} (next : S → Action → S) (answers : S → Action → 
       let r = runs working in
       let same : h.node ≡ part_of replica = same_node seat.part.role h.node place.node h.is place.is ∙ r.known in
       let running : h.running ≡ replica.running = same_running h.running replica.running (sym h.runs ∙ ap (λ (n : NodePart). n.running) same) in
-      let here : has_uncounted (kept_of next answers (begin seat.program) (applied_of replica.records)) h.running.pending ≡ true =
-      subst (λ (n : NodePart). has_uncounted (kept_of next answers (begin seat.program) (applied_of n.records)) h.running.pending ≡ true) same h.uncounted in
-      let there : has_uncounted (kept_of next answers (begin seat.program) (applied_of replica.records)) replica.running.pending ≡ true =
-      subst (λ (known : Running). has_uncounted (kept_of next answers (begin seat.program) (applied_of replica.records)) known.pending ≡ true) running here in
+      let here : has_uncounted (kept_of next answers (begin seat.setup.program) (applied_of replica.records)) h.running.pending ≡ true =
+      subst (λ (n : NodePart). has_uncounted (kept_of next answers (begin seat.setup.program) (applied_of n.records)) h.running.pending ≡ true) same h.uncounted in
+      let there : has_uncounted (kept_of next answers (begin seat.setup.program) (applied_of replica.records)) replica.running.pending ≡ true =
+      subst (λ (known : Running). has_uncounted (kept_of next answers (begin seat.setup.program) (applied_of replica.records)) known.pending ≡ true) running here in
       let whole : is_uncounted ≡ true =
       subst (λ (b : S). has_uncounted (kept_of next answers b (applied_of replica.records)) replica.running.pending ≡ true) (sym r.begin) there in
       let clash : true ≡ false = sym whole ∙ is in

@@ -34,10 +34,7 @@ after_seats count unseated = record unseated { next = unseated.next + count }
 -- failed calls of its device
 abbrev pub first_seat : {P : Type 0} → TableId → Config → P → ℕ → ℕ → ℕ → SeatState P
 first_seat table config program number actor failures = record {
-  table = table;
-  config = config;
-  program = program;
-  number = number;
+  setup = record { table = table; config = config; program = program; number = number };
   failures = failures;
   part = first_part actor;
 }
@@ -69,10 +66,10 @@ AreFirstSeats table config program actor failures seats =
 pub record AreSeats {P : Type 0} (config : Config) (program : P) (failures : List ℕ)
     (nodes tasks : List (SeatState P)) (audit : SeatState P) : Type 0 where
   pub size : length nodes ≡ config.nodes
-  pub nodes_are : AreFirstSeats audit.table config program 1 failures nodes
+  pub nodes_are : AreFirstSeats audit.setup.table config program 1 failures nodes
   pub eight : length tasks ≡ 8
-  pub tasks_are : AreFirstSeats audit.table config program 8 [] tasks
-  pub audit_is : audit ≡ first_seat audit.table config program 0 0 0
+  pub tasks_are : AreFirstSeats audit.setup.table config program 8 [] tasks
+  pub audit_is : audit ≡ first_seat audit.setup.table config program 0 0 0
 
 -- the other faults: out of memory, or a device that fails
 abbrev pub IsResourceFault : Fault → Type 0

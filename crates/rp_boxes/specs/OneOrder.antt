@@ -50,14 +50,14 @@ module _ {S P : Type 0} (next : S → Action → S) (answers : S → Action → 
   pub record HasOneOrder (seat : SeatState P) : Type 0 where
     pub order : List Action
     pub of_world : IsWorldOrder (setting_at next answers begin seat)
-        ((7 + seat.number, seat.part) ∷ []) order
-    pub task : IsOfOrder next answers (begin seat.program) order seat.number seat.part
+        ((7 + seat.setup.number, seat.part) ∷ []) order
+    pub task : IsOfOrder next answers (begin seat.setup.program) order seat.setup.number seat.part
 
   -- There is one order, that of a world that contains the parts of the audit and of the task. The
   -- known actions of each node are a prefix of it, and the task follows it.
   pub record ShareOneOrder (audit : Audited P) (seat : SeatState P) : Type 0 where
     pub order : List Action
     pub of_world : IsWorldOrder (setting_at next answers begin seat)
-        ((7 + seat.number, seat.part) ∷ (0, audit.seat.part) ∷ []) order
+        ((7 + seat.setup.number, seat.part) ∷ (0, audit.seat.part) ∷ []) order
     pub begins : (node : ℕ) → IsPrefix (known_of audit.known node) order
-    pub task : IsOfOrder next answers (begin seat.program) order seat.number seat.part
+    pub task : IsOfOrder next answers (begin seat.setup.program) order seat.setup.number seat.part

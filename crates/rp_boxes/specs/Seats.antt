@@ -39,14 +39,18 @@ use Rattle.rp_boxes.specs.Rule.{HasOwnPackets}
 use Rattle.rp_boxes.specs.Plays.{Sight, IsSized, alone}
 use Rattle.rp_boxes.specs.Steps.{IsCutStep}
 
--- The seat's table, what all nodes of that table share, the number of the seat's node or task (0
--- for the audit), how many calls of its device have failed (0 if it has none), and what the seat
--- knows of its actor.
-pub record SeatState (P : Type 0) : Type 0 where
+-- What never changes at a seat: its table, what all nodes of that table share, and the number of the
+-- seat's node or task (0 for the audit).
+pub record SeatSetup (P : Type 0) : Type 0 where
   pub table : TableId
   pub config : Config
   pub program : P
   pub number : ℕ
+
+-- The seat's setup, how many calls of its device have failed (0 if it has none), and what the seat
+-- knows of its actor.
+pub record SeatState (P : Type 0) : Type 0 where
+  pub setup : SeatSetup P
   pub failures : ℕ
   pub part : Part
 
@@ -59,7 +63,7 @@ setting_of machine setup =
 abbrev pub setting_at : {S P : Type 0} → (S → Action → S) → (S → Action → List Answer) → (P → S)
     → SeatState P → Setting S
 setting_at next answers begin seat_state =
-    setting_for next answers begin seat_state.config seat_state.program
+    setting_for next answers begin seat_state.setup.config seat_state.setup.program
 
 -- The place of a seat that knows one actor and holds no box.
 pub record IsAtTable (table mine : TableId) (actor : ℕ) (me : Sight) : Type 0 where
@@ -128,7 +132,7 @@ module _ {S P : Type 0} (next : S → Action → S) (answers : S → Action → 
     pub node : NodePart
     pub was : old.part.role ≡ OfNode node
     pub done : Done NodePart
-    pub results : node_effect (setting_at next answers begin old) old.number node given ≡ Ok done
+    pub results : node_effect (setting_at next answers begin old) old.setup.number node given ≡ Ok done
     pub after : new ≡ record old { part = part_after old.part (OfNode done.part) done.sends }
     pub describes : DescribesSent sent done
 
@@ -139,7 +143,7 @@ module _ {S P : Type 0} (next : S → Action → S) (answers : S → Action → 
     pub gives : given_by input ≡ Ok given
     pub node : NodePart
     pub was : old.part.role ≡ OfNode node
-    pub light : IsLight node (node_effect (setting_at next answers begin old) old.number node given)
+    pub light : IsLight node (node_effect (setting_at next answers begin old) old.setup.number node given)
     pub short : ¬ IsLong input
 
   -- One event: the device failed while the step wrote its record, of which some bytes were kept,
@@ -153,7 +157,7 @@ module _ {S P : Type 0} (next : S → Action → S) (answers : S → Action → 
     pub node : NodePart
     pub was : old.part.role ≡ OfNode node
     pub done : Done NodePart
-    pub cut : IsCutStep (setting_at next answers begin old) old.number node given done
+    pub cut : IsCutStep (setting_at next answers begin old) old.setup.number node given done
     pub after : new ≡ record old {
       part = part_after old.part (OfNode done.part) done.sends;
       failures = new.failures;
@@ -168,7 +172,7 @@ module _ {S P : Type 0} (next : S → Action → S) (answers : S → Action → 
     pub node : NodePart
     pub was : old.part.role ≡ OfNode node
     pub why : IsReason node.running
-        (node_effect (setting_at next answers begin old) old.number node given) fault
+        (node_effect (setting_at next answers begin old) old.setup.number node given) fault
 
   -- The seat's node runs, and something is pending at it that did not count yet.
   pub record HasUncounted (seat : SeatState P) : Type 0 where
@@ -177,7 +181,7 @@ module _ {S P : Type 0} (next : S → Action → S) (answers : S → Action → 
     pub running : Running
     pub runs : node.running ≡ Some running
     pub uncounted : has_uncounted
-        (kept_of next answers (begin seat.program) (applied_of node.records)) running.pending ≡ true
+        (kept_of next answers (begin seat.setup.program) (applied_of node.records)) running.pending ≡ true
 
 -- ---- packets
 
@@ -208,12 +212,12 @@ pub record IsFetched {P : Type 0} (from to : Party) (bytes : List ℕ) (old new 
 pub record IsReport {P : Type 0} (first : ℕ) (old new : SeatState P) (sent : Sent) : Type 0 where
   pub node : NodePart
   pub was : old.part.role ≡ OfNode node
-  pub text : sent.bytes.items ≡ text_of (report_of old.number first (applied_of node.records))
+  pub text : sent.bytes.items ≡ text_of (report_of old.setup.number first (applied_of node.records))
   pub packets : sent.packets ≡ 1
   pub dropped : sent.dropped ≡ No
   pub after : new ≡ record old {
     part = part_after old.part (OfNode node)
-        (report_of old.number first (applied_of node.records) ∷ []);
+        (report_of old.setup.number first (applied_of node.records) ∷ []);
   }
 
 -- n actions are applied, if the node runs

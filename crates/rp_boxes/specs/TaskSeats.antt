@@ -52,7 +52,7 @@ module _ {P : Type 0} (old : SeatState P) (input : TaskInput) (new : SeatState P
     pub task : TaskPart
     pub was : old.part.role ≡ OfTask task
     pub done : Done TaskPart
-    pub results : task_effect old.config old.number task input ≡ Ok done
+    pub results : task_effect old.setup.config old.setup.number task input ≡ Ok done
     pub after : new ≡ record old { part = part_after old.part (OfTask done.part) done.sends }
     pub describes : DescribesPackets sent done.sends
 
@@ -62,8 +62,8 @@ module _ {P : Type 0} (old : SeatState P) (input : TaskInput) (new : SeatState P
     pub task : TaskPart
     pub was : old.part.role ≡ OfTask task
     pub why : ((fault ≡ OutOfMemory) × (done : Done TaskPart)
-        × (task_effect old.config old.number task input ≡ Ok done))
-        ⊎ (task_effect old.config old.number task input ≡ Err fault)
+        × (task_effect old.setup.config old.setup.number task input ≡ Ok done))
+        ⊎ (task_effect old.setup.config old.setup.number task input ≡ Err fault)
 
 -- ---- replies
 
@@ -82,7 +82,7 @@ pub record IsReplyTurn {P : Type 0} (old : SeatState P) (bytes : List ℕ) (new 
   pub task : TaskPart
   pub was : old.part.role ≡ OfTask task
   pub done : Done TaskPart
-  pub results : task_effect old.config old.number task (Take packet) ≡ Ok done
+  pub results : task_effect old.setup.config old.setup.number task (Take packet) ≡ Ok done
   pub after : new ≡ record old { part = part_after old.part (OfTask done.part) done.sends }
   pub stated : taken ≡ done.taken
 

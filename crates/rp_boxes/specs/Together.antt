@@ -14,10 +14,10 @@ use Rattle.rp_boxes.specs.TaskSeats.{IsOfOrder}
 
 -- what the place of a node's seat knows, and of a task's
 abbrev pub of_node : {P : Type 0} → SeatState P → ℕ × Part
-of_node seat = (seat.number, seat.part)
+of_node seat = (seat.setup.number, seat.part)
 
 abbrev pub of_task : {P : Type 0} → SeatState P → ℕ × Part
-of_task seat = (7 + seat.number, seat.part)
+of_task seat = (7 + seat.setup.number, seat.part)
 
 -- what the audit, nodes and tasks know together
 abbrev pub known_together : {P : Type 0} → SeatState P → List (SeatState P) → List (SeatState P)
@@ -30,13 +30,13 @@ pub record IsNodeOf {P : Type 0} (order : List Action) (known : List (List Actio
     (seat : SeatState P) : Type 0 where
   pub applied : IsPrefix (applied_of (node_of seat.part.role).records) order
   pub reported : (before : ℕ) (action : Action)
-      → slice_get (known_of known seat.number) before ≡ Some action
-      → ReportSays seat.part.sent seat.number before action
+      → slice_get (known_of known seat.setup.number) before ≡ Some action
+      → ReportSays seat.part.sent seat.setup.number before action
 
 -- the task of this seat follows the order
 abbrev pub IsTaskOf : {S P : Type 0} → (S → Action → S) → (S → Action → List Answer) → S
     → List Action → SeatState P → Type 0
-IsTaskOf next answers begin order seat = IsOfOrder next answers begin order seat.number seat.part
+IsTaskOf next answers begin order seat = IsOfOrder next answers begin order seat.setup.number seat.part
 
 -- There is one order for all, that of a world that contains the parts of all of them. What the
 -- audit knows of each node is a prefix of it, what each node has applied is a prefix of it, and all
@@ -49,7 +49,7 @@ pub record AreTogether {S P : Type 0} (next : S → Action → S) (answers : S �
       (known_together audit.seat nodes tasks) order
   pub known : (node : ℕ) → IsPrefix (known_of audit.known node) order
   pub nodes_are : All (IsNodeOf order audit.known) nodes
-  pub tasks_are : All (IsTaskOf next answers (begin audit.seat.program) order) tasks
+  pub tasks_are : All (IsTaskOf next answers (begin audit.seat.setup.program) order) tasks
   pub carried : (x y : ℕ) (sender receiver : Part)
       → Has (x, sender) (known_together audit.seat nodes tasks)
       → Has (y, receiver) (known_together audit.seat nodes tasks) → IsGotInOrder x y sender receiver

@@ -202,7 +202,7 @@ impl<M: Machine> Audit<M> {
     /// are a prefix of one order, and in that order each reply of the task answers its call.
     /// Nothing changes.
     pub fn meet(self, task: TaskSeat<M>) -> (Self, TaskSeat<M>)
-        requires { self.seat.table ≡ task.table }
+        requires { self.seat.setup.table ≡ task.setup.table }
         ensures same { (result.0 ≡ self) × (result.1 ≡ task) }
         // claim (one): The audit and a task of one table share one order, in a world that contains
         //   the parts of both: its action at each position is decided there, and no call takes

@@ -57,10 +57,10 @@ impl<M: Machine> AuditSeat<M> {
     /// Looks at the table together with a task of the same table: one world contains what the two
     /// know.
     pub(crate) fn look_with_task(self, task: TaskSeat<M>) -> (AuditSeat<M>, TaskSeat<M>)
-        requires { self.table ≡ task.table }
+        requires { self.setup.table ≡ task.setup.table }
         ensures same { (result.0 ≡ self) × (result.1 ≡ task) }
         ensures world { HasWorld (setting_at M.next M.answers M.begin task)
-            ((7 + task.number, task.part) ∷ (0, self.part) ∷ []) }
+            ((7 + task.setup.number, task.part) ∷ (0, self.part) ∷ []) }
     {
         let AuditSeat {
             place,

@@ -35,10 +35,12 @@ impl<M: Machine> Model for AuditSeat<M> {
     ghost Value = { SeatState M.Program };
 
     ghost view = { λ s. record {
-      table = s.place.table_id;
-      config = (arc_value s.board).shared.key.config;
-      program = (arc_value s.board).shared.key.program.value;
-      number = 0;
+      setup = record {
+        table = s.place.table_id;
+        config = (arc_value s.board).shared.key.config;
+        program = (arc_value s.board).shared.key.program.value;
+        number = 0;
+      };
       failures = 0;
       part = part_in s.place.me.0;
     } };

@@ -49,10 +49,12 @@ impl<M: Machine, D: Device> Model for NodeSeat<M, D> {
     ghost Value = { SeatState M.Program };
 
     ghost view = { λ s. record {
-      table = s.place.table_id;
-      config = (arc_value s.board).shared.key.config;
-      program = (arc_value s.board).shared.key.program.value;
-      number = s.node;
+      setup = record {
+        table = s.place.table_id;
+        config = (arc_value s.board).shared.key.config;
+        program = (arc_value s.board).shared.key.program.value;
+        number = s.node;
+      };
       failures = s.replica.disk.failures;
       part = part_in s.place.me.0;
     } };
@@ -146,12 +148,12 @@ impl<M: Machine, D: Device> NodeSeat<M, D> {
         //   to its receiver, which holds it until the receiver takes it. Else it is given back
         //   unchanged, the seat does not change, and the box was in use at a moment
         ensures put { OnOk result (IsPut packet.items self.old self.new) }
-        ensures full { OnOk result (WasPut M.next M.answers M.begin (Node self.new.number)
+        ensures full { OnOk result (WasPut M.next M.answers M.begin (Node self.new.setup.number)
             packet.items self.new) }
         ensures back { IfErr result (λ back. back ≡ packet) }
         ensures unchanged { IfErr result (λ back. self.new ≡ self.old) }
         ensures used { IfErr result (λ back. WasInUse M.next M.answers M.begin
-            (Node self.new.number) packet.items self.new) }
+            (Node self.new.setup.number) packet.items self.new) }
     {
         let to = receiver(packet.as_slice());
         let node = usize::from(self.node.get());
@@ -171,13 +173,13 @@ impl<M: Machine, D: Device> NodeSeat<M, D> {
         // claim: A packet that a seat fetches is to this party and from the one asked, which has
         //   sent it in a world that keeps the rule and has this seat's view; the seat has then got
         //   it. `None` only if the box was not full
-        ensures some { IfSome result (λ text. IsFetched from (Node self.old.number) text.items
+        ensures some { IfSome result (λ text. IsFetched from (Node self.old.setup.number) text.items
             self.old self.new) }
         ensures sent { IfSome result (λ text. WasSent M.next M.answers M.begin from
-            (Node self.new.number) text.items self.new) }
+            (Node self.new.setup.number) text.items self.new) }
         ensures none { IfNone result (self.new ≡ self.old) }
         ensures missed { IfNone result (WasNotFull M.next M.answers M.begin from
-            (Node self.new.number) self.new) }
+            (Node self.new.setup.number) self.new) }
     {
         let node = usize::from(self.node.get());
         empty(
@@ -191,7 +193,7 @@ impl<M: Machine, D: Device> NodeSeat<M, D> {
 
     /// The number of the node.
     pub fn number(&self) -> NodeId
-        ensures { result ≡ self.now.number }
+        ensures { result ≡ self.now.setup.number }
     {
         self.node
     }

@@ -59,10 +59,12 @@ impl<M: Machine> Model for TaskSeat<M> {
     ghost Value = { SeatState M.Program };
 
     ghost view = { λ s. record {
-      table = s.place.table_id;
-      config = (arc_value s.board).shared.key.config;
-      program = (arc_value s.board).shared.key.program.value;
-      number = s.number;
+      setup = record {
+        table = s.place.table_id;
+        config = (arc_value s.board).shared.key.config;
+        program = (arc_value s.board).shared.key.program.value;
+        number = s.number;
+      };
       failures = 0;
       part = part_in s.place.me.0;
     } };
@@ -164,7 +166,7 @@ impl<M: Machine> TaskSeat<M> {
 
     /// The number of the task.
     pub fn number(&self) -> TaskId
-        ensures { result ≡ self.now.number }
+        ensures { result ≡ self.now.setup.number }
     {
         self.number
     }
@@ -183,12 +185,12 @@ impl<M: Machine> TaskSeat<M> {
         requires sent { IsSentText self.old.part packet.items }
         // claim as NodeSeat::put
         ensures put { OnOk result (IsPut packet.items self.old self.new) }
-        ensures full { OnOk result (WasPut M.next M.answers M.begin (parties.Task self.new.number)
+        ensures full { OnOk result (WasPut M.next M.answers M.begin (parties.Task self.new.setup.number)
             packet.items self.new) }
         ensures back { IfErr result (λ back. back ≡ packet) }
         ensures unchanged { IfErr result (λ back. self.new ≡ self.old) }
         ensures used { IfErr result (λ back. WasInUse M.next M.answers M.begin
-            (parties.Task self.new.number) packet.items self.new) }
+            (parties.Task self.new.setup.number) packet.items self.new) }
     {
         let to = receiver(packet.as_slice());
         let actor = actor_of(Party::Task(self.number));
@@ -214,13 +216,13 @@ impl<M: Machine> TaskSeat<M> {
     /// one in the box for that party's next packet.
     pub fn fetch(&mut self, from: Party) -> Option<Vec<u8>>
         // claim as NodeSeat::fetch
-        ensures some { IfSome result (λ text. IsFetched from (parties.Task self.old.number)
+        ensures some { IfSome result (λ text. IsFetched from (parties.Task self.old.setup.number)
             text.items self.old self.new) }
         ensures sent { IfSome result (λ text. WasSent M.next M.answers M.begin from
-            (parties.Task self.new.number) text.items self.new) }
+            (parties.Task self.new.setup.number) text.items self.new) }
         ensures none { IfNone result (self.new ≡ self.old) }
         ensures missed { IfNone result (WasNotFull M.next M.answers M.begin from
-            (parties.Task self.new.number) self.new) }
+            (parties.Task self.new.setup.number) self.new) }
     {
         let actor = actor_of(Party::Task(self.number));
         empty(

@@ -38,7 +38,7 @@ trait Leaves: Drop {
 impl<M: Machine, D: Device> Leaves for NodeSeat<M, D> {
     ghost use Rattle.rp_boxes.specs.Together.{of_node};
 
-    ghost at = { λ seat. seat.table };
+    ghost at = { λ seat. seat.setup.table };
 
     ghost known = { of_node };
 
@@ -50,7 +50,7 @@ impl<M: Machine, D: Device> Leaves for NodeSeat<M, D> {
 impl<M: Machine> Leaves for TaskSeat<M> {
     ghost use Rattle.rp_boxes.specs.Together.{of_task};
 
-    ghost at = { λ seat. seat.table };
+    ghost at = { λ seat. seat.setup.table };
 
     ghost known = { of_task };
 
@@ -93,8 +93,8 @@ fn look_as_one<M: Machine, D: Device>(
 )
     requires table { place.table_id ≡ slots.now.table_id }
     requires sized { IsSized slots.now.table_id }
-    requires nodes { All (λ seat. seat.table ≡ slots.now.table_id) nodes.items }
-    requires tasks { All (λ seat. seat.table ≡ slots.now.table_id) tasks.items }
+    requires nodes { All (λ seat. seat.setup.table ≡ slots.now.table_id) nodes.items }
+    requires tasks { All (λ seat. seat.setup.table ≡ slots.now.table_id) tasks.items }
     ensures { HasWorld (setting_of M.Machine slots.now.key)
         ((place.me.0 ++ map of_node nodes.items) ++ map of_task tasks.items) }
 {
@@ -108,8 +108,8 @@ impl<M: Machine> AuditSeat<M> {
     /// Looks at the table together with nodes and tasks of the same table: one world contains what
     /// all of them know.
     fn look_with<D: Device>(self, nodes: Vec<NodeSeat<M, D>>, tasks: Vec<TaskSeat<M>>)
-        requires nodes { All (λ seat. seat.table ≡ self.table) nodes.items }
-        requires tasks { All (λ seat. seat.table ≡ self.table) tasks.items }
+        requires nodes { All (λ seat. seat.setup.table ≡ self.setup.table) nodes.items }
+        requires tasks { All (λ seat. seat.setup.table ≡ self.setup.table) tasks.items }
         ensures { HasWorld (setting_at M.next M.answers M.begin self)
             (((0, self.part) ∷ map of_node nodes.items) ++ map of_task tasks.items) }
     {
@@ -129,8 +129,8 @@ impl<M: Machine> Audit<M> {
     /// What the audit knows of one of the nodes is what that node has reported. Each of them has
     /// got what the others put for it, except for packets that are still in their boxes.
     pub fn look_together<D: Device>(self, nodes: Vec<NodeSeat<M, D>>, tasks: Vec<TaskSeat<M>>)
-        requires nodes { All (λ seat. seat.table ≡ self.seat.table) nodes.items }
-        requires tasks { All (λ seat. seat.table ≡ self.seat.table) tasks.items }
+        requires nodes { All (λ seat. seat.setup.table ≡ self.seat.setup.table) nodes.items }
+        requires tasks { All (λ seat. seat.setup.table ≡ self.seat.setup.table) tasks.items }
         // claim (result): All seats of one table together have one order, in a world that contains
         //   their parts: its action at each position is decided there, no call takes effect in it
         //   that no task of that world made, and none at two places. What the audit knows of each

@@ -48,7 +48,7 @@ module _ {P : Type 0} (calls : List TaskCall) (seat : SeatState P) (made : ℕ) 
   task_is : task_of seat.part.role ≡ h.task
   task_is = ap task_of h.is
 
-  so_far_by : (w : Bool) (task : TaskPart) → length task.replies + (if w then 1 else 0) ≡ made → Waits seat.number calls made w task.outstanding → calls_so_far task ≡ made
+  so_far_by : (w : Bool) (task : TaskPart) → length task.replies + (if w then 1 else 0) ≡ made → Waits seat.setup.number calls made w task.outstanding → calls_so_far task ≡ made
   so_far_by true task count waiting =
       ap (λ (o : Option Action). if is_some o then suc (length task.replies) else length task.replies) waiting.4 ∙ (let e : suc (length task.replies) ≡ made = omega (arith, count) in e)
   so_far_by false task count waiting =
@@ -57,9 +57,9 @@ module _ {P : Type 0} (calls : List TaskCall) (seat : SeatState P) (made : ℕ) 
   pub so_far : calls_so_far (task_of seat.part.role) ≡ made
   so_far = ap calls_so_far task_is ∙ so_far_by waits h.task h.count h.waiting
 
-  module _ (actions : List Action) (are : AreMade seat.part.sent seat.number (task_of seat.part.role) actions) where
+  module _ (actions : List Action) (are : AreMade seat.part.sent seat.setup.number (task_of seat.part.role) actions) where
     abbrev t : ℕ
-    t = seat.number
+    t = seat.setup.number
 
     -- each of them is the call of its place
     at_place : (k : ℕ) (a : Action) → slice_get actions k ≡ Some a → slice_get (calls_from t 0 calls) k ≡ Some a
@@ -83,17 +83,17 @@ module _ {P : Type 0} (calls : List TaskCall) (seat : SeatState P) (made : ℕ) 
         sym (mapped calls_of actions) ∙ ap length are.numbered ∙ mapped (λ n. named t n ∷ []) (one_to (calls_so_far (task_of seat.part.role)))
         ∙ length-one_to (calls_so_far (task_of seat.part.role)) ∙ so_far
 
-  pub counts_calls : (actions : List Action) → AreItsCalls seat.part.sent seat.number (task_of seat.part.role) actions → CountsCalls seat.number calls made actions
+  pub counts_calls : (actions : List Action) → AreItsCalls seat.part.sent seat.setup.number (task_of seat.part.role) actions → CountsCalls seat.setup.number calls made actions
   counts_calls actions are =
-      let begins : IsPrefix are.made (calls_from seat.number 0 calls) = begins_by are.made (calls_from seat.number 0 calls) (at_place are.made are.are_made) in
+      let begins : IsPrefix are.made (calls_from seat.setup.number 0 calls) = begins_by are.made (calls_from seat.setup.number 0 calls) (at_place are.made are.are_made) in
       let many = as_many are.made are.are_made in
       elim are.all_but_last [
         | inl all ↦ record {
-          first = subst (λ (l : List Action). IsPrefix l (calls_from seat.number 0 calls)) all begins;
+          first = subst (λ (l : List Action). IsPrefix l (calls_from seat.setup.number 0 calls)) all begins;
           many = inl (ap length (sym all) ∙ many);
         }
         | inr last ↦ record {
-          first = begins_on (calls_by seat.number actions) are.made (calls_from seat.number 0 calls) (last.0 ∷ [], last.2) begins;
-          many = inr (let e = ap length last.2 in let l = length-append (calls_by seat.number actions) (last.0 ∷ []) in omega (arith, e, l, many));
+          first = begins_on (calls_by seat.setup.number actions) are.made (calls_from seat.setup.number 0 calls) (last.0 ∷ [], last.2) begins;
+          many = inr (let e = ap length last.2 in let l = length-append (calls_by seat.setup.number actions) (last.0 ∷ []) in omega (arith, e, l, many));
         }
       ]

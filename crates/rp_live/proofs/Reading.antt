@@ -13,8 +13,8 @@ use Rattle.rp_live.specs.Seats.{AreNumbered, IsRead, KnowsNothingAbove, KnowsSam
 
 -- The log of a node up to this number was read, of which nothing was known at first.
 pub record IsReadBelow {S P : Type 0} (next : S → Action → S) (answers : S → Action → List Answer) (begin : P → S) (number : ℕ) (known : List (List Action)) (first now : SeatState P) : Type 0 where
-  pub below : now.number ≤ number
-  pub read : IsRead next answers begin 0 first now (length (known_of known now.number))
+  pub below : now.setup.number ≤ number
+  pub read : IsRead next answers begin 0 first now (length (known_of known now.setup.number))
 
 pub zip_weaker : {A B : Type 0} (R T : A → B → Type 0) → ((x : A) (y : B) → R x y → T x y) → (xs : List A) (ys : List B) → AllZip R xs ys → AllZip T xs ys
 zip_weaker R T so [] [] zip = tt
@@ -48,12 +48,12 @@ nothing_known known is = λ node above. ap (λ (l : List (List Action)). known_o
 
 module _ {M D P : Type 0} where
   -- the end that comes next is that of the next node
-  pub next_number : (number : ℕ) (rest left : List (NodeEnd M D P)) (end : NodeEnd M D P) → rest ≡ end ∷ left → AreNumbered number rest → end.seat.number ≡ number + 1
+  pub next_number : (number : ℕ) (rest left : List (NodeEnd M D P)) (end : NodeEnd M D P) → rest ≡ end ∷ left → AreNumbered number rest → end.seat.setup.number ≡ number + 1
   next_number number rest left end steps numbers = let e = subst (λ (l : List (NodeEnd M D P)). AreNumbered number l) steps numbers 0 in omega (arith, e)
 
   pub left_numbered : (number more : ℕ) (rest left : List (NodeEnd M D P)) (end : NodeEnd M D P) → rest ≡ end ∷ left → more ≡ number + 1 → AreNumbered number rest → AreNumbered more left
   left_numbered number more rest left end steps is numbers = λ place.
-      some_so (λ (e : NodeEnd M D P). e.seat.number ≡ number + suc place + 1) (λ (e : NodeEnd M D P). e.seat.number ≡ more + place + 1)
+      some_so (λ (e : NodeEnd M D P). e.seat.setup.number ≡ number + suc place + 1) (λ (e : NodeEnd M D P). e.seat.setup.number ≡ more + place + 1)
       (λ e at. omega (arith, at, is)) (slice_get left place) (subst (λ (l : List (NodeEnd M D P)). AreNumbered number l) steps numbers (suc place))
 
 -- a node is read: of those of higher numbers nothing is known still
@@ -67,18 +67,18 @@ module _ {S P : Type 0} (next : S → Action → S) (answers : S → Action → 
       → IsReadBelow next answers begin number old first now → IsReadBelow next answers begin more new first now
   read_still number more at old new is_more is_at same first now r =
       let below = r.below in
-      let stays : known_of new now.number ≡ known_of old now.number = same now.number (λ is. omega (arith, below, is, is_at)) in
+      let stays : known_of new now.setup.number ≡ known_of old now.setup.number = same now.setup.number (λ is. omega (arith, below, is, is_at)) in
       record {
         below = omega (arith, below, is_more);
         read = subst (λ (list : List Action). IsRead next answers begin 0 first now (length list)) (sym stays) r.read;
       }
 
   -- and it is read too
-  pub one_read : (number more : ℕ) (old new : List (List Action)) (first now : SeatState P) → more ≡ number + 1 → first.number ≡ number + 1 → now.number ≡ first.number → KnowsNothingAbove number old
-      → IsRead next answers begin (length (known_of old first.number)) first now (length (known_of new first.number)) → IsReadBelow next answers begin more new first now
+  pub one_read : (number more : ℕ) (old new : List (List Action)) (first now : SeatState P) → more ≡ number + 1 → first.setup.number ≡ number + 1 → now.setup.number ≡ first.setup.number → KnowsNothingAbove number old
+      → IsRead next answers begin (length (known_of old first.setup.number)) first now (length (known_of new first.setup.number)) → IsReadBelow next answers begin more new first now
   one_read number more old new first now is_more is_first same none r =
-      let nothing : length (known_of old first.number) ≡ 0 = ap length (none first.number (omega (arith, is_first))) in
+      let nothing : length (known_of old first.setup.number) ≡ 0 = ap length (none first.setup.number (omega (arith, is_first))) in
       record {
         below = omega (arith, same, is_first, is_more);
-        read = subst (λ (n : ℕ). IsRead next answers begin 0 first now (length (known_of new n))) (sym same) (subst (λ (start : ℕ). IsRead next answers begin start first now (length (known_of new first.number))) nothing r);
+        read = subst (λ (n : ℕ). IsRead next answers begin 0 first now (length (known_of new n))) (sym same) (subst (λ (start : ℕ). IsRead next answers begin start first now (length (known_of new first.setup.number))) nothing r);
       }

@@ -21,31 +21,30 @@ use Rattle.rp_boxes.specs.Seats.{SeatState, HasApplied, IsPut, IsReport, IsSentT
 use Rattle.rp_boxes.proofs.Auditing.{each_with}
 use Rattle.rp_threads.specs.Turns.{IsOffered}
 use Rattle.rp_threads.proofs.Puts.{HasOnlyPut, given_back, offer_puts, went_in}
-use Rattle.rp_threads.proofs.Steps.{same_part, same_on}
 use Rattle.rp_live.specs.Seats.{AreReports, HasOnlyReported, IsRead, KnowsMore, KnowsSameBut, Reports}
 
 -- ---- the node reports
 
 pub report_sent : {P : Type 0} (first : ℕ) (old new : SeatState P) (sent : Sent) → IsReport first old new sent → IsSentText new.part sent.bytes.items
 report_sent {P} first old new sent r =
-    let packet = report_of old.number first (applied_of r.node.records) in
+    let packet = report_of old.setup.number first (applied_of r.node.records) in
     (packet, subst (λ (c : SeatState P). Has packet c.part.sent) (sym r.after) (has_right packet old.part.sent (packet ∷ []) (inl refl)), r.text)
 
 module _ {S P : Type 0} (next : S → Action → S) (answers : S → Action → List Answer) (begin : P → S) where
   -- the report is put, or given back
-  pub put_or_back : {A E : Type 0} (result : Result A E) (text : List ℕ) (old new : SeatState P) → OnOk result (IsPut text old new) → OnOk result (WasPut next answers begin (Node new.number) text new)
-      → IfErr result (λ back. new ≡ old) → IfErr result (λ back. WasInUse next answers begin (Node new.number) text new)
-      → (is_lost : Bool) × IsOffered next answers begin (Node old.number) text old new is_lost
+  pub put_or_back : {A E : Type 0} (result : Result A E) (text : List ℕ) (old new : SeatState P) → OnOk result (IsPut text old new) → OnOk result (WasPut next answers begin (Node new.setup.number) text new)
+      → IfErr result (λ back. new ≡ old) → IfErr result (λ back. WasInUse next answers begin (Node new.setup.number) text new)
+      → (is_lost : Bool) × IsOffered next answers begin (Node old.setup.number) text old new is_lost
   put_or_back (Ok x) text old new put full same used = (false, went_in next answers begin Node text old new put full)
   put_or_back (Err e) text old new put full same used = (true, given_back next answers begin Node text old new new refl same used)
 
   module _ (first : ℕ) (old new : SeatState P) (r : Reports next answers begin first old new) where
     report_puts : HasOnlyPut r.stepped new
-    report_puts = offer_puts next answers begin (Node r.stepped.number) r.sent.bytes.items r.stepped new r.is_lost r.offered
+    report_puts = offer_puts next answers begin (Node r.stepped.setup.number) r.sent.bytes.items r.stepped new r.is_lost r.offered
 
     pub only_reported : HasOnlyReported old new
     only_reported = record {
-      same = same_on old r.stepped new (same_part old r.stepped _ r.report.after) (same_part r.stepped new _ report_puts.after);
+      same = ap (λ (c : SeatState P). c.setup) report_puts.after ∙ ap (λ (c : SeatState P). c.setup) r.report.after;
       role = ap (λ (c : SeatState P). c.part.role) report_puts.after ∙ ap (λ (c : SeatState P). c.part.role) r.report.after ∙ sym r.report.was;
     }
 
@@ -53,7 +52,7 @@ module _ {S P : Type 0} (next : S → Action → S) (answers : S → Action → 
 
 module _ {P : Type 0} where
   pub reported_on : (a b c : SeatState P) → HasOnlyReported a b → HasOnlyReported b c → HasOnlyReported a c
-  reported_on a b c ab bc = record { same = same_on a b c ab.same bc.same; role = bc.role ∙ ab.role }
+  reported_on a b c ab bc = record { same = bc.same ∙ ab.same; role = bc.role ∙ ab.role }
 
 pub role_applied : (old new : Part) (count : ℕ) → new.role ≡ old.role → HasApplied old count → HasApplied new count
 role_applied old new count same h = (h.0, same ∙ h.1, h.2, h.3)

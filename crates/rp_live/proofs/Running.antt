@@ -44,7 +44,7 @@ module _ {S P : Type 0} (next : S → Action → S) (answers : S → Action → 
   stops_memory input fault taken runs never (inr none) =
       let same : runs.0 ≡ none.node = same_node old.part.role runs.0 none.node runs.1 none.was in
       let some : IsSome none.node.running = subst (λ (n : NodePart). IsSome n.running) same runs.2 in
-      only_memory (setting_at next answers begin old) old.number none.node none.given none.node.running fault (taken none.given none.gives) some none.why
+      only_memory (setting_at next answers begin old) old.setup.number none.node none.given none.node.running fault (taken none.given none.gives) some none.why
 
   pub report_memory : (first : ℕ) → Runs old.part → new.failures ≡ 0 → {A : Type 0} (result : Result A Fault)
       → IfErr result (λ fault. IsCutTurn next answers begin old (inputs.Report first) new fault ⊎ IsNoTurn next answers begin old (inputs.Report first) new fault)

@@ -49,11 +49,11 @@ member_at Q (x ∷ xs) (suc k) within is = let later = member_at Q xs k (omega (
 
 -- all seats are at the table
 pub first_tables : {P : Type 0} (table : TableId) (config : Config) (program : P) (actor : ℕ) (failures : List ℕ) (seats : List (SeatState P))
-    → AreFirstSeats table config program actor failures seats → All (λ seat. seat.table ≡ table) seats
+    → AreFirstSeats table config program actor failures seats → All (λ seat. seat.setup.table ≡ table) seats
 first_tables {P} table config program actor failures seats are =
-    all_places (λ (seat : SeatState P). seat.table ≡ table) seats (λ place.
-    some_then (λ (seat : SeatState P). seat ≡ first_seat table config program (suc place) (actor + place) (slice_index failures place)) (λ (seat : SeatState P). seat.table ≡ table)
-    (λ seat is. ap (λ (c : SeatState P). c.table) is) (slice_get seats place) (are place))
+    all_places (λ (seat : SeatState P). seat.setup.table ≡ table) seats (λ place.
+    some_then (λ (seat : SeatState P). seat ≡ first_seat table config program (suc place) (actor + place) (slice_index failures place)) (λ (seat : SeatState P). seat.setup.table ≡ table)
+    (λ seat is. ap (λ (c : SeatState P). c.setup.table) is) (slice_get seats place) (are place))
 
 -- nodes run at first
 pub nodes_run : {P : Type 0} (table : TableId) (config : Config) (program : P) (failures : List ℕ) (seats : List (SeatState P)) → length seats ≤ 7 → AreFirstSeats table config program 1 failures seats

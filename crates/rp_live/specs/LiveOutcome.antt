@@ -17,7 +17,6 @@ use Rattle.rp_boxes.specs.FirstSeats.{AreSeats}
 use Rattle.rp_boxes.specs.Parts.{task_of}
 use Rattle.rp_boxes.specs.Seats.{SeatState}
 use Rattle.rp_boxes.specs.Together.{AreTogether}
-use Rattle.rp_threads.specs.Loops.{IsSameSeat}
 use Rattle.rp_threads.specs.Threads.{IsLooped, IsTaskLooped}
 use Rattle.rp_threads.specs.declared.loops.NodeEnd.{NodeEnd}
 use Rattle.rp_threads.specs.declared.tasks.TaskEnd.{TaskEnd}
@@ -47,14 +46,14 @@ module _ {S P : Type 0} (next : S → Action → S) (answers : S → Action → 
   abbrev pub IsNodeEnd : SeatState P → NodeEnd S Memory P → Type 0
   IsNodeEnd seat end =
       IsLooped next answers begin paced heard over ended config.nodes turns seat
-      (party_line seed (Node seat.number)) end
+      (party_line seed (Node seat.setup.number)) end
 
   -- the loop of the task at this seat, with its calls and over the link of its party, had this end
   abbrev pub IsTaskEnd : SeatState P → TaskEnd S P → Type 0
   IsTaskEnd seat end =
-      IsTaskLooped next answers begin over ended config.nodes turns (calls_at events seat.number)
+      IsTaskLooped next answers begin over ended config.nodes turns (calls_at events seat.setup.number)
       seat
-      (party_line seed (Task seat.number)) end
+      (party_line seed (Task seat.setup.number)) end
 
 module _ {S P : Type 0} (next : S → Action → S) (answers : S → Action → List Answer)
     (begin : P → S) where
@@ -87,7 +86,7 @@ module _ {S P : Type 0} (next : S → Action → S) (answers : S → Action → 
     pub reported : AllZip HasReportedSince nodes last
     pub applied : AllZip HasAppliedAt last outcome.applied.items
     pub known : Audited P
-    pub same : IsSameSeat audit known.seat
+    pub same : known.seat.setup ≡ audit.setup
     pub read : AllZip (IsReadFrom next answers begin known.known) nodes last
     pub together : AreTogether next answers begin known last (map (λ end. end.seat) tasks)
     pub replies : outcome.replies.items ≡ flat_map replies_at tasks
@@ -105,8 +104,8 @@ module _ {S P : Type 0} (next : S → Action → S) (answers : S → Action → 
     pub stated : IsAudited audit nodes tasks outcome
     pub size : length outcome.applied.items ≡ config.nodes
     pub calls : All (λ end.
-        CountsCalls end.seat.number (calls_at events end.seat.number) end.made
+        CountsCalls end.seat.setup.number (calls_at events end.seat.setup.number) end.made
         (kept_of next answers (begin program) stated.together.order)) tasks
     pub made : (t n place : ℕ)
         → IsPlace next answers (begin program) stated.together.order (named t n) place
-        → (end : TaskEnd S P) × Has end tasks × (end.seat.number ≡ t) × (1 ≤ n) × (n ≤ end.made)
+        → (end : TaskEnd S P) × Has end tasks × (end.seat.setup.number ≡ t) × (1 ≤ n) × (n ≤ end.made)

@@ -12,7 +12,6 @@ use Rattle.rp_rules.specs.declared.input.Input.{Input}
 use Rattle.rp_rules.specs.declared.input.Input.TheVariants.{Receive, Lead, LeadRange, Interrupt}
 use Rattle.rp_rules.specs.declared.input.Input.TheVariants.{Tick, Report, Ask}
 use Rattle.rp_replica.specs.declared.sent.Sent.{Sent}
-use Rattle.rp_threads.specs.Loops.{IsSameSeat}
 use Rattle.rp_threads.specs.Rounds.{IsNodeFault, Runs}
 use Rattle.rp_threads.specs.Turns.{IsOffered}
 use Rattle.rp_threads.specs.declared.loops.NodeEnd.{NodeEnd}
@@ -40,7 +39,7 @@ StillRuns end = end.fault ≡ None → Runs end.seat.part
 
 -- The same seat, whose node made reports alone since: what it is has not changed.
 pub record HasOnlyReported {P : Type 0} (old new : SeatState P) : Type 0 where
-  pub same : IsSameSeat old new
+  pub same : new.setup ≡ old.setup
   pub role : new.part.role ≡ old.part.role
 
 -- the same of the seat at the end of a loop
@@ -62,7 +61,7 @@ module _ {S P : Type 0} (next : S → Action → S) (answers : S → Action → 
     pub sent : Sent
     pub report : IsReport first old stepped sent
     pub is_lost : Bool
-    pub offered : IsOffered next answers begin (Node stepped.number) sent.bytes.items
+    pub offered : IsOffered next answers begin (Node stepped.setup.number) sent.bytes.items
         stepped new is_lost
 
   -- a node of which `start` actions were known made n reports, and now more are known: each report
@@ -86,7 +85,7 @@ module _ {S P : Type 0} (next : S → Action → S) (answers : S → Action → 
 
   -- the log of the node of which nothing was known at this end of its loop was read
   abbrev pub IsReadFrom : {M D : Type 0} → List (List Action) → NodeEnd M D P → SeatState P → Type 0
-  IsReadFrom known end seat = IsRead 0 end.seat seat (length (known_of known seat.number))
+  IsReadFrom known end seat = IsRead 0 end.seat seat (length (known_of known seat.setup.number))
 
 -- of each node as many actions are known as before, or more
 abbrev pub KnowsMore : List (List Action) → List (List Action) → Type 0
@@ -103,4 +102,4 @@ KnowsNothingAbove number known = (node : ℕ) → number < node → known_of kno
 -- the ends are those of the nodes after this number, in order
 abbrev pub AreNumbered : {M D P : Type 0} → ℕ → List (NodeEnd M D P) → Type 0
 AreNumbered number ends =
-    (place : ℕ) → IfSome (slice_get ends place) (λ end. end.seat.number ≡ number + place + 1)
+    (place : ℕ) → IfSome (slice_get ends place) (λ end. end.seat.setup.number ≡ number + place + 1)

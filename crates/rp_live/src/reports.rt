@@ -5,7 +5,6 @@ ghost use Rattle.std.specs.List.{AllZip};
 ghost use Rattle.rp_boxes.specs.Audits.{known_of};
 ghost use Rattle.rp_boxes.specs.Seats.{HasApplied, IsReport, IsSentText};
 ghost use Rattle.rp_codec.specs.declared.packet.Party.TheVariants.{Node};
-ghost use Rattle.rp_threads.specs.Loops.{IsSameSeat};
 ghost use Rattle.rp_threads.specs.Turns.{IsOffered};
 ghost use Rattle.rp_live.specs.Ends.{HadNoFault};
 ghost use Rattle.rp_live.specs.LiveOutcome.{KnowsAll};
@@ -40,7 +39,7 @@ fn report_from<M: Machine, D: InfallibleDevice>(
 /// Puts a report that the node sent into its box. If the box is in use, the report is lost.
 fn put_report<M: Machine, D: InfallibleDevice>(seat: &mut NodeSeat<M, D>, report: Vec<u8>)
     requires { IsSentText seat.old.part report.items }
-    ensures { (is_lost : Bool) × IsOffered M.next M.answers M.begin (Node seat.old.number)
+    ensures { (is_lost : Bool) × IsOffered M.next M.answers M.begin (Node seat.old.setup.number)
         report.items seat.old seat.new is_lost }
 {
     let _given_back = seat.put(report);
@@ -71,11 +70,11 @@ fn report_once<M: Machine, D: InfallibleDevice>(
     first: Position,
 ) -> Result<(), Fault>
     requires runs { Runs seat.old.part }
-    ensures same { OnOk result (IsSameSeat audit.old.seat audit.new.seat) }
+    ensures same { OnOk result (audit.new.seat.setup ≡ audit.old.seat.setup) }
     ensures reported { OnOk result (Reports M.next M.answers M.begin
         first seat.old seat.new) }
     ensures more { OnOk result (KnowsMore audit.old.known audit.new.known) }
-    ensures others { OnOk result (KnowsSameBut seat.old.number
+    ensures others { OnOk result (KnowsSameBut seat.old.setup.number
         audit.old.known audit.new.known) }
     ensures only { IsOkUnless result Fault.OutOfMemory }
 {
@@ -104,14 +103,14 @@ fn read_log<M: Machine, D: InfallibleDevice>(
     alloc: Global,
 ) -> Result<u32, Fault>
     requires { Runs seat.old.part }
-    ensures same { OnOk result (IsSameSeat audit.old.seat audit.new.seat) }
+    ensures same { OnOk result (audit.new.seat.setup ≡ audit.old.seat.setup) }
     ensures reported { OnOk result (HasOnlyReported seat.old seat.new) }
-    ensures others { OnOk result (KnowsSameBut seat.old.number
+    ensures others { OnOk result (KnowsSameBut seat.old.setup.number
         audit.old.known audit.new.known) }
     ensures applied { IfOk result (λ count. HasApplied seat.new.part count) }
     ensures read { OnOk result (IsRead M.next M.answers M.begin
-        (length (known_of audit.old.known seat.old.number)) seat.old seat.new
-        (length (known_of audit.new.known seat.old.number))) }
+        (length (known_of audit.old.known seat.old.setup.number)) seat.old seat.new
+        (length (known_of audit.new.known seat.old.setup.number))) }
     ensures only { IsOkUnless result Fault.OutOfMemory }
 {
     let node = seat.number();
@@ -141,14 +140,14 @@ fn read_end<M: Machine, D: InfallibleDevice>(
     requires ended { IsEndOfRun end }
     requires still { StillRuns end }
     ensures none { OnOk result (HadNoFault end) }
-    ensures same { OnOk result (IsSameSeat audit.old.seat audit.new.seat) }
+    ensures same { OnOk result (audit.new.seat.setup ≡ audit.old.seat.setup) }
     ensures reported { IfOk result (λ read. HasOnlyReported end.seat read.0) }
-    ensures others { OnOk result (KnowsSameBut end.seat.number
+    ensures others { OnOk result (KnowsSameBut end.seat.setup.number
         audit.old.known audit.new.known) }
     ensures applied { IfOk result (λ read. HasApplied read.0.part read.1) }
     ensures read { IfOk result (λ read. IsRead M.next M.answers M.begin
-        (length (known_of audit.old.known end.seat.number)) end.seat read.0
-        (length (known_of audit.new.known end.seat.number))) }
+        (length (known_of audit.old.known end.seat.setup.number)) end.seat read.0
+        (length (known_of audit.new.known end.seat.setup.number))) }
     ensures only { IsOkUnless result Fault.OutOfMemory }
 {
     let mut seat = node_ended(end)?;
@@ -168,7 +167,7 @@ pub(crate) fn read_logs<M: Machine, D: InfallibleDevice>(
     requires numbers { AreNumbered 0 nodes.items }
     requires unread { KnowsNothingAbove 0 audit.old.known }
     ensures none { OnOk result (All HadNoFault nodes.items) }
-    ensures same { OnOk result (IsSameSeat audit.old.seat audit.new.seat) }
+    ensures same { OnOk result (audit.new.seat.setup ≡ audit.old.seat.setup) }
     ensures reported { IfOk result (λ read. AllZip HasReportedSince nodes.items read.0.items) }
     ensures applied { IfOk result (λ read. AllZip HasAppliedAt read.0.items read.1.items) }
     ensures read { IfOk result (λ read. AllZip (IsReadFrom M.next M.answers M.begin

@@ -48,9 +48,9 @@ fn audited<M: Machine, D: InfallibleDevice>(
     requires few { length nodes.items ≤ 7 }
     requires ended { All IsEndOfRun nodes.items }
     requires still { All StillRuns nodes.items }
-    requires nodes { All (λ end. end.seat.table ≡ seat.table) nodes.items }
+    requires nodes { All (λ end. end.seat.setup.table ≡ seat.setup.table) nodes.items }
     requires numbers { AreNumbered 0 nodes.items }
-    requires tasks { All (λ end. end.seat.table ≡ seat.table) tasks.items }
+    requires tasks { All (λ end. end.seat.setup.table ≡ seat.setup.table) tasks.items }
     ensures stated { IfOk result (IsAudited M.next M.answers M.begin seat nodes.items tasks.items) }
     ensures only { IsOkUnless result Fault.OutOfMemory }
 {

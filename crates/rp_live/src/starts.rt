@@ -41,7 +41,7 @@ fn node_start<M: Machine, D: Device>(
 ) -> Result<NodeStart<M, D>, Fault>
     ensures seat { IfOk result (λ start. start.seat ≡ seat) }
     ensures line { IfOk result (λ start. start.line
-        ≡ party_line seed (parties.Node seat.number)) }
+        ≡ party_line seed (parties.Node seat.setup.number)) }
     ensures only { IsOkUnless result Fault.OutOfMemory }
 {
     let line = line_for(alloc, seed, Party::Node(seat.number()))?;
@@ -56,7 +56,7 @@ pub(crate) fn node_starts<M: Machine, D: Device>(
 ) -> Result<Vec<NodeStart<M, D>>, Fault>
     ensures seats { IfOk result (λ starts. map (λ start. start.seat) starts.items ≡ seats.items) }
     ensures lines { IfOk result (λ starts. All (λ start. start.line
-        ≡ party_line seed (parties.Node start.seat.number)) starts.items) }
+        ≡ party_line seed (parties.Node start.seat.setup.number)) starts.items) }
     ensures only { IsOkUnless result Fault.OutOfMemory }
 {
     let mut starts = Vec::new(alloc);
@@ -75,9 +75,9 @@ fn task_start<M: Machine>(
 ) -> Result<TaskStart<M>, Fault>
     ensures seat { IfOk result (λ start. start.seat ≡ seat) }
     ensures calls { IfOk result (λ start. start.calls.items
-        ≡ filter_map (call_by seat.number) events.now) }
+        ≡ filter_map (call_by seat.setup.number) events.now) }
     ensures line { IfOk result (λ start. start.line
-        ≡ party_line seed (parties.Task seat.number)) }
+        ≡ party_line seed (parties.Task seat.setup.number)) }
     ensures only { IsOkUnless result Fault.OutOfMemory }
 {
     let task = seat.number();
@@ -95,9 +95,9 @@ pub(crate) fn task_starts<M: Machine>(
 ) -> Result<Vec<TaskStart<M>>, Fault>
     ensures seats { IfOk result (λ starts. map (λ start. start.seat) starts.items ≡ seats.items) }
     ensures calls { IfOk result (λ starts. All (λ start. start.calls.items
-        ≡ filter_map (call_by start.seat.number) events.now) starts.items) }
+        ≡ filter_map (call_by start.seat.setup.number) events.now) starts.items) }
     ensures lines { IfOk result (λ starts. All (λ start. start.line
-        ≡ party_line seed (parties.Task start.seat.number)) starts.items) }
+        ≡ party_line seed (parties.Task start.seat.setup.number)) starts.items) }
     ensures only { IsOkUnless result Fault.OutOfMemory }
 {
     let mut starts = Vec::new(alloc);

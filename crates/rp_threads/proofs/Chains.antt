@@ -7,7 +7,7 @@ use Rattle.rp_base.specs.declared.reply.Answer.{Answer}
 use Rattle.rp_codec.specs.declared.packet.Party.{Party}
 use Rattle.rp_codec.specs.declared.packet.Party.TheVariants.{Node}
 use Rattle.rp_tasks.specs.Line.{Line}
-use Rattle.rp_boxes.specs.Seats.{SeatState}
+use Rattle.rp_boxes.specs.Seats.{SeatSetup, SeatState}
 use Rattle.rp_threads.specs.Loops.{events_made, is_refusal, is_to_lead, lead_period, sender_at, total_of, turns_off}
 use Rattle.rp_threads.specs.Rounds.{NodeAt, WorkerAt, AreTurns, IsAsked, IsLastTurn, IsNextTurn, IsNodeFault, IsTurnUnmade, before_turns}
 use Rattle.rp_threads.specs.Threads.{IsLooped, end_of}
@@ -15,13 +15,12 @@ use Rattle.rp_threads.specs.declared.loops.Counts.{Counts}
 use Rattle.rp_threads.specs.declared.loops.NodeEnd.{NodeEnd}
 use Rattle.rp_threads.proofs.Later.{IsCause, IsLater, later_on, later_same, turned_idle, turned_later, unmade_left}
 use Rattle.rp_threads.proofs.Rounds.{IsIdle, counted_idle, counted_more}
-use Rattle.rp_threads.proofs.Steps.{same_on}
 
 -- What n turns leave of a seat, and what they count.
 pub record HasMadeTurns {P : Type 0} (first : SeatState P) (n : ℕ) (now : NodeAt P) : Type 0 where
   pub later : IsLater first now.worker.seat (now.counts.received + now.counts.led)
   pub total : total_of now.counts ≡ n
-  pub idle : now.counts.idle ≤ turns_off (lead_period first.number) n
+  pub idle : now.counts.idle ≤ turns_off (lead_period first.setup.number) n
 
 -- ---- why a loop ends
 
@@ -43,22 +42,22 @@ module _ {S P : Type 0} (next : S → Action → S) (answers : S → Action → 
   one_turned : (first : SeatState P) (before now : NodeAt P) (n : ℕ) → HasMadeTurns first n before → IsNextTurn next answers begin lets heard over nodes (suc n) before now → HasMadeTurns first (suc n) now
   one_turned first before now n has t =
       let from = sender_at nodes (suc n) in
-      let number = before.worker.seat.number in
+      let number = before.worker.seat.setup.number in
       let lead = is_to_lead number (suc n) in
       let passes = lets number (suc n) in
       let hears = heard number (suc n) in
       let one = counted_more t.made before.counts in
       let count : now.counts.received + now.counts.led ≡ before.counts.received + before.counts.led + events_made t.made = ap (λ (c : Counts). c.received + c.led) t.counts ∙ one.1 in
-      let off : IsIdle t.made → is_to_lead first.number (suc n) ≡ false =
-      λ idle. subst (λ (k : ℕ). is_to_lead k (suc n) ≡ false) has.later.same.number
+      let off : IsIdle t.made → is_to_lead first.setup.number (suc n) ≡ false =
+      λ idle. subst (λ (s : SeatSetup P). is_to_lead s.number (suc n) ≡ false) has.later.same
       (turned_idle next answers begin from lead before.worker now.worker hears passes t.made t.turns idle) in
       record {
         later = subst (IsLater first now.worker.seat) (sym count)
             (later_on first before.worker.seat now.worker.seat (before.counts.received + before.counts.led) (events_made t.made) has.later
             (turned_later next answers begin from lead before.worker now.worker hears passes t.made t.turns));
         total = let total = ap total_of t.counts ∙ one.0 in let totals = has.total in omega (arith, total, totals);
-        idle = subst (λ (c : Counts). c.idle ≤ turns_off (lead_period first.number) (suc n)) (sym t.counts)
-            (counted_idle t.made before.counts (lead_period first.number) n off has.idle);
+        idle = subst (λ (c : Counts). c.idle ≤ turns_off (lead_period first.setup.number) (suc n)) (sym t.counts)
+            (counted_idle t.made before.counts (lead_period first.setup.number) n off has.idle);
       }
 
   pub all_turned : (seat : SeatState P) (line : Line) (n : ℕ) (now : NodeAt P) → AreTurns next answers begin lets heard over nodes (before_turns seat line) n now → HasMadeTurns seat n now
@@ -73,13 +72,13 @@ module _ {S P : Type 0} (next : S → Action → S) (answers : S → Action → 
     IsEnd end = IsLooped next answers begin lets heard over ended nodes turns seat line end
 
     pub looped : (done : ℕ) (now : NodeAt P) → AreTurns next answers begin lets heard over nodes (before_turns seat line) done now → IsLastTurn next answers begin lets heard over nodes turns done now
-        → ended (Node now.worker.seat.number) None → IsEnd (end_of now.worker now.counts None)
+        → ended (Node now.worker.seat.setup.number) None → IsEnd (end_of now.worker now.counts None)
     looped done now are stops notified =
         let has = all_turned seat line done now are in
         let events = has.later.events in
         record {
           same = has.later.same;
-          notified = subst (λ (n : ℕ). ended (Node n) None) has.later.same.number notified;
+          notified = subst (λ (s : SeatSetup P). ended (Node s.number) None) has.later.same notified;
           failures = λ other. has.later.failures;
           whole = λ none. record {
             done = done;
@@ -96,16 +95,16 @@ module _ {S P : Type 0} (next : S → Action → S) (answers : S → Action → 
 
     pub ended_by : (done : ℕ) (before : NodeAt P) (last : WorkerAt P) (fault : Fault) → AreTurns next answers begin lets heard over nodes (before_turns seat line) done before → done < turns
         → IsAsked next answers begin lets heard over nodes (suc done) before false → is_refusal fault ≡ false → IsTurnUnmade next answers begin lets heard nodes (suc done) before.worker last fault
-        → ended (Node last.seat.number) (Some fault) → IsEnd (end_of last before.counts (Some fault))
+        → ended (Node last.seat.setup.number) (Some fault) → IsEnd (end_of last before.counts (Some fault))
     ended_by done before last fault are within asked ends unmade notified =
         let now = before.worker.seat in
         let later = (all_turned seat line done before are).later in
-        let left = unmade_left next answers begin (sender_at nodes (suc done)) (is_to_lead now.number (suc done)) before.worker last fault unmade.1 in
+        let left = unmade_left next answers begin (sender_at nodes (suc done)) (is_to_lead now.setup.number (suc done)) before.worker last fault unmade.1 in
         let count = before.counts.received + before.counts.led in
-        let same = same_on seat now last.seat later.same left.same in
+        let same = left.same ∙ later.same in
         record {
           same = same;
-          notified = subst (λ (n : ℕ). ended (Node n) (Some fault)) same.number notified;
+          notified = subst (λ (s : SeatSetup P). ended (Node s.number) (Some fault)) same notified;
           failures = λ other. kept_failures seat now last.seat count fault later left.cause (λ device. other (ap (λ (f : Fault). Some f) device));
           whole = λ none. absurd (some_fault fault none);
           fault = record {

@@ -12,7 +12,7 @@ use Rattle.rp_tasks.specs.Line.{Line}
 use Rattle.rp_boxes.specs.Parts.{Part, OfNode, with_got}
 use Rattle.rp_boxes.specs.Seats.{SeatState, IsStopped, IsTurn, IsCutTurn, IsNoTurn, setting_at}
 use Rattle.rp_threads.specs.Lines.{given_on}
-use Rattle.rp_threads.specs.Loops.{IsSameSeat, events_made, events_of, is_refusal}
+use Rattle.rp_threads.specs.Loops.{events_made, events_of, is_refusal}
 use Rattle.rp_threads.specs.Rounds.{WorkerAt, IsIdleTurn, IsLeadAnew, IsMade, IsOwnUnmade, IsUnmade, IsMadeOrSkipped, Runs}
 use Rattle.rp_threads.specs.Turns.{MayFetch, IsReceipt, IsEventBy, IsUnsent, IsStopBy, Works, Fails, IsLead, IsNodeTurn, turn_of}
 use Rattle.rp_threads.specs.declared.turns.PacketCounts.{PacketCounts}
@@ -23,11 +23,11 @@ use Rattle.rp_threads.proofs.Puts.{HasOnlyPut}
 use Rattle.rp_threads.proofs.Refusals.{GivesNoRange, lead_no_range, reason, receipt_no_range}
 use Rattle.rp_threads.proofs.Rounds.{IsIdle}
 use Rattle.rp_threads.proofs.Running.{not_stopped, turn_runs}
-use Rattle.rp_threads.proofs.Steps.{same_but, same_part, same_seat, same_on, event_puts, unsent_puts, stepped_same}
+use Rattle.rp_threads.proofs.Steps.{event_puts, unsent_puts, stepped_same}
 
 -- The same seat, n events later. No call of its device failed, and its node runs as before.
 pub record IsLater {P : Type 0} (old new : SeatState P) (n : ℕ) : Type 0 where
-  pub same : IsSameSeat old new
+  pub same : new.setup ≡ old.setup
   pub failures : new.failures ≡ old.failures
   pub events : new.part.events ≡ old.part.events + n
   pub stopped : IsStopped new.part → IsStopped old.part
@@ -43,7 +43,7 @@ IsCause old new fault =
 
 -- The same seat, after a fault.
 pub record IsLeft {P : Type 0} (old new : SeatState P) (fault : Fault) : Type 0 where
-  pub same : IsSameSeat old new
+  pub same : new.setup ≡ old.setup
   pub cause : IsCause old new fault
 
 module _ {P : Type 0} where
@@ -51,7 +51,7 @@ module _ {P : Type 0} where
 
   later_part : (old new : SeatState P) (part : Part) → new ≡ record old { part = part } → part.role ≡ old.part.role → part.events ≡ old.part.events → IsLater old new 0
   later_part old new part is role events = record {
-    same = same_part old new part is;
+    same = ap (λ (c : SeatState P). c.setup) is;
     failures = ap (λ (c : SeatState P). c.failures) is;
     events = let e = ap (λ (c : SeatState P). c.part.events) is ∙ events in omega (arith, e);
     stopped = λ stopped. (stopped.0, sym (ap (λ (c : SeatState P). c.part.role) is ∙ role) ∙ stopped.1, stopped.2);
@@ -65,7 +65,7 @@ module _ {P : Type 0} where
 
   pub later_on : (a b c : SeatState P) (m n : ℕ) → IsLater a b m → IsLater b c n → IsLater a c (m + n)
   later_on a b c m n ab bc = record {
-    same = same_on a b c ab.same bc.same;
+    same = bc.same ∙ ab.same;
     failures = bc.failures ∙ ab.failures;
     events = let first = ab.events in let more = bc.events in omega (arith, first, more);
     stopped = λ stopped. ab.stopped (bc.stopped stopped);
@@ -82,7 +82,7 @@ module _ {P : Type 0} where
   cause_on old between new fault later (inr (inr (inr refused))) = inr (inr (inr (refused.0, then_later old between new 0 later refused.1)))
 
   left_on : (old between new : SeatState P) (fault : Fault) → IsLater old between 0 → IsLeft between new fault → IsLeft old new fault
-  left_on old between new fault later left = record { same = same_on old between new later.same left.same; cause = cause_on old between new fault later left.cause }
+  left_on old between new fault later left = record { same = left.same ∙ later.same; cause = cause_on old between new fault later left.cause }
 
   -- at a refusal to lead there is no event
   refused_later : (old new : SeatState P) (fault : Fault) → is_refusal fault ≡ true → IsCause old new fault → IsLater old new 0
@@ -128,11 +128,11 @@ module _ {S P : Type 0} (next : S → Action → S) (answers : S → Action → 
 
   left_by : (old new : SeatState P) (input : Input) (fault : Fault) → GivesNoRange input
       → IsCutTurn next answers begin old input new fault ⊎ (IsNoTurn next answers begin old input new fault ⊎ IsUnsent next answers begin old input new fault) → IsLeft old new fault
-  left_by old new input fault small (inl cut) = record { same = same_but old new new.failures _ cut.after; cause = inl (cut.device, cut.failed) }
+  left_by old new input fault small (inl cut) = record { same = ap (λ (c : SeatState P). c.setup) cut.after; cause = inl (cut.device, cut.failed) }
   left_by old new input fault small (inr (inl none)) = record {
-    same = same_seat old new none.unchanged;
+    same = ap (λ (c : SeatState P). c.setup) none.unchanged;
     cause = no_turn old new fault input none
-        (reason (setting_at next answers begin old) old.number none.node none.given none.node.running fault (small none.given none.gives) none.why);
+        (reason (setting_at next answers begin old) old.setup.number none.node none.given none.node.running fault (small none.given none.gives) none.why);
   }
   left_by old new input fault small (inr (inr unsent)) =
       let later = stepped_later old unsent.stepped new input unsent.sent unsent.turn (unsent_puts next answers begin old new input fault unsent) in
@@ -165,7 +165,7 @@ module _ {S P : Type 0} (next : S → Action → S) (answers : S → Action → 
     turn_later : IsLater old between (events_of turned.turn)
     turn_later =
         subst (λ (u : Turn). IsLater old between (events_of u)) (sym t.turn)
-        (then_later old t.between between (events_of (turn_of (given_on t.full) lead)) (fetch_later t.brought.fetched from (Node old.number) old t.between t.brought.fetch)
+        (then_later old t.between between (events_of (turn_of (given_on t.full) lead)) (fetch_later t.brought.fetched from (Node old.setup.number) old t.between t.brought.fetch)
         (works_later (given_on t.full) lead t.between between turned.packets t.works))
 
     idle_later : turned.turn ≡ Idle → IsLater old between 0
@@ -184,10 +184,10 @@ module _ {S P : Type 0} (next : S → Action → S) (answers : S → Action → 
 
     own_left : (fault : Fault) → IsOwnUnmade next answers begin from lead old new fault → IsLeft old.seat new.seat fault
     own_left fault (inl lost) =
-        let later = fetch_later (Some lost.packet) from (Node old.seat.number) old.seat new.seat lost.fetch in
+        let later = fetch_later (Some lost.packet) from (Node old.seat.setup.number) old.seat new.seat lost.fetch in
         record { same = later.same; cause = inr (inr (inl (lost.memory, later.failures))) }
     own_left fault (inr stopped) =
-        left_on old.seat stopped.between new.seat fault (fetch_later stopped.brought.fetched from (Node old.seat.number) old.seat stopped.between stopped.brought.fetch)
+        left_on old.seat stopped.between new.seat fault (fetch_later stopped.brought.fetched from (Node old.seat.setup.number) old.seat stopped.between stopped.brought.fetch)
         (fails_left (given_on stopped.full) lead stopped.between new.seat fault stopped.fails)
 
     pub unmade_left : (fault : Fault) → IsUnmade next answers begin from lead old new fault → IsLeft old.seat new.seat fault

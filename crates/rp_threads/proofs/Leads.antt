@@ -45,15 +45,15 @@ module _ {S P : Type 0} (next : S → Action → S) (answers : S → Action → 
   pub uncounted : (new : Patience) → new ≡ old → ¬ HasUncounted next answers begin seat → CountsQuiet next answers begin seat old new
   uncounted new same none = record { quiet = λ applied has pending. absurd (none pending); other = λ fails. same }
 
-  module _ (number applied : ℕ) (is : number ≡ seat.number) (has : HasApplied seat.part applied) where
+  module _ (number applied : ℕ) (is : number ≡ seat.setup.number) (has : HasApplied seat.part applied) where
     pub quiet_counted : (new : Patience) → HasUncounted next answers begin seat → new ≡ after_quiet 1 number applied old → CountsQuiet next answers begin seat old new
     quiet_counted new pending after = record {
-      quiet = λ n also some. after ∙ ap (λ k. after_quiet 1 k applied old) is ∙ ap (λ k. after_quiet 1 seat.number k old) (one_applied seat.part applied n has also);
+      quiet = λ n also some. after ∙ ap (λ k. after_quiet 1 k applied old) is ∙ ap (λ k. after_quiet 1 seat.setup.number k old) (one_applied seat.part applied n has also);
       other = λ none. absurd (none pending);
     }
 
     module _ (over : Bool) (answer : over ≡ is_over number (waits 1 applied old)) where
-      at_seat : over ≡ is_over seat.number (waits 1 applied old)
+      at_seat : over ≡ is_over seat.setup.number (waits 1 applied old)
       at_seat = answer ∙ ap (λ k. is_over k (waits 1 applied old)) is
 
       pub has_waited : over ≡ true → (result : Option ℕ) → OnSome result (HasWaited seat old)
@@ -76,7 +76,7 @@ to_lead next answers begin seat applied (Some position) has pending at = record 
 
 module _ {S P : Type 0} (next : S → Action → S) (answers : S → Action → List Answer) (begin : P → S) (from : Party) (lead : Bool) (old new : WorkerAt P) where
   pub unmade : new.patience ≡ old.patience → (fault : Fault)
-      → IsLost from (Node old.seat.number) old.seat new.seat old.line new.line fault ⊎ IsStoppedTurn next answers begin from lead old.seat new.seat old.line new.line fault
+      → IsLost from (Node old.seat.setup.number) old.seat new.seat old.line new.line fault ⊎ IsStoppedTurn next answers begin from lead old.seat new.seat old.line new.line fault
       → IsUnmade next answers begin from lead old new fault
   unmade same fault why = inl (why, same)
 
@@ -104,21 +104,21 @@ module _ {S P : Type 0} (next : S → Action → S) (answers : S → Action → 
 
 -- ---- the turn of a worker with its number
 
-module _ {S P : Type 0} (next : S → Action → S) (answers : S → Action → List Answer) (begin : P → S) (lets : ℕ → ℕ → Bool) (nodes turn number : ℕ) (old new : WorkerAt P) (is : number ≡ old.seat.number) where
-  pub turn_passes : (passes : Bool) → passes ≡ lets number turn → passes ≡ true → lets old.seat.number turn ≡ true
+module _ {S P : Type 0} (next : S → Action → S) (answers : S → Action → List Answer) (begin : P → S) (lets : ℕ → ℕ → Bool) (nodes turn number : ℕ) (old new : WorkerAt P) (is : number ≡ old.seat.setup.number) where
+  pub turn_passes : (passes : Bool) → passes ≡ lets number turn → passes ≡ true → lets old.seat.setup.number turn ≡ true
   turn_passes passes answer holds = sym (answer ∙ ap (λ (n : ℕ). lets n turn) is) ∙ holds
 
   pub unmade_at : (from : Party) (lead : Bool) (fault : Fault) → from ≡ sender_at nodes turn → lead ≡ is_to_lead number turn → IsUnmade next answers begin from lead old new fault
-      → IsUnmade next answers begin (sender_at nodes turn) (is_to_lead old.seat.number turn) old new fault
+      → IsUnmade next answers begin (sender_at nodes turn) (is_to_lead old.seat.setup.number turn) old new fault
   unmade_at from lead fault sent leads why =
       subst (λ (l : Bool). IsUnmade next answers begin (sender_at nodes turn) l old new fault) (leads ∙ ap (λ (n : ℕ). is_to_lead n turn) is)
       (subst (λ (p : Party). IsUnmade next answers begin p lead old new fault) sent why)
 
 -- ---- what the gate is asked
 
-pub asked_at : {P : Type 0} (over : Party → ℕ → Bool → Bool → Type 0) (now : NodeAt P) (done number : ℕ) (is_over said : Bool) → number ≡ now.worker.seat.number → is_over ≡ said
-    → over (Node number) (done + 1) now.rests is_over → over (Node now.worker.seat.number) (suc done) now.rests said
+pub asked_at : {P : Type 0} (over : Party → ℕ → Bool → Bool → Type 0) (now : NodeAt P) (done number : ℕ) (is_over said : Bool) → number ≡ now.worker.seat.setup.number → is_over ≡ said
+    → over (Node number) (done + 1) now.rests is_over → over (Node now.worker.seat.setup.number) (suc done) now.rests said
 asked_at over now done number is_over said is says asked =
-    subst (λ (b : Bool). over (Node now.worker.seat.number) (suc done) now.rests b) says
+    subst (λ (b : Bool). over (Node now.worker.seat.setup.number) (suc done) now.rests b) says
     (subst (λ (n : ℕ). over (Node n) (suc done) now.rests is_over) is
     (subst (λ (t : ℕ). over (Node number) t now.rests is_over) (add-one done) asked))

@@ -23,15 +23,15 @@ module _ {P : Type 0} where
 
 module _ {S P : Type 0} (next : S → Action → S) (answers : S → Action → List Answer) (begin : P → S) (party : ℕ → Party) (text : List ℕ) (old new : SeatState P) where
   -- the packet went into its box
-  pub went_in : IsPut text old new → WasPut next answers begin (party new.number) text new → IsOffered next answers begin (party old.number) text old new false
+  pub went_in : IsPut text old new → WasPut next answers begin (party new.setup.number) text new → IsOffered next answers begin (party old.setup.number) text old new false
   went_in put full =
-      (put, subst (λ (n : ℕ). WasPut next answers begin (party n) text new) (ap (λ (s : SeatState P). s.number) put.after) full)
+      (put, subst (λ (n : ℕ). WasPut next answers begin (party n) text new) (ap (λ (s : SeatState P). s.setup.number) put.after) full)
 
   -- or it was given back, and its buffer lent to the seat
-  pub given_back : (lent : SeatState P) → lent ≡ new → new ≡ old → WasInUse next answers begin (party new.number) text new → IsOffered next answers begin (party old.number) text old lent true
+  pub given_back : (lent : SeatState P) → lent ≡ new → new ≡ old → WasInUse next answers begin (party new.setup.number) text new → IsOffered next answers begin (party old.setup.number) text old lent true
   given_back lent is same used =
-      subst (λ (s : SeatState P). IsOffered next answers begin (party old.number) text old s true) (sym is)
-      (same, subst (λ (n : ℕ). WasInUse next answers begin (party n) text new) (ap (λ (s : SeatState P). s.number) same) used)
+      subst (λ (s : SeatState P). IsOffered next answers begin (party old.setup.number) text old s true) (sym is)
+      (same, subst (λ (n : ℕ). WasInUse next answers begin (party n) text new) (ap (λ (s : SeatState P). s.setup.number) same) used)
 
 module _ {S P : Type 0} (next : S → Action → S) (answers : S → Action → List Answer) (begin : P → S) (from : Party) where
   pub offer_puts : (text : List ℕ) (old new : SeatState P) (is_lost : Bool) → IsOffered next answers begin from text old new is_lost → HasOnlyPut old new

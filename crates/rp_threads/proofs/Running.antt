@@ -24,7 +24,7 @@ pub turn_runs : {S P : Type 0} (next : S → Action → S) (answers : S → Acti
 turn_runs {P = P} next answers begin old new input sent t = (
   t.done.part,
   ap (λ (c : SeatState P). c.part.role) t.after,
-  while_runs (setting_at next answers begin old) old.number t.node t.given t.node.running t.done t.results,
+  while_runs (setting_at next answers begin old) old.setup.number t.node t.given t.node.running t.done t.results,
 )
 
 -- ---- it is not stopped

@@ -17,35 +17,10 @@ use Rattle.rp_tasks.specs.Line.{Line}
 use Rattle.rp_boxes.specs.Parts.{Part, Role, OfNode, part_after}
 use Rattle.rp_boxes.specs.Seats.{SeatState, IsTurn}
 use Rattle.rp_threads.specs.Turns.{IsBrought, IsLost, turn_of, IsReceipt, AreGivenOut, AreSent, IsAllOffered, IsOfferedInPart, IsEventBy, IsUnsent, IsStopBy, Works, Fails, IsNodeTurn, IsStoppedTurn}
-use Rattle.rp_threads.specs.Loops.{IsSameSeat}
 use Rattle.rp_threads.specs.Lines.{given_on, line_after}
 use Rattle.rp_threads.specs.declared.turns.PacketCounts.{PacketCounts}
 use Rattle.rp_threads.specs.declared.turns.TurnResult.{TurnResult}
 use Rattle.rp_threads.proofs.Puts.{HasOnlyPut, offers_put}
-
--- ---- the same seat
-
-pub same_but : {P : Type 0} (old new : SeatState P) (failures : ℕ) (part : Part) → new ≡ record old { failures = failures; part = part } → IsSameSeat old new
-same_but {P} old new failures part is = record {
-  table = ap (λ (c : SeatState P). c.table) is;
-  config = ap (λ (c : SeatState P). c.config) is;
-  program = ap (λ (c : SeatState P). c.program) is;
-  number = ap (λ (c : SeatState P). c.number) is;
-}
-
-pub same_part : {P : Type 0} (old new : SeatState P) (part : Part) → new ≡ record old { part = part } → IsSameSeat old new
-same_part old new part is = same_but old new old.failures part is
-
-pub same_seat : {P : Type 0} (old new : SeatState P) → new ≡ old → IsSameSeat old new
-same_seat {P} old new is = same_part old new old.part is
-
-pub same_on : {P : Type 0} (a b c : SeatState P) → IsSameSeat a b → IsSameSeat b c → IsSameSeat a c
-same_on a b c ab bc = record {
-  table = bc.table ∙ ab.table;
-  config = bc.config ∙ ab.config;
-  program = bc.program ∙ ab.program;
-  number = bc.number ∙ ab.number;
-}
 
 -- ---- an event, and then what was put
 
@@ -61,8 +36,8 @@ module _ {P : Type 0} (role : Role) (sends : List Message) where
   pub stepped_got : (old stepped new : SeatState P) → stepped ≡ record old { part = part_after old.part role sends } → HasOnlyPut stepped new → new.part.got ≡ old.part.got
   stepped_got old stepped new after puts = ap (λ (c : SeatState P). c.part.got) puts.after ∙ ap (λ (c : SeatState P). c.part.got) after
 
-  pub stepped_same : (old stepped new : SeatState P) → stepped ≡ record old { part = part_after old.part role sends } → HasOnlyPut stepped new → IsSameSeat old new
-  stepped_same old stepped new after puts = same_on old stepped new (same_part old stepped _ after) (same_part stepped new _ puts.after)
+  pub stepped_same : (old stepped new : SeatState P) → stepped ≡ record old { part = part_after old.part role sends } → HasOnlyPut stepped new → new.setup ≡ old.setup
+  stepped_same old stepped new after puts = ap (λ (c : SeatState P). c.setup) puts.after ∙ ap (λ (c : SeatState P). c.setup) after
 
 module _ {S P : Type 0} (next : S → Action → S) (answers : S → Action → List Answer) (begin : P → S) where
   all_given_out : (old new : SeatState P) (input : Input) (sent : Sent) (t : IsTurn next answers begin old input new sent) → AreGivenOut new.part sent t.done.sends
@@ -75,7 +50,7 @@ module _ {S P : Type 0} (next : S → Action → S) (answers : S → Action → 
 
   -- by this input, once its packets were offered
   pub event_by : (old stepped new : SeatState P) (input : Input) (sent : Sent) (lost : ℕ) → IsTurn next answers begin old input stepped sent
-      → IsAllOffered next answers begin (Node stepped.number) sent stepped new lost
+      → IsAllOffered next answers begin (Node stepped.setup.number) sent stepped new lost
       → IsEventBy next answers begin (λ given. given ≡ input) old new (record { sent = sent.packets; lost = lost })
   event_by old stepped new input sent lost turn offered = record {
     input = input;
@@ -89,7 +64,7 @@ module _ {S P : Type 0} (next : S → Action → S) (answers : S → Action → 
 
   -- memory ran out before all of them were offered
   pub unsent_by : (old stepped new : SeatState P) (input : Input) (sent : Sent) → IsTurn next answers begin old input stepped sent
-      → IsOfferedInPart next answers begin (Node stepped.number) sent stepped new → IsStopBy next answers begin (λ given. given ≡ input) old new OutOfMemory
+      → IsOfferedInPart next answers begin (Node stepped.setup.number) sent stepped new → IsStopBy next answers begin (λ given. given ≡ input) old new OutOfMemory
   unsent_by old stepped new input sent turn part = record {
     input = input;
     is = refl;
@@ -98,15 +73,15 @@ module _ {S P : Type 0} (next : S → Action → S) (answers : S → Action → 
 
   -- the packets of an event change at the seat what was put alone
   pub event_puts : (Is : Input → Type 0) (old new : SeatState P) (packets : PacketCounts) (e : IsEventBy next answers begin Is old new packets) → HasOnlyPut e.stepped new
-  event_puts Is old new packets e = offers_put next answers begin (Node e.stepped.number) e.turn.done.sends e.stepped new packets.lost e.offered
+  event_puts Is old new packets e = offers_put next answers begin (Node e.stepped.setup.number) e.turn.done.sends e.stepped new packets.lost e.offered
 
   pub unsent_puts : (old new : SeatState P) (input : Input) (fault : Fault) (u : IsUnsent next answers begin old input new fault) → HasOnlyPut u.stepped new
-  unsent_puts old new input fault u = offers_put next answers begin (Node u.stepped.number) u.offered.offered u.stepped new u.offered.lost u.offered.are
+  unsent_puts old new input fault u = offers_put next answers begin (Node u.stepped.setup.number) u.offered.offered u.stepped new u.offered.lost u.offered.are
 
   pub event_got : (Is : Input → Type 0) (old new : SeatState P) (packets : PacketCounts) → IsEventBy next answers begin Is old new packets → new.part.got ≡ old.part.got
   event_got Is old new packets e = stepped_got (OfNode e.turn.done.part) e.turn.done.sends old e.stepped new e.turn.after (event_puts Is old new packets e)
 
-  pub event_same : (Is : Input → Type 0) (old new : SeatState P) (packets : PacketCounts) → IsEventBy next answers begin Is old new packets → IsSameSeat old new
+  pub event_same : (Is : Input → Type 0) (old new : SeatState P) (packets : PacketCounts) → IsEventBy next answers begin Is old new packets → new.setup ≡ old.setup
   event_same Is old new packets e = stepped_same (OfNode e.turn.done.part) e.turn.done.sends old e.stepped new e.turn.after (event_puts Is old new packets e)
 
   pub stop_got : (Is : Input → Type 0) (old new : SeatState P) (fault : Fault) → IsStopBy next answers begin Is old new fault → new.part.got ≡ old.part.got
@@ -129,7 +104,7 @@ module _ {S P : Type 0} (next : S → Action → S) (answers : S → Action → 
 
   -- ---- what was brought, and the work after it
 
-  module _ (from : Party) (lead : Bool) (old new : SeatState P) (line after : Line) (between : SeatState P) (full : Line) (brought : IsBrought next answers begin from (Node old.number) old between line full)
+  module _ (from : Party) (lead : Bool) (old new : SeatState P) (line after : Line) (between : SeatState P) (full : Line) (brought : IsBrought next answers begin from (Node old.setup.number) old between line full)
       (gives : after ≡ line_after full) where
     pub is_turn : (result : Result TurnResult Fault) → IfOk result (λ turned. turned.turn ≡ turn_of (given_on full) lead)
         → IfOk result (λ turned. Works next answers begin (given_on full) lead between new turned.packets)
@@ -138,6 +113,6 @@ module _ {S P : Type 0} (next : S → Action → S) (answers : S → Action → 
     is_turn (Err fault) turn works = tt
 
     pub is_stopped : (result : Result TurnResult Fault) → IfErr result (λ fault. Fails next answers begin (given_on full) lead between new fault)
-        → IfErr result (λ fault. IsLost from (Node old.number) old new line after fault ⊎ IsStoppedTurn next answers begin from lead old new line after fault)
+        → IfErr result (λ fault. IsLost from (Node old.setup.number) old new line after fault ⊎ IsStoppedTurn next answers begin from lead old new line after fault)
     is_stopped (Ok turned) fails = tt
     is_stopped (Err fault) fails = inr (record { between = between; full = full; brought = brought; fails = fails; gives = gives })

@@ -15,9 +15,9 @@ use Rattle.rp_model.specs.Parts.{TaskPart, fresh_task}
 use Rattle.rp_model.specs.Tasks.{TaskInput, Submit, Again, asks_again, calls_if, may_call}
 use Rattle.rp_tasks.specs.Line.{Line}
 use Rattle.rp_boxes.specs.Parts.{OfTask, fresh_part}
-use Rattle.rp_boxes.specs.Seats.{SeatState}
+use Rattle.rp_boxes.specs.Seats.{SeatSetup, SeatState}
 use Rattle.rp_threads.specs.Lines.{given_on, line_after}
-use Rattle.rp_threads.specs.Loops.{IsSameSeat, node_at}
+use Rattle.rp_threads.specs.Loops.{node_at}
 use Rattle.rp_threads.specs.Tasks.{HasMade, TaskAt, before_calls, call_after}
 use Rattle.rp_threads.specs.TaskRounds.{AreTaskTurns, Asks, Hears, IsHeard, IsLastTaskTurn, IsTaskAsked, IsRefused, IsTaskFault, IsTaskTurnOf, IsUnmadeTurn, untaken, unheard, unasked, asked_by, asked_for, asked_in, has_all_replies, heard_by, made_by, submitted, with_call, with_lost}
 use Rattle.rp_threads.specs.Threads.{IsTaskLooped, task_end_of}
@@ -25,7 +25,6 @@ use Rattle.rp_threads.specs.Turns.{IsBrought, IsLost, MayFetch}
 use Rattle.rp_threads.specs.declared.tasks.Calls.{Calls}
 use Rattle.rp_threads.specs.declared.tasks.TaskCall.{TaskCall}
 use Rattle.rp_threads.specs.declared.tasks.TaskEnd.{TaskEnd}
-use Rattle.rp_threads.proofs.Steps.{same_part, same_seat, same_on}
 use Rattle.rp_threads.proofs.TaskSteps.{again_made, asked_puts, asked_same, call_made, fetched_made, heard_made, none_made, put_made, same_task}
 
 no_first : (xs : List TaskCall) → 0 < length xs → slice_get xs 0 ≡ None → ⊥
@@ -49,29 +48,29 @@ less_of m n is = grind (arith, common_steps)
 module _ {S P : Type 0} (next : S → Action → S) (answers : S → Action → List Answer) (begin : P → S) (calls : List TaskCall) where
   -- the same seat, with n calls made
   abbrev pub IsMadeOn : SeatState P → SeatState P → Calls → Calls → Type 0
-  IsMadeOn old new before after = IsSameSeat old new × (HasMade calls old before.made before.waits → HasMade calls new after.made after.waits)
+  IsMadeOn old new before after = (new.setup ≡ old.setup) × (HasMade calls old before.made before.waits → HasMade calls new after.made after.waits)
 
   stays_on : (old new : SeatState P) (so_far : Calls) → new ≡ old → IsMadeOn old new so_far so_far
-  stays_on old new so_far is = (same_seat old new is, subst (λ (c : SeatState P). HasMade calls c so_far.made so_far.waits) (sym is))
+  stays_on old new so_far is = (ap (λ (c : SeatState P). c.setup) is, subst (λ (c : SeatState P). HasMade calls c so_far.made so_far.waits) (sym is))
 
   fetch_made : (fetched : Option (List ℕ)) (from to : Party) (old new : SeatState P) (so_far : Calls) → MayFetch next answers begin fetched from to old new → IsMadeOn old new so_far so_far
   fetch_made None from to old new so_far f = stays_on old new so_far f.0
   fetch_made (Some text) from to old new so_far f =
-      (same_part old new _ f.after, fetched_made calls old new f.packet so_far.made so_far.waits f.after)
+      (ap (λ (c : SeatState P). c.setup) f.after, fetched_made calls old new f.packet so_far.made so_far.waits f.after)
 
   heard_on : (given : Option (List ℕ)) (old new : SeatState P) (answered : Bool) (turn : ℕ) (so_far : Calls) → Hears given old new answered → IsMadeOn old new so_far (heard_by answered turn so_far)
   heard_on None old new answered turn so_far h =
       subst (λ (b : Bool). IsMadeOn old new so_far (heard_by b turn so_far)) (sym h.1) (stays_on old new so_far h.0)
   heard_on (Some text) old new answered turn so_far h =
       subst (λ (b : Bool). IsMadeOn old new so_far (heard_by b turn so_far)) (sym h.2)
-      (same_part old new _ h.1.after, λ made. heard_if (is_some h.0) (heard_made calls old new text h.0 so_far.made so_far.waits h.1 made))
+      (ap (λ (c : SeatState P). c.setup) h.1.after, λ made. heard_if (is_some h.0) (heard_made calls old new text h.0 so_far.made so_far.waits h.1 made))
     where
       heard_if : (b : Bool) → HasMade calls new so_far.made (if b then false else so_far.waits) → HasMade calls new (heard_by b turn so_far).made (heard_by b turn so_far).waits
       heard_if true made = made
       heard_if false made = made
 
   made_then : (a b c : SeatState P) (x y z : Calls) → IsMadeOn a b x y → IsMadeOn b c y z → IsMadeOn a c x z
-  made_then a b c x y z ab bc = (same_on a b c ab.0 bc.0, λ made. bc.1 (ab.1 made))
+  made_then a b c x y z ab bc = (bc.0 ∙ ab.0, λ made. bc.1 (ab.1 made))
 
   module _ (nodes : ℕ) where
     hears_on : (turn : ℕ) (old : TaskAt P) (new : SeatState P) (line : Line) (so_far : Calls) → IsHeard next answers begin nodes calls turn old new line so_far
@@ -79,7 +78,7 @@ module _ {S P : Type 0} (next : S → Action → S) (answers : S → Action → 
     hears_on turn old new line so_far h =
         subst (λ (c : Calls). IsMadeOn old.seat new old.so_far c) (sym h.counts)
         (made_then old.seat h.between new old.so_far old.so_far (heard_by h.answered turn old.so_far)
-        (fetch_made h.brought.fetched (Node (node_at nodes turn)) (Task old.seat.number) old.seat h.between old.so_far h.brought.fetch)
+        (fetch_made h.brought.fetched (Node (node_at nodes turn)) (Task old.seat.setup.number) old.seat h.between old.so_far h.brought.fetch)
         (heard_on (given_on h.full) h.between new h.answered turn old.so_far h.hears))
 
     -- ---- what is asked
@@ -121,10 +120,10 @@ module _ {S P : Type 0} (next : S → Action → S) (answers : S → Action → 
 
     module _ (seat : SeatState P) (task : TaskPart) (made : ℕ) (replies : length task.replies ≡ made) (call : TaskCall) (at : slice_get calls made ≡ Some call) where
       abbrev own : Action
-      own = next_call seat.number (length task.replies) call.object call.operation call.arg
+      own = next_call seat.setup.number (length task.replies) call.object call.operation call.arg
 
-      tested_fault : (skipped over : Bool) (fault : Fault) → are_exhausted (length task.replies) ≡ skipped → (nat_lt seat.config.nodes call.node || not (is_right own)) ≡ over
-          → calls_if seat.number call.node task (if skipped then Err NumbersSpent else if over then Err BadConfig else Ok own) ≡ Err fault
+      tested_fault : (skipped over : Bool) (fault : Fault) → are_exhausted (length task.replies) ≡ skipped → (nat_lt seat.setup.config.nodes call.node || not (is_right own)) ≡ over
+          → calls_if seat.setup.number call.node task (if skipped then Err NumbersSpent else if over then Err BadConfig else Ok own) ≡ Err fault
           → IsTaskFault nodes calls seat made fault
       tested_fault true over fault skipped bad is =
           let e : NumbersSpent ≡ fault = cc in
@@ -134,22 +133,22 @@ module _ {S P : Type 0} (next : S → Action → S) (answers : S → Action → 
           subst (IsTaskFault nodes calls seat made) e (inr (
             call,
             at,
-            subst (λ (k : ℕ). (nat_lt seat.config.nodes call.node || not (is_right (call_after seat.number k call))) ≡ true) replies bad,
+            subst (λ (k : ℕ). (nat_lt seat.setup.config.nodes call.node || not (is_right (call_after seat.setup.number k call))) ≡ true) replies bad,
           ))
       tested_fault false false fault skipped bad is = absurd (cc)
 
-      call_fault : (outstanding : Option Action) (fault : Fault) → outstanding ≡ None → calls_if seat.number call.node task (may_call seat.config call.node task own outstanding) ≡ Err fault
+      call_fault : (outstanding : Option Action) (fault : Fault) → outstanding ≡ None → calls_if seat.setup.number call.node task (may_call seat.setup.config call.node task own outstanding) ≡ Err fault
           → IsTaskFault nodes calls seat made fault
       call_fault (Some waits) fault none is = absurd (cc)
       call_fault None fault none is =
-          tested_fault (are_exhausted (length task.replies)) (nat_lt seat.config.nodes call.node || not (is_right own)) fault refl refl is
+          tested_fault (are_exhausted (length task.replies)) (nat_lt seat.setup.config.nodes call.node || not (is_right own)) fault refl refl is
 
-    again_fault : (seat : SeatState P) (made turn : ℕ) (task : TaskPart) (over : Bool) (fault : Fault) → 1 ≤ nodes → nat_lt seat.config.nodes (node_at nodes turn) ≡ over
-        → (if over then Err BadConfig else Ok (asks_again seat.number (node_at nodes turn) task task.outstanding)) ≡ Err fault → IsTaskFault nodes calls seat made fault
+    again_fault : (seat : SeatState P) (made turn : ℕ) (task : TaskPart) (over : Bool) (fault : Fault) → 1 ≤ nodes → nat_lt seat.setup.config.nodes (node_at nodes turn) ≡ over
+        → (if over then Err BadConfig else Ok (asks_again seat.setup.number (node_at nodes turn) task task.outstanding)) ≡ Err fault → IsTaskFault nodes calls seat made fault
     again_fault seat made turn task true fault some above is =
         let e : BadConfig ≡ fault = cc in
         let below = mod_below turn nodes (omega (arith, some)) in
-        let over = less_of seat.config.nodes (node_at nodes turn) above in
+        let over = less_of seat.setup.config.nodes (node_at nodes turn) above in
         subst (IsTaskFault nodes calls seat made) e (inl (omega (arith, below, over)))
     again_fault seat made turn task false fault some above is = absurd (cc)
 
@@ -172,7 +171,7 @@ module _ {S P : Type 0} (next : S → Action → S) (answers : S → Action → 
         → IsRefused (if due then Some (Again (node_at nodes turn)) else None) old new fault → IsTaskFault nodes calls old made fault
     retry_fault true turn old new made fault some r = elim r.why [
       | inl memory ↦ memory_fault old made fault memory.0
-      | inr refused ↦ again_fault old made turn r.task (nat_lt old.config.nodes (node_at nodes turn)) fault some refl refused
+      | inr refused ↦ again_fault old made turn r.task (nat_lt old.setup.config.nodes (node_at nodes turn)) fault some refl refused
     ]
     retry_fault false turn old new made fault some r = absurd r
 
@@ -182,16 +181,15 @@ module _ {S P : Type 0} (next : S → Action → S) (answers : S → Action → 
     asked_fault false turn old new made fault some h r = submit_fault (slice_get calls made) old new made fault refl h r
 
     -- the seat of a fault is the first one
-    at_first : (first old : SeatState P) (made : ℕ) (fault : Fault) → IsSameSeat first old → IsTaskFault nodes calls old made fault → IsTaskFault nodes calls first made fault
+    at_first : (first old : SeatState P) (made : ℕ) (fault : Fault) → old.setup ≡ first.setup → IsTaskFault nodes calls old made fault → IsTaskFault nodes calls first made fault
     at_first first old made OutOfMemory same f = tt
     at_first first old made NumbersSpent same f = f
     at_first first old made BadConfig same f = elim f [
-      | inl few ↦ inl (subst (λ (c : Config). c.nodes < nodes) same.config few)
+      | inl few ↦ inl (subst (λ (s : SeatSetup P). s.config.nodes < nodes) same few)
       | inr bad ↦ inr (
         bad.0,
         bad.1,
-        subst (λ (c : Config). (nat_lt c.nodes bad.0.node || not (is_right (call_after first.number made bad.0))) ≡ true) same.config
-            (subst (λ (k : ℕ). (nat_lt old.config.nodes bad.0.node || not (is_right (call_after k made bad.0))) ≡ true) same.number bad.2),
+        subst (λ (s : SeatSetup P). (nat_lt s.config.nodes bad.0.node || not (is_right (call_after s.number made bad.0))) ≡ true) same bad.2,
       )
     ]
     at_first first old made _ same f = absurd f
@@ -202,13 +200,13 @@ module _ {S P : Type 0} (next : S → Action → S) (answers : S → Action → 
 
     -- a turn that was not made: as many calls are made as before, and why
     abbrev IsUnmadeOn : SeatState P → TaskAt P → Fault → Type 0
-    IsUnmadeOn first new fault = IsSameSeat first new.seat × HasMade calls new.seat new.so_far.made new.so_far.waits × IsTaskFault nodes calls first new.so_far.made fault
+    IsUnmadeOn first new fault = (new.seat.setup ≡ first.setup) × HasMade calls new.seat new.so_far.made new.so_far.waits × IsTaskFault nodes calls first new.so_far.made fault
 
-    module _ (turn : ℕ) (first : SeatState P) (old new : TaskAt P) (fault : Fault) (same : IsSameSeat first old.seat) (h : HasMade calls old.seat old.so_far.made old.so_far.waits) where
-      fetched_on : (fetched : Option (List ℕ)) → MayFetch next answers begin fetched (Node (node_at nodes turn)) (Task old.seat.number) old.seat new.seat → new.so_far ≡ old.so_far → fault ≡ OutOfMemory → IsUnmadeOn first new fault
+    module _ (turn : ℕ) (first : SeatState P) (old new : TaskAt P) (fault : Fault) (same : old.seat.setup ≡ first.setup) (h : HasMade calls old.seat old.so_far.made old.so_far.waits) where
+      fetched_on : (fetched : Option (List ℕ)) → MayFetch next answers begin fetched (Node (node_at nodes turn)) (Task old.seat.setup.number) old.seat new.seat → new.so_far ≡ old.so_far → fault ≡ OutOfMemory → IsUnmadeOn first new fault
       fetched_on fetched f counts memory =
-          let on = fetch_made fetched (Node (node_at nodes turn)) (Task old.seat.number) old.seat new.seat old.so_far f in (
-            same_on first old.seat new.seat same on.0,
+          let on = fetch_made fetched (Node (node_at nodes turn)) (Task old.seat.setup.number) old.seat new.seat old.so_far f in (
+            on.0 ∙ same,
             subst (λ (c : Calls). HasMade calls new.seat c.made c.waits) (sym counts) (on.1 h),
             memory_fault first new.so_far.made fault memory,
           )
@@ -219,8 +217,8 @@ module _ {S P : Type 0} (next : S → Action → S) (answers : S → Action → 
       unmade_on some (unasked u) =
           let on = hears_on turn old u.heard new.line new.so_far u.hears in
           let stays = stays_on u.heard new.seat new.so_far (refused_same (asked_in nodes calls turn new.so_far) u.heard new.seat fault u.refused) in
-          let now = same_on first old.seat u.heard same on.0 in (
-            same_on first u.heard new.seat now stays.0,
+          let now = on.0 ∙ same in (
+            stays.0 ∙ now,
             stays.1 (on.1 h),
             at_first first u.heard new.so_far.made fault now (asked_fault new.so_far.waits turn u.heard new.seat new.so_far.made fault some (on.1 h) u.refused),
           )
@@ -247,13 +245,13 @@ module _ {S P : Type 0} (next : S → Action → S) (answers : S → Action → 
       IsEnd end = IsTaskLooped next answers begin over ended nodes turns calls seat line end
 
       pub task_looped : (done : ℕ) (now : TaskAt P) → AreTaskTurns next answers begin over nodes calls (before_calls seat line) done now → IsLastTaskTurn next answers begin over nodes calls turns done now
-          → ended (Task now.seat.number) None → IsEnd (task_end_of now None)
+          → ended (Task now.seat.setup.number) None → IsEnd (task_end_of now None)
       task_looped done now are stops notified =
           let on = turns_on over (before_calls seat line) done now are in
           let none = none_made calls seat fresh in
           record {
             same = on.0;
-            notified = subst (λ (n : ℕ). ended (Task n) None) on.0.number notified;
+            notified = subst (λ (s : SeatSetup P). ended (Task s.number) None) on.0 notified;
             made = (now.so_far.waits, on.1 none);
             whole = λ faultless. record {
               done = done;
@@ -268,13 +266,13 @@ module _ {S P : Type 0} (next : S → Action → S) (answers : S → Action → 
 
       pub task_ended : (done : ℕ) (before last : TaskAt P) (fault : Fault) → 1 ≤ nodes → AreTaskTurns next answers begin over nodes calls (before_calls seat line) done before → done < turns
           → IsTaskAsked next answers begin over nodes calls (suc done) before false → IsUnmadeTurn next answers begin nodes calls (suc done) before last fault
-          → ended (Task last.seat.number) (Some fault) → IsEnd (task_end_of last (Some fault))
+          → ended (Task last.seat.setup.number) (Some fault) → IsEnd (task_end_of last (Some fault))
       task_ended done before last fault some are within asked unmade notified =
           let on = turns_on over (before_calls seat line) done before are in
           let left = unmade_on (suc done) seat before last fault on.0 (on.1 (none_made calls seat fresh)) some unmade in
           record {
             same = left.0;
-            notified = subst (λ (n : ℕ). ended (Task n) (Some fault)) left.0.number notified;
+            notified = subst (λ (s : SeatSetup P). ended (Task s.number) (Some fault)) left.0 notified;
             made = (last.so_far.waits, left.1);
             whole = λ none. absurd (some_fault fault none);
             fault = record {
@@ -290,13 +288,13 @@ module _ {S P : Type 0} (next : S → Action → S) (answers : S → Action → 
 -- ---- one turn, by its steps
 
 module _ {S P : Type 0} (next : S → Action → S) (answers : S → Action → List Answer) (begin : P → S) (nodes : ℕ) (calls : List TaskCall) (turn : ℕ) (old new : TaskAt P) where
-  module _ (between : SeatState P) (full : Line) (node : ℕ) (is : node ≡ node_at nodes turn) (brought : IsBrought next answers begin (Node node) (Task old.seat.number) old.seat between old.line full)
+  module _ (between : SeatState P) (full : Line) (node : ℕ) (is : node ≡ node_at nodes turn) (brought : IsBrought next answers begin (Node node) (Task old.seat.setup.number) old.seat between old.line full)
       (heard : SeatState P) (so_far : Calls) (answered : Bool) (hears : Hears (given_on full) between heard answered) (gives : new.line ≡ line_after full) (counts : so_far ≡ heard_by answered turn old.so_far) where
     is_heard : IsHeard next answers begin nodes calls turn old heard new.line so_far
     is_heard = record {
       between = between;
       full = full;
-      brought = subst (λ (n : ℕ). IsBrought next answers begin (Node n) (Task old.seat.number) old.seat between old.line full) is brought;
+      brought = subst (λ (n : ℕ). IsBrought next answers begin (Node n) (Task old.seat.setup.number) old.seat between old.line full) is brought;
       answered = answered;
       hears = hears;
       gives = gives;
@@ -315,9 +313,9 @@ module _ {S P : Type 0} (next : S → Action → S) (answers : S → Action → 
     })
 
   -- the packet that was fetched is lost
-  pub turn_lost : (node : ℕ) (fault : Fault) → node ≡ node_at nodes turn → IsLost (Node node) (Task old.seat.number) old.seat new.seat old.line new.line fault → new.so_far ≡ old.so_far
+  pub turn_lost : (node : ℕ) (fault : Fault) → node ≡ node_at nodes turn → IsLost (Node node) (Task old.seat.setup.number) old.seat new.seat old.line new.line fault → new.so_far ≡ old.so_far
       → IsUnmadeTurn next answers begin nodes calls turn old new fault
-  turn_lost node fault is lost stays = untaken (subst (λ (n : ℕ). IsLost (Node n) (Task old.seat.number) old.seat new.seat old.line new.line fault) is lost) stays
+  turn_lost node fault is lost stays = untaken (subst (λ (n : ℕ). IsLost (Node n) (Task old.seat.setup.number) old.seat new.seat old.line new.line fault) is lost) stays
 
 -- ---- what is asked, once a task waits for none
 
@@ -330,10 +328,10 @@ module _ (nodes : ℕ) (calls : List TaskCall) (turn : ℕ) (so_far : Calls) (ca
 
 -- ---- what the gate is asked
 
-pub task_asked_at : {P : Type 0} (over : Party → ℕ → Bool → Bool → Type 0) (calls : List TaskCall) (now : TaskAt P) (done number : ℕ) (rests is_over said : Bool) → number ≡ now.seat.number
-    → rests ≡ has_all_replies calls now.so_far → is_over ≡ said → over (Task number) (done + 1) rests is_over → over (Task now.seat.number) (suc done) (has_all_replies calls now.so_far) said
+pub task_asked_at : {P : Type 0} (over : Party → ℕ → Bool → Bool → Type 0) (calls : List TaskCall) (now : TaskAt P) (done number : ℕ) (rests is_over said : Bool) → number ≡ now.seat.setup.number
+    → rests ≡ has_all_replies calls now.so_far → is_over ≡ said → over (Task number) (done + 1) rests is_over → over (Task now.seat.setup.number) (suc done) (has_all_replies calls now.so_far) said
 task_asked_at over calls now done number rests is_over said is has says asked =
-    subst (λ (b : Bool). over (Task now.seat.number) (suc done) (has_all_replies calls now.so_far) b) says
-    (subst (λ (r : Bool). over (Task now.seat.number) (suc done) r is_over) has
+    subst (λ (b : Bool). over (Task now.seat.setup.number) (suc done) (has_all_replies calls now.so_far) b) says
+    (subst (λ (r : Bool). over (Task now.seat.setup.number) (suc done) r is_over) has
     (subst (λ (n : ℕ). over (Task n) (suc done) rests is_over) is
     (subst (λ (t : ℕ). over (Task number) t rests is_over) (add-one done) asked)))

@@ -27,7 +27,6 @@ use Rattle.rp_boxes.specs.TaskSeats.{IsTaskTurn, IsReplyTurn, reply_effect}
 use Rattle.rp_boxes.proofs.TaskTurns.{reply_effect_is, reply_quiet}
 use Rattle.rp_threads.specs.Tasks.{Waits, AsksForOne, call_after, first_asked, HasMade}
 use Rattle.rp_threads.specs.TaskRounds.{IsAskedBy}
-use Rattle.rp_threads.specs.Loops.{IsSameSeat}
 use Rattle.rp_threads.specs.Turns.{AreGivenOut, AreSent, IsAllOffered}
 use Rattle.rp_threads.specs.declared.tasks.TaskCall.{TaskCall}
 use Rattle.rp_threads.proofs.Puts.{HasOnlyPut, offers_put}
@@ -118,18 +117,18 @@ module _ {P : Type 0} (calls : List TaskCall) (old new : SeatState P) where
   -- an event, after which n were made
   module _ (task : TaskPart) (sends : List Message) (is : new ≡ record old { part = part_after old.part (OfTask task) sends }) where
     event_made : (made : ℕ) (waits : Bool) → made ≤ length calls
-        → ((k : ℕ) (call : TaskCall) → k < made → slice_get calls k ≡ Some call → Has (first_asked old.number k call) (old.part.sent ++ sends))
-        → ((p : Message) → Has p (old.part.sent ++ sends) → AsksForOne old.number calls made p)
-        → length task.replies + (if waits then 1 else 0) ≡ made → Waits old.number calls made waits task.outstanding → HasMade calls new made waits
+        → ((k : ℕ) (call : TaskCall) → k < made → slice_get calls k ≡ Some call → Has (first_asked old.setup.number k call) (old.part.sent ++ sends))
+        → ((p : Message) → Has p (old.part.sent ++ sends) → AsksForOne old.setup.number calls made p)
+        → length task.replies + (if waits then 1 else 0) ≡ made → Waits old.setup.number calls made waits task.outstanding → HasMade calls new made waits
     event_made made waits some each only count waiting =
         subst (λ (c : SeatState P). HasMade calls c made waits) (sym is)
         (record { task = task; is = refl; some = some; each = each; only = only; count = count; waiting = waiting })
 
     -- as many as before, where what is sent asks for one of them
-    still_made : (made : ℕ) (before waits : Bool) → HasMade calls old made before → ((p : Message) → Has p sends → AsksForOne old.number calls made p)
-        → length task.replies + (if waits then 1 else 0) ≡ made → Waits old.number calls made waits task.outstanding → HasMade calls new made waits
+    still_made : (made : ℕ) (before waits : Bool) → HasMade calls old made before → ((p : Message) → Has p sends → AsksForOne old.setup.number calls made p)
+        → length task.replies + (if waits then 1 else 0) ≡ made → Waits old.setup.number calls made waits task.outstanding → HasMade calls new made waits
     still_made made before waits h more count waiting =
-        event_made made waits h.some (λ k call less at. has_left (first_asked old.number k call) old.part.sent sends (h.each k call less at))
+        event_made made waits h.some (λ k call less at. has_left (first_asked old.setup.number k call) old.part.sent sends (h.each k call less at))
         (λ p has. elim (has_split p old.part.sent sends has) [ inl there ↦ h.only p there | inr here ↦ more p here ])
         count waiting
 
@@ -139,60 +138,60 @@ module _ {P : Type 0} (calls : List TaskCall) (old new : SeatState P) where
   heard_made bytes taken made waits r h =
       let stated = reply_in r.packet.body in
       let task : r.task ≡ h.task = same_task old.part.role r.task h.task r.was h.is in
-      let hears : task_hears old.number r.task r.packet.body ≡ r.done = let e = r.results in cc in
-      let done : reply_effect old.number h.task stated ≡ r.done =
-      ap (λ (t : TaskPart). reply_effect old.number t stated) (sym task) ∙ reply_effect_is old.number r.task r.packet.body ∙ hears in
-      let same = subst (IsSame old.number calls waits made) done (stated_same old.number h.task stated calls made waits h.count h.waiting) in
-      let quiet : r.done.sends ≡ [] = ap (λ (d : Done TaskPart). d.sends) (sym done) ∙ reply_quiet old.number h.task stated in
+      let hears : task_hears old.setup.number r.task r.packet.body ≡ r.done = let e = r.results in cc in
+      let done : reply_effect old.setup.number h.task stated ≡ r.done =
+      ap (λ (t : TaskPart). reply_effect old.setup.number t stated) (sym task) ∙ reply_effect_is old.setup.number r.task r.packet.body ∙ hears in
+      let same = subst (IsSame old.setup.number calls waits made) done (stated_same old.setup.number h.task stated calls made waits h.count h.waiting) in
+      let quiet : r.done.sends ≡ [] = ap (λ (d : Done TaskPart). d.sends) (sym done) ∙ reply_quiet old.setup.number h.task stated in
       subst (λ (a : Option Answer). HasMade calls new made (if is_some a then false else waits)) (sym r.stated)
       (still_made r.done.part r.done.sends r.after made waits (if is_some r.done.taken then false else waits) h
       (λ p has. absurd (subst (λ (l : List Message). Has p l) quiet has)) same.0 same.1)
 
   -- what is asked again asks for the last call
-  again_asks : (node made : ℕ) (waits : Bool) (task : TaskPart) (outstanding : Option Action) → Waits old.number calls made waits outstanding
-      → (p : Message) → Has p (asks_again old.number node task outstanding).sends → AsksForOne old.number calls made p
+  again_asks : (node made : ℕ) (waits : Bool) (task : TaskPart) (outstanding : Option Action) → Waits old.setup.number calls made waits outstanding
+      → (p : Message) → Has p (asks_again old.setup.number node task outstanding).sends → AsksForOne old.setup.number calls made p
   again_asks node made waits task None w p has = absurd has
   again_asks node made false task (Some call) w p has = absurd (cc)
   again_asks node made true task (Some call) w p has =
-      let last : p ≡ asks old.number node call = elim has [ inl is ↦ is | inr none ↦ absurd none ] in
-      let own : call ≡ call_after old.number w.0 w.1 = let e = w.4 in cc in
-      (w.0, w.1, node, (let e = w.2 in omega (arith, e)), w.3, last ∙ ap (λ (a : Action). asks old.number node a) own)
+      let last : p ≡ asks old.setup.number node call = elim has [ inl is ↦ is | inr none ↦ absurd none ] in
+      let own : call ≡ call_after old.setup.number w.0 w.1 = let e = w.4 in cc in
+      (w.0, w.1, node, (let e = w.2 in omega (arith, e)), w.3, last ∙ ap (λ (a : Action). asks old.setup.number node a) own)
 
   -- the task asked again
   pub again_made : (node made : ℕ) (waits : Bool) (sent : Sent) → IsTaskTurn old (Again node) new sent → HasMade calls old made waits → HasMade calls new made waits
   again_made node made waits sent t h =
       let task : t.task ≡ h.task = same_task old.part.role t.task h.task t.was h.is in
-      let done : t.done ≡ asks_again old.number node t.task t.task.outstanding = asked old.number node t.task t.done (nat_lt old.config.nodes node) t.results in
-      let part : t.done.part ≡ h.task = ap (λ (d : Done TaskPart). d.part) done ∙ asked_part old.number node t.task t.task.outstanding ∙ task in
-      let waiting = subst (λ (p : TaskPart). Waits old.number calls made waits p.outstanding) (sym task) h.waiting in
+      let done : t.done ≡ asks_again old.setup.number node t.task t.task.outstanding = asked old.setup.number node t.task t.done (nat_lt old.setup.config.nodes node) t.results in
+      let part : t.done.part ≡ h.task = ap (λ (d : Done TaskPart). d.part) done ∙ asked_part old.setup.number node t.task t.task.outstanding ∙ task in
+      let waiting = subst (λ (p : TaskPart). Waits old.setup.number calls made waits p.outstanding) (sym task) h.waiting in
       still_made t.done.part t.done.sends t.after made waits waits h
-      (subst (λ (d : Done TaskPart). (p : Message) → Has p d.sends → AsksForOne old.number calls made p) (sym done) (again_asks node made waits t.task t.task.outstanding waiting))
+      (subst (λ (d : Done TaskPart). (p : Message) → Has p d.sends → AsksForOne old.setup.number calls made p) (sym done) (again_asks node made waits t.task t.task.outstanding waiting))
       (subst (λ (p : TaskPart). length p.replies + (if waits then 1 else 0) ≡ made) (sym part) h.count)
-      (subst (λ (p : TaskPart). Waits old.number calls made waits p.outstanding) (sym part) h.waiting)
+      (subst (λ (p : TaskPart). Waits old.setup.number calls made waits p.outstanding) (sym part) h.waiting)
 
   -- the call at a place was asked
   abbrev Asked : List Message → ℕ → Type 0
-  Asked sends k = (other : TaskCall) → slice_get calls k ≡ Some other → Has (first_asked old.number k other) (old.part.sent ++ sends)
+  Asked sends k = (other : TaskCall) → slice_get calls k ≡ Some other → Has (first_asked old.setup.number k other) (old.part.sent ++ sends)
 
-  last_asked : (call : TaskCall) (made : ℕ) (sends : List Message) → slice_get calls made ≡ Some call → Has (first_asked old.number made call) sends → Asked sends made
+  last_asked : (call : TaskCall) (made : ℕ) (sends : List Message) → slice_get calls made ≡ Some call → Has (first_asked old.setup.number made call) sends → Asked sends made
   last_asked call made sends at packet other there =
       let same : call ≡ other = cc in
-      subst (λ (c : TaskCall). Has (first_asked old.number made c) (old.part.sent ++ sends)) same (has_right (first_asked old.number made call) old.part.sent sends packet)
+      subst (λ (c : TaskCall). Has (first_asked old.setup.number made c) (old.part.sent ++ sends)) same (has_right (first_asked old.setup.number made call) old.part.sent sends packet)
 
-  one_more_asks : (made : ℕ) (p : Message) → AsksForOne old.number calls made p → AsksForOne old.number calls (made + 1) p
+  one_more_asks : (made : ℕ) (p : Message) → AsksForOne old.setup.number calls made p → AsksForOne old.setup.number calls (made + 1) p
   one_more_asks made p a = (a.0, a.1, a.2, (let less = a.3 in omega (arith, less)), a.4, a.5)
 
   -- the task made its next call
   pub call_made : (call : TaskCall) (made : ℕ) (sent : Sent) → IsTaskTurn old (Submit call.node call.object call.operation call.arg) new sent → slice_get calls made ≡ Some call
       → HasMade calls old made false → HasMade calls new (made + 1) true
   call_made call made sent t at h =
-      let number = old.number in
+      let number = old.setup.number in
       let task : t.task ≡ h.task = same_task old.part.role t.task h.task t.was h.is in
       let replies : length t.task.replies ≡ made = ap (λ (p : TaskPart). length p.replies) task ∙ let c = h.count in omega (arith, c) in
       let action = next_call number (length t.task.replies) call.object call.operation call.arg in
       let own : action ≡ call_after number made call = ap (λ (k : ℕ). call_after number k call) replies in
       let done : t.done ≡ calling number call.node t.task action =
-      called number call.node t.task action t.done old.config t.task.outstanding (ap (λ (p : TaskPart). p.outstanding) task ∙ h.waiting) t.results in
+      called number call.node t.task action t.done old.setup.config t.task.outstanding (ap (λ (p : TaskPart). p.outstanding) task ∙ h.waiting) t.results in
       let sends : t.done.sends ≡ first_asked number made call ∷ [] =
       ap (λ (d : Done TaskPart). d.sends) done ∙ ap (λ (a : Action). asks number call.node a ∷ []) own in
       let packet : Has (first_asked number made call) t.done.sends = subst (λ (l : List Message). Has (first_asked number made call) l) (sym sends) (inl refl) in
@@ -230,27 +229,27 @@ module _ {P : Type 0} (old new : SeatState P) (sent : Sent) where
   -- a call is asked by one packet at most
   pub few_of_call : (node object : ℕ) (operation : Operation) (arg : ℤ) → IsTaskTurn old (Submit node object operation arg) new sent → sent.packets ≤ 1
   few_of_call node object operation arg t =
-      let call = next_call old.number (length t.task.replies) object operation arg in
-      let few = few_submitted old.number node t.task (may_call old.config node t.task call t.task.outstanding) t.done t.results in
+      let call = next_call old.setup.number (length t.task.replies) object operation arg in
+      let few = few_submitted old.setup.number node t.task (may_call old.setup.config node t.task call t.task.outstanding) t.done t.results in
       omega (arith, few, t.describes.count)
 
   pub few_of_again : (node : ℕ) → IsTaskTurn old (Again node) new sent → sent.packets ≤ 1
   few_of_again node t =
-      let done : t.done ≡ asks_again old.number node t.task t.task.outstanding = asked old.number node t.task t.done (nat_lt old.config.nodes node) t.results in
-      let few : length t.done.sends ≤ 1 = subst (λ (d : Done TaskPart). length d.sends ≤ 1) (sym done) (few_again old.number node t.task t.task.outstanding) in
+      let done : t.done ≡ asks_again old.setup.number node t.task t.task.outstanding = asked old.setup.number node t.task t.done (nat_lt old.setup.config.nodes node) t.results in
+      let few : length t.done.sends ≤ 1 = subst (λ (d : Done TaskPart). length d.sends ≤ 1) (sym done) (few_again old.setup.number node t.task t.task.outstanding) in
       omega (arith, few, t.describes.count)
 
 -- ---- what is asked, once its packet was offered
 
 module _ {S P : Type 0} (next : S → Action → S) (answers : S → Action → List Answer) (begin : P → S) (input : TaskInput) where
-  pub asked_by_turn : (old stepped new : SeatState P) (sent : Sent) (lost : ℕ) → IsTaskTurn old input stepped sent → IsAllOffered next answers begin (Task stepped.number) sent stepped new lost
+  pub asked_by_turn : (old stepped new : SeatState P) (sent : Sent) (lost : ℕ) → IsTaskTurn old input stepped sent → IsAllOffered next answers begin (Task stepped.setup.number) sent stepped new lost
       → IsAskedBy next answers begin input old new lost
   asked_by_turn old stepped new sent lost turn offered = record { stepped = stepped; sent = sent; turn = turn; offered = offered turn.done.sends (asked_out old stepped input sent turn) }
 
   pub asked_puts : (old new : SeatState P) (lost : ℕ) (a : IsAskedBy next answers begin input old new lost) → HasOnlyPut a.stepped new
-  asked_puts old new lost a = offers_put next answers begin (Task a.stepped.number) a.turn.done.sends a.stepped new lost a.offered
+  asked_puts old new lost a = offers_put next answers begin (Task a.stepped.setup.number) a.turn.done.sends a.stepped new lost a.offered
 
-  pub asked_same : (old new : SeatState P) (lost : ℕ) → IsAskedBy next answers begin input old new lost → IsSameSeat old new
+  pub asked_same : (old new : SeatState P) (lost : ℕ) → IsAskedBy next answers begin input old new lost → new.setup ≡ old.setup
   asked_same old new lost a = stepped_same (OfTask a.turn.done.part) a.turn.done.sends old a.stepped new a.turn.after (asked_puts old new lost a)
 
   pub asked_got : (old new : SeatState P) (lost : ℕ) → IsAskedBy next answers begin input old new lost → new.part.got ≡ old.part.got

@@ -86,15 +86,15 @@ module _ {P : Type 0} (from to : Party) (old new : SeatState P) where
 
 -- the party is that of the seat's number
 module _ {S P : Type 0} (next : S → Action → S) (answers : S → Action → List Answer) (begin : P → S) (party : ℕ → Party) (from : Party) (old new : SeatState P) where
-  may_fetch : (found : Option (Vec ℕ Global)) → IfSome found (λ packet. IsFetched from (party old.number) packet.items old new) → IfNone found (new ≡ old)
-      → IfNone found (WasNotFull next answers begin from (party new.number) new) → MayFetch next answers begin (fetched_text found) from (party old.number) old new
+  may_fetch : (found : Option (Vec ℕ Global)) → IfSome found (λ packet. IsFetched from (party old.setup.number) packet.items old new) → IfNone found (new ≡ old)
+      → IfNone found (WasNotFull next answers begin from (party new.setup.number) new) → MayFetch next answers begin (fetched_text found) from (party old.setup.number) old new
   may_fetch (Some packet) some none missed = some
-  may_fetch None some none missed = (none, subst (λ (k : ℕ). WasNotFull next answers begin from (party k) new) (ap (λ (seat : SeatState P). seat.number) none) missed)
+  may_fetch None some none missed = (none, subst (λ (k : ℕ). WasNotFull next answers begin from (party k) new) (ap (λ (seat : SeatState P). seat.setup.number) none) missed)
 
 module _ {S P : Type 0} (next : S → Action → S) (answers : S → Action → List Answer) (begin : P → S) (party : ℕ → Party) {from : Party} {old new : SeatState P} where
-  pub is_brought : (found : Option (Vec ℕ Global)) → IfSome found (λ packet. IsFetched from (party old.number) packet.items old new) → IfNone found (new ≡ old)
-      → IfNone found (WasNotFull next answers begin from (party new.number) new) → (line after : Line)
-      → after ≡ line_with (fetched_text found) line → IsBrought next answers begin from (party old.number) old new line after
+  pub is_brought : (found : Option (Vec ℕ Global)) → IfSome found (λ packet. IsFetched from (party old.setup.number) packet.items old new) → IfNone found (new ≡ old)
+      → IfNone found (WasNotFull next answers begin from (party new.setup.number) new) → (line after : Line)
+      → after ≡ line_with (fetched_text found) line → IsBrought next answers begin from (party old.setup.number) old new line after
   is_brought found some none missed line after takes = record { fetched = fetched_text found; fetch = may_fetch next answers begin party from old new found some none missed; takes = takes }
 
 module _ {P : Type 0} {from to : Party} {old new : SeatState P} where

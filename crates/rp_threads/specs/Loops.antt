@@ -5,7 +5,6 @@ use Rattle.rp_base.specs.declared.fault.Fault.{Fault}
 use Rattle.rp_base.specs.declared.fault.Fault.TheVariants.{BallotsSpent, LogFull}
 use Rattle.rp_codec.specs.declared.packet.Party.{Party}
 use Rattle.rp_codec.specs.declared.packet.Party.TheVariants.{Node, Task}
-use Rattle.rp_boxes.specs.Seats.{SeatState}
 use Rattle.rp_tasks.specs.Line.{saturating_sum}
 use Rattle.rp_threads.specs.declared.loops.Counts.{Counts}
 use Rattle.rp_threads.specs.declared.turns.Turn.{Turn}
@@ -90,10 +89,3 @@ total_of counts = counts.received + counts.led + counts.idle + counts.skipped
 abbrev pub turns_off : ℕ → ℕ → ℕ
 turns_off k zero = 0
 turns_off k (suc n) = if nat_eq (suc n % k) 0 then turns_off k n else suc (turns_off k n)
-
--- The same seat, with any further events of its actor.
-pub record IsSameSeat {P : Type 0} (old new : SeatState P) : Type 0 where
-  pub table : new.table ≡ old.table
-  pub config : new.config ≡ old.config
-  pub program : new.program ≡ old.program
-  pub number : new.number ≡ old.number

@@ -33,7 +33,7 @@ Runs part = (node : NodePart) × (part.role ≡ OfNode node) × IsSome node.runn
 abbrev pub HasWaited : {P : Type 0} → SeatState P → Patience → Type 0
 HasWaited seat patience =
     (applied : ℕ) × HasApplied seat.part applied
-    × (is_over seat.number (waits 1 applied patience) ≡ true)
+    × (is_over seat.setup.number (waits 1 applied patience) ≡ true)
 
 -- The node has something pending that did not count yet, and this is the first position that it has
 -- not applied.
@@ -52,7 +52,7 @@ pub data NeedNotLead {S P : Type 0} (next : S → Action → S) (answers : S →
   nothing_pending : ¬ HasUncounted next answers begin seat
       → NeedNotLead next answers begin seat patience
   still_waits : (applied : ℕ) → HasApplied seat.part applied
-      → is_over seat.number (waits 1 applied patience) ≡ false
+      → is_over seat.setup.number (waits 1 applied patience) ≡ false
       → NeedNotLead next answers begin seat patience
   no_position_left : (applied : ℕ) → HasApplied seat.part applied → 65535 ≤ applied
       → NeedNotLead next answers begin seat patience
@@ -62,7 +62,7 @@ pub data NeedNotLead {S P : Type 0} (next : S → Action → S) (answers : S →
 pub record CountsQuiet {S P : Type 0} (next : S → Action → S) (answers : S → Action → List Answer)
     (begin : P → S) (seat : SeatState P) (old new : Patience) : Type 0 where
   pub quiet : (applied : ℕ) → HasApplied seat.part applied → HasUncounted next answers begin seat
-      → new ≡ after_quiet 1 seat.number applied old
+      → new ≡ after_quiet 1 seat.setup.number applied old
   pub other : ¬ HasUncounted next answers begin seat → new ≡ old
 
 -- the command to lead there
@@ -122,7 +122,7 @@ module _ {S P : Type 0} (next : S → Action → S) (answers : S → Action → 
     -- the turn of the node was not made, because of a fault
     abbrev pub IsOwnUnmade : Fault → Type 0
     IsOwnUnmade fault =
-        IsLost from (Node old.seat.number) old.seat new.seat old.line new.line fault
+        IsLost from (Node old.seat.setup.number) old.seat new.seat old.line new.line fault
         ⊎ IsStoppedTurn next answers begin from lead old.seat new.seat old.line new.line fault
 
     -- a fault because of which no turn was made
@@ -177,22 +177,22 @@ module _ {S P : Type 0} (next : S → Action → S) (answers : S → Action → 
   abbrev pub IsTurnOf : ℕ → WorkerAt P → WorkerAt P → Option TurnResult → Type 0
   IsTurnOf turn old new made =
       IsMadeOrSkipped next answers begin (sender_at nodes turn)
-      (is_to_lead old.seat.number turn) old new
-      (heard old.seat.number turn) (lets old.seat.number turn) made
+      (is_to_lead old.seat.setup.number turn) old new
+      (heard old.seat.setup.number turn) (lets old.seat.setup.number turn) made
 
   -- the gate lets the turn with this number pass, and it was not made because of a fault
   abbrev pub IsTurnUnmade : ℕ → WorkerAt P → WorkerAt P → Fault → Type 0
   IsTurnUnmade turn old new fault =
-      (lets old.seat.number turn ≡ true)
+      (lets old.seat.setup.number turn ≡ true)
       × IsUnmade next answers begin (sender_at nodes turn)
-      (is_to_lead old.seat.number turn) old new fault
+      (is_to_lead old.seat.setup.number turn) old new fault
 
 module _ {S P : Type 0} (next : S → Action → S) (answers : S → Action → List Answer)
     (begin : P → S) (lets : ℕ → ℕ → Bool) (heard : ℕ → ℕ → ℕ → Type 0)
     (over : Party → ℕ → Bool → Bool → Type 0) (nodes : ℕ) where
   -- the gate, asked before the turn with this number, said whether the run is over
   abbrev pub IsAsked : ℕ → NodeAt P → Bool → Type 0
-  IsAsked turn now is_over = over (Node now.worker.seat.number) turn now.rests is_over
+  IsAsked turn now is_over = over (Node now.worker.seat.setup.number) turn now.rests is_over
 
   -- One more turn, before which the gate said that the run is not over; it is counted.
   pub record IsNextTurn (turn : ℕ) (old new : NodeAt P) : Type 0 where

@@ -61,7 +61,7 @@ module _ {S P : Type 0} (next : S → Action → S) (answers : S → Action → 
     pub stepped : SeatState P
     pub sent : Sent
     pub turn : IsTaskTurn old input stepped sent
-    pub offered : AreOffered next answers begin (Task stepped.number) turn.done.sends
+    pub offered : AreOffered next answers begin (Task stepped.setup.number) turn.done.sends
         stepped new lost
 
   -- the seat after that is asked, and how many packets are lost
@@ -108,7 +108,7 @@ abbrev pub IsTaskFault : {P : Type 0} → ℕ → List TaskCall → SeatState P 
 IsTaskFault nodes calls seat made OutOfMemory = Unit {0}
 IsTaskFault nodes calls seat made NumbersSpent = are_exhausted made ≡ true
 IsTaskFault nodes calls seat made BadConfig =
-    (seat.config.nodes < nodes) ⊎ IsBadCall seat.config seat.number calls made
+    (seat.setup.config.nodes < nodes) ⊎ IsBadCall seat.setup.config seat.setup.number calls made
 IsTaskFault nodes calls seat made _ = ⊥
 
 module _ {S P : Type 0} (next : S → Action → S) (answers : S → Action → List Answer)
@@ -119,7 +119,7 @@ module _ {S P : Type 0} (next : S → Action → S) (answers : S → Action → 
     pub between : SeatState P
     pub full : Line
     pub brought : IsBrought next answers begin (Node (node_at nodes turn))
-        (Task old.seat.number) old.seat between old.line full
+        (Task old.seat.setup.number) old.seat between old.line full
     pub answered : Bool
     pub hears : Hears (given_on full) between new answered
     pub gives : line ≡ line_after full
@@ -129,7 +129,7 @@ module _ {S P : Type 0} (next : S → Action → S) (answers : S → Action → 
   pub record IsUnheard (turn : ℕ) (old new : TaskAt P) (fault : Fault) : Type 0 where
     pub full : Line
     pub brought : IsBrought next answers begin (Node (node_at nodes turn))
-        (Task old.seat.number) old.seat new.seat old.line full
+        (Task old.seat.setup.number) old.seat new.seat old.line full
     pub gives : new.line ≡ line_after full
     pub memory : fault ≡ OutOfMemory
     pub counts : new.so_far ≡ old.so_far
@@ -143,7 +143,7 @@ module _ {S P : Type 0} (next : S → Action → S) (answers : S → Action → 
   -- Why the turn with this number was not made: memory ran out for the packet that was fetched, or
   -- for the one that the link passed on; or what the task asks is refused.
   pub data IsUnmadeTurn (turn : ℕ) (old new : TaskAt P) (fault : Fault) : Type 0 where
-    untaken : IsLost (Node (node_at nodes turn)) (Task old.seat.number)
+    untaken : IsLost (Node (node_at nodes turn)) (Task old.seat.setup.number)
         old.seat new.seat old.line new.line fault
         → new.so_far ≡ old.so_far → IsUnmadeTurn turn old new fault
     unheard : IsUnheard turn old new fault → IsUnmadeTurn turn old new fault
@@ -164,7 +164,7 @@ module _ {S P : Type 0} (next : S → Action → S) (answers : S → Action → 
   -- the gate, asked before the turn with this number, said whether the run is over
   abbrev pub IsTaskAsked : ℕ → TaskAt P → Bool → Type 0
   IsTaskAsked turn now is_over =
-      over (Task now.seat.number) turn (has_all_replies calls now.so_far) is_over
+      over (Task now.seat.setup.number) turn (has_all_replies calls now.so_far) is_over
 
   -- the turns 1 to n, one after the other; before each the gate said that the run is not over
   abbrev pub AreTaskTurns : TaskAt P → ℕ → TaskAt P → Type 0

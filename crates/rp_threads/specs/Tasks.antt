@@ -44,11 +44,11 @@ pub record HasMade {P : Type 0} (calls : List TaskCall) (seat : SeatState P) (ma
   pub is : seat.part.role ≡ OfTask task
   pub some : made ≤ length calls
   pub each : (k : ℕ) (call : TaskCall) → k < made → slice_get calls k ≡ Some call
-      → Has (first_asked seat.number k call) seat.part.sent
+      → Has (first_asked seat.setup.number k call) seat.part.sent
   pub only : (packet : Message) → Has packet seat.part.sent
-      → AsksForOne seat.number calls made packet
+      → AsksForOne seat.setup.number calls made packet
   pub count : length task.replies + (if waits then 1 else 0) ≡ made
-  pub waiting : Waits seat.number calls made waits task.outstanding
+  pub waiting : Waits seat.setup.number calls made waits task.outstanding
 
 -- the state of a task's loop: its seat, its link, how many calls it made, and how many packets its
 -- turns lost at boxes

@@ -9,7 +9,7 @@ use Rattle.rp_codec.specs.declared.packet.Party.{Party}
 use Rattle.rp_codec.specs.declared.packet.Party.TheVariants.{Node, Task}
 use Rattle.rp_boxes.specs.Seats.{SeatState}
 use Rattle.rp_tasks.specs.Line.{Line, saturating_sum}
-use Rattle.rp_threads.specs.Loops.{IsSameSeat, lead_period, total_of, turns_off}
+use Rattle.rp_threads.specs.Loops.{lead_period, total_of, turns_off}
 use Rattle.rp_threads.specs.Rounds.{NodeAt, WorkerAt, before_turns, AreTurns, IsEndedBy, IsLastTurn}
 use Rattle.rp_threads.specs.Tasks.{TaskAt, before_calls, HasMade}
 use Rattle.rp_threads.specs.TaskRounds.{AreTaskTurns, IsLastTaskTurn, IsTaskEndedBy}
@@ -43,7 +43,7 @@ module _ {S M D P : Type 0} (next : S → Action → S) (answers : S → Action 
     pub stops : IsLastTurn next answers begin lets heard over nodes turns done last
     pub counted : total_of end.counts ≡ done
     pub events : end.seat.part.events ≡ seat.part.events + end.counts.received + end.counts.led
-    pub idle : end.counts.idle ≤ turns_off (lead_period seat.number) done
+    pub idle : end.counts.idle ≤ turns_off (lead_period seat.setup.number) done
 
   -- With this fault: one of the turns was not made, because of it. No packet of that turn counts as
   -- lost at a box.
@@ -56,8 +56,8 @@ module _ {S M D P : Type 0} (next : S → Action → S) (answers : S → Action 
   -- A loop of at most n turns, of the node of this seat among n nodes and over this link, had this
   -- end, of which the gate was notified.
   pub record IsLooped : Type 0 where
-    pub same : IsSameSeat seat end.seat
-    pub notified : ended (Node seat.number) end.fault
+    pub same : end.seat.setup ≡ seat.setup
+    pub notified : ended (Node seat.setup.number) end.fault
     pub failures : end.fault ≢ Some Device → end.seat.failures ≡ seat.failures
     pub whole : end.fault ≡ None → HasLooped
     pub fault : IfSome end.fault HasLoopedUntil
@@ -99,8 +99,8 @@ module _ {S M P : Type 0} (next : S → Action → S) (answers : S → Action �
   -- A loop of at most n turns, of the task of this seat with these calls among n nodes and over
   -- this link, had this end, of which the gate was notified.
   pub record IsTaskLooped : Type 0 where
-    pub same : IsSameSeat seat end.seat
-    pub notified : ended (Task seat.number) end.fault
+    pub same : end.seat.setup ≡ seat.setup
+    pub notified : ended (Task seat.setup.number) end.fault
     pub made : (waits : Bool) × HasMade calls end.seat end.made waits
     pub whole : end.fault ≡ None → HasTaskLooped
     pub fault : IfSome end.fault HasTaskLoopedUntil

@@ -154,7 +154,7 @@ module _ {S P : Type 0} (next : S → Action → S) (answers : S → Action → 
     pub sent : Sent
     pub turn : IsTurn next answers begin old input stepped sent
     pub stated : packets.sent ≡ sent.packets
-    pub offered : AreOffered (Node stepped.number) turn.done.sends stepped new packets.lost
+    pub offered : AreOffered (Node stepped.setup.number) turn.done.sends stepped new packets.lost
 
   -- One event, after which memory ran out before each of its packets was offered to its box.
   pub record IsUnsent (old : SeatState P) (input : Input) (new : SeatState P) (fault : Fault)
@@ -163,7 +163,7 @@ module _ {S P : Type 0} (next : S → Action → S) (answers : S → Action → 
     pub stepped : SeatState P
     pub sent : Sent
     pub turn : IsTurn next answers begin old input stepped sent
-    pub offered : AreOfferedInPart (Node stepped.number) turn.done.sends stepped new
+    pub offered : AreOfferedInPart (Node stepped.setup.number) turn.done.sends stepped new
 
   -- The step with such an input was cut, or was no event, or not all of its packets were offered.
   pub record IsStopBy (Is : Input → Type 0) (old new : SeatState P) (fault : Fault) : Type 0 where
@@ -190,7 +190,7 @@ module _ {S P : Type 0} (next : S → Action → S) (answers : S → Action → 
       (turned : TurnResult) : Type 0 where
     pub between : SeatState P
     pub full : Line
-    pub brought : IsBrought next answers begin from (Node old.number) old between line full
+    pub brought : IsBrought next answers begin from (Node old.setup.number) old between line full
     pub turn : turned.turn ≡ turn_of (given_on full) lead
     pub works : Works (given_on full) lead between new turned.packets
     pub gives : after ≡ line_after full
@@ -201,6 +201,6 @@ module _ {S P : Type 0} (next : S → Action → S) (answers : S → Action → 
       (line after : Line) (fault : Fault) : Type 0 where
     pub between : SeatState P
     pub full : Line
-    pub brought : IsBrought next answers begin from (Node old.number) old between line full
+    pub brought : IsBrought next answers begin from (Node old.setup.number) old between line full
     pub fails : Fails (given_on full) lead between new fault
     pub gives : after ≡ line_after full

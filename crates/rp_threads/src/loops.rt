@@ -194,7 +194,7 @@ impl<M: Machine, D: Device> Worker<M, D> {
     /// The end of a loop with these counts, of which the gate is notified.
     fn ended<G: Gate>(self, gate: &G, counts: Counts, fault: Option<Fault>) -> NodeEnd<M, D>
         ensures end { result ≡ end_of (worker_at self) counts fault }
-        ensures heard { G.ended (parties.Node self.seat.number) fault }
+        ensures heard { G.ended (parties.Node self.seat.setup.number) fault }
     {
         gate.end(Party::Node(self.seat.number()), fault);
         let lost = counts.lost.saturating_add(self.link.lost());

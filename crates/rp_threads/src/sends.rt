@@ -16,7 +16,7 @@ use std::alloc::{AllocError, Global};
 /// the seat keeps its buffer. Returns whether it is lost.
 fn put_text<M: Machine, D: Device>(seat: &mut NodeSeat<M, D>, packet: Vec<u8>) -> bool
     requires { IsSentText seat.old.part packet.items }
-    ensures { IsOffered M.next M.answers M.begin (Node seat.old.number) packet.items
+    ensures { IsOffered M.next M.answers M.begin (Node seat.old.setup.number) packet.items
         seat.old seat.new result }
 {
     match seat.put(packet) {
@@ -35,7 +35,7 @@ fn put_copy<M: Machine, D: Device>(
     text: &[u8],
 ) -> Result<bool, AllocError>
     requires { IsSentText seat.old.part text.now }
-    ensures offered { IfOk result (IsOffered M.next M.answers M.begin (Node seat.old.number)
+    ensures offered { IfOk result (IsOffered M.next M.answers M.begin (Node seat.old.setup.number)
         text.now seat.old seat.new) }
     ensures unchanged { OnErr result (seat.new ≡ seat.old) }
 {
@@ -53,9 +53,9 @@ pub(crate) fn put_all<M: Machine, D: Device>(
     sent: Sent,
 ) -> Result<usize, AllocError>
     requires { AreSent seat.old.part sent }
-    ensures offered { IfOk result (IsAllOffered M.next M.answers M.begin (Node seat.old.number)
+    ensures offered { IfOk result (IsAllOffered M.next M.answers M.begin (Node seat.old.setup.number)
         sent seat.old seat.new) }
-    ensures part { OnErr result (IsOfferedInPart M.next M.answers M.begin (Node seat.old.number)
+    ensures part { OnErr result (IsOfferedInPart M.next M.answers M.begin (Node seat.old.setup.number)
         sent seat.old seat.new) }
 {
     if sent.packets == 0 {
@@ -80,9 +80,9 @@ fn put_each<M: Machine, D: Device>(
 ) -> Result<usize, AllocError>
     requires { AreSentTexts seat.old.part texts.now }
     ensures offered { IfOk result (AreTextsOffered M.next M.answers M.begin
-        (Node seat.old.number) texts.now seat.old seat.new) }
+        (Node seat.old.setup.number) texts.now seat.old seat.new) }
     ensures part { OnErr result (AreTextsOfferedInPart M.next M.answers M.begin
-        (Node seat.old.number) texts.now seat.old seat.new) }
+        (Node seat.old.setup.number) texts.now seat.old seat.new) }
 {
     seat.sends_packets();
     let mut rest = texts;

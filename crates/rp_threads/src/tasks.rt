@@ -123,7 +123,7 @@ fn hear<M: Machine>(
 /// the seat keeps its buffer. Returns whether it is lost.
 fn put_text<M: Machine>(seat: &mut TaskSeat<M>, packet: Vec<u8>) -> bool
     requires { IsSentText seat.old.part packet.items }
-    ensures { IsOffered M.next M.answers M.begin (parties.Task seat.old.number) packet.items
+    ensures { IsOffered M.next M.answers M.begin (parties.Task seat.old.setup.number) packet.items
         seat.old seat.new result }
 {
     match seat.put(packet) {
@@ -139,7 +139,7 @@ fn put_text<M: Machine>(seat: &mut TaskSeat<M>, packet: Vec<u8>) -> bool
 fn put_sent<M: Machine>(seat: &mut TaskSeat<M>, sent: Sent) -> usize
     requires sent { AreSent seat.old.part sent }
     requires few { sent.packets ≤ 1 }
-    ensures { IsAllOffered M.next M.answers M.begin (parties.Task seat.old.number) sent
+    ensures { IsAllOffered M.next M.answers M.begin (parties.Task seat.old.setup.number) sent
         seat.old seat.new result }
 {
     if sent.packets == 1 {
@@ -178,7 +178,7 @@ impl<M: Machine> Caller<M> {
     /// The end of a loop, of which the gate is notified.
     fn ended<G: Gate>(self, gate: &G, fault: Option<Fault>) -> TaskEnd<M>
         ensures end { result ≡ task_end_of (caller_at self) fault }
-        ensures heard { G.ended (parties.Task self.seat.number) fault }
+        ensures heard { G.ended (parties.Task self.seat.setup.number) fault }
     {
         gate.end(Party::Task(self.seat.number()), fault);
         let lost = self.so_far.lost.saturating_add(self.link.lost());

@@ -153,7 +153,7 @@ pub fn node_turn<M: Machine, D: Device>(
     ensures held { HoldsTextsOf seat.new.part.got line.new }
     ensures ok { IfOk result (λ turned. IsNodeTurn M.next M.answers M.begin
         from lead seat.old seat.new line.old line.new turned) }
-    ensures err { IfErr result (λ fault. IsLost from (Node seat.old.number)
+    ensures err { IfErr result (λ fault. IsLost from (Node seat.old.setup.number)
         seat.old seat.new line.old line.new fault
         ⊎ IsStoppedTurn M.next M.answers M.begin
         from lead seat.old seat.new line.old line.new fault) }

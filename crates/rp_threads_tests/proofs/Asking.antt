@@ -36,9 +36,9 @@ one_call task node part (Err fault) = tt
 pub sent_text : {P : Type 0} (old new : SeatState P) (node object : ℕ) (operation : Operation) (arg : ℤ) (sent : Sent)
     → IsTaskTurn old (Submit node object operation arg) new sent → IsSentText new.part sent.bytes.items
 sent_text {P} old new node object operation arg sent turn =
-    let call = next_call old.number turn.task object operation arg in
+    let call = next_call old.setup.number turn.task object operation arg in
     let one : SendsOne turn.done = subst (λ (r : Result (Done TaskPart) Fault). IfOk r SendsOne) turn.results
-    (one_call old.number node turn.task (may_call old.config node turn.task call turn.task.outstanding)) in
+    (one_call old.setup.number node turn.task (may_call old.setup.config node turn.task call turn.task.outstanding)) in
     let after : new.part.sent ≡ old.part.sent ++ one.0 ∷ [] = ap (λ (c : SeatState P). c.part.sent) turn.after ∙ ap (λ (more : List Message). old.part.sent ++ more) one.1 in
     let text : sent.bytes.items ≡ text_of one.0 = turn.describes.bytes ∙ ap texts_of one.1 ∙ append-nil (text_of one.0) in
     (one.0, subst (Has one.0) (sym after) (has_right one.0 old.part.sent (one.0 ∷ []) (inl refl)), text)
@@ -60,7 +60,7 @@ fetched_is_got {P} from to bytes text old new fetched same =
 pub reported_is_sent : {P : Type 0} (first : ℕ) (text : List ℕ) (old new : SeatState P) (sent : Sent) → IsReport first old new sent → text ≡ sent.bytes.items
     → IsSentText new.part text
 reported_is_sent {P} first text old new sent is same =
-    let m = report_of old.number first (applied_of is.node.records) in
+    let m = report_of old.setup.number first (applied_of is.node.records) in
     let after : new.part.sent ≡ old.part.sent ++ m ∷ [] = ap (λ (c : SeatState P). c.part.sent) is.after in
     (m, subst (Has m) (sym after) (has_right m old.part.sent (m ∷ []) (inl refl)), same ∙ is.text)
 

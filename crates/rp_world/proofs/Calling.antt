@@ -20,10 +20,10 @@ use Rattle.rp_model.specs.Tasks.{TaskInput, Submit, Again, asks, next_call, may_
 use Rattle.rp_model.specs.World.{World, Transition, part_at, with_part, task_done, task_done_if, task_takes}
 use Rattle.rp_model.specs.declared.effect.Effect.{Effect}
 use Rattle.rp_world.specs.Callers.{Caller}
-use Rattle.rp_world.specs.Going.{Goes, Answers, no_cut}
+use Rattle.rp_world.specs.Going.{Goes, Answers, call_meant}
 use Rattle.rp_world.specs.Steps.{ClusterState}
 use Rattle.rp_outbox.specs.Packets.{Sending}
-use Rattle.rp_world.proofs.Fields.{Fields, as_seen, first_seen, world, world_with, made_of}
+use Rattle.rp_world.proofs.Fields.{Fields, as_seen, cluster_with, first_seen, goes_to, now, world, world_with, made_of}
 use Rattle.rp_world.proofs.Lists.{part_same}
 use Rattle.rp_world.proofs.Moving.{task_here, number_here, tasks_moved}
 use Rattle.rp_world.proofs.Placing.{Found}
@@ -104,29 +104,31 @@ module _ {S D P : Type 0} (f : Fields S D P) (at : Found f.tasks) where
   -- the input takes effect, and n messages are sent
   goes : (input : TaskInput) (done : Done TaskPart) (new : Caller) (later : Sending) {first : ℕ} {stated : Effect} (count : ℕ) → effect input ≡ Ok done → new.part ≡ done.part → later.sent ≡ f.messages.sent ++ done.sends
       → first ≡ length f.was.world.sent → stated ≡ stated_count (first + 1) count → Describes (length w.sent) (task_done w at.me done) (stated_count (length w.sent + 1) count)
-      → Goes f.was.world (seen input f.was) (world_with f f.nodes (slice_set f.tasks at.place new) later) stated
+      → Goes f.was (seen input f.was) (cluster_with f f.nodes (slice_set f.tasks at.place new) later) stated
   goes input done new later {stated = stated} count resulted part sent first_is is describes =
-      as_seen f (λ v. Goes v.world (seen input v) (world_with f f.nodes (slice_set f.tasks at.place new) later) stated)
+      as_seen f (λ v. Goes v (seen input v) (cluster_with f f.nodes (slice_set f.tasks at.place new) later) stated)
       (record {
         transition = task_done w at.me done;
         resulted = whole_is input (Ok done) resulted;
-        world = ap (λ (ps : List TaskPart). made_of w.nodes ps later.sent) (tasks_moved f at new ∙ ap (with_part w.tasks at.me) part)
-            ∙ ap (λ (ms : List Message). made_of w.nodes (with_part w.tasks at.me done.part) ms) sent;
+        goes = goes_to f f.nodes (slice_set f.tasks at.place new) later
+            (ap (λ (ps : List TaskPart). made_of w.nodes ps later.sent) (tasks_moved f at new ∙ ap (with_part w.tasks at.me) part)
+            ∙ ap (λ (ms : List Message). made_of w.nodes (with_part w.tasks at.me done.part) ms) sent)
+            refl;
         describes = describes_of (is ∙ ap (λ (k : ℕ). stated_count (k + 1) count) (first_seen f first_is)) describes;
       })
 
   -- it is refused
-  refused : (input : TaskInput) (fault : Fault) (r : Result Effect Fault) → effect input ≡ Err fault → IsErrAnd r (λ e. e ≡ fault) → Answers w (whole input) no_cut w r
+  refused : (input : TaskInput) (fault : Fault) (r : Result Effect Fault) → effect input ≡ Err fault → IsErrAnd r (λ e. e ≡ fault) → Answers (now f) (call_meant (whole input)) (now f) r
   refused input fault r resulted is =
-      at_err (λ x. Answers w (whole input) no_cut w x) fault r is (inl (record { resulted = whole_is input (Err fault) resulted; unchanged = refl }))
+      at_err (λ x. Answers (now f) (call_meant (whole input)) (now f) x) fault r is (inl (record { resulted = whole_is input (Err fault) resulted; unchanged = refl }))
 
   -- memory runs out for it
   runs_out : (input : TaskInput) (done : Done TaskPart) (later : Sending) (r : Result Effect Fault) → effect input ≡ Ok done → later.sent ≡ f.messages.sent → IsErrAnd r (λ e. e ≡ OutOfMemory)
-      → Answers f.was.world (seen input f.was) no_cut (world_with f f.nodes f.tasks later) r
+      → Answers f.was (call_meant (seen input f.was)) (cluster_with f f.nodes f.tasks later) r
   runs_out input done later r resulted sent is =
-      as_seen f (λ v. Answers v.world (seen input v) no_cut (world_with f f.nodes f.tasks later) r)
-      (at_err (λ x. Answers w (whole input) no_cut (world_with f f.nodes f.tasks later) x) OutOfMemory r is
-      (inr (inl (record { memory = refl; intended = task_done w at.me done; resulted = whole_is input (Ok done) resulted; unchanged = stays later sent }))))
+      as_seen f (λ v. Answers v (call_meant (seen input v)) (cluster_with f f.nodes f.tasks later) r)
+      (at_err (λ x. Answers (now f) (call_meant (whole input)) (cluster_with f f.nodes f.tasks later) x) OutOfMemory r is
+      (inr (inl (record { memory = refl; intended = task_done w at.me done; resulted = whole_is input (Ok done) resulted; unchanged = goes_to f f.nodes f.tasks later (stays later sent) refl }))))
 
   -- the task is at its place
   to_same : (Q : List Caller → Type 0) → Q f.tasks → Q (slice_set f.tasks at.place at.it)
@@ -171,10 +173,10 @@ module _ {S D P : Type 0} (f : Fields S D P) (at : Found f.tasks) (asked : Asks 
       (subst (λ (k : ℕ). may_call f.config asked.node at.it.part (next_call k at.it.part asked.object asked.operation asked.arg) at.it.part.outstanding ≡ r) (number_here f at) (may_is r is_so))
 
   pub may_not : (fault : Fault) (r : Result Effect Fault) → asked.answer ≡ Err fault → IsErrAnd r (λ e. e ≡ fault)
-      → Answers f.was.world (seen f at input f.was) no_cut (world_with f f.nodes (slice_set f.tasks at.place at.it) f.messages) r
+      → Answers f.was (call_meant (seen f at input f.was)) (cluster_with f f.nodes (slice_set f.tasks at.place at.it) f.messages) r
   may_not fault r is_so is =
-      as_seen f (λ v. Answers v.world (seen f at input v) no_cut (world_with f f.nodes (slice_set f.tasks at.place at.it) f.messages) r)
-      (to_same f at (λ ts. Answers (world f) (whole f at input) no_cut (world_with f f.nodes ts f.messages) r) (refused f at input fault r (effect_is (Err fault) is_so) is))
+      as_seen f (λ v. Answers v (call_meant (seen f at input v)) (cluster_with f f.nodes (slice_set f.tasks at.place at.it) f.messages) r)
+      (to_same f at (λ ts. Answers (now f) (call_meant (whole f at input)) (cluster_with f f.nodes ts f.messages) r) (refused f at input fault r (effect_is (Err fault) is_so) is))
 
   module _ {call : Action} (is_so : asked.answer ≡ Ok call) where
     made_so : (call ≡ next) × IsRight next
@@ -190,13 +192,13 @@ module _ {S D P : Type 0} (f : Fields S D P) (at : Found f.tasks) (asked : Asks 
     done = record (goes_on_as (record at.it.part { outstanding = Some call })) { sends = asks at.me asked.node call ∷ [] }
 
     pub call_runs_out : (later : Sending) (r : Result Effect Fault) → later.sent ≡ f.messages.sent → IsErrAnd r (λ e. e ≡ OutOfMemory)
-        → Answers f.was.world (seen f at input f.was) no_cut (world_with f f.nodes (slice_set f.tasks at.place at.it) later) r
+        → Answers f.was (call_meant (seen f at input f.was)) (cluster_with f f.nodes (slice_set f.tasks at.place at.it) later) r
     call_runs_out later r sent is =
-        to_same f at (λ ts. Answers f.was.world (seen f at input f.was) no_cut (world_with f f.nodes ts later) r) (runs_out f at input done later r (effect_is (Ok call) is_so) sent is)
+        to_same f at (λ ts. Answers f.was (call_meant (seen f at input f.was)) (cluster_with f f.nodes ts later) r) (runs_out f at input done later r (effect_is (Ok call) is_so) sent is)
 
     pub called : (new : Caller) (later : Sending) {first : ℕ} {stated : Effect} → new.part ≡ record at.it.part { outstanding = Some (next_call at.it.task at.it.part asked.object asked.operation asked.read) }
         → later.sent ≡ f.messages.sent ++ asks at.me asked.node call ∷ [] → first ≡ length f.was.world.sent → stated ≡ stated_count (first + 1) 1
-        → Goes f.was.world (seen f at input f.was) (world_with f f.nodes (slice_set f.tasks at.place new) later) stated
+        → Goes f.was (seen f at input f.was) (cluster_with f f.nodes (slice_set f.tasks at.place new) later) stated
     called new later part sent first_is is =
         let calls : next_call at.it.task at.it.part asked.object asked.operation asked.read ≡ call = ap (next_call at.it.task at.it.part asked.object asked.operation) asked.is_read ∙ sym made_so.0 in
         goes f at input done new later 1 (effect_is (Ok call) is_so) (part ∙ ap (λ (c : Action). let p : TaskPart = record at.it.part { outstanding = Some c } in p) calls) sent first_is is
@@ -211,21 +213,21 @@ module _ {S D P : Type 0} (f : Fields S D P) (at : Found f.tasks) {node : ℕ} (
       ∙ ap (λ (p : Option Action). let r : Result (Done TaskPart) Fault = Ok (asks_again at.me node at.it.part p) in r) is
 
   pub asks_nothing : at.it.part.outstanding ≡ None → {first : ℕ} {stated : Effect} → first ≡ length f.was.world.sent → stated ≡ stated_count (first + 1) 0
-      → Goes f.was.world (seen f at (Again node) f.was) f.was.world stated
+      → Goes f.was (seen f at (Again node) f.was) f.was stated
   asks_nothing none {stated = stated} first_is is =
-      subst (λ (x : World). Goes f.was.world (seen f at (Again node) f.was) x stated) (ap (λ (v : ClusterState P). v.world) f.view_is)
-      (from_same f at (λ ts. Goes f.was.world (seen f at (Again node) f.was) (world_with f f.nodes ts f.messages) stated)
+      subst (λ (x : ClusterState P). Goes f.was (seen f at (Again node) f.was) x stated) f.view_is
+      (from_same f at (λ ts. Goes f.was (seen f at (Again node) f.was) (cluster_with f f.nodes ts f.messages) stated)
       (goes f at (Again node) (goes_on_as at.it.part) at.it f.messages 0 (again_is None none) refl (sym (append-nil f.messages.sent)) first_is is
       (record { first = refl; count = refl; dropped = refl; taken = refl; opened = refl })))
 
   module _ {call : Action} (waits : at.it.part.outstanding ≡ Some call) where
     pub again_runs_out : (later : Sending) (r : Result Effect Fault) → later.sent ≡ f.messages.sent → IsErrAnd r (λ e. e ≡ OutOfMemory)
-        → Answers f.was.world (seen f at (Again node) f.was) no_cut (world_with f f.nodes f.tasks later) r
+        → Answers f.was (call_meant (seen f at (Again node) f.was)) (cluster_with f f.nodes f.tasks later) r
     again_runs_out later r sent is = runs_out f at (Again node) (asks_again at.me node at.it.part (Some call)) later r (again_is (Some call) waits) sent is
 
     pub asks_more : (later : Sending) {first : ℕ} {stated : Effect} → later.sent ≡ f.messages.sent ++ asks at.me node call ∷ [] → first ≡ length f.was.world.sent → stated ≡ stated_count (first + 1) 1
-        → Goes f.was.world (seen f at (Again node) f.was) (world_with f f.nodes f.tasks later) stated
+        → Goes f.was (seen f at (Again node) f.was) (cluster_with f f.nodes f.tasks later) stated
     asks_more later {stated = stated} sent first_is is =
-        from_same f at (λ ts. Goes f.was.world (seen f at (Again node) f.was) (world_with f f.nodes ts later) stated)
+        from_same f at (λ ts. Goes f.was (seen f at (Again node) f.was) (cluster_with f f.nodes ts later) stated)
         (goes f at (Again node) (asks_again at.me node at.it.part (Some call)) at.it later 1 (again_is (Some call) waits) refl sent first_is is
         (record { first = refl; count = refl; dropped = refl; taken = refl; opened = refl }))

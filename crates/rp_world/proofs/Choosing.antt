@@ -1,12 +1,12 @@
 -- Which node makes a step, and what that node is given.
-use Rattle.std.proofs.Common.{◌≡◌, ◌≢◌, ℕ, zero, suc, ◌<◌, ◌≤◌, Bool, true, false, if◌then◌else◌, not, Option, Some, None, Result, Ok, Err, List, [], ◌∷◌, length, map, slice_get, option_map, refl, sym, ap, subst, ◌∙◌, arith, nat_lt, ◌+◌, ◌^◌}
+use Rattle.std.proofs.Common.{◌≡◌, ℕ, zero, suc, ◌<◌, ◌≤◌, Bool, true, false, if◌then◌else◌, not, Option, Some, None, Result, Ok, Err, List, [], ◌∷◌, length, map, slice_get, option_map, refl, sym, ap, subst, ◌∙◌, arith, nat_lt, ◌+◌, ◌^◌}
 use Rattle.std.specs.Prelude.{IfOk, IfErr, IsSome}
 use Rattle.std.proofs.lemmas.List.{length-map}
 use Rattle.std.proofs.lemmas.Option.{slice_get_past}
 use Rattle.rp_base.specs.Number.{in_range}
 use Rattle.rp_base.specs.Ranges.{Range, range_of}
 use Rattle.rp_base.specs.declared.fault.Fault.{Fault}
-use Rattle.rp_base.specs.declared.fault.Fault.TheVariants.{NotRunning, BadConfig, NoSuchMessage, LogFull, Device}
+use Rattle.rp_base.specs.declared.fault.Fault.TheVariants.{NotRunning, BadConfig, NoSuchMessage, LogFull}
 use Rattle.rp_codec.specs.Message.{Message}
 use Rattle.rp_codec.specs.Text.{text_of}
 use Rattle.rp_codec.specs.declared.packet.Party.{Party}
@@ -19,7 +19,7 @@ use Rattle.rp_model.specs.Effect.{turn_if}
 use Rattle.rp_model.specs.Leader.{on_lead_range}
 use Rattle.rp_model.specs.Node.{running_node}
 use Rattle.rp_model.specs.Parts.{NodePart, TaskPart, Running}
-use Rattle.rp_model.specs.World.{World, part_at, commanded, reaches_task, reaches, delivers, chosen, node_chosen, chosen_effect, chosen_cut, chosen_record, cut_step, stepping, node_done_if}
+use Rattle.rp_model.specs.World.{World, part_at, commanded, reaches_task, reaches, delivers, chosen, node_chosen, chosen_effect, chosen_cut, chosen_record, node_done_if}
 use Rattle.rp_rules.specs.Inputs.{given_by}
 use Rattle.rp_rules.specs.declared.input.Input.{Input}
 use Rattle.rp_rules.specs.declared.input.Input.TheVariants as inputs
@@ -65,7 +65,7 @@ module _ {S : Type 0} (s : Setting S) (w : World) {step taken : Taken} {node : �
   none_chosen past =
       let none = part_past w.nodes me (subst (λ (pair : ℕ × Input). length w.nodes < pair.0) node_is past) in
       subst (λ (x : Taken). IsOfNone s w (step_of x) BadConfig) (sym step_is)
-      (record { cut = λ kept. ap (chosen_cut s w kept) (told ∙ ap (commanded me given) none); reason = λ same. cc })
+      (λ kept. ap (chosen_cut s w kept) (told ∙ ap (commanded me given) none))
 
   -- it is one of these
   pub one_chosen : given_by input ≡ Ok given → node.0 ≤ length w.nodes → IsOf s w (step_of step) node.0 node.1
@@ -84,7 +84,7 @@ module _ {S : Type 0} (s : Setting S) (w : World) {step taken : Taken} {node : �
 module _ {S : Type 0} (s : Setting S) (w : World) (number : ℕ) where
   -- there is no such message
   pub no_message : part_at w.sent number ≡ None → IsOfNone s w (Deliver number) NoSuchMessage
-  no_message none = record { cut = λ kept. ap (λ o. chosen_cut s w kept (delivers w o)) none; reason = λ same. cc }
+  no_message none = λ kept. ap (λ o. chosen_cut s w kept (delivers w o)) none
 
   module _ (m : Message) (sent : part_at w.sent number ≡ Some m) where
     reached : (party : Party) → party ≡ m.to → chosen w (Deliver number) ≡ reaches w m party
@@ -97,8 +97,8 @@ module _ {S : Type 0} (s : Setting S) (w : World) (number : ℕ) where
     -- it is for no node
     pub for_no_node : (party : Party) → party ≡ m.to → ((me : ℕ) → party ≡ Node me → ⊥) → IsOfNone s w (Deliver number) NotRunning
     for_no_node (Node me) to none = absurd (none me refl)
-    for_no_node (Task task) to none = record { cut = λ kept. ap (chosen_cut s w kept) (reached (Task task) to) ∙ cut_by_task kept task (part_at w.tasks task); reason = λ same. cc }
-    for_no_node Audit to none = record { cut = λ kept. ap (chosen_cut s w kept) (reached Audit to); reason = λ same. cc }
+    for_no_node (Task task) to none = λ kept. ap (chosen_cut s w kept) (reached (Task task) to) ∙ cut_by_task kept task (part_at w.tasks task)
+    for_no_node Audit to none = λ kept. ap (chosen_cut s w kept) (reached Audit to)
 
     module _ (me : ℕ) (to : (let p : Party = Node me in p ≡ m.to)) where
       abbrev it_is_sent : SentTo w.sent number (Node me)
@@ -106,7 +106,7 @@ module _ {S : Type 0} (s : Setting S) (w : World) (number : ℕ) where
 
       -- it is for a node that is none of these
       pub past_all : length w.nodes < me → IsOfNone s w (Deliver number) NotRunning
-      past_all past = record { cut = cut_by_none s w it_is_sent (part_past w.nodes me past); reason = λ same. cc }
+      past_all past = cut_by_none s w it_is_sent (part_past w.nodes me past)
 
       -- or for one of them
       pub delivered : (input : Input) → given_by input ≡ (let r = Ok (nodes.Receive m) in r) → 1 ≤ me → me ≤ length w.nodes → IsOf s w (Deliver number) me input
@@ -169,14 +169,6 @@ given_if false false first count = refl
 pub range_given : (first count : ℕ) → IfOk (range_of first count) (λ range. given_by (inputs.LeadRange range) ≡ Ok (nodes.LeadRange first count))
 range_given first count = given_if (not (in_range 1 64 count)) (nat_lt (2 ^ 16) (first + count)) first count
 
-reason_if : (wrong far : Bool) (range : Range) → IfErr (range_if wrong far range) (λ fault. fault ≢ Device)
-reason_if true far range = λ same. cc
-reason_if false true range = λ same. cc
-reason_if false false range = tt
-
-no_range_reason : (first count : ℕ) → IfErr (range_of first count) (λ fault. fault ≢ Device)
-no_range_reason first count = reason_if (not (in_range 1 64 count)) (nat_lt (2 ^ 16) (first + count)) (record { first = first; count = count })
-
 -- the fault of an answer that is one
 pub fault_of : {A : Type 0} (answer : Result A Fault) (P : Fault → Type 0) → ((fault : Fault) → answer ≡ Err fault → P fault) → IfErr answer P
 fault_of (Ok found) P so = tt
@@ -190,19 +182,19 @@ module _ {S : Type 0} (s : Setting S) (w : World) (me first count : ℕ) where
   pub no_node_leads : part_at w.nodes me ≡ None → IsRefused s w (LeadRange me first count) BadConfig
   no_node_leads none = record {
     whole = ap (λ o. chosen_effect s w (commanded me given_range o)) none;
-    none = record { cut = λ kept. ap (λ o. chosen_cut s w kept (commanded me given_range o)) none; reason = λ same. cc };
+    none = λ kept. ap (λ o. chosen_cut s w kept (commanded me given_range o)) none;
   }
 
   module _ (part : NodePart) (here : part_at w.nodes me ≡ Some part) where
-    refuses : (fault : Fault) → node_effect s me part given_range ≡ Err fault → fault ≢ Device → IsRefused s w (LeadRange me first count) fault
-    refuses fault resulted reason = record {
+    refuses : (fault : Fault) → node_effect s me part given_range ≡ Err fault → IsRefused s w (LeadRange me first count) fault
+    refuses fault resulted = record {
       whole = ap (λ o. chosen_effect s w (commanded me given_range o)) here ∙ ap (node_done_if w me) resulted;
-      none = record { cut = λ kept. ap (λ o. chosen_cut s w kept (commanded me given_range o)) here ∙ ap (λ effect. node_done_if w me (cut_if kept part effect)) resulted; reason = reason };
+      none = λ kept. ap (λ o. chosen_cut s w kept (commanded me given_range o)) here ∙ ap (λ effect. node_done_if w me (cut_if kept part effect)) resulted;
     }
 
     -- the node is stopped
     pub stopped_leads : part.running ≡ None → IsRefused s w (LeadRange me first count) NotRunning
-    stopped_leads stopped = refuses NotRunning (ap (effect_while s me part given_range) stopped) (λ same. cc)
+    stopped_leads stopped = refuses NotRunning (ap (effect_while s me part given_range) stopped)
 
     refused_while : (known : Option Running) (fault : Fault) → IsSome known → range_of first count ≡ Err fault → effect_while s me part given_range known ≡ Err fault
     refused_while None fault runs is = absurd cc
@@ -210,5 +202,4 @@ module _ {S : Type 0} (s : Setting S) (w : World) (me first count : ℕ) where
 
     -- it runs, and the numbers make no range
     pub leads_no_range : (fault : Fault) → IsSome part.running → range_of first count ≡ Err fault → IsRefused s w (LeadRange me first count) fault
-    leads_no_range fault runs is =
-        refuses fault (refused_while part.running fault runs is) (subst (λ found. IfErr found (λ f. f ≢ Device)) is (no_range_reason first count))
+    leads_no_range fault runs is = refuses fault (refused_while part.running fault runs is)

@@ -1,10 +1,9 @@
 -- The results of a stop, a restart and a cut of a node in the world.
-use Rattle.std.proofs.Common.{◌≡◌, ◌⊎◌, ℕ, suc, ◌+◌, ◌-◌, ◌^◌, ◌≤◌, min, Option, Some, None, Result, Ok, Err, List, [], ◌++◌, length, slice_set, inr, refl, sym, ap, subst, ◌∙◌}
+use Rattle.std.proofs.Common.{◌≡◌, ℕ, suc, ◌+◌, ◌-◌, ◌^◌, ◌≤◌, min, Option, Some, None, Result, Ok, Err, List, [], ◌++◌, length, slice_set, inl, inr, refl, sym, ap, subst, ◌∙◌}
 use Rattle.std.specs.Prelude.{IfOk, IfErr}
 use Rattle.std.proofs.lemmas.List.{append-nil}
 use Rattle.std.proofs.lemmas.Option.{slice_get_past}
 use Rattle.rp_base.specs.declared.fault.Fault.{Fault}
-use Rattle.rp_base.specs.declared.fault.Fault.TheVariants.{OutOfMemory, Device}
 use Rattle.rp_codec.specs.Message.{Message}
 use Rattle.rp_store.specs.Disk.{Disk}
 use Rattle.rp_model.specs.Answers.{untorn}
@@ -16,10 +15,13 @@ use Rattle.rp_model.specs.World.{World, Transition, part_at, with_part, node_don
 use Rattle.rp_rules.specs.declared.input.Input.{Input}
 use Rattle.rp_rules.specs.Inputs.{given_by}
 use Rattle.rp_world.specs.declared.node.Node.{Node}
-use Rattle.rp_world.specs.Going.{Goes, Answers, AnswersRestart, Refuses}
-use Rattle.rp_world.specs.Nodes.{Member, Represents, GoesBy, RefusedBy, IsCutBy, IsLeftTorn, IsResting, NotTaken, DescribesNothing, DescribesOpened, node_step}
-use Rattle.rp_world.proofs.Fields.{Fields, IsKept, as_seen, member, world, world_with, made_of}
-use Rattle.rp_world.proofs.Moving.{part, no_node, is_here, represents_now, still_nodes, moved, stayed, goes, answered, represents_after}
+use Rattle.rp_world.specs.Failures.{RisesAt}
+use Rattle.rp_world.specs.Going.{Meant, Goes, Answers, AnswersRestart, Refuses}
+use Rattle.rp_world.specs.Nodes.{Member, Represents, HasNotFailed, GoesBy, RefusedBy, IsCutBy, IsLeftTorn, IsNotStarted, IsResting, NotTaken, DescribesNothing, DescribesOpened, failures_in, node_step}
+use Rattle.rp_world.specs.Steps.{ClusterState}
+use Rattle.rp_world.proofs.Failing.{same_counts, rises_at}
+use Rattle.rp_world.proofs.Fields.{Fields, IsKept, as_seen, cluster_with, counts_of, member, now, world, made_of}
+use Rattle.rp_world.proofs.Moving.{IsEffect, part, no_node, is_here, represents_now, still_nodes, moved, stayed, goes, answered, represents_after}
 use Rattle.rp_world.proofs.Placing.{Changed}
 use Rattle.rp_world.proofs.Reports.{describes_of, stated_of, as_fault}
 
@@ -63,8 +65,8 @@ module _ {S D P : Type 0} (f : Fields S D P) (change : Changed f.nodes) where
   abbrev w : World
   w = world f
 
-  abbrev after_world : World
-  after_world = world_with f change.after f.tasks f.messages
+  abbrev after : ClusterState P
+  after = cluster_with f change.after f.tasks f.messages
 
   abbrev me : ℕ
   me = change.at.me
@@ -79,15 +81,19 @@ module _ {S D P : Type 0} (f : Fields S D P) (change : Changed f.nodes) where
   pub still : Left f.disk here change.new → IsKept f change.after f.tasks
   still left = subst (λ (ns : List (Node S D P)). IsKept f ns f.tasks) (sym change.put) (still_nodes f change.at change.new left.0 left.1)
 
-  to_put : (Q : World → Type 0) → Q (world_with f (slice_set f.nodes change.at.place change.new) f.tasks f.messages) → Q after_world
-  to_put Q q = subst (λ (ns : List (Node S D P)). Q (world_with f ns f.tasks f.messages)) (sym change.put) q
+  to_put : (Q : ClusterState P → Type 0) → Q (cluster_with f (slice_set f.nodes change.at.place change.new) f.tasks f.messages) → Q after
+  to_put Q q = subst (λ (ns : List (Node S D P)). Q (cluster_with f ns f.tasks f.messages)) (sym change.put) q
+
+  -- its device has not failed
+  abbrev HasNotFailedHere : Type 0
+  HasNotFailedHere = HasNotFailed f.disk here change.at.it change.new
 
   -- a step of the node that sends nothing took effect
-  quiet : (whole : Result Transition Fault) (done : Done NodePart) (opened : Option (ℕ × ℕ)) (stated : Effect) → whole ≡ Ok (node_done w me done) → Represents f.disk here change.new done.part → Quiet done
-      → opened ≡ done.opened → stated ≡ stated_of (length w.sent + 1) opened → Goes w whole after_world stated
-  quiet whole done opened stated resulted so none opens is_stated =
-      to_put (λ x. Goes w whole x stated)
-      (goes f change.at change.new f.messages whole done stated resulted so
+  quiet : (whole : Result Transition Fault) (done : Done NodePart) (opened : Option (ℕ × ℕ)) (stated : Effect) → whole ≡ Ok (node_done w me done) → Represents f.disk here change.new done.part → HasNotFailedHere → Quiet done
+      → opened ≡ done.opened → stated ≡ stated_of (length w.sent + 1) opened → Goes (now f) whole after stated
+  quiet whole done opened stated resulted so same none opens is_stated =
+      to_put (λ x. Goes (now f) whole x stated)
+      (goes f change.at change.new f.messages whole done stated resulted so same
       (sym (append-nil f.messages.sent) ∙ ap (λ (ms : List Message). f.messages.sent ++ ms) (sym none.sends))
       (describes_of is_stated (record {
         first = refl;
@@ -98,50 +104,54 @@ module _ {S D P : Type 0} (f : Fields S D P) (change : Changed f.nodes) where
       })))
 
   -- or it is refused, and changes nothing
-  refused_as : (whole : Result Transition Fault) (fault : Fault) → whole ≡ Err fault → Represents f.disk here change.new was → Refuses w whole after_world fault
-  refused_as whole fault resulted so =
-      to_put (λ x. Refuses w whole x fault) (record { resulted = resulted; unchanged = stayed f change.at change.new f.messages so refl })
+  refused_as : (whole : Result Transition Fault) (fault : Fault) → whole ≡ Err fault → Represents f.disk here change.new was → HasNotFailedHere → Refuses (now f) whole after fault
+  refused_as whole fault resulted so same =
+      to_put (λ x. Refuses (now f) whole x fault) (record { resulted = resulted; unchanged = stayed f change.at change.new f.messages so same refl })
 
   -- ---- stops
 
-  pub stopped : GoesBy f.disk here change.at.it change.new stop_effect DescribesNothing tt → (stated : Effect) → stated ≡ stated_of (length w.sent + 1) None → Goes w (stops w me (part_at w.nodes me)) after_world stated
+  pub stopped : GoesBy f.disk here change.at.it change.new stop_effect DescribesNothing tt → (stated : Effect) → stated ≡ stated_of (length w.sent + 1) None → Goes (now f) (stops w me (part_at w.nodes me)) after stated
   stopped by stated is_stated =
       let d = by was (represents_now f change.at) in
       let same = stop_is was was.running d.0 d.1 in
-      quiet (stops w me (part_at w.nodes me)) d.0 None stated (ap (stops w me) (is_here f change.at) ∙ ap (node_done_if w me) d.1) d.2 (goes_quiet (stop_part was) d.0 same)
+      quiet (stops w me (part_at w.nodes me)) d.0 None stated (ap (stops w me) (is_here f change.at) ∙ ap (node_done_if w me) d.1) d.2 d.4 (goes_quiet (stop_part was) d.0 same)
       (sym (ap (λ (x : Done NodePart). x.opened) same)) is_stated
 
-  pub not_stopped : (fault : Fault) → RefusedBy f.disk here change.at.it change.new stop_effect fault → Refuses w (stops w me (part_at w.nodes me)) after_world fault
+  pub not_stopped : (fault : Fault) → RefusedBy f.disk here change.at.it change.new stop_effect fault → Refuses (now f) (stops w me (part_at w.nodes me)) after fault
   not_stopped fault by =
       let d = by was (represents_now f change.at) in
-      refused_as (stops w me (part_at w.nodes me)) fault (ap (stops w me) (is_here f change.at) ∙ ap (node_done_if w me) d.0) d.1
+      refused_as (stops w me (part_at w.nodes me)) fault (ap (stops w me) (is_here f change.at) ∙ ap (node_done_if w me) d.0) d.1 d.2
 
   -- ---- restarts
 
   pub restarted : (opened : Option (ℕ × ℕ)) → GoesBy f.disk here change.at.it change.new (λ p. Ok (restart_part p)) DescribesOpened opened → (stated : Effect) → stated ≡ stated_of (length w.sent + 1) opened
-      → Goes w (restarts w me (part_at w.nodes me)) after_world stated
+      → Goes (now f) (restarts w me (part_at w.nodes me)) after stated
   restarted opened by stated is_stated =
       let d = by was (represents_now f change.at) in
       let same : restart_part was ≡ d.0 = ok_is (restart_part was) d.0 d.1 in
       quiet (restarts w me (part_at w.nodes me)) d.0 opened stated (ap (restarts w me) (is_here f change.at) ∙ ap (λ (x : Done NodePart). let r : Result Transition Fault = Ok (node_done w me x) in r) same)
-      d.2 (subst Quiet same (restart_quiet was was.running)) d.3 is_stated
+      d.2 d.4 (subst Quiet same (restart_quiet was was.running)) d.3 is_stated
 
-  pub not_restarted : (fault : Fault) → (fault ≡ OutOfMemory) ⊎ (fault ≡ Device) → IsResting f.disk here change.at.it → IsLeftTorn f.disk here change.at.it change.new
-      → AnswersRestart w me (restarts w me (part_at w.nodes me)) after_world (as_fault fault)
+  pub not_restarted : (fault : Fault) → IsNotStarted (failures_in f.disk change.at.it) (failures_in f.disk change.new) fault → IsResting f.disk here change.at.it → IsLeftTorn f.disk here change.at.it change.new
+      → AnswersRestart (now f) me (restarts w me (part_at w.nodes me)) after (as_fault fault)
   not_restarted fault why rests torn =
       let d = torn was (represents_now f change.at) in
       inr (record {
-        why = why;
+        why = elim why [
+          | inl memory ↦ inl (memory.0, to_put (λ x. x.failures ≡ counts_of f f.nodes) (same_counts f change.at change.new memory.1))
+          | inr device ↦ inr (device.0, to_put (λ x. RisesAt me (counts_of f f.nodes) x.failures) (rises_at f change.at change.new device.1))
+        ];
         intended = node_done w me (restart_part was);
         resulted = ap (restarts w me) (is_here f change.at);
         left = (
           d.0,
-          to_put (λ x. x ≡ untorn d.0 w me (part_at w.nodes me))
+          to_put (λ x. x.world ≡ untorn d.0 w me (part_at w.nodes me))
               (moved f change.at change.new f.messages (untorn_part d.0 was) [] d.1 (sym (append-nil f.messages.sent))
               ∙ ap (λ (ms : List Message). made_of (with_part w.nodes me (untorn_part d.0 was)) w.tasks ms) (append-nil w.sent)
               ∙ ap (untorn d.0 w me) (sym (is_here f change.at))),
           (was, is_here f change.at, rests was (represents_now f change.at)),
         );
+        setup = refl;
       })
 
   -- ---- steps that are cut
@@ -151,19 +161,18 @@ module _ {S D P : Type 0} (f : Fields S D P) (change : Changed f.nodes) where
     step p = node_step f.next f.answers here input p
 
     pub cut_so : (kept : ℕ) → IsCutBy f.disk here change.at.it change.new kept step → (whole : Result Transition Fault) → whole ≡ node_done_if w me (cut_if kept was (step was))
-        → (stated : Effect) → stated ≡ stated_of (length w.sent + 1) None → Goes w whole after_world stated
+        → (stated : Effect) → stated ≡ stated_of (length w.sent + 1) None → Goes (now f) whole after stated
     cut_so kept by whole whole_is stated is_stated =
         let d = by was (represents_now f change.at) in
-        let after = goes_on_as (cut_part kept was d.0.written) in
-        quiet whole after None stated (whole_is ∙ ap (λ (r : Result (Done NodePart) Fault). node_done_if w me (cut_if kept was r)) d.1) d.2 (goes_quiet (cut_part kept was d.0.written) after refl) refl is_stated
+        let left = goes_on_as (cut_part kept was d.0.written) in
+        quiet whole left None stated (whole_is ∙ ap (λ (r : Result (Done NodePart) Fault). node_done_if w me (cut_if kept was r)) d.1) d.2 d.3 (goes_quiet (cut_part kept was d.0.written) left refl) refl is_stated
 
     pub not_cut : (kept : ℕ) (fault : Fault) → NotTaken f.disk here change.at.it change.new step fault
-        → (whole : Result Transition Fault) (cut : ℕ → Result Transition Fault) → ((k : ℕ) → cut k ≡ node_done_if w me (cut_if k was (step was))) → whole ≡ cut kept
-        → Answers w whole cut after_world (as_fault fault)
-    not_cut kept fault by whole cut cut_is whole_is =
-        to_put (λ x. Answers w whole cut x (as_fault fault))
-        (answered f change.at change.new f.messages step whole cut
-        (λ r. node_done_if w me (cut_if kept was r)) (whole_is ∙ cut_is kept) cut_is (λ fault. refl) (λ done. (node_done w me (goes_on_as (cut_part kept was done.written)), refl)) refl fault by)
+        → (m : Meant) → IsEffect f change.at step (λ r. node_done_if w me (cut_if kept was r)) m → Answers (now f) m after (as_fault fault)
+    not_cut kept fault by m is =
+        to_put (λ x. Answers (now f) m x (as_fault fault))
+        (answered f change.at change.new f.messages step m
+        (λ r. node_done_if w me (cut_if kept was r)) is (λ fault. refl) (λ done. (node_done w me (goes_on_as (cut_part kept was done.written)), refl)) refl fault by)
 
   -- ---- how the node is left, by what was answered
 

@@ -89,6 +89,16 @@ module _ {S D P : Type 0} (f : Fields S D P) where
   pub first_seen : {first : ℕ} → first ≡ length f.was.world.sent → first ≡ length f.messages.sent
   first_seen first_is = first_is ∙ ap length (sym sent_seen)
 
-  -- the setup stays
-  pub same_setup : now.setup ≡ f.was.setup
-  same_setup = ap (λ (v : ClusterState P). v.setup) f.view_is
+  -- the cluster that other nodes, tasks and messages are
+  abbrev pub cluster_with : List (Node S D P) → List Caller → Sending → ClusterState P
+  cluster_with nodes tasks messages = cluster_of f.disk f.config f.program nodes tasks messages
+
+  -- the world changed so, and with it the counts of failures
+  pub fails_to : (nodes : List (Node S D P)) (tasks : List Caller) (messages : Sending) {after : World} → world_with nodes tasks messages ≡ after
+      → cluster_with nodes tasks messages ≡ record now { world = after; failures = counts_of nodes }
+  fails_to nodes tasks messages changed = ap (λ (w : World). let v : ClusterState P = record now { world = w; failures = counts_of nodes } in v) changed
+
+  -- or the world alone changed
+  pub goes_to : (nodes : List (Node S D P)) (tasks : List Caller) (messages : Sending) {after : World} → world_with nodes tasks messages ≡ after → counts_of nodes ≡ counts_of f.nodes
+      → cluster_with nodes tasks messages ≡ record now { world = after }
+  goes_to nodes tasks messages {after = after} changed same = fails_to nodes tasks messages changed ∙ ap (λ (l : List ℕ). let v : ClusterState P = record now { world = after; failures = l } in v) same

@@ -14,26 +14,29 @@ use Rattle.rp_model.specs.declared.effect.Effect.{Effect}
 use Rattle.rp_model.specs.declared.effect.Dropped.TheVariants.{No}
 use Rattle.rp_model.specs.Effect as nodes
 use Rattle.rp_model.specs.Effect.{Setting, Done, NodeInput, effect_while, node_effect, cut_if, goes_on_as}
-use Rattle.rp_model.specs.Events.{Deliver}
+use Rattle.rp_model.specs.Answers.{IsDone}
+use Rattle.rp_model.specs.Events.{Deliver, Makes}
 use Rattle.rp_model.specs.Parts.{NodePart, TaskPart, Running as Known}
 use Rattle.rp_model.specs.Tasks.{takes, takes_reply, task_hears}
 use Rattle.rp_model.specs.World.{World, Transition, part_at, with_part, nothing_happens, node_done_if, task_done, written_by, Chosen, NodeTakes, commanded, reaches_node, reaches_number, reaches_task, reaches, delivers, chosen, node_chosen, chosen_effect, chosen_cut, chosen_record, step_effect, cut_step, step_writes, stepping}
 use Rattle.rp_world.specs.Callers.{Caller}
 use Rattle.rp_world.specs.Going.{Goes, reply_in}
+use Rattle.rp_world.specs.Steps.{ClusterState}
 use Rattle.rp_world.proofs.Messages.{SentTo}
 use Rattle.rp_world.proofs.Reports.{describes_of, stated_of}
-use Rattle.rp_world.proofs.Fields.{made_of}
+use Rattle.rp_world.proofs.Fields.{Fields, made_of, now, world}
 
 pub same_input : (one other : NodeInput) → (let a : Result NodeInput Fault = Ok one in let b : Result NodeInput Fault = Ok other in a ≡ b) → one ≡ other
 same_input one other same = cc
 
 -- ---- nothing happens
 
-pub nothing_goes : (w : World) (whole : Result Transition Fault) (after : World) (stated : Effect) → whole ≡ Ok (nothing_happens w) → after ≡ w → stated ≡ stated_of (length w.sent + 1) None → Goes w whole after stated
-nothing_goes w whole after stated resulted same is = record {
-  transition = nothing_happens w;
+pub nothing_goes : {S D P : Type 0} (f : Fields S D P) (whole : Result Transition Fault) (after : ClusterState P) (stated : Effect) → whole ≡ Ok (nothing_happens (world f)) → after ≡ now f
+    → stated ≡ stated_of (length (world f).sent + 1) None → Goes (now f) whole after stated
+nothing_goes f whole after stated resulted same is = record {
+  transition = nothing_happens (world f);
   resulted = resulted;
-  world = same;
+  goes = same;
   describes = describes_of is (record { first = refl; count = refl; dropped = refl; taken = refl; opened = refl });
 }
 
@@ -93,7 +96,10 @@ module _ {S : Type 0} (s : Setting S) (w : World) {number me : ℕ} (m : SentTo 
     hears_while None some = absurd cc
     hears_while (Some running) some = refl
 
-    -- it runs
+    -- it runs: it is given the message
+    pub heard_as : IsSome part.running → chosen w (Deliver number) ≡ as_command (part_at w.nodes me)
+    heard_as runs = reaches_here ∙ hears_while part.running runs ∙ sym (ap as_command here)
+
     pub heard_running : IsSome part.running → step_effect s w (Deliver number) ≡ node_done_if w me (node_effect s me part (nodes.Receive m.packet))
     heard_running runs = ap (chosen_effect s w) (reaches_here ∙ hears_while part.running runs)
 
@@ -139,7 +145,7 @@ module _ {S : Type 0} (s : Setting S) (w : World) {number task : ℕ} (m : SentT
   reply_results = (task_done w task (task_hears task part m.packet.body), received_here)
 
   -- it is no reply
-  pub no_reply : (stated : Effect) → reply_in m.packet.body ≡ None → with_part w.tasks task part ≡ w.tasks → stated ≡ stated_of (length w.sent + 1) None → Goes w (step_effect s w (Deliver number)) w stated
+  pub no_reply : (stated : Effect) → reply_in m.packet.body ≡ None → with_part w.tasks task part ≡ w.tasks → stated ≡ stated_of (length w.sent + 1) None → IsDone s w (Makes (Deliver number)) w stated
   no_reply stated none stays is = record {
     transition = task_done w task (goes_on_as part);
     resulted = received_here ∙ ap (λ (d : Done TaskPart). let r : Result Transition Fault = Ok (task_done w task d) in r) (hears task part m.packet.body ∙ ap (heard_of task part) none);
@@ -157,7 +163,7 @@ module _ {S : Type 0} (s : Setting S) (w : World) {number task : ℕ} (m : SentT
 
     -- it is taken, or ignored
     pub takes_it : (after : World) (taken : Option Answer) (stated : Effect) → after ≡ made_of w.nodes (with_part w.tasks task done.part) w.sent
-        → taken ≡ done.taken → stated ≡ (let e : Effect = record { first = length w.sent + 1; sent = 0; dropped = No; taken = taken; opened = None } in e) → Goes w (step_effect s w (Deliver number)) after stated
+        → taken ≡ done.taken → stated ≡ (let e : Effect = record { first = length w.sent + 1; sent = 0; dropped = No; taken = taken; opened = None } in e) → IsDone s w (Makes (Deliver number)) after stated
     takes_it after taken stated same took is =
         let quiet = takes_quiet task part n reply in
         record {

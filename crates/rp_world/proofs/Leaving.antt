@@ -1,19 +1,15 @@
 -- What a stop and a restart leave of a node that was taken from its place, and put back there.
-use Rattle.std.proofs.Common.{◌≡◌, ◌⊎◌, ℕ, ◌+◌, Option, Some, None, Result, Ok, Err, length, map, slice_set, sym, ap, subst, ◌∙◌}
+use Rattle.std.proofs.Common.{◌≡◌, ℕ, ◌+◌, Option, None, Result, Ok, Err, length, sym, ap, subst, ◌∙◌}
 use Rattle.std.specs.Prelude.{IfOk, IfErr}
 use Rattle.rp_base.specs.declared.fault.Fault.{Fault}
-use Rattle.rp_base.specs.declared.fault.Fault.TheVariants.{OutOfMemory, Device}
 use Rattle.rp_model.specs.declared.effect.Effect.{Effect}
 use Rattle.rp_model.specs.Effect.{stop_effect, restart_part}
-use Rattle.rp_model.specs.World.{World, stops, restarts, part_at}
-use Rattle.rp_world.specs.Failures.{AreCounted}
+use Rattle.rp_model.specs.World.{stops, restarts, part_at}
 use Rattle.rp_world.specs.Going.{AnswersStop, AnswersRestart}
 use Rattle.rp_world.specs.Steps.{ClusterState}
-use Rattle.rp_world.specs.Nodes.{Member, GoesBy, RefusedBy, IsCounted, IsLeftTorn, IsResting, DescribesNothing, DescribesOpened, failures_in}
-use Rattle.rp_world.proofs.Answering.{rose}
+use Rattle.rp_world.specs.Nodes.{Member, GoesBy, RefusedBy, IsLeftTorn, IsNotStarted, IsResting, DescribesNothing, DescribesOpened, failures_in}
 use Rattle.rp_world.proofs.Ending.{still, stopped, not_stopped, left_by_stop, restarted, not_restarted, left_by_restart}
-use Rattle.rp_world.proofs.Failing.{counts, same_seen}
-use Rattle.rp_world.proofs.Fields.{Fields, IsKept, as_seen, counts_of, first_seen, member, world_with}
+use Rattle.rp_world.proofs.Fields.{Fields, IsKept, as_seen, cluster_with, first_seen, member}
 use Rattle.rp_world.proofs.Placing.{Changed}
 use Rattle.rp_world.proofs.Reports.{stated_of}
 
@@ -21,31 +17,8 @@ module _ {S D P : Type 0} (f : Fields S D P) (change : Changed f.nodes) where
   abbrev me : ℕ
   me = change.at.me
 
-  abbrev after : World
-  after = world_with f change.after f.tasks f.messages
-
-  left_is : counts_of f change.after ≡ counts_of f (slice_set f.nodes change.at.place change.new)
-  left_is = ap (map (failures_in f.disk)) change.put
-
-  -- the counts of failures are as before
-  pub same_left : failures_in f.disk change.new ≡ failures_in f.disk change.at.it → counts_of f change.after ≡ f.was.failures
-  same_left same = left_is ∙ same_seen f change.at change.new same
-
-  module _ {A : Type 0} {answer : Result A Fault} (counted : IsCounted (failures_in f.disk change.at.it) (failures_in f.disk change.new) answer) {r : Result Effect Fault} where
-    pub counted_ok : {a : A} {stated : Effect} → answer ≡ Ok a → r ≡ Ok stated → AreCounted (Some me) f.was.failures (counts_of f change.after) r
-    counted_ok is result =
-        subst (AreCounted (Some me) f.was.failures (counts_of f change.after)) (sym result)
-        (same_left (subst (IsCounted (failures_in f.disk change.at.it) (failures_in f.disk change.new)) is counted))
-
-    -- or the device failed
-    pub counted_err : {fault : Fault} → answer ≡ Err fault → r ≡ Err fault → AreCounted (Some me) f.was.failures (counts_of f change.after) r
-    counted_err {fault = fault} is result =
-        let failed : Result Effect Fault = Err fault in
-        subst (AreCounted (Some me) f.was.failures (counts_of f change.after)) (sym result)
-        (subst (λ l. AreCounted (Some me) f.was.failures l failed) (sym left_is)
-        (as_seen f (λ v. AreCounted (Some me) v.failures (counts_of f (slice_set f.nodes change.at.place change.new)) failed)
-        (rose (Unit {0}) (Some me) (counts_of f f.nodes) (counts_of f (slice_set f.nodes change.at.place change.new)) failed
-        (counts f change.at change.new (Unit {0}) fault (λ device. tt) (subst (IsCounted (failures_in f.disk change.at.it) (failures_in f.disk change.new)) is counted)))))
+  abbrev after : ClusterState P
+  after = cluster_with f change.after f.tasks f.messages
 
   stated_from : {first : ℕ} {opened : Option (ℕ × ℕ)} {stated : Effect} → first ≡ length f.was.world.sent → stated ≡ stated_of (first + 1) opened → stated ≡ stated_of (length f.messages.sent + 1) opened
   stated_from {opened = opened} first_is is = is ∙ ap (λ (k : ℕ). stated_of (k + 1) opened) (first_seen f first_is)
@@ -59,7 +32,7 @@ module _ {S D P : Type 0} (f : Fields S D P) (change : Changed f.nodes) where
   StopsNot fault = (m : Member S) → RefusedBy f.disk m change.at.it change.new stop_effect fault
 
   abbrev Stopped : Result Effect Fault → ClusterState P → Type 0
-  Stopped r v = AnswersStop v.world (stops v.world me (part_at v.world.nodes me)) after r
+  Stopped r v = AnswersStop v (stops v.world me (part_at v.world.nodes me)) after r
 
   pub still_by_stop : (answer : Result Unit Fault) → IfOk answer Stops → IfErr answer StopsNot → IsKept f change.after f.tasks
   still_by_stop answer ok err = still f change (left_by_stop f change answer ok err)
@@ -87,10 +60,10 @@ module _ {S D P : Type 0} (f : Fields S D P) (change : Changed f.nodes) where
   Rests fault = IsResting f.disk (member f me) change.at.it
 
   abbrev Reasons : Fault → Type 0
-  Reasons fault = (fault ≡ OutOfMemory) ⊎ (fault ≡ Device)
+  Reasons fault = IsNotStarted (failures_in f.disk change.at.it) (failures_in f.disk change.new) fault
 
   abbrev Restarted : Result Effect Fault → ClusterState P → Type 0
-  Restarted r v = AnswersRestart v.world me (restarts v.world me (part_at v.world.nodes me)) after r
+  Restarted r v = AnswersRestart v me (restarts v.world me (part_at v.world.nodes me)) after r
 
   pub still_by_restart : (answer : Result (Option (ℕ × ℕ)) Fault) → IfOk answer Restarts → IfErr answer Torn → IsKept f change.after f.tasks
   still_by_restart answer ok err = still f change (left_by_restart f change answer ok err)

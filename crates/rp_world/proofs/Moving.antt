@@ -1,6 +1,6 @@
 -- What a change of one node or of one task is for the world.
 use Rattle.std.proofs.Common.{◌≡◌, ℕ, zero, suc, ◌<◌, ◌≤◌, Option, Some, None, Result, Ok, Err, List, [], ◌++◌, length, map, slice_get, slice_set, option_map, inl, inr, refl, sym, ap, subst, ◌∙◌, arith}
-use Rattle.std.specs.Prelude.{IfSome, get_or}
+use Rattle.std.specs.Prelude.{IfSome, IsSome, get_or}
 use Rattle.std.proofs.lemmas.List.{append-nil, length-map}
 use Rattle.std.proofs.lemmas.Option.{slice_get-get_or}
 use Rattle.rp_base.specs.declared.config.Config.{Config}
@@ -11,14 +11,17 @@ use Rattle.rp_model.specs.Parts.{NodePart, TaskPart, fresh_task}
 use Rattle.rp_model.specs.Answers.{Describes}
 use Rattle.rp_model.specs.declared.effect.Effect.{Effect}
 use Rattle.rp_model.specs.Effect.{Done, cut_if, cut_part, goes_on_as}
-use Rattle.rp_model.specs.World.{World, Transition, part_at, with_part, node_done, node_done_if}
+use Rattle.rp_model.specs.World.{World, Transition, part_at, with_part, node_done, node_done_if, written_by}
 use Rattle.rp_world.specs.declared.node.Node.{Node}
 use Rattle.rp_world.specs.Callers.{Caller}
 use Rattle.rp_outbox.specs.Packets.{Sending}
-use Rattle.rp_world.specs.Going.{Goes, Answers}
-use Rattle.rp_world.specs.Nodes.{member_of, Represents, IsNotRefused, NotTaken}
+use Rattle.rp_world.specs.Failures.{RisesOnly}
+use Rattle.rp_world.specs.Going.{Meant, Goes, Answers}
+use Rattle.rp_world.specs.Nodes.{member_of, Represents, HasNotFailed, IsNotRefused, NotTaken}
 use Rattle.rp_world.specs.Shape.{part_by, IsWorld}
-use Rattle.rp_world.proofs.Fields.{Fields, IsKept, member, world, world_with, made_of}
+use Rattle.rp_world.specs.Steps.{ClusterState}
+use Rattle.rp_world.proofs.Fields.{Fields, IsKept, cluster_with, counts_of, fails_to, goes_to, member, now, world, world_with, made_of}
+use Rattle.rp_world.proofs.Failing.{same_counts, rises_at}
 use Rattle.rp_world.proofs.Lists.{get_map, set_map, length_set, set_keeps, part_same}
 use Rattle.rp_world.proofs.Placing.{Found}
 use Rattle.rp_world.proofs.Resting.{part_is}
@@ -99,9 +102,22 @@ module _ {S D P : Type 0} (f : Fields S D P) (at : Found f.nodes) where
 
   -- ---- the result of a step of it
 
+  -- a step by the definitions is this effect on its part, whole and cut
+  pub record IsEffect (effect : NodePart → Result (Done NodePart) Fault) (results : Result (Done NodePart) Fault → Result Transition Fault) (m : Meant) : Type 0 where
+    pub whole : m.whole ≡ results (effect part)
+    pub cut : (kept : ℕ) → m.cut kept ≡ node_done_if w at.me (cut_if kept part (effect part))
+    pub node : m.node ≡ Some at.me
+    pub writes : m.writes ≡ written_by (effect part)
+
   module _ (new : Node S D P) (later : Sending) where
     abbrev next : World
     next = world_with f (slice_set f.nodes at.place new) f.tasks later
+
+    abbrev next_cluster : ClusterState P
+    next_cluster = cluster_with f (slice_set f.nodes at.place new) f.tasks later
+
+    abbrev HasNotFailedHere : Type 0
+    HasNotFailedHere = HasNotFailed f.disk (member f at.me) at.it new
 
     pub moved : (after : NodePart) (sends : List Message) → Represents f.disk (member f at.me) new after → later.sent ≡ f.messages.sent ++ sends
         → next ≡ made_of (with_part w.nodes at.me after) w.tasks (w.sent ++ sends)
@@ -109,46 +125,52 @@ module _ {S D P : Type 0} (f : Fields S D P) (at : Found f.nodes) where
         ap (λ (ps : List NodePart). made_of ps w.tasks later.sent) (nodes_moved new after represents)
         ∙ ap (λ (ms : List Message). made_of (with_part w.nodes at.me after) w.tasks ms) sent
 
-    pub stayed : Represents f.disk (member f at.me) new part → later.sent ≡ f.messages.sent → next ≡ w
-    stayed represents sent =
-        ap (λ (ps : List NodePart). made_of ps w.tasks later.sent) (nodes_stay new represents)
-        ∙ ap (λ (ms : List Message). made_of w.nodes w.tasks ms) sent
+    pub stayed : Represents f.disk (member f at.me) new part → HasNotFailedHere → later.sent ≡ f.messages.sent → next_cluster ≡ now f
+    stayed represents same sent =
+        goes_to f (slice_set f.nodes at.place new) f.tasks later
+        (ap (λ (ps : List NodePart). made_of ps w.tasks later.sent) (nodes_stay new represents)
+        ∙ ap (λ (ms : List Message). made_of w.nodes w.tasks ms) sent)
+        (same_counts f at new same)
 
     -- it took effect
-    pub goes : (whole : Result Transition Fault) (done : Done NodePart) (stated : Effect) → whole ≡ Ok (node_done w at.me done) → Represents f.disk (member f at.me) new done.part
-        → later.sent ≡ f.messages.sent ++ done.sends → Describes (length w.sent) (node_done w at.me done) stated → Goes w whole next stated
-    goes whole done stated resulted represents sent describes =
-        record { transition = node_done w at.me done; resulted = resulted; world = moved done.part done.sends represents sent; describes = describes }
+    pub goes : (whole : Result Transition Fault) (done : Done NodePart) (stated : Effect) → whole ≡ Ok (node_done w at.me done) → Represents f.disk (member f at.me) new done.part → HasNotFailedHere
+        → later.sent ≡ f.messages.sent ++ done.sends → Describes (length w.sent) (node_done w at.me done) stated → Goes (now f) whole next_cluster stated
+    goes whole done stated resulted represents same sent describes = record {
+      transition = node_done w at.me done;
+      resulted = resulted;
+      goes = goes_to f (slice_set f.nodes at.place new) f.tasks later (moved done.part done.sends represents sent) (same_counts f at new same);
+      describes = describes;
+    }
 
     -- or was not taken
-    module _ (effect : NodePart → Result (Done NodePart) Fault) (whole : Result Transition Fault) (cut : ℕ → Result Transition Fault)
-        (results : Result (Done NodePart) Fault → Result Transition Fault)
-        (whole_is : whole ≡ results (effect part)) (cut_is : (kept : ℕ) → cut kept ≡ node_done_if w at.me (cut_if kept part (effect part)))
+    module _ (effect : NodePart → Result (Done NodePart) Fault) (m : Meant) (results : Result (Done NodePart) Fault → Result Transition Fault) (is : IsEffect effect results m)
         (refuses : (fault : Fault) → results (Err fault) ≡ Err fault) (happens : (done : Done NodePart) → (h : Transition) × (results (Ok done) ≡ Ok h))
         (sent : later.sent ≡ f.messages.sent) where
-      intended : (result : Result (Done NodePart) Fault) → effect part ≡ result → IsNotRefused result → (h : Transition) × (whole ≡ Ok h)
-      intended (Ok done) is not_refused = let h = happens done in (h.0, whole_is ∙ ap results is ∙ h.1)
-      intended (Err fault) is not_refused = absurd not_refused
+      intended : (result : Result (Done NodePart) Fault) → effect part ≡ result → IsNotRefused result → (h : Transition) × (m.whole ≡ Ok h)
+      intended (Ok done) resulted not_refused = let h = happens done in (h.0, is.whole ∙ ap results resulted ∙ h.1)
+      intended (Err fault) resulted not_refused = absurd not_refused
 
-      pub answered : (fault : Fault) → NotTaken f.disk (member f at.me) at.it new effect fault → Answers w whole cut next (as_fault fault)
+      pub answered : (fault : Fault) → NotTaken f.disk (member f at.me) at.it new effect fault → Answers (now f) m next_cluster (as_fault fault)
       answered fault not_taken =
           elim (not_taken part represents_now) [
-            | inl refused ↦ inl (record { resulted = whole_is ∙ ap results refused.0 ∙ refuses fault; unchanged = stayed refused.1 sent })
+            | inl refused ↦ inl (record { resulted = is.whole ∙ ap results refused.0 ∙ refuses fault; unchanged = stayed refused.1 refused.2 sent })
             | inr other ↦
                 elim other [
                   | inl memory ↦
                       let h = intended (effect part) refl memory.1 in
-                      inr (inl (record { memory = memory.0; intended = h.0; resulted = h.1; unchanged = stayed memory.2 sent }))
+                      inr (inl (record { memory = memory.0; intended = h.0; resulted = h.1; unchanged = stayed memory.2 memory.3 sent }))
                   | inr device ↦
                       let kept = device.1 in
                       let done = device.2 in
                       let after = cut_part kept part done.written in
                       inr (inr (record {
                         device = device.0;
+                        wrote = subst IsSome (sym (is.writes ∙ ap written_by device.3)) device.5;
                         kept = kept;
                         transition = node_done w at.me (goes_on_as after);
-                        resulted = cut_is kept ∙ ap (λ (r : Result (Done NodePart) Fault). node_done_if w at.me (cut_if kept part r)) device.3;
-                        world = moved after [] device.4 (sent ∙ sym (append-nil f.messages.sent));
+                        resulted = is.cut kept ∙ ap (λ (r : Result (Done NodePart) Fault). node_done_if w at.me (cut_if kept part r)) device.3;
+                        goes = fails_to f (slice_set f.nodes at.place new) f.tasks later (moved after [] device.4 (sent ∙ sym (append-nil f.messages.sent)));
+                        rises = subst (λ who. RisesOnly who (counts_of f f.nodes) (counts_of f (slice_set f.nodes at.place new))) (sym is.node) (rises_at f at new device.6);
                       }))
                 ]
           ]

@@ -1,23 +1,21 @@
 -- What the world answers where the step of one of its nodes is cut.
-use Rattle.std.proofs.Common.{◌≡◌, ℕ, suc, ◌+◌, ◌<◌, None, Some, Result, Ok, Err, length, map, slice_set, refl, sym, ap, subst, ◌∙◌, arith}
-use Rattle.std.specs.Prelude.{IfOk, IfErr, IsSome}
+use Rattle.std.proofs.Common.{◌≡◌, ℕ, suc, ◌+◌, ◌<◌, None, Result, Ok, Err, length, sym, ap, subst, ◌∙◌, arith}
+use Rattle.std.specs.Prelude.{IfOk, IfErr}
 use Rattle.std.proofs.lemmas.List.{length-map}
 use Rattle.rp_base.specs.declared.fault.Fault.{Fault}
-use Rattle.rp_base.specs.declared.fault.Fault.TheVariants.{Device}
 use Rattle.rp_model.specs.declared.effect.Effect.{Effect}
 use Rattle.rp_model.specs.Effect.{NodeInput, node_effect, cut_if}
 use Rattle.rp_model.specs.Events.{Step}
-use Rattle.rp_model.specs.World.{commanded, chosen_cut, cut_step, node_done_if, step_writes, stepping}
+use Rattle.rp_model.specs.World.{commanded, chosen_cut, chosen_record, cut_step, node_done_if}
 use Rattle.rp_rules.specs.Inputs.{given_by}
 use Rattle.rp_rules.specs.declared.input.Input.{Input}
 use Rattle.rp_world.specs.Choosing.{IsOf}
-use Rattle.rp_world.specs.Going.{Answers, Counts}
-use Rattle.rp_world.specs.Nodes.{Member, IsCounted, IsCutBy, NotTaken, failures_in, node_step}
+use Rattle.rp_world.specs.Going.{Meant, cut_meant, Goes, Answers}
+use Rattle.rp_world.specs.Nodes.{Member, IsCutBy, NotTaken, node_step}
 use Rattle.rp_world.specs.Shape.{part_by}
 use Rattle.rp_world.specs.Steps.{ClusterState}
 use Rattle.rp_world.proofs.Ending.{still, cut_so, not_cut, left_by_cut}
-use Rattle.rp_world.proofs.Failing.{counts, same_seen, writes}
-use Rattle.rp_world.proofs.Fields.{Fields, IsKept, as_seen, counts_of, first_seen, member, setting, world, world_with, setting_by}
+use Rattle.rp_world.proofs.Fields.{Fields, IsKept, as_seen, cluster_with, first_seen, member, now, setting, world, setting_by}
 use Rattle.rp_world.proofs.Moving.{part, is_here}
 use Rattle.rp_world.proofs.Placing.{Changed}
 use Rattle.rp_world.proofs.Reports.{as_fault, stated_of}
@@ -54,40 +52,23 @@ module _ {S D P : Type 0} (f : Fields S D P) (change : Changed f.nodes) {step : 
   cut_here : (k : ℕ) → cut_step (setting f) (world f) step k ≡ node_done_if (world f) me (cut_if k (part f change.at) (node_effect (setting f) me (part f change.at) one.given))
   cut_here k = one.cut k ∙ ap (λ o. chosen_cut (setting f) (world f) k (commanded me one.given o)) (is_here f change.at)
 
-  -- what a cluster answers to the cut, and what it counts
-  abbrev Answered : Result Effect Fault → ClusterState P → Type 0
-  Answered r v = let s = setting_by f v in Answers v.world (cut_step s v.world step kept) (λ less. cut_step s v.world step less) (world_with f change.after f.tasks f.messages) r
+  -- the cut by the definitions
+  abbrev cut_of : ClusterState P → Meant
+  cut_of v = cut_meant (setting_by f v) v.world step kept
 
-  abbrev Counted : Result Effect Fault → ClusterState P → Type 0
-  Counted r v = let s = setting_by f v in Counts (IsSome (step_writes s v.world step)) (stepping v.world step) v.failures (counts_of f change.after) r
+  abbrev after : ClusterState P
+  after = cluster_with f change.after f.tasks f.messages
 
   -- what is answered is so
-  pub answers_cut : (answer : Result Unit Fault) → IfOk answer Cuts → IfErr answer CutsNot → {first : ℕ} → first ≡ length f.was.world.sent → (r : Result Effect Fault) → IsStated (first + 1) answer r → Answered r f.was
+  pub answers_cut : (answer : Result Unit Fault) → IfOk answer Cuts → IfErr answer CutsNot → {first : ℕ} → first ≡ length f.was.world.sent → (r : Result Effect Fault) → IsStated (first + 1) answer r
+      → Answers f.was (cut_of f.was) after r
   answers_cut (Ok done) ok err {first = first} first_is r is_stated =
-      subst (λ x. Answered x f.was) (sym is_stated)
-      (as_seen f (Answered (Ok (stated_of (first + 1) None)))
+      subst (λ x. Answers f.was (cut_of f.was) after x) (sym is_stated)
+      (as_seen f (λ v. Goes v (cut_of v).whole after (stated_of (first + 1) None))
       (cut_so f change one.given kept (ok (member f me) one.given one.gives) (cut_step (setting f) (world f) step kept) (cut_here kept) (stated_of (first + 1) None)
       (ap (λ (k : ℕ). stated_of (k + 1) None) (first_seen f first_is))))
   answers_cut (Err fault) ok err first_is r is_stated =
-      subst (λ x. Answered x f.was) (sym is_stated)
-      (as_seen f (Answered (as_fault fault))
-      (not_cut f change one.given kept fault (err (member f me) one.given one.gives) (cut_step (setting f) (world f) step kept) (λ less. cut_step (setting f) (world f) step less) cut_here refl))
-
-  is_after : counts_of f change.after ≡ counts_of f (slice_set f.nodes change.at.place change.new)
-  is_after = ap (map (failures_in f.disk)) change.put
-
-  wrote : (fault : Fault) → CutsNot fault → fault ≡ Device → IsSome (step_writes (setting f) (world f) step)
-  wrote fault err device = subst IsSome (sym one.writes) (writes f change.at change.new one.given fault (err (member f me) one.given one.gives) device)
-
-  -- and so is what is counted
-  pub counts_cut : (answer : Result Unit Fault) → IfErr answer CutsNot → IsCounted (failures_in f.disk change.at.it) (failures_in f.disk change.new) answer → (first : ℕ) (r : Result Effect Fault) → IsStated first answer r
-      → Counted r f.was
-  counts_cut (Ok done) err counted first r is_stated =
-      subst (λ x. Counted x f.was) (sym is_stated) (is_after ∙ same_seen f change.at change.new counted)
-  counts_cut (Err fault) err counted first r is_stated =
-      let why = IsSome (step_writes (setting f) (world f) step) in
-      subst (λ x. Counted x f.was) (sym is_stated)
-      (as_seen f (Counted (as_fault fault))
-      (subst (λ who. Counts why who (counts_of f f.nodes) (counts_of f change.after) (as_fault fault)) (sym one.node)
-      (subst (λ l. Counts why (Some me) (counts_of f f.nodes) l (as_fault fault)) (sym is_after)
-      (counts f change.at change.new why fault (wrote fault err) counted))))
+      subst (λ x. Answers f.was (cut_of f.was) after x) (sym is_stated)
+      (as_seen f (λ v. Answers v (cut_of v) after (as_fault fault))
+      (not_cut f change one.given kept fault (err (member f me) one.given one.gives) (cut_of (now f))
+      (record { whole = cut_here kept; cut = cut_here; node = one.node; writes = one.writes ∙ ap (λ o. chosen_record (setting f) (commanded me one.given o)) (is_here f change.at) })))

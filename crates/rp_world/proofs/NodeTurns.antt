@@ -1,5 +1,5 @@
 -- What the world answers where one of its nodes made a turn: given an input, or a message that is for it.
-use Rattle.std.proofs.Common.{◌≡◌, ℕ, suc, ◌+◌, ◌-◌, ◌≤◌, None, Some, Result, Ok, Err, List, Option, length, slice_get, slice_set, refl, sym, ap, subst, ◌∙◌}
+use Rattle.std.proofs.Common.{◌≡◌, ℕ, suc, ◌+◌, ◌-◌, ◌≤◌, None, Some, Result, Ok, List, Option, length, slice_get, slice_set, refl, sym, ap, subst, ◌∙◌}
 use Rattle.std.specs.Option.{IsSomeAnd}
 use Rattle.std.specs.Prelude.{IsSome, IsErrAnd}
 use Rattle.rp_base.specs.declared.fault.Fault.{Fault}
@@ -11,22 +11,21 @@ use Rattle.rp_model.specs.declared.effect.Effect.{Effect}
 use Rattle.rp_model.specs.Effect.{NodeInput, node_effect}
 use Rattle.rp_model.specs.Events.{Deliver}
 use Rattle.rp_model.specs.Parts.{NodePart}
-use Rattle.rp_model.specs.World.{World, Transition, part_at, node_done_if, nothing_happens, commanded, chosen_effect, chosen_cut, chosen_record, step_effect, stepping, step_writes}
+use Rattle.rp_model.specs.World.{part_at, node_done_if, nothing_happens, commanded, chosen_record, stepping, step_writes}
 use Rattle.rp_outbox.specs.Packets.{Sending}
-use Rattle.rp_world.specs.Going.{Goes, Answers, AnswersDelivery, Counts, CountsDelivery, stated}
-use Rattle.rp_world.specs.Nodes.{Member, Represents, GoesBy, IsLight, NotTaken, DescribesSending, IsCounted, failures_in, node_step}
+use Rattle.rp_world.specs.Going.{Meant, meant_by, step_meant, Goes, Answers, stated}
+use Rattle.rp_world.specs.Nodes.{Member, Represents, GoesBy, IsLight, NotTaken, DescribesSending, node_step}
 use Rattle.rp_world.specs.Steps.{IsLightStep, ClusterState}
 use Rattle.rp_world.specs.declared.node.Node.{Node}
 use Rattle.rp_world.proofs.Ending.{none_here}
-use Rattle.rp_world.proofs.Failing.{counts, heard_counts, writes}
-use Rattle.rp_world.proofs.Fields.{Fields, IsKept, as_seen, counts_of, first_seen, made_of, member, now, sent_seen, setting, setting_by, world, world_with}
-use Rattle.rp_world.proofs.Hearing.{nothing_goes, heard_by_none, heard_resting, heard_running, heard_stepping, heard_record, cut_heard}
+use Rattle.rp_world.proofs.Fields.{Fields, IsKept, as_seen, cluster_with, first_seen, member, now, sent_seen, setting, setting_by, world}
+use Rattle.rp_world.proofs.Hearing.{nothing_goes, heard_by_none, heard_resting, heard_as, heard_running, heard_stepping, heard_record}
 use Rattle.rp_world.proofs.Light.{light_part}
 use Rattle.rp_world.proofs.Messages.{SentTo, at_place}
-use Rattle.rp_world.proofs.Moving.{part, is_here, represents_now, nodes_stay}
+use Rattle.rp_world.proofs.Moving.{part, is_here, represents_now, stayed}
 use Rattle.rp_world.proofs.Placing.{Found}
-use Rattle.rp_world.proofs.Reports.{at_err, stated_of, stated_sent, as_fault, as_turn_fault}
-use Rattle.rp_world.proofs.Taking.{still_turned, still_refused, sent_more, turned, not_turned, takes_is, cut_is}
+use Rattle.rp_world.proofs.Reports.{at_err, stated_of, stated_sent, as_fault}
+use Rattle.rp_world.proofs.Taking.{still_turned, still_refused, sent_more, turned, not_turned, given_is}
 
 -- the effect reports the number of the next message, and how many there are
 counted_from : {S D P : Type 0} (f : Fields S D P) (dropped : Dropped) (later : Sending) {first count : ℕ} {effect : Effect} → first ≡ length f.was.world.sent → count ≡ length later.sent
@@ -37,37 +36,24 @@ counted_from f dropped later {count = count} first_is count_is is =
 -- ---- a node that is given an input
 
 module _ {S D P : Type 0} (f : Fields S D P) (at : Found f.nodes) (new : Node S D P) (input : NodeInput) where
-  abbrev after : Sending → World
-  after later = world_with f (slice_set f.nodes at.place new) f.tasks later
+  abbrev after : Sending → ClusterState P
+  after later = cluster_with f (slice_set f.nodes at.place new) f.tasks later
 
-  -- what a cluster answers to the input, and what it counts
-  abbrev takes : ClusterState P → Result Transition Fault
-  takes v = chosen_effect (setting_by f v) v.world (commanded at.me input (part_at v.world.nodes at.me))
-
-  abbrev Answered : Sending → Result Effect Fault → ClusterState P → Type 0
-  Answered later r v = Answers v.world (takes v) (λ kept. chosen_cut (setting_by f v) v.world kept (commanded at.me input (part_at v.world.nodes at.me))) (after later) r
-
-  abbrev Counted : {A : Type 0} → Result A Fault → ClusterState P → Type 0
-  Counted r v = Counts (IsSome (chosen_record (setting_by f v) (commanded at.me input (part_at v.world.nodes at.me)))) (Some at.me) v.failures (counts_of f (slice_set f.nodes at.place new)) r
+  -- its step by the definitions
+  abbrev taken : ClusterState P → Meant
+  taken v = meant_by (setting_by f v) v.world (commanded at.me input (part_at v.world.nodes at.me))
 
   pub goes_given : (dropped : Dropped) (later : Sending) → GoesBy f.disk (member f at.me) at.it new (node_step f.next f.answers (member f at.me) input) (DescribesSending f.messages.sent later.sent) dropped
-      → {first count : ℕ} {effect : Effect} → first ≡ length f.was.world.sent → count ≡ length later.sent → effect ≡ stated_sent (first + 1) count dropped → Goes f.was.world (takes f.was) (after later) effect
+      → {first count : ℕ} {effect : Effect} → first ≡ length f.was.world.sent → count ≡ length later.sent → effect ≡ stated_sent (first + 1) count dropped → Goes f.was (taken f.was).whole (after later) effect
   goes_given dropped later by {effect = effect} first_is count_is is =
-      as_seen f (λ v. Goes v.world (takes v) (after later) effect)
-      (turned f at new input dropped later by (takes (now f)) (takes_is f at new input) effect (counted_from f dropped later first_is count_is is))
+      as_seen f (λ v. Goes v (taken v).whole (after later) effect)
+      (turned f at new input dropped later by (taken (now f)) (given_is f at new input) effect (counted_from f dropped later first_is count_is is))
 
   module _ (fault : Fault) (by : NotTaken f.disk (member f at.me) at.it new (node_step f.next f.answers (member f at.me) input) fault) where
-    pub counts_refused : IsCounted (failures_in f.disk at.it) (failures_in f.disk new) (as_turn_fault fault) → Counted (as_fault fault) (now f)
-    counts_refused counted = counts f at new (IsSome (chosen_record (setting f) (commanded at.me input (part_at (world f).nodes at.me)))) fault (writes f at new input fault by) counted
-
-    module _ (r : Result Unit Fault) (refuses : IsErrAnd r (λ e. e ≡ fault)) where
-      pub answers_given : (later : Sending) → later.sent ≡ f.messages.sent → (effect : Effect) → Answered later (stated r effect) f.was
-      answers_given later same effect =
-          at_err (λ x. Answered later (stated x effect) f.was) fault r refuses
-          (as_seen f (Answered later (as_fault fault)) (not_turned f at new input fault by later same _ _ (takes_is f at new input) (cut_is f at new input)))
-
-      pub counts_given : IsCounted (failures_in f.disk at.it) (failures_in f.disk new) (as_turn_fault fault) → Counted r f.was
-      counts_given counted = at_err (λ x. Counted x f.was) fault r refuses (as_seen f (Counted (as_fault fault)) (counts_refused counted))
+    pub answers_given : (r : Result Unit Fault) → IsErrAnd r (λ e. e ≡ fault) → (later : Sending) → later.sent ≡ f.messages.sent → (effect : Effect) → Answers f.was (taken f.was) (after later) (stated r effect)
+    answers_given r refuses later same effect =
+        at_err (λ x. Answers f.was (taken f.was) (after later) (stated x effect)) fault r refuses
+        (as_seen f (λ v. Answers v (taken v) (after later) (as_fault fault)) (not_turned f at new input fault by later same (taken (now f)) (given_is f at new input)))
 
 -- what takes no memory in the world that the caller saw, takes none at the node
 pub light_given : {S D P : Type 0} (f : Fields S D P) (at : Found f.nodes) (input : NodeInput) (p : NodePart) → part_at f.was.world.nodes at.me ≡ Some p
@@ -80,40 +66,45 @@ light_given f at input p here light =
 -- ---- a message that is for it
 
 module _ {S D P : Type 0} (f : Fields S D P) (number : ℕ) where
-  abbrev heard : ClusterState P → Result Transition Fault
-  heard v = step_effect (setting_by f v) v.world (Deliver number)
+  abbrev heard : ClusterState P → Meant
+  heard v = step_meant (setting_by f v) v.world (Deliver number)
 
 -- a message that changes nothing
-nothing_heard : {S D P : Type 0} (f : Fields S D P) (number : ℕ) (after : World) {first : ℕ} {effect : Effect} → heard f number (now f) ≡ Ok (nothing_happens (world f)) → after ≡ world f → first ≡ length f.was.world.sent
-    → effect ≡ stated_of (first + 1) None → Goes f.was.world (heard f number f.was) after effect
+nothing_heard : {S D P : Type 0} (f : Fields S D P) (number : ℕ) (after : ClusterState P) {first : ℕ} {effect : Effect} → (heard f number (now f)).whole ≡ Ok (nothing_happens (world f)) → after ≡ now f → first ≡ length f.was.world.sent
+    → effect ≡ stated_of (first + 1) None → Goes f.was (heard f number f.was).whole after effect
 nothing_heard f number after {effect = effect} is same first_is is_effect =
-    as_seen f (λ v. Goes v.world (heard f number v) after effect)
-    (nothing_goes (world f) (heard f number (now f)) after effect is same (is_effect ∙ ap (λ (k : ℕ). stated_of (k + 1) None) (first_seen f first_is)))
+    as_seen f (λ v. Goes v (heard f number v).whole after effect)
+    (nothing_goes f (heard f number (now f)).whole after effect is same (is_effect ∙ ap (λ (k : ℕ). stated_of (k + 1) None) (first_seen f first_is)))
 
 -- there is no node of this number
 pub goes_past : {S D P : Type 0} (f : Fields S D P) {number i me : ℕ} → SentTo f.messages.sent number (Party.Node me) → suc i ≡ me → length f.nodes ≤ i
-    → {first : ℕ} {effect : Effect} → first ≡ length f.was.world.sent → effect ≡ stated_of (first + 1) None → Goes f.was.world (heard f number f.was) (world f) effect
-goes_past f {number = number} m placed past first_is is = nothing_heard f number (world f) (heard_by_none (setting f) (world f) m (none_here f placed past)) refl first_is is
+    → {first : ℕ} {effect : Effect} → first ≡ length f.was.world.sent → effect ≡ stated_of (first + 1) None → Goes f.was (heard f number f.was).whole (now f) effect
+goes_past f {number = number} m placed past first_is is = nothing_heard f number (now f) (heard_by_none (setting f) (world f) m (none_here f placed past)) refl first_is is
 
 module _ {S D P : Type 0} (f : Fields S D P) (at : Found f.nodes) {number : ℕ} (m : SentTo f.messages.sent number (Party.Node at.me)) where
-  abbrev with_node : Node S D P → Sending → World
-  with_node new later = world_with f (slice_set f.nodes at.place new) f.tasks later
+  abbrev with_node : Node S D P → Sending → ClusterState P
+  with_node new later = cluster_with f (slice_set f.nodes at.place new) f.tasks later
 
   abbrev input : NodeInput
   input = NodeInput.Receive m.packet
 
   -- it is stopped
   pub goes_resting : ((member : Member S) (p : NodePart) → Represents f.disk member at.it p → p.running ≡ None)
-      → {first : ℕ} {effect : Effect} → first ≡ length f.was.world.sent → effect ≡ stated_of (first + 1) None → Goes f.was.world (heard f number f.was) (with_node at.it f.messages) effect
+      → {first : ℕ} {effect : Effect} → first ≡ length f.was.world.sent → effect ≡ stated_of (first + 1) None → Goes f.was (heard f number f.was).whole (with_node at.it f.messages) effect
   goes_resting rests first_is is =
       nothing_heard f number (with_node at.it f.messages) (heard_resting (setting f) (world f) m (part f at) (is_here f at) (rests (member f at.me) (part f at) (represents_now f at)))
-      (ap (λ (ps : List NodePart). made_of ps (world f).tasks (world f).sent) (nodes_stay f at at.it (represents_now f at))) first_is is
+      (stayed f at at.it f.messages (represents_now f at) refl refl) first_is is
 
   abbrev Runs : Type 0
   Runs = (member : Member S) (p : NodePart) → Represents f.disk member at.it p → IsSome p.running
 
-  its_turn : Runs → heard f number (now f) ≡ node_done_if (world f) at.me (node_step f.next f.answers (member f at.me) input (part f at))
+  its_turn : Runs → (heard f number (now f)).whole ≡ node_done_if (world f) at.me (node_step f.next f.answers (member f at.me) input (part f at))
   its_turn runs = heard_running (setting f) (world f) m (part f at) (is_here f at) (runs (member f at.me) (part f at) (represents_now f at))
+
+  -- its step is that of the node, which is given the message
+  as_given : (Q : Meant → Type 0) → Runs → Q (meant_by (setting f) (world f) (commanded at.me input (part_at (world f).nodes at.me))) → Q (heard f number (now f))
+  as_given Q runs q =
+      subst (λ c. Q (meant_by (setting f) (world f) c)) (sym (heard_as (setting f) (world f) m (part f at) (is_here f at) (runs (member f at.me) (part f at) (represents_now f at)))) q
 
   -- its delivery takes no memory
   module _ (runs : Runs) (light : IsLightStep (setting_by f f.was) f.was.world (Deliver number)) where
@@ -140,32 +131,22 @@ module _ {S D P : Type 0} (f : Fields S D P) (at : Found f.nodes) {number : ℕ}
     more_heard = sent_more f at new input dropped later (by (member f at.me) m.packet (at_place m))
 
     pub goes_heard : Runs → {first count : ℕ} {effect : Effect} → first ≡ length f.was.world.sent → count ≡ length later.sent → effect ≡ stated_sent (first + 1) count dropped
-        → Goes f.was.world (heard f number f.was) (with_node new later) effect
+        → Goes f.was (heard f number f.was).whole (with_node new later) effect
     goes_heard runs {effect = effect} first_is count_is is =
-        as_seen f (λ v. Goes v.world (heard f number v) (with_node new later) effect)
-        (turned f at new input dropped later (by (member f at.me) m.packet (at_place m)) (heard f number (now f)) (its_turn runs) effect (counted_from f dropped later first_is count_is is))
+        as_seen f (λ v. Goes v (heard f number v).whole (with_node new later) effect)
+        (as_given (λ t. Goes (now f) t.whole (with_node new later) effect) runs
+        (turned f at new input dropped later (by (member f at.me) m.packet (at_place m)) (taken f at new input (now f)) (given_is f at new input) effect (counted_from f dropped later first_is count_is is)))
 
   -- or does not
   module _ (new : Node S D P) (fault : Fault)
       (by : (member : Member S) (packet : Message) → slice_get f.messages.sent (number - 1) ≡ Some packet → NotTaken f.disk member at.it new (node_step f.next f.answers member (NodeInput.Receive packet)) fault) where
-    abbrev IsAnswered : Sending → Result Effect Fault → ClusterState P → Type 0
-    IsAnswered later r v = AnswersDelivery (setting_by f v) v.world number (with_node new later) r
-
-    abbrev HasCounted : Result Unit Fault → ClusterState P → Type 0
-    HasCounted r v = CountsDelivery (setting_by f v) v.world number v.failures (counts_of f (slice_set f.nodes at.place new)) r
-
     pub still_unheard : IsKept f (slice_set f.nodes at.place new) f.tasks
     still_unheard = still_refused f at new input fault (by (member f at.me) m.packet (at_place m))
 
-    module _ (r : Result Unit Fault) (refuses : IsErrAnd r (λ e. e ≡ fault)) where
-      pub answers_heard : Runs → (later : Sending) → later.sent ≡ f.messages.sent → (effect : Effect) → IsAnswered later (stated r effect) f.was
-      answers_heard runs later same effect =
-          at_err (λ x. IsAnswered later (stated x effect) f.was) fault r refuses
-          (as_seen f (IsAnswered later (as_fault fault))
-          (not_turned f at new input fault (by (member f at.me) m.packet (at_place m)) later same _ _ (its_turn runs) (cut_heard (setting f) (world f) m (part f at) (is_here f at))))
-
-      pub counts_heard : IsCounted (failures_in f.disk at.it) (failures_in f.disk new) (as_turn_fault fault) → HasCounted r f.was
-      counts_heard counted =
-          at_err (λ x. HasCounted x f.was) fault r refuses
-          (as_seen f (λ v. HasCounted (let x : Result Unit Fault = Err fault in x) v)
-          (heard_counts (setting f) (world f) m fault (counts_of f f.nodes) (counts_of f (slice_set f.nodes at.place new)) (counts_refused f at new input fault (by (member f at.me) m.packet (at_place m)) counted)))
+    pub answers_heard : (r : Result Unit Fault) → IsErrAnd r (λ e. e ≡ fault) → Runs → (later : Sending) → later.sent ≡ f.messages.sent → (effect : Effect)
+        → Answers f.was (heard f number f.was) (with_node new later) (stated r effect)
+    answers_heard r refuses runs later same effect =
+        at_err (λ x. Answers f.was (heard f number f.was) (with_node new later) (stated x effect)) fault r refuses
+        (as_seen f (λ v. Answers v (heard f number v) (with_node new later) (as_fault fault))
+        (as_given (λ t. Answers (now f) t (with_node new later) (as_fault fault)) runs
+        (not_turned f at new input fault (by (member f at.me) m.packet (at_place m)) later same (taken f at new input (now f)) (given_is f at new input))))

@@ -12,12 +12,15 @@ use Rattle.rp_codec.specs.declared.packet.Party.{Party}
 use Rattle.rp_codec.proofs.Decoded.{whole_again}
 use Rattle.rp_model.specs.declared.effect.Dropped.TheVariants.{No}
 use Rattle.rp_model.specs.declared.effect.Effect.{Effect}
+use Rattle.rp_model.specs.Answers.{IsDone}
+use Rattle.rp_model.specs.Events.{Deliver, Makes, Step}
 use Rattle.rp_model.specs.Parts.{TaskPart}
 use Rattle.rp_model.specs.Tasks.{takes_reply}
 use Rattle.rp_model.specs.World.{World, with_part}
 use Rattle.rp_world.specs.Callers.{Caller}
-use Rattle.rp_world.specs.Going.{AnswersDelivery, reply_in, reply_read}
-use Rattle.rp_world.proofs.Fields.{Fields, as_seen, first_seen, setting, world, world_with, setting_by}
+use Rattle.rp_world.specs.Going.{Answers, Goes, reply_in, reply_read, step_meant}
+use Rattle.rp_world.specs.Steps.{ClusterState}
+use Rattle.rp_world.proofs.Fields.{Fields, as_seen, cluster_with, first_seen, goes_to, now, setting, world, world_with, setting_by}
 use Rattle.rp_world.proofs.Hearing.{no_reply, reply_results, takes_it}
 use Rattle.rp_world.proofs.Messages.{SentTo}
 use Rattle.rp_world.proofs.Moving.{task_at, task_here, number_here, tasks_moved, tasks_stay}
@@ -28,30 +31,39 @@ use Rattle.rp_world.proofs.Reports.{stated_of}
 pub reply_of_text : (text : List ℕ) (m : Message) (read : Option (ℕ × Reply)) → IsPacket m → text ≡ text_of m → read ≡ reply_read (all_of text) → read ≡ reply_in m.body
 reply_of_text text m read packet is from = from ∙ ap (λ (bytes : List ℕ). reply_read (all_of bytes)) is ∙ ap reply_read (whole_again m packet)
 
+-- a step happens that changes a task alone
+goes_as : {S D P : Type 0} (f : Fields S D P) (tasks : List Caller) (step : Step) (effect : Effect) → IsDone (setting f) (world f) (Makes step) (world_with f f.nodes tasks f.messages) effect
+    → Goes (now f) (step_meant (setting f) (world f) step).whole (cluster_with f f.nodes tasks f.messages) effect
+goes_as f tasks step effect done = record { transition = done.transition; resulted = done.resulted; goes = goes_to f f.nodes tasks f.messages done.world refl; describes = done.describes }
+
 -- it is no reply, and changes nothing
 pub heard_no_reply : {S D P : Type 0} (f : Fields S D P) {number task : ℕ} (m : SentTo f.messages.sent number (Party.Task task)) → (1 ≤ task) × (task ≤ 8) → reply_in m.packet.body ≡ None
     → {first : ℕ} {effect : Effect} → first ≡ length f.was.world.sent → effect ≡ stated_of (first + 1) None
-    → AnswersDelivery (setting_by f f.was) f.was.world number f.was.world (let r : Result Effect Fault = Ok effect in r)
+    → Goes f.was (step_meant (setting_by f f.was) f.was.world (Deliver number)).whole f.was effect
 heard_no_reply f {number = number} {task = task} m range none {effect = effect} first_is is =
     let at = task_at f task range in
-    as_seen f (λ v. AnswersDelivery (setting_by f v) v.world number v.world (let r : Result Effect Fault = Ok effect in r))
-    (no_reply (setting f) (world f) m at.0 at.1 effect none at.2 (is ∙ ap (λ (k : ℕ). stated_of (k + 1) None) (first_seen f first_is)))
+    as_seen f (λ v. Goes v (step_meant (setting_by f v) v.world (Deliver number)).whole v effect)
+    (goes_as f f.tasks (Deliver number) effect (no_reply (setting f) (world f) m at.0 at.1 effect none at.2 (is ∙ ap (λ (k : ℕ). stated_of (k + 1) None) (first_seen f first_is))))
 
 module _ {S D P : Type 0} (f : Fields S D P) (at : Found f.tasks) (new : Caller) {number : ℕ} (m : SentTo f.messages.sent number (Party.Task at.me)) where
   abbrev w : World
   w = world f
 
+  abbrev tasks : List Caller
+  tasks = slice_set f.tasks at.place new
+
   abbrev after : World
-  after = world_with f f.nodes (slice_set f.tasks at.place new) f.messages
+  after = world_with f f.nodes tasks f.messages
 
   abbrev with_tasks : List TaskPart → World
   with_tasks ts = record { nodes = w.nodes; tasks = ts; sent = w.sent }
 
-  abbrev Answered : Result Effect Fault → Type 0
-  Answered r = AnswersDelivery (setting_by f f.was) f.was.world number after r
+  -- what is answered to its delivery
+  abbrev AnsweredBy : Result Effect Fault → ClusterState P → Type 0
+  AnsweredBy r v = Answers v (step_meant (setting_by f v) v.world (Deliver number)) (cluster_with f f.nodes tasks f.messages) r
 
-  seen : (r : Result Effect Fault) → AnswersDelivery (setting f) w number after r → Answered r
-  seen r is = as_seen f (λ v. AnswersDelivery (setting_by f v) v.world number after r) is
+  abbrev Answered : Result Effect Fault → Type 0
+  Answered r = AnsweredBy r f.was
 
   -- it took the reply, or ignored it
   module _ {n : ℕ} {reply : Reply} (is_reply : reply_in m.packet.body ≡ Some (n, reply)) where
@@ -71,9 +83,10 @@ module _ {S D P : Type 0} (f : Fields S D P) (at : Found f.tasks) (new : Caller)
         (tasks_moved f at new
         ∙ ap (with_part w.tasks at.me) (ap (λ (k : Caller). k.part) ok ∙ ap (λ (k : ℕ). (takes_reply k at.it.part n reply).part) (number_here f at))) in
         subst Answered (sym returned)
-        (seen (Ok stated)
+        (as_seen f (AnsweredBy (Ok stated))
+        (goes_as f tasks (Deliver number) stated
         (takes_it (setting f) w m at.it.part (task_here f at) n reply is_reply after taken stated moved (took ∙ ap (λ (k : ℕ). (takes_reply k at.it.part n reply).taken) (number_here f at))
-        (stated_is ∙ ap (λ (k : ℕ). let e : Effect = record { first = k + 1; sent = 0; dropped = No; taken = taken; opened = None } in e) (first_seen f first_is))))
+        (stated_is ∙ ap (λ (k : ℕ). let e : Effect = record { first = k + 1; sent = 0; dropped = No; taken = taken; opened = None } in e) (first_seen f first_is)))))
 
   -- memory ran out for it
   pub not_taken : {E : Type 0} {result : Result (Option Answer) E} {e : E} {r : Result Effect Fault} → result ≡ Err e → r ≡ Err OutOfMemory → OnErr result (new ≡ at.it) → Answered r
@@ -81,10 +94,10 @@ module _ {S D P : Type 0} (f : Fields S D P) (at : Found f.tasks) (new : Caller)
       let same = subst (λ a. OnErr a (new ≡ at.it)) is err in
       let results = reply_results (setting f) w m at.it.part (task_here f at) in
       subst Answered (sym returned)
-      (seen (Err OutOfMemory)
+      (as_seen f (AnsweredBy (Err OutOfMemory))
       (inr (inl (record {
         memory = refl;
         intended = results.0;
         resulted = results.1;
-        unchanged = ap with_tasks (tasks_stay f at new (ap (λ (k : Caller). k.part) same));
+        unchanged = goes_to f f.nodes tasks f.messages (ap with_tasks (tasks_stay f at new (ap (λ (k : Caller). k.part) same))) refl;
       }))))

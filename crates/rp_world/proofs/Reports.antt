@@ -20,12 +20,9 @@ stated_count first sent = record { first = first; sent = sent; dropped = No; tak
 abbrev pub stated_sent : ℕ → ℕ → Dropped → Effect
 stated_sent first count dropped = record { first = first; sent = min (count + 1 - first) (2 ^ 32 - 1); dropped = dropped; taken = None; opened = None }
 
--- the answers that are this fault
+-- the answer that is this fault
 abbrev pub as_fault : Fault → Result Effect Fault
 as_fault fault = Err fault
-
-abbrev pub as_turn_fault : Fault → Result Dropped Fault
-as_turn_fault fault = Err fault
 
 -- an effect describes a transition as the one does that it is
 pub describes_of : {sent : ℕ} {transition : Transition} {stated other : Effect} → stated ≡ other → Describes sent transition other → Describes sent transition stated

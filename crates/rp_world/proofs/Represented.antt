@@ -20,7 +20,7 @@ use Rattle.rp_replica.specs.Kept.{HoldsPart, HoldsOnly, HoldsItsRecords}
 use Rattle.std.specs.Prelude.{IfOk, IfErr}
 use Rattle.rp_world.specs.declared.node.Node.{Node}
 use Rattle.rp_world.specs.declared.node.Node.TheVariants.{Running, Stopped}
-use Rattle.rp_world.specs.Nodes.{Member, RunsAs, RestsAs, RepresentsWhile, Represents, GoesBy, IsLeftTorn, DescribesOpened, stored_length}
+use Rattle.rp_world.specs.Nodes.{Member, RunsAs, RestsAs, RepresentsWhile, Represents, GoesBy, IsLeftTorn, IsNotStarted, DescribesOpened, failures_in, stored_length}
 
 -- ---- a replica that runs, or has failed
 
@@ -132,6 +132,11 @@ module _ (most : ℕ) (old new : Disk) (part : NodePart) (rests : RestsAs most o
       (kept.0, left kept.0 (take kept.0 rests.holds.torn) kept.1 e)
   refused _ why = absurd why
 
+pub opening_counted : (old new : Disk) (fault : Fault) → IsRefusedOpening old fault new → IsNotStarted old.failures new.failures fault
+opening_counted old new OutOfMemory why = inl (refl, elim why [ inl same ↦ same.failures | inr opened ↦ opened.2.failures ])
+opening_counted old new Device why = inr (refl, why.1)
+opening_counted old new _ why = absurd why
+
 length_while : {S : Type 0} (member : Member S) (replica : ReplicaState S) (part : NodePart) (failed : Bool) → RepresentsWhile member replica part failed → length replica.disk.contents ≡ stored_length part
 length_while member replica part true rests = resting_length member.config.max_positions replica.disk part rests
 length_while member replica part false runs =
@@ -175,13 +180,13 @@ rests_stopped disk member is part represents_it = subst (λ n. Represents disk m
 
 -- a node that starts over the device that it rested on
 module _ {S D P : Type 0} (disk : D → Disk) (member : Member S) (old new : Node S D P) (device : Disk)
-    (rests : (part : NodePart) → Represents disk member old part → RestsAs member.config.max_positions device part) where
+    (as_often : device.failures ≡ failures_in disk old) (rests : (part : NodePart) → Represents disk member old part → RestsAs member.config.max_positions device part) where
   pub started : (answer : Result (Option (ℕ × ℕ)) Fault)
-      → IfOk answer (λ opened. (part : NodePart) → RestsAs member.config.max_positions device part → Represents disk member new (restart_part part).part × DescribesOpened opened (restart_part part))
+      → IfOk answer (λ opened. (part : NodePart) → RestsAs member.config.max_positions device part → Represents disk member new (restart_part part).part × DescribesOpened opened (restart_part part) × (failures_in disk new ≡ device.failures))
       → IfOk answer (λ opened. GoesBy disk member old new (λ part. Ok (restart_part part)) DescribesOpened opened)
   started (Ok opened) is = λ part so.
       let after = is part (rests part so) in
-      (restart_part part, refl, after.0, after.1)
+      (restart_part part, refl, after.0, after.1, after.2 ∙ as_often)
   started (Err fault) is = tt
 
   pub not_started : (answer : Result (Option (ℕ × ℕ)) Fault)
@@ -189,3 +194,6 @@ module _ {S D P : Type 0} (disk : D → Disk) (member : Member S) (old new : Nod
       → IfErr answer (λ fault. IsLeftTorn disk member old new)
   not_started (Ok opened) is = tt
   not_started (Err fault) is = λ part so. is part (rests part so)
+
+  pub why_not_started : (answer : Result (Option (ℕ × ℕ)) Fault) → IfErr answer (IsNotStarted device.failures (failures_in disk new)) → IfErr answer (IsNotStarted (failures_in disk old) (failures_in disk new))
+  why_not_started answer why = subst (λ (k : ℕ). IfErr answer (IsNotStarted k (failures_in disk new))) as_often why

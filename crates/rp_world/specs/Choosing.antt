@@ -1,8 +1,7 @@
 -- Which node makes a step, and what that node is given (no public clause names it).
-use Rattle.std.specs.Prelude.{◌≡◌, ◌≢◌, ◌≤◌, ℕ, Some, Result, Ok, Err, List, length, map}
+use Rattle.std.specs.Prelude.{◌≡◌, ◌≤◌, ℕ, Some, Result, Ok, Err, List, length, map}
 use Rattle.rp_base.specs.declared.config.Config.{Config}
 use Rattle.rp_base.specs.declared.fault.Fault.{Fault}
-use Rattle.rp_base.specs.declared.fault.Fault.TheVariants.{Device}
 use Rattle.rp_model.specs.Effect.{Setting, NodeInput}
 use Rattle.rp_model.specs.Events.{Step}
 use Rattle.rp_model.specs.World.{World, part_at, commanded, chosen_cut, chosen_record}
@@ -36,9 +35,8 @@ module _ {S : Type 0} (s : Setting S) (w : World) (step : Step) where
     pub node : stepping w step ≡ Some me
 
   -- no node makes the step, and so none can stop within it
-  pub record IsOfNone (fault : Fault) : Type 0 where
-    pub cut : (kept : ℕ) → cut_step s w step kept ≡ Err fault
-    pub reason : fault ≢ Device
+  abbrev pub IsOfNone : Fault → Type 0
+  IsOfNone fault = (kept : ℕ) → cut_step s w step kept ≡ Err fault
 
   -- the step is refused so, whole or cut
   pub record IsRefused (fault : Fault) : Type 0 where

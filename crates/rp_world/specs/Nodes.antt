@@ -90,7 +90,16 @@ Represents disk member (Running replica) part = RepresentsWhile member replica p
 Represents disk member (Stopped device) part =
     RestsAs member.config.max_positions (disk device) part
 
+-- how often the device of a node has failed
+abbrev pub failures_in : {S D P : Type 0} → (D → Disk) → Node S D P → ℕ
+failures_in disk (Running replica) = replica.disk.failures
+failures_in disk (Stopped device) = (disk device).failures
+
 module _ {S D P : Type 0} (disk : D → Disk) (member : Member S) (old new : Node S D P) where
+  -- the device of the node has not failed
+  abbrev pub HasNotFailed : Type 0
+  HasNotFailed = failures_in disk new ≡ failures_in disk old
+
   -- a step of the node is this effect on its part, and is reported
   abbrev pub GoesBy : {A : Type 0} → (NodePart → Result (Done NodePart) Fault)
       → (A → Done NodePart → Type 0) → A
@@ -98,20 +107,20 @@ module _ {S D P : Type 0} (disk : D → Disk) (member : Member S) (old new : Nod
   GoesBy effect describes answer =
       (part : NodePart) → Represents disk member old part
       → (done : Done NodePart) × (effect part ≡ Ok done) × Represents disk member new done.part
-      × describes answer done
+      × describes answer done × HasNotFailed
 
   -- a step of the node is a cut of this effect, where n bytes of its record are kept
   abbrev pub IsCutBy : ℕ → (NodePart → Result (Done NodePart) Fault) → Type 0
   IsCutBy kept effect =
       (part : NodePart) → Represents disk member old part
       → (done : Done NodePart) × (effect part ≡ Ok done)
-      × Represents disk member new (cut_part kept part done.written)
+      × Represents disk member new (cut_part kept part done.written) × HasNotFailed
 
   -- or the effect refuses it, and nothing changes
   abbrev pub RefusedBy : (NodePart → Result (Done NodePart) Fault) → Fault → Type 0
   RefusedBy effect fault =
       (part : NodePart) → Represents disk member old part → (effect part ≡ Err fault)
-      × Represents disk member new part
+      × Represents disk member new part × HasNotFailed
 
   -- or some of the torn bytes are gone, from the end
   abbrev pub IsLeftTorn : Type 0
@@ -120,30 +129,26 @@ module _ {S D P : Type 0} (disk : D → Disk) (member : Member S) (old new : Nod
       → (kept : ℕ) × Represents disk member new (record part { torn = min kept part.torn })
 
   -- Or the step was not taken: it is refused, and nothing changes; or memory ran out for it, and
-  -- nothing changes; or the device failed, and the step, which writes a record, is cut with some of
-  -- the record's bytes kept.
+  -- nothing changes; or the device failed, its count rose, and the step, which writes a record, is
+  -- cut with some of the record's bytes kept.
   abbrev pub NotTaken : (NodePart → Result (Done NodePart) Fault) → Fault → Type 0
   NotTaken effect fault =
       (part : NodePart) → Represents disk member old part
-      → ((effect part ≡ Err fault) × Represents disk member new part)
-      ⊎ (((fault ≡ OutOfMemory) × IsNotRefused (effect part) × Represents disk member new part)
+      → ((effect part ≡ Err fault) × Represents disk member new part × HasNotFailed)
+      ⊎ (((fault ≡ OutOfMemory) × IsNotRefused (effect part) × Represents disk member new part
+      × HasNotFailed)
       ⊎ ((fault ≡ Device) × (kept : ℕ) × (done : Done NodePart) × (effect part ≡ Ok done)
-      × Represents disk member new (cut_part kept part done.written) × IsSome done.written))
+      × Represents disk member new (cut_part kept part done.written) × IsSome done.written
+      × (failures_in disk old < failures_in disk new)))
 
 -- how many bytes a device holds that keeps the part: the texts of its records, and the torn bytes
 abbrev pub stored_length : NodePart → ℕ
 stored_length part = length (records_text part.records) + part.torn
 
--- how often the device of a node has failed
-abbrev pub failures_in : {S D P : Type 0} → (D → Disk) → Node S D P → ℕ
-failures_in disk (Running replica) = replica.disk.failures
-failures_in disk (Stopped device) = (disk device).failures
-
--- after an answer the count is as before, and higher where it is a fault of the device
-abbrev pub IsCounted : {A : Type 0} → ℕ → ℕ → Result A Fault → Type 0
-IsCounted old new (Ok stated) = new ≡ old
-IsCounted old new (Err Device) = old < new
-IsCounted old new (Err _) = new ≡ old
+-- why a restart fails: memory ran out, and the device has not failed; or it has, and its count rose
+abbrev pub IsNotStarted : ℕ → ℕ → Fault → Type 0
+IsNotStarted old new fault =
+    ((fault ≡ OutOfMemory) × (new ≡ old)) ⊎ ((fault ≡ Device) × (old < new))
 
 -- the node is stopped
 abbrev pub IsResting : {S D P : Type 0} → (D → Disk) → Member S → Node S D P → Type 0

@@ -6,7 +6,7 @@ ghost use Rattle.rp_model.specs.World.{part_at, task_takes};
 ghost use Rattle.rp_codec.specs.Message.{IsCallBy};
 ghost use Rattle.rp_base.specs.Action.{IsRight};
 ghost use Rattle.rp_agreement.specs.Ranges.{IsRangedWorld};
-ghost use Rattle.rp_world.specs.Going.{Answers, no_cut};
+ghost use Rattle.rp_world.specs.Going.{Answers, call_meant};
 
 use crate::effect::{no_effect, one_message};
 use crate::world::World;
@@ -57,11 +57,9 @@ impl<M: Machine, D: CutDevice> World<M, D> {
         operation: Operation,
         arg: i64,
     ) -> Result<Effect, Fault>
-        ensures answer { Answers self.old.world
-            (task_takes self.old.setup.config self.old.world task (tasks.Submit node object operation arg)
-            (part_at self.old.world.tasks task)) no_cut self.new.world result }
-        ensures setup { self.new.setup ≡ self.old.setup }
-        ensures failures { self.new.failures ≡ self.old.failures }
+        ensures answer { Answers self.old (call_meant (task_takes self.old.setup.config
+            self.old.world task (tasks.Submit node object operation arg)
+            (part_at self.old.world.tasks task))) self.new result }
     {
         let first = self.messages() + 1;
         let caller = &mut self.tasks[usize::from(task.get()) - 1];
@@ -76,11 +74,9 @@ impl<M: Machine, D: CutDevice> World<M, D> {
     #[inline(never)]
     pub(crate) fn again(&mut self, task: TaskId, node: NodeId) -> Result<Effect, Fault>
         requires ranged { IsRangedWorld self.old.setup.config.nodes self.old.world }
-        ensures answer { Answers self.old.world
-            (task_takes self.old.setup.config self.old.world task (tasks.Again node)
-            (part_at self.old.world.tasks task)) no_cut self.new.world result }
-        ensures setup { self.new.setup ≡ self.old.setup }
-        ensures failures { self.new.failures ≡ self.old.failures }
+        ensures answer { Answers self.old (call_meant (task_takes self.old.setup.config
+            self.old.world task (tasks.Again node)
+            (part_at self.old.world.tasks task))) self.new result }
     {
         let first = self.messages() + 1;
         if node.get() > self.config.nodes {

@@ -10,7 +10,7 @@ ghost use Rattle.rp_model.specs.Effect.{NodeInput, stop_effect, restart_part};
 ghost use Rattle.rp_model.specs.Parts.{fresh_node};
 ghost use Rattle.rp_model.specs.Parts.{NodePart};
 ghost use Rattle.rp_world.specs.Failures.{SomeHasFailed};
-ghost use Rattle.rp_world.specs.Nodes.{Member, member_of, RunsAs, RestsAs, Represents, GoesBy, IsCutBy, IsCounted, IsLight, IsResting, RefusedBy, IsLeftTorn, NotTaken, DescribesNothing, DescribesOpened, DescribesSending, failures_in, node_step, stored_length};
+ghost use Rattle.rp_world.specs.Nodes.{Member, member_of, RunsAs, RestsAs, Represents, GoesBy, IsCutBy, IsLight, IsNotStarted, IsResting, RefusedBy, IsLeftTorn, NotTaken, DescribesNothing, DescribesOpened, DescribesSending, failures_in, node_step, stored_length};
 
 use rp_base::{Config, Fault, NodeId};
 use rp_machine::Machine;
@@ -102,7 +102,6 @@ impl<M: Machine, D: CutDevice> Node<M, D> {
             self result.0 stop_effect DescribesNothing done) }
         ensures err { IfErr result.1 (λ fault. (member : Member M) → RefusedBy D.disk member
             self result.0 stop_effect fault) }
-        ensures failures { failures_in D.disk result.0 ≡ failures_in D.disk self }
     {
         match self {
             Node::Running(replica) => {
@@ -134,10 +133,8 @@ impl<M: Machine, D: CutDevice> Node<M, D> {
             (member_of me config (M.begin program.now)) self result.0) }
         ensures rests { IfErr result.1 (λ fault. IsResting D.disk
             (member_of me config (M.begin program.now)) self) }
-        ensures failures { IsCounted (failures_in D.disk self)
-            (failures_in D.disk result.0) result.1 }
-        ensures only { IfErr result.1 (λ fault. (fault ≡ faults.OutOfMemory) ⊎ (fault
-            ≡ faults.Device)) }
+        ensures why { IfErr result.1 (IsNotStarted (failures_in D.disk self)
+            (failures_in D.disk result.0)) }
     {
         match self {
             Node::Running(replica) => {
@@ -169,8 +166,6 @@ impl<M: Machine, D: CutDevice> Node<M, D> {
             → given_by input.now ≡ Ok given → NotTaken D.disk member self.old self.new
             (node_step M.next M.answers member given) fault) }
         ensures unsent { OnErr result (messages.new.sent ≡ messages.old.sent) }
-        ensures failures { IsCounted (failures_in D.disk self.old) (failures_in D.disk self.new)
-            result }
         ensures certain { (member : Member M) (part : NodePart) (given : NodeInput)
             → Represents D.disk member self.old part → given_by input.now ≡ Ok given
             → (¬ IsLong input.now) → IsLight part (node_step M.next M.answers member given part)
@@ -204,8 +199,6 @@ impl<M: Machine, D: CutDevice> Node<M, D> {
             → slice_get messages.old.sent place ≡ Some m → NotTaken D.disk member self.old self.new
             (node_step M.next M.answers member (NodeInput.Receive m)) fault) }
         ensures unsent { OnErr result (messages.new.sent ≡ messages.old.sent) }
-        ensures failures { IsCounted (failures_in D.disk self.old) (failures_in D.disk self.new)
-            result }
         ensures certain { (member : Member M) (part : NodePart) (m : Message)
             → Represents D.disk member self.old part → slice_get messages.old.sent place ≡ Some m
             → (¬ IsLongBody m.body)
@@ -234,8 +227,6 @@ impl<M: Machine, D: CutDevice> Node<M, D> {
         ensures err { IfErr result.1 (λ fault. (member : Member M) (given : NodeInput)
             → given_by input.now ≡ Ok given → NotTaken D.disk member self result.0
             (node_step M.next M.answers member given) fault) }
-        ensures failures { IsCounted (failures_in D.disk self)
-            (failures_in D.disk result.0) result.1 }
     {
         match self {
             Node::Running(replica) => {
@@ -278,14 +269,14 @@ fn starts<M: Machine, D: CutDevice>(
     ensures ok { IfOk result.1 (λ opened. (part : NodePart)
         → RestsAs config.max_positions (D.disk device) part
         → Represents D.disk (member_of me config (M.begin program.now)) result.0
-        (restart_part part).part × DescribesOpened opened (restart_part part)) }
+        (restart_part part).part × DescribesOpened opened (restart_part part)
+        × (failures_in D.disk result.0 ≡ (D.disk device).failures)) }
     ensures err { IfErr result.1 (λ fault. (part : NodePart)
         → RestsAs config.max_positions (D.disk device) part
         → (kept : ℕ) × Represents D.disk (member_of me config (M.begin program.now)) result.0
         (record part { torn = min kept part.torn })) }
-    ensures failures { IsCounted (D.disk device).failures (failures_in D.disk result.0) result.1 }
-    ensures only { IfErr result.1 (λ fault. (fault ≡ faults.OutOfMemory) ⊎ (fault
-        ≡ faults.Device)) }
+    ensures why { IfErr result.1 (IsNotStarted (D.disk device).failures
+        (failures_in D.disk result.0)) }
 {
     match Replica::open(alloc, me, config, program, device) {
         Ok(opening) => (

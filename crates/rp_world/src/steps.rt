@@ -1,6 +1,6 @@
 //! The steps of nodes, whole or cut, and the function that makes the step of each event.
 
-ghost use Rattle.std.specs.Prelude.{◌≡◌, Ok, Some, IfOk, IfErr, OnErr, IsOk, IsSome, option_copied, option_map};
+ghost use Rattle.std.specs.Prelude.{◌≡◌, Ok, Some, IfOk, IfErr, OnErr, IsOk, option_copied, option_map};
 ghost use Rattle.std.specs.List.{AllByRecursion};
 ghost use Rattle.rp_base.specs.Config.{IsRightConfig};
 ghost use Rattle.rp_base.specs.Sets.{Has};
@@ -14,11 +14,11 @@ ghost use Rattle.rp_model.specs.Parts.{NodePart};
 ghost use Rattle.rp_model.specs.Events as events;
 ghost use Rattle.rp_model.specs.Events.{IsRightEvent, event_of, step_of};
 ghost use Rattle.rp_model.specs.World as worlds;
-ghost use Rattle.rp_model.specs.World.{part_at, commanded, chosen_effect, chosen_cut, chosen_record, step_effect, cut_step, stepping, step_writes};
+ghost use Rattle.rp_model.specs.World.{part_at, commanded};
 ghost use Rattle.rp_agreement.specs.Ranges.{IsRangedWorld};
 ghost use Rattle.rp_rules.specs.Inputs.{IsLong, IsRightInput, given_by};
 ghost use Rattle.rp_world.specs.Choosing.{AreNodesOf, IsMaker, IsRefused};
-ghost use Rattle.rp_world.specs.Going.{Answers, AnswersDelivery, Counts, CountsDelivery, reply_read, stated};
+ghost use Rattle.rp_world.specs.Going.{Answers, cut_meant, meant_by, reply_read, stated, step_meant};
 ghost use Rattle.rp_world.specs.Nodes.{IsLight};
 ghost use Rattle.rp_world.specs.Steps.{IsLightStep, IsStep, setting_of};
 
@@ -115,13 +115,8 @@ impl<M: Machine, D: CutDevice> World<M, D> {
         requires ranged { IsRangedWorld self.old.setup.config.nodes self.old.world }
         requires step { events.IsRightStep (step_of step) }
         ensures answer { let setting = setting_of M.next M.answers M.begin self.old in
-            Answers self.old.world (step_effect setting self.old.world (step_of step))
-            (λ kept. cut_step setting self.old.world (step_of step) kept) self.new.world
+            Answers self.old (step_meant setting self.old.world (step_of step)) self.new
             (stated result effect.new) }
-        ensures setup { self.new.setup ≡ self.old.setup }
-        ensures failures { let setting = setting_of M.next M.answers M.begin self.old in
-            Counts (IsSome (step_writes setting self.old.world (step_of step)))
-            (stepping self.old.world (step_of step)) self.old.failures self.new.failures result }
         ensures certain { IsLightStep (setting_of M.next M.answers M.begin self.old) self.old.world
             (step_of step) → IsOk result }
     {
@@ -161,12 +156,8 @@ impl<M: Machine, D: CutDevice> World<M, D> {
     pub(crate) fn make_cut(&mut self, alloc: Global, step: Step, kept: u64) -> Result<Effect, Fault>
         requires ranged { IsRangedWorld self.old.setup.config.nodes self.old.world }
         ensures answer { let setting = setting_of M.next M.answers M.begin self.old in
-            Answers self.old.world (cut_step setting self.old.world (step_of step) kept)
-            (λ less. cut_step setting self.old.world (step_of step) less) self.new.world result }
-        ensures setup { self.new.setup ≡ self.old.setup }
-        ensures failures { let setting = setting_of M.next M.answers M.begin self.old in
-            Counts (IsSome (step_writes setting self.old.world (step_of step)))
-            (stepping self.old.world (step_of step)) self.old.failures self.new.failures result }
+            Answers self.old (cut_meant setting self.old.world (step_of step) kept) self.new
+            result }
     {
         let first = self.messages() + 1;
         let (node, input) = match Self::step_to_cut(&self.messages, &self.nodes, step) {
@@ -274,14 +265,8 @@ impl<M: Machine, D: CutDevice> World<M, D> {
         ensures answer { (given : NodeInput) → given_by input.now ≡ Ok given
             → let setting = setting_of M.next M.answers M.begin self.old in
             let chosen = commanded node given (part_at self.old.world.nodes node) in
-            Answers self.old.world (chosen_effect setting self.old.world chosen)
-            (λ kept. chosen_cut setting self.old.world kept chosen)
-            self.new.world (stated result effect.new) }
-        ensures setup { self.new.setup ≡ self.old.setup }
-        ensures failures { (given : NodeInput) → given_by input.now ≡ Ok given
-            → let setting = setting_of M.next M.answers M.begin self.old in
-            Counts (IsSome (chosen_record setting
-            (commanded node given (part_at self.old.world.nodes node)))) (Some node) self.old.failures self.new.failures result }
+            Answers self.old (meant_by setting self.old.world chosen) self.new
+            (stated result effect.new) }
         ensures certain { (given : NodeInput) (part : NodePart) → given_by input.now ≡ Ok given
             → (¬ IsLong input.now) → part_at self.old.world.nodes node ≡ Some part
             → IsLight part (node_effect (setting_of M.next M.answers M.begin self.old) node
@@ -317,11 +302,9 @@ impl<M: Machine, D: CutDevice> World<M, D> {
         effect: &mut Effect,
     ) -> Result<(), Fault>
         requires ranged { IsRangedWorld self.old.setup.config.nodes self.old.world }
-        ensures answer { AnswersDelivery (setting_of M.next M.answers M.begin self.old)
-            self.old.world number self.new.world (stated result effect.new) }
-        ensures setup { self.new.setup ≡ self.old.setup }
-        ensures failures { CountsDelivery (setting_of M.next M.answers M.begin self.old)
-            self.old.world number self.old.failures self.new.failures result }
+        ensures answer { let setting = setting_of M.next M.answers M.begin self.old in
+            Answers self.old (step_meant setting self.old.world (events.Deliver number)) self.new
+            (stated result effect.new) }
         ensures certain { IsLightStep (setting_of M.next M.answers M.begin self.old) self.old.world
             (events.Deliver number) → IsOk result }
     {
@@ -363,10 +346,9 @@ impl<M: Machine, D: CutDevice> World<M, D> {
         requires ranged { IsRangedWorld self.old.setup.config.nodes self.old.world }
         requires to { (m : Message) × (part_at self.old.world.sent number ≡ Some m)
             × (m.to ≡ Task task) }
-        ensures answer { AnswersDelivery (setting_of M.next M.answers M.begin self.old)
-            self.old.world number self.new.world (stated result effect.new) }
-        ensures setup { self.new.setup ≡ self.old.setup }
-        ensures failures { self.new.failures ≡ self.old.failures }
+        ensures answer { let setting = setting_of M.next M.answers M.begin self.old in
+            Answers self.old (step_meant setting self.old.world (events.Deliver number)) self.new
+            (stated result effect.new) }
     {
         let first = self.messages() + 1;
         let text = self.text(number).unwrap();

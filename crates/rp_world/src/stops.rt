@@ -1,9 +1,7 @@
 //! Stops and restarts of nodes.
 
-ghost use Rattle.std.specs.Prelude.{◌≡◌, Some};
 ghost use Rattle.rp_model.specs.World.{part_at, stops, restarts};
 ghost use Rattle.rp_world.specs.Going.{AnswersRestart, AnswersStop};
-ghost use Rattle.rp_world.specs.Failures.{AreCounted};
 
 use crate::effect::{no_effect, opened};
 use crate::world::{World, put_back};
@@ -18,11 +16,8 @@ impl<M: Machine, D: CutDevice> World<M, D> {
     /// is stopped.
     #[inline(never)]
     pub(crate) fn stop(&mut self, node: NodeId) -> Result<Effect, Fault>
-        ensures answer { AnswersStop self.old.world
-            (stops self.old.world node (part_at self.old.world.nodes node))
-            self.new.world result }
-        ensures setup { self.new.setup ≡ self.old.setup }
-        ensures failures { self.new.failures ≡ self.old.failures }
+        ensures answer { AnswersStop self.old
+            (stops self.old.world node (part_at self.old.world.nodes node)) self.new result }
     {
         let first = self.messages() + 1;
         let place = usize::from(node.get()) - 1;
@@ -41,11 +36,8 @@ impl<M: Machine, D: CutDevice> World<M, D> {
     /// or `Device` where it could not: it stays stopped, and some of its torn bytes may be gone.
     #[inline(never)]
     pub(crate) fn restart(&mut self, alloc: Global, node: NodeId) -> Result<Effect, Fault>
-        ensures answer { AnswersRestart self.old.world node
-            (restarts self.old.world node (part_at self.old.world.nodes node))
-            self.new.world result }
-        ensures setup { self.new.setup ≡ self.old.setup }
-        ensures failures { AreCounted (Some node) self.old.failures self.new.failures result }
+        ensures answer { AnswersRestart self.old node
+            (restarts self.old.world node (part_at self.old.world.nodes node)) self.new result }
     {
         let first = self.messages() + 1;
         let place = usize::from(node.get()) - 1;

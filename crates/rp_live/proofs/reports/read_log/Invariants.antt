@@ -2,19 +2,18 @@
 use Rattle.std.proofs.Common.{◌≡◌, ◌-◌, ℕ, length}
 use Rattle.rp_boxes.specs.Audits.{known_of}
 use Rattle.rp_boxes.specs.Seats.{HasApplied}
-use Rattle.rp_threads.specs.Loops.{IsSameSeat}
 use Rattle.rp_live.specs.Seats.{AreReports, HasOnlyReported, KnowsMore, KnowsSameBut}
 use Rattle.rp_live.proofs.reports.read_log.Given as goal
 
 abbrev pub invariant-loop-known : goal.invariant-loop-known
 invariant-loop-known g l = record {
-  same : IsSameSeat l.fn.audit.seat l.audit.seat;
+  same : l.audit.seat.setup ≡ l.fn.audit.seat.setup;
   reported : HasOnlyReported l.fn.seat l.seat;
   more : KnowsMore l.fn.audit.known l.audit.known;
   applied : HasApplied l.seat.part l.applied;
-  known : l.known ≡ length (known_of l.audit.known l.fn.seat.number);
-  others : KnowsSameBut l.fn.seat.number l.fn.audit.known l.audit.known;
-  reports : (n : ℕ) × AreReports g.M.Machine.next g.M.Machine.answers g.M.Machine.begin (length (known_of l.fn.audit.known l.fn.seat.number)) l.fn.seat n l.known l.seat;
+  known : l.known ≡ length (known_of l.audit.known l.fn.seat.setup.number);
+  others : KnowsSameBut l.fn.seat.setup.number l.fn.audit.known l.audit.known;
+  reports : (n : ℕ) × AreReports g.M.Machine.next g.M.Machine.answers g.M.Machine.begin (length (known_of l.fn.audit.known l.fn.seat.setup.number)) l.fn.seat n l.known l.seat;
 }
 
 abbrev pub decreases-loop-known : goal.decreases-loop-known

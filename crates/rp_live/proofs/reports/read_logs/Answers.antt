@@ -1,10 +1,9 @@
 -- One node more has reported.
 use Rattle.std.proofs.Common.{◌≡◌, ℕ, All, length, arith, refl, sym, ap, subst}
 use Rattle.rp_boxes.specs.Audits.{known_of}
-use Rattle.rp_boxes.specs.Seats.{HasApplied}
+use Rattle.rp_boxes.specs.Seats.{SeatSetup, HasApplied}
 use Rattle.rp_world.proofs.Fresh.{rest_of}
 use Rattle.rp_threads.proofs.Places.{none_left, none_zipped, one_more_zipped, all_zipped}
-use Rattle.rp_threads.proofs.Steps.{same_on, same_seat}
 use Rattle.rp_live.specs.Ends.{HadNoFault}
 use Rattle.rp_live.specs.Seats.{AreNumbered, IsEndOfRun, IsRead, KnowsNothingAbove, StillRuns}
 use Rattle.rp_live.proofs.Reading.{IsReadBelow, left_numbered, next_number, one_longer, one_read, read_still, so_far_weaker, still_unread, zip_weaker}
@@ -18,7 +17,7 @@ loop-end-init g c =
     let none : length c.new-seats.result.items ≡ 0 = ap length c.new-seats.ensures.items in
     record {
       none = λ all. subst (All HadNoFault) same all;
-      same = same_seat c.args.audit.now.seat c.args.audit.now.seat refl;
+      same = refl;
       left = subst (All IsEndOfRun) (sym same) c.requires.ended;
       still = subst (All StillRuns) (sym same) c.requires.still;
       reported = none_zipped same c.new-seats.ensures.items;
@@ -50,18 +49,18 @@ loop-end-preserved g c =
     let at = next_number number rest left c.in-Some.end steps was.numbers in
     record {
       none = λ all. was.none (one_ended HadNoFault rest c.in-Some.end left steps stated.none all);
-      same = same_on c.args.audit.now.seat c.loop-end.audit.seat c.read_end.new.audit.seat was.same stated.same;
+      same = stated.same ∙ was.same;
       left = rest_of IsEndOfRun rest c.in-Some.end left steps was.left;
       still = rest_of StillRuns rest c.in-Some.end left steps was.still;
       reported = one_more_zipped was.reported steps c.in_ok-push.ensures.items stated.reported;
       applied = grown_zip (λ seat count. HasApplied seat.part count) c.loop-end.seats.items c.push.new.self.items c.loop-end.applied.items c.push-in-loop-end.new.self.items
           c.in_ok-seat.seat c.in_ok-seat.count c.in_ok-push.ensures.items c.in_ok-push-2.ensures.items was.applied stated.applied;
       numbers = left_numbered number more rest left c.in-Some.end steps longer was.numbers;
-      unread = still_unread number more c.in-Some.end.seat.number old new longer at stated.others was.unread;
+      unread = still_unread number more c.in-Some.end.seat.setup.number old new longer at stated.others was.unread;
       read = one_more_zipped
           (so_far_weaker (λ end seat. IsReadBelow m.next m.answers m.begin number old end.seat seat) (λ end seat. IsReadBelow m.next m.answers m.begin more new end.seat seat)
-          (λ end seat. read_still m.next m.answers m.begin number more c.in-Some.end.seat.number old new longer at stated.others end.seat seat) c.args.nodes.items rest c.loop-end.seats.items was.read)
-          steps c.in_ok-push.ensures.items (one_read m.next m.answers m.begin number more old new c.in-Some.end.seat c.in_ok-seat.seat longer at stated.reported.same.number was.unread stated.read);
+          (λ end seat. read_still m.next m.answers m.begin number more c.in-Some.end.seat.setup.number old new longer at stated.others end.seat seat) c.args.nodes.items rest c.loop-end.seats.items was.read)
+          steps c.in_ok-push.ensures.items (one_read m.next m.answers m.begin number more old new c.in-Some.end.seat c.in_ok-seat.seat longer at (ap (λ (s : SeatSetup g.row.M-Program.Denot). s.number) stated.reported.same) was.unread stated.read);
     }
 
 pub returns-clause-none : goal.returns-clause-none
@@ -79,6 +78,6 @@ returns-clause-read g c =
     let m = g.M.Machine in
     let rest = c.loop-end.end-iterator.rest in
     let known = c.loop-end.audit.known in
-    zip_weaker (λ end seat. IsReadBelow m.next m.answers m.begin (length c.loop-end.seats.items) known end.seat seat) (λ end seat. IsRead m.next m.answers m.begin 0 end.seat seat (length (known_of known seat.number)))
+    zip_weaker (λ end seat. IsReadBelow m.next m.answers m.begin (length c.loop-end.seats.items) known end.seat seat) (λ end seat. IsRead m.next m.answers m.begin 0 end.seat seat (length (known_of known seat.setup.number)))
     (λ end seat r. r.read) c.args.nodes.items c.loop-end.seats.items
     (all_zipped c.loop-end.invariant.read (none_left rest.items rest.len rest.ok.0 c.in-None.ensures.steps.0))

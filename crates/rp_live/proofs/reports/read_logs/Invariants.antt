@@ -2,7 +2,6 @@
 use Rattle.std.proofs.Common.{All, length}
 use Rattle.std.specs.List.{AllZip}
 use Rattle.rp_boxes.specs.Seats.{HasApplied}
-use Rattle.rp_threads.specs.Loops.{IsSameSeat}
 use Rattle.rp_threads.proofs.Places.{AreZippedSoFar}
 use Rattle.rp_live.specs.Ends.{HadNoFault}
 use Rattle.rp_live.specs.Seats.{AreNumbered, HasOnlyReported, IsEndOfRun, KnowsNothingAbove, StillRuns}
@@ -12,7 +11,7 @@ use Rattle.rp_live.proofs.reports.read_logs.Given as goal
 abbrev pub invariant-loop-end : goal.invariant-loop-end
 invariant-loop-end g l = record {
   none : All HadNoFault l.end-iterator.rest.items → All HadNoFault l.fn.nodes.items;
-  same : IsSameSeat l.fn.audit.seat l.audit.seat;
+  same : l.audit.seat.setup ≡ l.fn.audit.seat.setup;
   left : All IsEndOfRun l.end-iterator.rest.items;
   still : All StillRuns l.end-iterator.rest.items;
   reported : AreZippedSoFar (λ end seat. HasOnlyReported end.seat seat) l.fn.nodes.items l.end-iterator.rest.items l.seats.items;

@@ -1,9 +1,7 @@
 -- What the audit fetches is a report, and it stays at its seat.
 use Rattle.std.proofs.Common.{ℕ, List, sym, ap, subst, ◌∙◌}
-use Rattle.rp_boxes.specs.Seats.{SeatState}
+use Rattle.rp_boxes.specs.Seats.{SeatSetup, SeatState}
 use Rattle.rp_codec.specs.declared.packet.Party.TheVariants.{Node}
-use Rattle.rp_threads.specs.Loops.{IsSameSeat}
-use Rattle.rp_threads.proofs.Steps.{same_part}
 use Rattle.rp_boxes.specs.Audits.{IsGotReport}
 use Rattle.rp_base.specs.declared.action.Action.{Action}
 use Rattle.rp_live.specs.Seats.{KnowsMore, KnowsSameBut}
@@ -15,10 +13,9 @@ add-requires g c = subst (IsGotReport c.fetch.new.self.seat.part) (sym c.as_slic
 
 pub returns-in_ok-add-clause-same : goal.returns-in_ok-add-clause-same
 returns-in_ok-add-clause-same g c =
-    let old = c.args.audit.now.seat in
-    let fetched = same_part old c.fetch.new.self.seat _ c.in-Some.ensures.some.after in
+    let setup : SeatState g.row.M-Program.Denot → SeatSetup g.row.M-Program.Denot = λ seat. seat.setup in
     let added = added_seat c.fetch.new.self c.as_slice.result.now c.add.new.self c.in_ok-add.field-0 c.in_ok-add.ensures.ok in
-    subst (λ (s : SeatState g.row.M-Program.Denot). IsSameSeat old s) (sym added) fetched
+    ap setup added ∙ ap setup c.in-Some.ensures.some.after
 
 pub returns-in_ok-add-clause-more : goal.returns-in_ok-add-clause-more
 returns-in_ok-add-clause-more g c =
@@ -31,8 +28,8 @@ returns-in_ok-add-clause-others g c =
     let text = c.as_slice.ensures.value ∙ fetched.text in
     let m = g.M.Machine in
     let reported = only_reported m.next m.answers m.begin c.args.first c.args.seat.now c.send_report.new.seat c.in_ok-send_report.ensures.reported in
-    let number = c.number.ensures ∙ reported.same.number in
+    let number = c.number.ensures ∙ ap (λ (s : SeatSetup g.row.M-Program.Denot). s.number) reported.same in
     let sender = fetched.sender ∙ ap (λ (n : ℕ). Node n) number in
-    subst (λ (known : List (List Action)). KnowsSameBut c.args.seat.now.number known c.add.new.self.known) c.fetch.ensures.known
-    (added_others c.one_text.ensures c.args.seat.now.number c.fetch.new.self c.as_slice.result.now c.add.new.self c.in_ok-add.field-0 fetched.packet fetched.right text sender
+    subst (λ (known : List (List Action)). KnowsSameBut c.args.seat.now.setup.number known c.add.new.self.known) c.fetch.ensures.known
+    (added_others c.one_text.ensures c.args.seat.now.setup.number c.fetch.new.self c.as_slice.result.now c.add.new.self c.in_ok-add.field-0 fetched.packet fetched.right text sender
     c.in_ok-add.ensures.ok)

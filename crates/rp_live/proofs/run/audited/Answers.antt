@@ -1,9 +1,8 @@
 -- What was reported of nodes and tasks, and the look at the table.
 use Rattle.std.proofs.Common.{◌≡◌, ◌↔◌, ℕ, true, All, List, length, ap, arith, sym, subst, ◌∙◌}
 use Rattle.rp_boxes.specs.Audits.{Audited}
-use Rattle.rp_boxes.specs.Seats.{SeatState, HasApplied}
+use Rattle.rp_boxes.specs.Seats.{SeatSetup, SeatState, HasApplied}
 use Rattle.rp_boxes.specs.Together.{AreTogether}
-use Rattle.rp_threads.specs.Loops.{IsSameSeat}
 use Rattle.rp_live.specs.Figures.{figures_of}
 use Rattle.rp_live.specs.LiveOutcome.{KnowsAll}
 use Rattle.rp_live.specs.Seats.{HasOnlyReported}
@@ -23,15 +22,15 @@ knows_all-agree-requires g c =
 
 pub look_together-requires-clause-nodes : goal.look_together-requires-clause-nodes
 look_together-requires-clause-nodes g c =
-    let table = c.in_ok-nodes.ensures.same.table ∙ ap (λ (a : Audited g.row.M-Program.Denot). a.seat.table) c.new-audit.ensures in
-    zip_all (λ end. end.seat.table ≡ c.args.seat.table) (λ end seat. HasOnlyReported end.seat seat) (λ seat. seat.table ≡ c.read_logs.new.audit.seat.table)
-    (λ end seat here reported. reported.same.table ∙ here ∙ sym table) c.args.nodes.items c.in_ok-nodes.nodes.items c.requires.nodes c.in_ok-nodes.ensures.reported
+    let table = ap (λ (s : SeatSetup g.row.M-Program.Denot). s.table) (c.in_ok-nodes.ensures.same ∙ ap (λ (a : Audited g.row.M-Program.Denot). a.seat.setup) c.new-audit.ensures) in
+    zip_all (λ end. end.seat.setup.table ≡ c.args.seat.setup.table) (λ end seat. HasOnlyReported end.seat seat) (λ seat. seat.setup.table ≡ c.read_logs.new.audit.seat.setup.table)
+    (λ end seat here reported. ap (λ (s : SeatSetup g.row.M-Program.Denot). s.table) reported.same ∙ here ∙ sym table) c.args.nodes.items c.in_ok-nodes.nodes.items c.requires.nodes c.in_ok-nodes.ensures.reported
 
 pub look_together-requires-clause-tasks : goal.look_together-requires-clause-tasks
 look_together-requires-clause-tasks g c =
-    let table = c.in_ok-nodes.ensures.same.table ∙ ap (λ (a : Audited g.row.M-Program.Denot). a.seat.table) c.new-audit.ensures in
-    subst (All (λ (s : SeatState g.row.M-Program.Denot). s.table ≡ c.read_logs.new.audit.seat.table)) (sym c.in_ok-tasks.ensures.seats)
-    (all_unmapped (λ (s : SeatState g.row.M-Program.Denot). s.table ≡ c.read_logs.new.audit.seat.table) (λ end. end.seat) c.args.tasks.items (λ k d within. c.requires.tasks k d within ∙ sym table))
+    let table = ap (λ (s : SeatSetup g.row.M-Program.Denot). s.table) (c.in_ok-nodes.ensures.same ∙ ap (λ (a : Audited g.row.M-Program.Denot). a.seat.setup) c.new-audit.ensures) in
+    subst (All (λ (s : SeatState g.row.M-Program.Denot). s.setup.table ≡ c.read_logs.new.audit.seat.setup.table)) (sym c.in_ok-tasks.ensures.seats)
+    (all_unmapped (λ (s : SeatState g.row.M-Program.Denot). s.setup.table ≡ c.read_logs.new.audit.seat.setup.table) (λ end. end.seat) c.args.tasks.items (λ k d within. c.requires.tasks k d within ∙ sym table))
 
 pub returns-clause-stated : goal.returns-clause-stated
 returns-clause-stated g c =
@@ -46,7 +45,7 @@ returns-clause-stated g c =
       applied = stated.applied;
       read = stated.read;
       known = audit;
-      same = subst (λ (s : SeatState g.row.M-Program.Denot). IsSameSeat s audit.seat) (ap (λ (a : Audited g.row.M-Program.Denot). a.seat) c.new-audit.ensures) stated.same;
+      same = stated.same ∙ ap (λ (a : Audited g.row.M-Program.Denot). a.seat.setup) c.new-audit.ensures;
       together = subst (AreTogether m.next m.answers m.begin audit c.in_ok-nodes.nodes.items) c.in_ok-tasks.ensures.seats c.look_together.ensures;
       replies = c.in_ok-tasks.ensures.replies;
       figures = c.of-figures.ensures ∙ ap (λ ends. figures_of ends c.as_slice-2.result.now) c.as_slice.ensures.value ∙ ap (figures_of c.args.nodes.items) c.as_slice-2.ensures.value;

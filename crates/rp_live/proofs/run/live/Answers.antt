@@ -46,7 +46,7 @@ note_all-requires-clause-live g c = subst (λ (n : ℕ). All (IsLive n) c.args.e
 pub note_all-requires-clause-run : goal.note_all-requires-clause-run
 note_all-requires-clause-run g c =
     let seats = c.in_ok-nodes.ensures.seats in
-    nodes_run c.in_ok-nodes.field-0.audit.table c.args.options.config c.args.program.now seats.0 c.in_ok-nodes.field-0.nodes.items (omega (arith, seats.1.size, c.requires.config.nodes.1)) seats.1.nodes_are
+    nodes_run c.in_ok-nodes.field-0.audit.setup.table c.args.options.config c.args.program.now seats.0 c.in_ok-nodes.field-0.nodes.items (omega (arith, seats.1.size, c.requires.config.nodes.1)) seats.1.nodes_are
 
 pub run_threads-requires-clause-count : goal.run_threads-requires-clause-count
 run_threads-requires-clause-count g c κs within =
@@ -62,7 +62,7 @@ run_threads-requires-clause-task_lines g c κs within k d less = ap (λ l. l.hel
 
 pub run_threads-requires-clause-fresh : goal.run_threads-requires-clause-fresh
 run_threads-requires-clause-fresh g c κs within =
-    let fresh = tasks_fresh c.in_ok-nodes.field-0.audit.table c.args.options.config c.args.program.now c.in_ok-nodes.field-0.tasks.items c.in_ok-nodes.ensures.seats.1.tasks_are in
+    let fresh = tasks_fresh c.in_ok-nodes.field-0.audit.setup.table c.args.options.config c.args.program.now c.in_ok-nodes.field-0.tasks.items c.in_ok-nodes.ensures.seats.1.tasks_are in
     all_mapped (λ (s : SeatState g.row.M-Program.Denot). s.part ≡ fresh_part (OfTask fresh_task)) (λ s. s.seat) c.in_ok-tasks.tasks.items
     (subst (All (λ (s : SeatState g.row.M-Program.Denot). s.part ≡ fresh_part (OfTask fresh_task))) (sym c.in_ok-tasks.ensures.seats) fresh)
 

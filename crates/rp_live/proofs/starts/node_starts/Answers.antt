@@ -14,8 +14,8 @@ loop-seat-preserved g c =
     record {
       seats = one_ready (λ s. s.seat) starts c.push.new.self.items start c.in-Some.seat c.loop-seat.seat-iterator.rest.items c.next.new.self.rest.items c.args.seats.items
           grown ready.seat c.in-Some.ensures.steps.0 c.loop-seat.invariant.seats;
-      lines = subst (All (λ s. s.line ≡ party_line c.args.seed (Node s.seat.number))) (sym grown)
-          (all_more (λ s. s.line ≡ party_line c.args.seed (Node s.seat.number)) starts start c.loop-seat.invariant.lines (ready.line ∙ ap (λ s. party_line c.args.seed (Node s.number)) (sym ready.seat)));
+      lines = subst (All (λ s. s.line ≡ party_line c.args.seed (Node s.seat.setup.number))) (sym grown)
+          (all_more (λ s. s.line ≡ party_line c.args.seed (Node s.seat.setup.number)) starts start c.loop-seat.invariant.lines (ready.line ∙ ap (λ s. party_line c.args.seed (Node s.setup.number)) (sym ready.seat)));
     }
 
 pub returns-clause-seats : goal.returns-clause-seats

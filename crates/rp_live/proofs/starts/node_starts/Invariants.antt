@@ -7,5 +7,5 @@ use Rattle.rp_live.proofs.starts.node_starts.Given as goal
 abbrev pub invariant-loop-seat : goal.invariant-loop-seat
 invariant-loop-seat g l = record {
   seats : map (λ start. start.seat) l.starts.items ++ l.seat-iterator.rest.items ≡ l.fn.seats.items;
-  lines : All (λ start. start.line ≡ party_line l.seed (Node start.seat.number)) l.starts.items;
+  lines : All (λ start. start.line ≡ party_line l.seed (Node start.seat.setup.number)) l.starts.items;
 }

@@ -15,11 +15,11 @@ loop-seat-preserved g c =
     record {
       seats = one_ready (λ s. s.seat) starts c.push.new.self.items start c.in-Some.seat c.loop-seat.seat-iterator.rest.items c.next.new.self.rest.items c.args.seats.items
           grown ready.seat c.in-Some.ensures.steps.0 c.loop-seat.invariant.seats;
-      calls = subst (All (λ s. s.calls.items ≡ filter_map (call_by s.seat.number) c.args.events.now)) (sym grown)
-          (all_more (λ s. s.calls.items ≡ filter_map (call_by s.seat.number) c.args.events.now) starts start c.loop-seat.invariant.calls
-          (ready.calls ∙ ap (λ s. filter_map (call_by s.number) c.args.events.now) (sym ready.seat)));
-      lines = subst (All (λ s. s.line ≡ party_line c.args.seed (Task s.seat.number))) (sym grown)
-          (all_more (λ s. s.line ≡ party_line c.args.seed (Task s.seat.number)) starts start c.loop-seat.invariant.lines (ready.line ∙ ap (λ s. party_line c.args.seed (Task s.number)) (sym ready.seat)));
+      calls = subst (All (λ s. s.calls.items ≡ filter_map (call_by s.seat.setup.number) c.args.events.now)) (sym grown)
+          (all_more (λ s. s.calls.items ≡ filter_map (call_by s.seat.setup.number) c.args.events.now) starts start c.loop-seat.invariant.calls
+          (ready.calls ∙ ap (λ s. filter_map (call_by s.setup.number) c.args.events.now) (sym ready.seat)));
+      lines = subst (All (λ s. s.line ≡ party_line c.args.seed (Task s.seat.setup.number))) (sym grown)
+          (all_more (λ s. s.line ≡ party_line c.args.seed (Task s.seat.setup.number)) starts start c.loop-seat.invariant.lines (ready.line ∙ ap (λ s. party_line c.args.seed (Task s.setup.number)) (sym ready.seat)));
     }
 
 pub returns-clause-seats : goal.returns-clause-seats

@@ -8,6 +8,6 @@ use Rattle.rp_live.proofs.starts.task_starts.Given as goal
 abbrev pub invariant-loop-seat : goal.invariant-loop-seat
 invariant-loop-seat g l = record {
   seats : map (λ start. start.seat) l.starts.items ++ l.seat-iterator.rest.items ≡ l.fn.seats.items;
-  calls : All (λ start. start.calls.items ≡ filter_map (call_by start.seat.number) l.events) l.starts.items;
-  lines : All (λ start. start.line ≡ party_line l.seed (Task start.seat.number)) l.starts.items;
+  calls : All (λ start. start.calls.items ≡ filter_map (call_by start.seat.setup.number) l.events) l.starts.items;
+  lines : All (λ start. start.line ≡ party_line l.seed (Task start.seat.setup.number)) l.starts.items;
 }

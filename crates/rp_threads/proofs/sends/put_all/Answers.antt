@@ -12,8 +12,8 @@ returns-then-sent-eq0-clause-offered g c =
     let m = g.M.Machine in
     let old = c.args.seat.now in
     let sent = c.args.sent in
-    subst (λ (s : SeatState g.row.M-Program.Denot). IsAllOffered m.next m.answers m.begin (Node old.number) sent old s 0) (sym c.lend.ensures)
-    (none_is_offered m.next m.answers m.begin (Node old.number) sent old c.if-sent-eq0.true)
+    subst (λ (s : SeatState g.row.M-Program.Denot). IsAllOffered m.next m.answers m.begin (Node old.setup.number) sent old s 0) (sym c.lend.ensures)
+    (none_is_offered m.next m.answers m.begin (Node old.setup.number) sent old c.if-sent-eq0.true)
 
 pub put_text-requires : goal.put_text-requires
 put_text-requires g c = sent_alone c.args.seat.now.part c.args.sent c.requires c.if-sent-eq1.true
@@ -23,8 +23,8 @@ returns-then-sent-eq1-clause-offered g c =
     let m = g.M.Machine in
     let old = c.args.seat.now in
     let new = c.put_text.new.seat in
-    subst (IsAllOffered m.next m.answers m.begin (Node old.number) c.args.sent old new) (sym (c.from.ensures ∙ one_if_is c.put_text.result))
-    (one_is_offered m.next m.answers m.begin (Node old.number) c.args.sent old new c.put_text.result c.if-sent-eq1.true c.put_text.ensures)
+    subst (IsAllOffered m.next m.answers m.begin (Node old.setup.number) c.args.sent old new) (sym (c.from.ensures ∙ one_if_is c.put_text.result))
+    (one_is_offered m.next m.answers m.begin (Node old.setup.number) c.args.sent old new c.put_text.result c.if-sent-eq1.true c.put_text.ensures)
 
 pub returns-clause-offered : goal.returns-clause-offered
 returns-clause-offered g c =
@@ -33,9 +33,9 @@ returns-clause-offered g c =
     let new = c.put_each-put.new.seat in
     let sent = c.args.sent in
     let result = c.put_each-put.result in
-    let texts = subst (λ (bytes : List ℕ). IfOk result (AreTextsOffered m.next m.answers m.begin (Node old.number) bytes old new)) c.as_slice.ensures.value c.put_each-put.ensures.offered in
-    subst (λ (s : SeatState g.row.M-Program.Denot). IfOk result (IsAllOffered m.next m.answers m.begin (Node old.number) sent old s)) (sym c.lend-2.ensures)
-    (all_if_offered m.next m.answers m.begin (Node old.number) c.one_text.ensures sent old new c.sends_packets.ensures result texts)
+    let texts = subst (λ (bytes : List ℕ). IfOk result (AreTextsOffered m.next m.answers m.begin (Node old.setup.number) bytes old new)) c.as_slice.ensures.value c.put_each-put.ensures.offered in
+    subst (λ (s : SeatState g.row.M-Program.Denot). IfOk result (IsAllOffered m.next m.answers m.begin (Node old.setup.number) sent old s)) (sym c.lend-2.ensures)
+    (all_if_offered m.next m.answers m.begin (Node old.setup.number) c.one_text.ensures sent old new c.sends_packets.ensures result texts)
 
 pub returns-clause-part : goal.returns-clause-part
 returns-clause-part g c =
@@ -44,6 +44,6 @@ returns-clause-part g c =
     let new = c.put_each-put.new.seat in
     let sent = c.args.sent in
     let result = c.put_each-put.result in
-    let texts = subst (λ (bytes : List ℕ). OnErr result (AreTextsOfferedInPart m.next m.answers m.begin (Node old.number) bytes old new)) c.as_slice.ensures.value c.put_each-put.ensures.part in
-    subst (λ (s : SeatState g.row.M-Program.Denot). OnErr result (IsOfferedInPart m.next m.answers m.begin (Node old.number) sent old s)) (sym c.lend-2.ensures)
-    (not_all_if_part m.next m.answers m.begin (Node old.number) c.one_text.ensures sent old new c.sends_packets.ensures result texts)
+    let texts = subst (λ (bytes : List ℕ). OnErr result (AreTextsOfferedInPart m.next m.answers m.begin (Node old.setup.number) bytes old new)) c.as_slice.ensures.value c.put_each-put.ensures.part in
+    subst (λ (s : SeatState g.row.M-Program.Denot). OnErr result (IsOfferedInPart m.next m.answers m.begin (Node old.setup.number) sent old s)) (sym c.lend-2.ensures)
+    (not_all_if_part m.next m.answers m.begin (Node old.setup.number) c.one_text.ensures sent old new c.sends_packets.ensures result texts)

@@ -12,7 +12,7 @@ pub packets-init : goal.packets-init
 packets-init g c =
     let m = g.M.Machine in
     let seat = c.args.seat.now in
-    record { texts = c.requires; offered = none_offered m.next m.answers m.begin (Node seat.number) seat c.args.texts.now; few = omega arith }
+    record { texts = c.requires; offered = none_offered m.next m.answers m.begin (Node seat.setup.number) seat c.args.texts.now; few = omega arith }
 
 pub text_len-requires : goal.text_len-requires
 text_len-requires g c =
@@ -29,7 +29,7 @@ put_copy-requires g c =
     let rest = c.packets.rest.now in
     let inv = c.packets.invariant in
     let first = is_first seat.part rest c.text_len.result c.sends_packets.ensures inv.texts (some_left rest c.is_empty.result c.is_empty.ensures c.packets-test.true) c.text_len.ensures in
-    let puts = part_puts m.next m.answers m.begin (Node seat.number) seat c.packets.seat c.args.texts.now rest c.packets.lost inv.offered in
+    let puts = part_puts m.next m.answers m.begin (Node seat.setup.number) seat c.packets.seat c.args.texts.now rest c.packets.lost inv.offered in
     still_sent_text seat c.packets.seat c.split_at.result.0.now puts (subst (IsSentText seat.part) (sym c.split_at.ensures.front) first.text)
 
 pub packets-preserved : goal.packets-preserved
@@ -44,16 +44,16 @@ packets-preserved g c =
     let is_lost = c.in_ok-put_copy.field-0 in
     let inv = c.packets.invariant in
     let first = is_first seat.part rest len c.sends_packets.ensures inv.texts (some_left rest c.is_empty.result c.is_empty.ensures c.packets-test.true) c.text_len.ensures in
-    let puts = part_puts m.next m.answers m.begin (Node seat.number) seat between texts rest c.packets.lost inv.offered in
-    let number = ap (λ (s : SeatState g.row.M-Program.Denot). s.number) puts.after in
-    let offered : IsOffered m.next m.answers m.begin (Node seat.number) (take len rest) between now is_lost =
+    let puts = part_puts m.next m.answers m.begin (Node seat.setup.number) seat between texts rest c.packets.lost inv.offered in
+    let number = ap (λ (s : SeatState g.row.M-Program.Denot). s.setup.number) puts.after in
+    let offered : IsOffered m.next m.answers m.begin (Node seat.setup.number) (take len rest) between now is_lost =
     subst (λ (n : ℕ). IsOffered m.next m.answers m.begin (Node n) (take len rest) between now is_lost) number
-    (subst (λ (text : List ℕ). IsOffered m.next m.answers m.begin (Node between.number) text between now is_lost) c.split_at.ensures.front c.in_ok-put_copy.ensures.offered) in
-    let more = one_more_offered m.next m.answers m.begin (Node seat.number) seat between now texts rest len c.packets.lost is_lost inv.offered first.text offered in
+    (subst (λ (text : List ℕ). IsOffered m.next m.answers m.begin (Node between.setup.number) text between now is_lost) c.split_at.ensures.front c.in_ok-put_copy.ensures.offered) in
+    let more = one_more_offered m.next m.answers m.begin (Node seat.setup.number) seat between now texts rest len c.packets.lost is_lost inv.offered first.text offered in
     record {
       texts = subst (AreSentTexts seat.part) (sym c.split_at.ensures.back) first.others;
-      offered = subst (λ (left : List ℕ). IsPartOffered m.next m.answers m.begin (Node seat.number) seat now texts left (c.packets.lost + c.from.result)) (sym c.split_at.ensures.back)
-          (subst (λ (n : ℕ). IsPartOffered m.next m.answers m.begin (Node seat.number) seat now texts (drop len rest) (c.packets.lost + n)) (sym (c.from.ensures ∙ one_if_is is_lost)) more);
+      offered = subst (λ (left : List ℕ). IsPartOffered m.next m.answers m.begin (Node seat.setup.number) seat now texts left (c.packets.lost + c.from.result)) (sym c.split_at.ensures.back)
+          (subst (λ (n : ℕ). IsPartOffered m.next m.answers m.begin (Node seat.setup.number) seat now texts (drop len rest) (c.packets.lost + n)) (sym (c.from.ensures ∙ one_if_is is_lost)) more);
       few = subst (λ (left : List ℕ). c.packets.lost + c.from.result + length left ≤ length texts) (sym c.split_at.ensures.back)
           (one_less rest len c.packets.lost c.from.result (length texts) first.some first.within (subst (λ (n : ℕ). n ≤ 1) (sym (c.from.ensures ∙ one_if_is is_lost)) (one_at_most is_lost)) inv.few);
     }
@@ -67,8 +67,8 @@ returns-in_err-put_copy-clause-part g c =
     let inv = c.packets.invariant in
     let some = some_left rest c.is_empty.result c.is_empty.ensures c.packets-test.true in
     on_any_error c.from_residual.result
-    (subst (λ (s : SeatState g.row.M-Program.Denot). AreTextsOfferedInPart m.next m.answers m.begin (Node seat.number) texts seat s) (sym c.in_err-put_copy.ensures.unchanged)
-    (offered_in_part m.next m.answers m.begin (Node seat.number) seat c.packets.seat texts rest c.packets.lost inv.offered inv.texts some))
+    (subst (λ (s : SeatState g.row.M-Program.Denot). AreTextsOfferedInPart m.next m.answers m.begin (Node seat.setup.number) texts seat s) (sym c.in_err-put_copy.ensures.unchanged)
+    (offered_in_part m.next m.answers m.begin (Node seat.setup.number) seat c.packets.seat texts rest c.packets.lost inv.offered inv.texts some))
 
 pub returns-clause-offered : goal.returns-clause-offered
 returns-clause-offered g c =
@@ -76,4 +76,4 @@ returns-clause-offered g c =
     let seat = c.args.seat.now in
     let inv = c.packets.invariant in
     let none = none_left c.packets.rest.now c.is_empty.result c.is_empty.ensures c.packets-test.false in
-    all_offered m.next m.answers m.begin (Node seat.number) seat c.packets.seat c.args.texts.now c.packets.rest.now c.packets.lost inv.offered none
+    all_offered m.next m.answers m.begin (Node seat.setup.number) seat c.packets.seat c.args.texts.now c.packets.rest.now c.packets.lost inv.offered none

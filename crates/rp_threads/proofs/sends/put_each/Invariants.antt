@@ -11,7 +11,7 @@ invariant-packets g l =
     let m = g.M.Machine in
     record {
       texts : AreSentTexts l.fn.seat.part l.rest;
-      offered : IsPartOffered m.next m.answers m.begin (Node l.fn.seat.number) l.fn.seat l.seat l.texts l.rest l.lost;
+      offered : IsPartOffered m.next m.answers m.begin (Node l.fn.seat.setup.number) l.fn.seat l.seat l.texts l.rest l.lost;
       few : l.lost + length l.rest ≤ length l.texts;
     }
 

@@ -13,8 +13,8 @@ returns-then-sent-eq1 g c =
     let m = g.M.Machine in
     let old = c.args.seat.now in
     let new = c.put_text.new.seat in
-    subst (IsAllOffered m.next m.answers m.begin (Task old.number) c.args.sent old new) (sym (c.from.ensures ∙ one_if_is c.put_text.result))
-    (one_is_offered m.next m.answers m.begin (Task old.number) c.args.sent old new c.put_text.result c.if-sent-eq1.true c.put_text.ensures)
+    subst (IsAllOffered m.next m.answers m.begin (Task old.setup.number) c.args.sent old new) (sym (c.from.ensures ∙ one_if_is c.put_text.result))
+    (one_is_offered m.next m.answers m.begin (Task old.setup.number) c.args.sent old new c.put_text.result c.if-sent-eq1.true c.put_text.ensures)
 
 none_of : (n : ℕ) → n ≤ 1 → n ≢ 1 → n ≡ 0
 none_of n few other = omega (arith, few, other)
@@ -23,4 +23,4 @@ pub returns : goal.returns
 returns g c =
     let m = g.M.Machine in
     let old = c.args.seat.now in
-    none_is_offered m.next m.answers m.begin (Task old.number) c.args.sent old (none_of c.args.sent.packets c.requires.few c.if-sent-eq1.false)
+    none_is_offered m.next m.answers m.begin (Task old.setup.number) c.args.sent old (none_of c.args.sent.packets c.requires.few c.if-sent-eq1.false)

@@ -11,7 +11,7 @@ work-requires g c =
     let f = c.fetch-fetched in
     let t = c.take_fetched in
     record {
-      held = fetched_held c.args.from (Node c.args.seat.now.number) c.args.seat.now f.new.self f.result f.ensures.some f.ensures.none c.args.line.now t.new.line t.result t.ensures.ok t.ensures.err
+      held = fetched_held c.args.from (Node c.args.seat.now.setup.number) c.args.seat.now f.new.self f.result f.ensures.some f.ensures.none c.args.line.now t.new.line t.result t.ensures.ok t.ensures.err
           c.gives_what_it_took.ensures.accepted c.requires.held;
     }
 
@@ -37,7 +37,7 @@ pub returns-in_err-take_fetched-clause-held : goal.returns-in_err-take_fetched-c
 returns-in_err-take_fetched-clause-held g c =
     let f = c.fetch-fetched in
     let t = c.take_fetched in
-    fetched_held c.args.from (Node c.args.seat.now.number) c.args.seat.now f.new.self f.result f.ensures.some f.ensures.none c.args.line.now t.new.line t.result t.ensures.ok t.ensures.err
+    fetched_held c.args.from (Node c.args.seat.now.setup.number) c.args.seat.now f.new.self f.result f.ensures.some f.ensures.none c.args.line.now t.new.line t.result t.ensures.ok t.ensures.err
     c.gives_what_it_took.ensures.accepted c.requires.held
 
 pub returns-in_err-take_fetched-clause-err : goal.returns-in_err-take_fetched-clause-err

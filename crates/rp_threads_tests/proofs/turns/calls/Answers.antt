@@ -6,4 +6,4 @@ pub task_loop-end-requires-clause-fresh : goal.task_loop-end-requires-clause-fre
 task_loop-end-requires-clause-fresh g c =
     let all = c.in_ok-all.all in
     let are = c.in_ok-all.ensures.opened in
-    first_is_fresh all.audit.table _ _ all.tasks.items c.swap_remove-task.result are.eight are.tasks_are c.swap_remove-task.ensures.value
+    first_is_fresh all.audit.setup.table _ _ all.tasks.items c.swap_remove-task.result are.eight are.tasks_are c.swap_remove-task.ensures.value

@@ -21,7 +21,7 @@ pub invariant_of-self : goal.invariant_of-self
 invariant_of-self g c =
     let m = g.M.Machine in (
       still c.args.from (lists c.self.inside.known) c.self.inside.seat c.fetch.new.self c.fetch.result c.self.invariant.0 c.fetch.ensures.some c.fetch.ensures.none,
-      order_still m.next m.answers m.begin c.reports_follow_the_order.ensures c.args.from c.self.inside.seat c.fetch.new.self (c.order_laws.ensures c.fetch.new.self.config c.fetch.new.self.program) c.fetch.result c.fetch.ensures.sent c.fetch.ensures.none c.self.invariant.1,
+      order_still m.next m.answers m.begin c.reports_follow_the_order.ensures c.args.from c.self.inside.seat c.fetch.new.self (c.order_laws.ensures c.fetch.new.self.setup.config c.fetch.new.self.setup.program) c.fetch.result c.fetch.ensures.sent c.fetch.ensures.none c.self.invariant.1,
     )
 
 pub returns-clause-report : goal.returns-clause-report

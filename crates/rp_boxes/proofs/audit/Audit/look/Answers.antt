@@ -13,6 +13,6 @@ returns-clause-one g c =
     let seat = c.self.inside.seat in
     let known = lists c.self.inside.known in
     let audit : Audited g.row.M-Program.Denot = record { seat = seat; known = known } in
-    let one = report_order m.next m.answers m.begin c.reports_follow_the_order.ensures seat (c.order_laws.ensures seat.config seat.program) c.look.ensures.world in
+    let one = report_order m.next m.answers m.begin c.reports_follow_the_order.ensures seat (c.order_laws.ensures seat.setup.config seat.setup.program) c.look.ensures.world in
     subst (λ (s : SeatState g.row.M-Program.Denot). AreOfOneOrder m.next m.answers m.begin (let looked : Audited g.row.M-Program.Denot = record { seat = s; known = known } in looked)) (sym c.look.ensures.unchanged)
     (of_one_order m.next m.answers m.begin audit c.self.invariant.0 one)

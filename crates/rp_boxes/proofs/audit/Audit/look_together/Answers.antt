@@ -7,10 +7,10 @@ use Rattle.rp_boxes.proofs.OneWorld.{together}
 use Rattle.rp_boxes.proofs.audit.Audit.look_together.Goals as goal
 
 pub look_with-requires-clause-nodes : goal.look_with-requires-clause-nodes
-look_with-requires-clause-nodes g c k d less = c.requires.nodes k d less ∙ ap (λ (a : Audited g.row.M-Program.Denot). a.seat.table) (sym c.self.view_is)
+look_with-requires-clause-nodes g c k d less = c.requires.nodes k d less ∙ ap (λ (a : Audited g.row.M-Program.Denot). a.seat.setup.table) (sym c.self.view_is)
 
 pub look_with-requires-clause-tasks : goal.look_with-requires-clause-tasks
-look_with-requires-clause-tasks g c k d less = c.requires.tasks k d less ∙ ap (λ (a : Audited g.row.M-Program.Denot). a.seat.table) (sym c.self.view_is)
+look_with-requires-clause-tasks g c k d less = c.requires.tasks k d less ∙ ap (λ (a : Audited g.row.M-Program.Denot). a.seat.setup.table) (sym c.self.view_is)
 
 pub returns : goal.returns
 returns g c =
@@ -19,5 +19,5 @@ returns g c =
     let audit : Audited g.row.M-Program.Denot = record { seat = seat; known = lists c.self.inside.known } in
     let seen = c.look_with.ensures in
     subst (λ (a : Audited g.row.M-Program.Denot). AreTogether m.next m.answers m.begin a c.args.nodes.items c.args.tasks.items) c.self.view_is
-    (together m.next m.answers m.begin audit c.args.nodes.items c.args.tasks.items seen.0 seen.1 (c.order_laws.ensures seat.config seat.program) c.reports_follow_the_order.ensures
+    (together m.next m.answers m.begin audit c.args.nodes.items c.args.tasks.items seen.0 seen.1 (c.order_laws.ensures seat.setup.config seat.setup.program) c.reports_follow_the_order.ensures
     c.applied_lists_are_prefixes.ensures c.self.invariant.0)

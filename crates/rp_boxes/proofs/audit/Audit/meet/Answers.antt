@@ -19,14 +19,14 @@ returns-clause-one g c =
     let known = lists c.self.inside.known in
     let audit : Audited g.row.M-Program.Denot = record { seat = seat; known = known } in
     let s = setting_at m.next m.answers m.begin task in
-    let view = (7 + task.number, task.part) ∷ (0, seat.part) ∷ [] in
+    let view = (7 + task.setup.number, task.part) ∷ (0, seat.part) ∷ [] in
     let seen = c.look_with_task-seat.ensures.world in
-    let laws = c.order_laws.ensures task.config task.program in
+    let laws = c.order_laws.ensures task.setup.config task.setup.program in
     let one : ShareOneOrder m.next m.answers m.begin audit task = record {
       order = order_of s.config.nodes (all_sent seen.0 16);
       of_world = world_order s view seen.0 seen.1 laws;
       begins = known_begins s view seen.0 seen.1 laws.exists c.reports_follow_the_order.ensures seat.part (inr (inl refl)) known c.self.invariant.0;
-      task = of_order s view seen.0 seen.1 task.number task.part (inl refl) laws;
+      task = of_order s view seen.0 seen.1 task.setup.number task.part (inl refl) laws;
     } in
     subst (λ (z : SeatState g.row.M-Program.Denot × SeatState g.row.M-Program.Denot). ShareOneOrder m.next m.answers m.begin (let met : Audited g.row.M-Program.Denot = record { seat = z.0; known = known } in met) z.1)
     (λ i. (sym c.look_with_task-seat.ensures.same.0 i, sym c.look_with_task-seat.ensures.same.1 i)) one

@@ -9,11 +9,11 @@ use Rattle.rp_boxes.proofs.audit_seat.AuditSeat.look_with.Goals as goal
 
 pub look_as_one-requires-clause-nodes : goal.look_as_one-requires-clause-nodes
 look_as_one-requires-clause-nodes g c k d less =
-    c.requires.nodes k d less ∙ ap (λ (seat : SeatState g.row.M-Program.Denot). seat.table) (sym c.self.view_is) ∙ c.self.invariant.0.same ∙ ap (λ board. board.shared.table_id) (sym c.deref.ensures)
+    c.requires.nodes k d less ∙ ap (λ (seat : SeatState g.row.M-Program.Denot). seat.setup.table) (sym c.self.view_is) ∙ c.self.invariant.0.same ∙ ap (λ board. board.shared.table_id) (sym c.deref.ensures)
 
 pub look_as_one-requires-clause-tasks : goal.look_as_one-requires-clause-tasks
 look_as_one-requires-clause-tasks g c k d less =
-    c.requires.tasks k d less ∙ ap (λ (seat : SeatState g.row.M-Program.Denot). seat.table) (sym c.self.view_is) ∙ c.self.invariant.0.same ∙ ap (λ board. board.shared.table_id) (sym c.deref.ensures)
+    c.requires.tasks k d less ∙ ap (λ (seat : SeatState g.row.M-Program.Denot). seat.setup.table) (sym c.self.view_is) ∙ c.self.invariant.0.same ∙ ap (λ board. board.shared.table_id) (sym c.deref.ensures)
 
 pub returns : goal.returns
 returns g c =

@@ -49,8 +49,8 @@ module _ (g : given.Over) (c : In_ok-next g) where
   own : IsCall c.self.inside.number (bodies.Call call)
   own =
       let seat = state c.self.inside in
-      let right = c.tasks_send_right_packets.ensures seat.config seat.number event.input c.self.inside.task.part event.done seat.part.got c.self.invariant.1.waits is_given event.results
-      (asks seat.number c.args.node call) (inl refl) in
+      let right = c.tasks_send_right_packets.ensures seat.setup.config seat.setup.number event.input c.self.inside.task.part event.done seat.part.got c.self.invariant.1.waits is_given event.results
+      (asks seat.setup.number c.args.node call) (inl refl) in
       (right.0.rules.2, right.0.rules.3)
 
 -- then it waits for the reply

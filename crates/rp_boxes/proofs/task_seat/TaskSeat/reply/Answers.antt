@@ -28,7 +28,7 @@ module _ (g : given.Over) (c : In_ok-taken g) where
     seated = c.self.invariant;
     input = Take got.0;
     done = reply_effect c.self.inside.number c.self.inside.task.part c.in_ok-stated.stated;
-    results = reply_results (state c.self.inside).config c.self.inside.number c.self.inside.task.part got.0 c.in_ok-stated.stated
+    results = reply_results (state c.self.inside).setup.config c.self.inside.number c.self.inside.task.part got.0 c.in_ok-stated.stated
         (reply_of_text c.args.packet.now got.0 c.in_ok-stated.stated (c.self.invariant.0.own.got got.0 got.1).0 got.2 c.in_ok-stated.ensures.reply);
   }
 
@@ -69,6 +69,6 @@ returns-clause-stated g c =
     let seat = state_at c.self.inside c.look.new.place in
     let key = c.deref-2.result.now.shared.key in
     let me = c.note_reply.new.place.me in
-    let here : me ≡ alone (7 + seat.number) (part_in me.0) = subst (λ (sight : Sight). sight ≡ alone (7 + seat.number) (part_in sight.0)) (sym c.note_reply.ensures.noted.is) refl in
+    let here : me ≡ alone (7 + seat.setup.number) (part_in me.0) = subst (λ (sight : Sight). sight ≡ alone (7 + seat.setup.number) (part_in sight.0)) (sym c.note_reply.ensures.noted.is) refl in
     one_order m.next m.answers m.begin seat (setting_of m key) me (ap (λ board. setting_of m board.shared.key) c.deref-2.ensures)
-    (here ∙ ap (λ (sight : Sight). alone (7 + seat.number) (part_in sight.0)) (sym c.look.ensures.place)) c.look.ensures.picked (c.order_laws.ensures seat.config seat.program)
+    (here ∙ ap (λ (sight : Sight). alone (7 + seat.setup.number) (part_in sight.0)) (sym c.look.ensures.place)) c.look.ensures.picked (c.order_laws.ensures seat.setup.config seat.setup.program)

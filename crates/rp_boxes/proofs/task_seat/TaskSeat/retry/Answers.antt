@@ -14,8 +14,8 @@ use Rattle.rp_boxes.proofs.task_seat.TaskSeat.retry.Goals.{Else-get-self}
 
 -- the task asks a node
 module _ (g : given.Over) (c : Else-get-self g) where
-  within : nat_lt (state c.self.inside).config.nodes c.args.node ≡ false
-  within = le-ltb (state c.self.inside).config.nodes c.args.node (omega (arith, c.if-get-self.false, c.get.ensures.value, ap (λ (k : Config). k.nodes) c.self.invariant.1.shared))
+  within : nat_lt (state c.self.inside).setup.config.nodes c.args.node ≡ false
+  within = le-ltb (state c.self.inside).setup.config.nodes c.args.node (omega (arith, c.if-get-self.false, c.get.ensures.value, ap (λ (k : Config). k.nodes) c.self.invariant.1.shared))
 
   abbrev event : TaskEvent g.row.M.Denot g.row.M-Program.Denot
   event = record {
@@ -23,15 +23,15 @@ module _ (g : given.Over) (c : Else-get-self g) where
     seated = c.self.invariant;
     input = Again c.args.node;
     done = asking_done c.self.inside.number c.args.node c.self.inside.task.part c.self.inside.task.part.outstanding;
-    results = again_results (state c.self.inside).config c.self.inside.number c.args.node c.self.inside.task.part within;
+    results = again_results (state c.self.inside).setup.config c.self.inside.number c.args.node c.self.inside.task.part within;
   }
 
 pub returns-then-get-self-clause-err : goal.returns-then-get-self-clause-err
 returns-then-get-self-clause-err g c =
     let seat = state c.self.inside in
-    let over : nat_lt seat.config.nodes c.args.node ≡ true = lt-ltb seat.config.nodes c.args.node (omega (arith, c.if-get-self.true, c.get.ensures.value, ap (λ (k : Config). k.nodes) c.self.invariant.1.shared)) in
+    let over : nat_lt seat.setup.config.nodes c.args.node ≡ true = lt-ltb seat.setup.config.nodes c.args.node (omega (arith, c.if-get-self.true, c.get.ensures.value, ap (λ (k : Config). k.nodes) c.self.invariant.1.shared)) in
     subst (λ (at : SeatState g.row.M-Program.Denot). IsNoTaskTurn at (Again c.args.node) at BadConfig) c.self.view_is
-    (refused_state c.self.inside c.self.invariant (Again c.args.node) BadConfig (again_above seat.config seat.number c.args.node c.self.inside.task.part over))
+    (refused_state c.self.inside c.self.invariant (Again c.args.node) BadConfig (again_above seat.setup.config seat.setup.number c.args.node c.self.inside.task.part over))
 
 pub returns-in_err-sent-clause-err : goal.returns-in_err-sent-clause-err
 returns-in_err-sent-clause-err g c =

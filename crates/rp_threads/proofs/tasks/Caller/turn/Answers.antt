@@ -45,7 +45,7 @@ hear-requires g c =
     let t = c.take_fetched in
     let self = c.args.self.now in
     record {
-      held = fetched_held (Node c.node_in_turn.result) (Task self.seat.number) self.seat f.new.self f.result f.ensures.some f.ensures.none self.link t.new.line t.result t.ensures.ok t.ensures.err
+      held = fetched_held (Node c.node_in_turn.result) (Task self.seat.setup.number) self.seat f.new.self f.result f.ensures.some f.ensures.none self.link t.new.line t.result t.ensures.ok t.ensures.err
           c.gives_what_it_took.ensures.accepted c.requires.held;
     }
 
@@ -54,7 +54,7 @@ returns-in_err-take_fetched-clause-held g c =
     let f = c.fetch-fetched in
     let t = c.take_fetched in
     let self = c.args.self.now in
-    fetched_held (Node c.node_in_turn.result) (Task self.seat.number) self.seat f.new.self f.result f.ensures.some f.ensures.none self.link t.new.line t.result t.ensures.ok t.ensures.err
+    fetched_held (Node c.node_in_turn.result) (Task self.seat.setup.number) self.seat f.new.self f.result f.ensures.some f.ensures.none self.link t.new.line t.result t.ensures.ok t.ensures.err
     c.gives_what_it_took.ensures.accepted c.requires.held
 
 pub returns-in_err-take_fetched-clause-err : goal.returns-in_err-take_fetched-clause-err

@@ -1,15 +1,13 @@
 -- A delivery is a step, and what it leads to satisfies the invariant.
 use Rattle.std.proofs.Common.{◌≡◌, refl, sym, subst}
-use Rattle.std.specs.Prelude.{IsSome}
 use Rattle.rp_model.specs.declared.event.Event.TheVariants.{Node}
 use Rattle.rp_model.specs.declared.event.Step.TheVariants as steps
 use Rattle.rp_model.specs.Effect.{Setting}
 use Rattle.rp_model.specs.Events.{Makes, Deliver}
-use Rattle.rp_model.specs.World.{stepping, step_writes}
 use Rattle.rp_world.specs.Going.{stated}
 use Rattle.rp_world.specs.Shape.{IsCluster}
 use Rattle.rp_world.specs.Steps.{IsLightStep, IsStep, setting_of}
-use Rattle.rp_world.proofs.Answering.{made, counts_stated, same_setting}
+use Rattle.rp_world.proofs.Answering.{same_setting}
 use Rattle.rp_world.proofs.Stepping.{made_whole}
 use Rattle.rp_world.proofs.cluster.Cluster.step_by_delivery.Goals as goal
 
@@ -21,14 +19,13 @@ invariant_of-self g c =
     let s = setting_of m.next m.answers m.begin old in
     let step = Deliver c.args.number in
     let answer = stated c.deliver.result c.deliver.new.effect in
-    let counts = counts_stated (IsSome (step_writes s old.world step)) (stepping old.world step) old.failures new.failures c.deliver.result c.deliver.new.effect c.deliver.ensures.failures in
-    let is_step = made s old.world new.world answer (stepping old.world step) old.failures new.failures step counts c.deliver.ensures.answer in
+    let whole = made_whole m.next m.answers m.begin old new (Node (steps.Deliver c.args.number)) answer step refl c.deliver.ensures.answer in
     let now = c.self.invariant in
-    subst (λ (t : Setting g.row.M.Denot). IsCluster t new.world) (sym (same_setting m.next m.answers m.begin old new c.deliver.ensures.setup))
+    subst (λ (t : Setting g.row.M.Denot). IsCluster t new.world) (sym (same_setting m.next m.answers m.begin old new whole.setup))
     (record {
       right = now.right;
-      kept = c.events_keep_replies.ensures.answer s old.world new.world (Makes step) answer now.right now.kept tt is_step;
-      ranged = c.events_keep_ranges.ensures.answer old.setup.config old.setup.program old.world new.world (Makes step) answer now.right now.ranged tt is_step;
+      kept = c.events_keep_replies.ensures.answer s old.world new.world (Makes step) answer now.right now.kept tt whole.world;
+      ranged = c.events_keep_ranges.ensures.answer old.setup.config old.setup.program old.world new.world (Makes step) answer now.right now.ranged tt whole.world;
     })
 
 pub returns-clause-step : goal.returns-clause-step
@@ -38,9 +35,8 @@ returns-clause-step g c =
     let new = c.deliver.new.self in
     let step = Deliver c.args.number in
     let answer = stated c.deliver.result c.deliver.new.effect in
-    let counts = counts_stated (IsSome (step_writes (setting_of m.next m.answers m.begin old) old.world step)) (stepping old.world step) old.failures new.failures c.deliver.result c.deliver.new.effect c.deliver.ensures.failures in
     subst (λ was. IsStep m.next m.answers m.begin was (Node (steps.Deliver c.args.number)) new answer) c.self.view_is
-    (made_whole m.next m.answers m.begin old new (Node (steps.Deliver c.args.number)) answer c.deliver.ensures.setup step counts refl c.deliver.ensures.answer)
+    (made_whole m.next m.answers m.begin old new (Node (steps.Deliver c.args.number)) answer step refl c.deliver.ensures.answer)
 
 pub returns-clause-certain : goal.returns-clause-certain
 returns-clause-certain g c = λ light.

@@ -1,7 +1,6 @@
 use Rattle.std.proofs.Common.{subst}
 use Rattle.rp_replica.specs.Cutting.{IsNotCutIf}
 use Rattle.rp_replica.specs.Inputs.{input_effect}
-use Rattle.rp_world.proofs.Failing.{cut_counts, failed_counts, refused_counts}
 use Rattle.rp_world.proofs.Represented.{node_runs}
 use Rattle.rp_world.proofs.Turning.{is_cut_so, failed_in_cut, refused_in_cut}
 use Rattle.rp_world.proofs.node.Node.cut.Goals as goal
@@ -12,7 +11,6 @@ returns-in-Ok g c =
     record {
       ok = is_cut_so r c.args.input.now c.args.kept c.in-Ok.device c.in-Ok.ensures.ok;
       err = tt;
-      failures = cut_counts r c.args.input.now c.args.kept c.in-Ok.device c.in-Ok.ensures.ok;
     }
 
 pub returns-in-Err-Failed : goal.returns-in-Err-Failed
@@ -20,7 +18,7 @@ returns-in-Err-Failed g c =
     let r = node_runs g.D.Device.disk g.M.Machine.next g.M.Machine.answers c.in-Running.is c.has_failed.ensures c.if-has_failed.false in
     let failed = c.in-Err-Failed in
     let fails = subst (λ n. IsNotCutIf r.disk (input_effect r.next r.answers r.replica c.args.input.now) r.replica n) failed.field-0-is failed.ensures.err in
-    record { ok = tt; err = failed_in_cut r c.args.input.now failed.device fails; failures = failed_counts r c.args.input.now failed.device fails }
+    record { ok = tt; err = failed_in_cut r c.args.input.now failed.device fails }
 
 pub returns-in-Err-Refused : goal.returns-in-Err-Refused
 returns-in-Err-Refused g c =
@@ -30,5 +28,4 @@ returns-in-Err-Refused g c =
     record {
       ok = tt;
       err = refused_in_cut r c.args.input.now refused.fault refused.replica stops;
-      failures = refused_counts r c.args.input.now refused.fault refused.replica stops;
     }

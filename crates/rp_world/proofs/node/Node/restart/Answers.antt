@@ -1,10 +1,10 @@
-use Rattle.std.proofs.Common.{None, refl, sym, subst}
+use Rattle.std.proofs.Common.{None, refl, sym, ap, subst, ◌∙◌}
 use Rattle.rp_model.specs.Effect.{Done, restart_part}
 use Rattle.rp_model.specs.Parts.{NodePart}
 use Rattle.rp_store.specs.Disk.{Disk}
 use Rattle.rp_world.specs.declared.node.Node.TheVariants.{Running}
-use Rattle.rp_world.specs.Nodes.{member_of, Represents, DescribesOpened, IsCounted, failures_in}
-use Rattle.rp_world.proofs.Represented.{node_runs, runs_as, represents, rests_failed, rests_stopped, if_err, goes_on_running, started, not_started}
+use Rattle.rp_world.specs.Nodes.{member_of, Represents, DescribesOpened, failures_in}
+use Rattle.rp_world.proofs.Represented.{node_runs, runs_as, represents, rests_failed, rests_stopped, if_err, goes_on_running, started, not_started, why_not_started}
 use Rattle.rp_world.proofs.node.Node.restart.Goals as goal
 
 pub returns-then-has_failed : goal.returns-then-has_failed
@@ -12,14 +12,13 @@ returns-then-has_failed g c =
     let disk = g.D.Device.disk in
     let member = member_of c.args.me c.args.config (g.M.Machine.begin c.args.program.now) in
     let rests = rests_failed disk member c.in-Running.is c.has_failed.ensures c.if-has_failed.true c.close.ensures.disk in
+    let same = ap (λ (d : Disk). d.failures) c.close.ensures.disk ∙ ap (failures_in disk) (sym c.in-Running.is) in
     let new = c.starts.result in
     record {
-      ok = started disk member c.args.self new.0 (disk c.close.result) rests new.1 c.starts.ensures.ok;
-      err = not_started disk member c.args.self new.0 (disk c.close.result) rests new.1 c.starts.ensures.err;
+      ok = started disk member c.args.self new.0 (disk c.close.result) same rests new.1 c.starts.ensures.ok;
+      err = not_started disk member c.args.self new.0 (disk c.close.result) same rests new.1 c.starts.ensures.err;
       rests = if_err new.1 (λ part is. (rests part is).stopped);
-      failures = subst (λ n. IsCounted (failures_in disk n) (failures_in disk new.0) new.1) (sym c.in-Running.is)
-          (subst (λ (d : Disk). IsCounted d.failures (failures_in disk new.0) new.1) c.close.ensures.disk c.starts.ensures.failures);
-      only = c.starts.ensures.only;
+      why = why_not_started disk member c.args.self new.0 (disk c.close.result) same rests new.1 c.starts.ensures.why;
     }
 
 pub returns-else-has_failed-clause-ok : goal.returns-else-has_failed-clause-ok
@@ -28,18 +27,18 @@ returns-else-has_failed-clause-ok g c = λ part is.
     let member = member_of c.args.me c.args.config (g.M.Machine.begin c.args.program.now) in
     let runs = runs_as r member part is in
     let same = goes_on_running member r.replica part runs in
-    (restart_part part, refl, subst (λ (d : Done NodePart). Represents {P = g.row.M-Program.Denot} r.disk member (Running r.replica) d.part) (sym same) (represents member r.replica part runs), subst (λ (d : Done NodePart). DescribesOpened None d) (sym same) refl)
+    (restart_part part, refl, subst (λ (d : Done NodePart). Represents {P = g.row.M-Program.Denot} r.disk member (Running r.replica) d.part) (sym same) (represents member r.replica part runs), subst (λ (d : Done NodePart). DescribesOpened None d) (sym same) refl, ap (failures_in r.disk) (sym r.is))
 
 pub returns-in-Stopped : goal.returns-in-Stopped
 returns-in-Stopped g c =
     let disk = g.D.Device.disk in
     let member = member_of c.args.me c.args.config (g.M.Machine.begin c.args.program.now) in
     let rests = rests_stopped disk member c.in-Stopped.is in
+    let same = ap (failures_in disk) (sym c.in-Stopped.is) in
     let new = c.starts-in-Stopped.result in
     record {
-      ok = started disk member c.args.self new.0 (disk c.in-Stopped.device) rests new.1 c.starts-in-Stopped.ensures.ok;
-      err = not_started disk member c.args.self new.0 (disk c.in-Stopped.device) rests new.1 c.starts-in-Stopped.ensures.err;
+      ok = started disk member c.args.self new.0 (disk c.in-Stopped.device) same rests new.1 c.starts-in-Stopped.ensures.ok;
+      err = not_started disk member c.args.self new.0 (disk c.in-Stopped.device) same rests new.1 c.starts-in-Stopped.ensures.err;
       rests = if_err new.1 (λ part is. (rests part is).stopped);
-      failures = subst (λ n. IsCounted (failures_in disk n) (failures_in disk new.0) new.1) (sym c.in-Stopped.is) c.starts-in-Stopped.ensures.failures;
-      only = c.starts-in-Stopped.ensures.only;
+      why = why_not_started disk member c.args.self new.0 (disk c.in-Stopped.device) same rests new.1 c.starts-in-Stopped.ensures.why;
     }

@@ -1,7 +1,6 @@
 use Rattle.std.proofs.Common.{◌≡◌, Ok, ap, ◌∙◌}
 use Rattle.rp_replica.specs.Inputs.{effect_if_given, input_effect}
 use Rattle.rp_rules.specs.Inputs.{given_by}
-use Rattle.rp_world.proofs.Failing.{turn_counts, input_so}
 use Rattle.rp_world.proofs.Light.{light_turn}
 use Rattle.rp_world.proofs.Represented.{node_runs, runs_as}
 use Rattle.rp_world.proofs.Turning.{each_ok, each_err, each_given, unsent}
@@ -20,7 +19,6 @@ returns-else-has_failed g c =
       ok = each_ok r (λ given. given) (λ given. given_by input ≡ Ok given) new sent later c.turn_into.result each;
       err = each_err r (λ given. given) (λ given. given_by input ≡ Ok given) new sent later c.turn_into.result each;
       unsent = unsent effect r.replica new sent later c.turn_into.result c.turn_into.ensures.answer;
-      failures = turn_counts r new sent later effect (input_so r.next r.answers r.replica input) c.turn_into.result c.turn_into.ensures.answer;
       certain = λ member part given is gives short light.
           let t = light_turn r.next r.answers member r.replica part (runs_as r member part is) given light in
           c.turn_into.ensures.certain short t.turn (ap (effect_if_given r.next r.answers r.replica) gives ∙ t.resulted) t.free r.working;

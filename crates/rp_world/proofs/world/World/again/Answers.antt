@@ -6,18 +6,18 @@ use Rattle.rp_world.proofs.Moving.{task_here}
 use Rattle.rp_world.proofs.Placing.{found_task}
 use Rattle.rp_world.proofs.world.World.again.Goals as goal
 
-pub returns-then-get-self-clause-answer : goal.returns-then-get-self-clause-answer
-returns-then-get-self-clause-answer g c =
+pub returns-then-get-self : goal.returns-then-get-self
+returns-then-get-self g c =
     let now = c.args.self.now in
     let over : now.setup.config.nodes < c.args.node = omega (arith, c.if-get-self.true, c.get.ensures.value, ap (λ v. v.setup.config.nodes) c.self.view_is) in
-    inl (record { resulted = above now.setup.config now.world c.args.task c.args.node (part_at now.world.tasks c.args.task) over; unchanged = refl })
+    record { answer = inl (record { resulted = above now.setup.config now.world c.args.task c.args.node (part_at now.world.tasks c.args.task) over; unchanged = refl }) }
 
-pub returns-in_default-clause-answer : goal.returns-in_default-clause-answer
-returns-in_default-clause-answer g c =
+pub returns-in_default : goal.returns-in_default
+returns-in_default g c =
     let f = fields_of g.M.Machine.next g.M.Machine.answers g.M.Machine.begin c.self.inside.messages c.self.invariant c.self.view_is in
     let at = found_task f.tasks c.index.result.now c.self.invariant.eight c.get-2.ensures c.from.ensures c.index.ensures in
     let low : c.args.node ≤ f.config.nodes = omega (arith, c.if-get-self.false, c.get.ensures.value) in
-    asks_nothing f at low (sym c.outstanding.ensures ∙ c.in_default.is) c.messages-first.ensures.value c.no_effect.ensures
+    record { answer = asks_nothing f at low (sym c.outstanding.ensures ∙ c.in_default.is) c.messages-first.ensures.value c.no_effect.ensures }
 
 pub send-requires : goal.send-requires
 send-requires g c =
@@ -27,16 +27,16 @@ send-requires g c =
     let waits = c.requires.ranged.waits c.args.task at.it.part here c.in-Some.call (sym c.outstanding.ensures ∙ c.in-Some.is) in
     record { own = waits.0; right = waits.1 }
 
-pub returns-in_err-send-clause-answer : goal.returns-in_err-send-clause-answer
-returns-in_err-send-clause-answer g c =
+pub returns-in_err-send : goal.returns-in_err-send
+returns-in_err-send g c =
     let f = fields_of g.M.Machine.next g.M.Machine.answers g.M.Machine.begin c.self.inside.messages c.self.invariant c.self.view_is in
     let at = found_task f.tasks c.index.result.now c.self.invariant.eight c.get-2.ensures c.from.ensures c.index.ensures in
     let low : c.args.node ≤ f.config.nodes = omega (arith, c.if-get-self.false, c.get.ensures.value) in
-    again_runs_out f at low (sym c.outstanding.ensures ∙ c.in-Some.is) c.send.new.messages c.from_residual.result c.in_err-send.ensures.err c.from_residual.ensures.1
+    record { answer = again_runs_out f at low (sym c.outstanding.ensures ∙ c.in-Some.is) c.send.new.messages c.from_residual.result c.in_err-send.ensures.err c.from_residual.ensures.1 }
 
-pub returns-clause-answer : goal.returns-clause-answer
-returns-clause-answer g c =
+pub returns : goal.returns
+returns g c =
     let f = fields_of g.M.Machine.next g.M.Machine.answers g.M.Machine.begin c.self.inside.messages c.self.invariant c.self.view_is in
     let at = found_task f.tasks c.index.result.now c.self.invariant.eight c.get-2.ensures c.from.ensures c.index.ensures in
     let low : c.args.node ≤ f.config.nodes = omega (arith, c.if-get-self.false, c.get.ensures.value) in
-    asks_more f at low (sym c.outstanding.ensures ∙ c.in-Some.is) c.send.new.messages c.in_ok-send.ensures.ok c.messages-first.ensures.value c.one_message.ensures
+    record { answer = asks_more f at low (sym c.outstanding.ensures ∙ c.in-Some.is) c.send.new.messages c.in_ok-send.ensures.ok c.messages-first.ensures.value c.one_message.ensures }

@@ -1,10 +1,9 @@
 use Rattle.std.proofs.Common.{◌≡◌, ◌-◌, ◌<◌, true, false, length, refl, sym, ap, subst, arith}
 use Rattle.std.specs.Prelude.{IsTrue}
-use Rattle.rp_world.proofs.Failing.{same_seen}
-use Rattle.rp_world.proofs.Fields.{fields_of, member, same_setup}
+use Rattle.rp_world.proofs.Fields.{fields_of, member}
 use Rattle.rp_world.proofs.Messages.{at_place, packet_to, place_below}
 use Rattle.rp_world.proofs.Moving.{part, represents_now}
-use Rattle.rp_world.proofs.NodeTurns.{goes_past, goes_resting, still_heard, more_heard, goes_heard, still_unheard, answers_heard, counts_heard, light_heard, short_heard}
+use Rattle.rp_world.proofs.NodeTurns.{goes_past, goes_resting, still_heard, more_heard, goes_heard, still_unheard, answers_heard, light_heard, short_heard}
 use Rattle.rp_world.proofs.Placing.{found_at, placed_at}
 use Rattle.rp_world.proofs.world.World.deliver.Goals as goal
 
@@ -40,8 +39,6 @@ returns-in_err-dropped g c =
     let runs = c.is_running.ensures.runs (subst (λ b. IsTrue b) (sym c.if-not-is_running.false) refl) in
     record {
       answer = answers_heard f at packet c.hear.new.self c.in_err-dropped.field-0.0 err.err c.from_residual.result c.from_residual.ensures.1 runs c.hear.new.messages err.unsent c.args.effect.now;
-      setup = same_setup f;
-      failures = counts_heard f at packet c.hear.new.self c.in_err-dropped.field-0.0 err.err c.from_residual.result c.from_residual.ensures.1 err.failures;
       certain = λ light. let never : false ≡ true = err.certain (member f at.me) (part f at) packet.packet (represents_now f at) (at_place packet) (short_heard f at packet runs light) (light_heard f at packet runs light) in cc;
     }
 
@@ -66,7 +63,5 @@ returns g c =
     record {
       answer = goes_heard f at (packet_to f c.args.number c.in-Some.ensures c.in-Node.is) c.hear.new.self c.in_ok-dropped.dropped c.hear.new.messages c.in_ok-dropped.ensures.ok
           runs c.messages-first.ensures.value c.messages-2.ensures.value c.of_step.ensures;
-      setup = same_setup f;
-      failures = same_seen f at c.hear.new.self c.in_ok-dropped.ensures.failures;
       certain = λ light. refl;
     }

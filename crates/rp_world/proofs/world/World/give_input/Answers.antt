@@ -1,10 +1,9 @@
 use Rattle.std.proofs.Common.{◌≡◌, ◌-◌, ◌<◌, true, false, length, inl, refl, ap, arith}
 use Rattle.rp_model.specs.World.{commanded, chosen_effect}
 use Rattle.rp_world.proofs.Ending.{none_seen}
-use Rattle.rp_world.proofs.Failing.{same_seen}
-use Rattle.rp_world.proofs.Fields.{fields_of, member, same_setup, setting_by}
+use Rattle.rp_world.proofs.Fields.{fields_of, member, setting_by}
 use Rattle.rp_world.proofs.Moving.{part, represents_now}
-use Rattle.rp_world.proofs.NodeTurns.{goes_given, answers_given, counts_given, light_given}
+use Rattle.rp_world.proofs.NodeTurns.{goes_given, answers_given, light_given}
 use Rattle.rp_world.proofs.Placing.{found_at, placed_at}
 use Rattle.rp_world.proofs.Taking.{still_turned, still_refused, sent_more}
 use Rattle.rp_world.proofs.world.World.give_input.Goals as goal
@@ -14,7 +13,7 @@ returns-in_default-clause-answer g c = λ given gives.
     let f = fields_of g.M.Machine.next g.M.Machine.answers g.M.Machine.begin c.self.inside.messages c.self.invariant c.self.view_is in
     let off : c.from.result - 1 < length f.nodes → ⊥ = λ h. let yes = c.in_default.ensures.variant.1 (omega (arith, h, c.self.inside.nodes.ok.0)) in absurd cc in
     let none = none_seen f (placed_at c.get.ensures c.from.ensures) (omega (arith, off)) in
-    inl (record { resulted = ap (λ o. chosen_effect (setting_by f f.was) f.was.world (commanded c.args.node given o)) none; unchanged = ap (λ v. v.world) f.view_is })
+    inl (record { resulted = ap (λ o. chosen_effect (setting_by f f.was) f.was.world (commanded c.args.node given o)) none; unchanged = f.view_is })
 
 pub invariant_of-self-in_err-dropped : goal.invariant_of-self-in_err-dropped
 invariant_of-self-in_err-dropped g c =
@@ -30,8 +29,6 @@ returns-in_err-dropped g c =
     let err = c.in_err-dropped.ensures in
     record {
       answer = λ given gives. answers_given f at c.turn.new.self given c.in_err-dropped.field-0.0 (err.err (member f at.me) given gives) c.from_residual.result c.from_residual.ensures.1 c.turn.new.messages err.unsent c.args.effect.now;
-      setup = same_setup f;
-      failures = λ given gives. counts_given f at c.turn.new.self given c.in_err-dropped.field-0.0 (err.err (member f at.me) given gives) c.from_residual.result c.from_residual.ensures.1 err.failures;
       certain = λ given p gives short here light. let never : false ≡ true = err.certain (member f at.me) (part f at) given (represents_now f at) gives short (light_given f at given p here light) in cc;
     }
 
@@ -57,7 +54,5 @@ returns g c =
     record {
       answer = λ given gives. goes_given f at c.turn.new.self given c.in_ok-dropped.dropped c.turn.new.messages (c.in_ok-dropped.ensures.ok (member f at.me) given gives)
           c.messages-first.ensures.value c.messages.ensures.value c.of_step.ensures;
-      setup = same_setup f;
-      failures = λ given gives. same_seen f at c.turn.new.self c.in_ok-dropped.ensures.failures;
       certain = λ given p gives short here light. refl;
     }

@@ -16,14 +16,14 @@ use Rattle.rp_world.proofs.world.World.give_to_task.Goals as goal
 pub unwrap-text-requires : goal.unwrap-text-requires
 unwrap-text-requires g c = text_found c.text.result (part_at c.args.self.now.world.sent c.args.number) c.requires.to.0 c.text.ensures c.requires.to.1
 
-pub returns-in_default-reply-clause-answer : goal.returns-in_default-reply-clause-answer
-returns-in_default-reply-clause-answer g c =
+pub returns-in_default-reply : goal.returns-in_default-reply
+returns-in_default-reply g c =
     let f = fields_of g.M.Machine.next g.M.Machine.answers g.M.Machine.begin c.self.inside.messages c.self.invariant c.self.view_is in
     let m = seen_to f c.args.number c.requires.to in
     let packet = c.requires.ranged.packets m.packet (has_at f.was.world.sent c.args.number m.packet c.requires.to.1) in
     let text = text_is c.text.result c.unwrap-text.result (part_at f.was.world.sent c.args.number) m.packet c.unwrap-text.ensures c.text.ensures c.requires.to.1 in
     let none : reply_in m.packet.body ≡ None = sym (reply_of_text c.unwrap-text.result.now m.packet c.in-Ok.reply packet text c.in-Ok.ensures.reply) ∙ c.in_default-reply.is in
-    heard_no_reply f m (subst IsParty c.requires.to.2 packet.ranges.to) none c.messages-first.ensures.value c.no_effect.ensures
+    record { answer = heard_no_reply f m (subst IsParty c.requires.to.2 packet.ranges.to) none c.messages-first.ensures.value c.no_effect.ensures }
 
 pub invariant_of-self : goal.invariant_of-self
 invariant_of-self g c =
@@ -32,8 +32,8 @@ invariant_of-self g c =
     still_tasks f at c.take.new.self
     (take_keeps c.take.result at.it c.take.new.self (takes_reply at.it.task at.it.part c.in-Some.number c.in-Some.reply).part c.take.ensures.part c.take.ensures.err)
 
-pub returns-clause-answer : goal.returns-clause-answer
-returns-clause-answer g c =
+pub returns : goal.returns
+returns g c =
     let f = fields_of g.M.Machine.next g.M.Machine.answers g.M.Machine.begin c.self.inside.messages c.self.invariant c.self.view_is in
     let at = found_task f.tasks c.index_mut.result.now c.self.invariant.eight c.get.ensures c.from.ensures c.index_mut.ensures.value in
     let m = seen_to f c.args.number c.requires.to in
@@ -41,8 +41,10 @@ returns-clause-answer g c =
     let text = text_is c.text.result c.unwrap-text.result (part_at f.was.world.sent c.args.number) m.packet c.unwrap-text.ensures c.text.ensures c.requires.to.1 in
     let is_reply : reply_in m.packet.body ≡ Some (c.in-Some.number, c.in-Some.reply) = sym (reply_of_text c.unwrap-text.result.now m.packet c.in-Ok.reply packet text c.in-Ok.ensures.reply) ∙ c.in-Some.is in
     let stated_is = λ (r : Result Unit Fault). stated r c.match-take.effect in
-    elim c.match-take.branch [
-      | in-Ok-take b ↦
-          took_reply f at c.take.new.self m is_reply b.in-Ok-take.is (ap stated_is b.result-is ∙ ap Ok b.effect-is) c.take.ensures.part c.take.ensures.taken c.messages-first.ensures.value b.taken.ensures
-      | in-Err b ↦ not_taken f at c.take.new.self m b.in-Err.is (ap stated_is b.result-is) c.take.ensures.err
-    ]
+    record {
+      answer = elim c.match-take.branch [
+        | in-Ok-take b ↦
+            took_reply f at c.take.new.self m is_reply b.in-Ok-take.is (ap stated_is b.result-is ∙ ap Ok b.effect-is) c.take.ensures.part c.take.ensures.taken c.messages-first.ensures.value b.taken.ensures
+        | in-Err b ↦ not_taken f at c.take.new.self m b.in-Err.is (ap stated_is b.result-is) c.take.ensures.err
+      ];
+    }

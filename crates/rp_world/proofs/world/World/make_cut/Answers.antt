@@ -1,9 +1,8 @@
 use Rattle.std.proofs.Common.{◌+◌, inl, refl, sym, subst, arith}
 use Rattle.rp_agreement.specs.Ranges.{IsRangedWorld}
 use Rattle.rp_world.proofs.Choosing.{nodes_of, nodes_seen}
-use Rattle.rp_world.proofs.Failing.{none_counted}
-use Rattle.rp_world.proofs.Fields.{fields_of, same_setup, sent_seen, setting, world, setting_by}
-use Rattle.rp_world.proofs.NodeCuts.{IsStated, within, still_cut, answers_cut, counts_cut, stated_ok, stated_err}
+use Rattle.rp_world.proofs.Fields.{fields_of, sent_seen, setting, world, setting_by}
+use Rattle.rp_world.proofs.NodeCuts.{IsStated, within, still_cut, answers_cut, stated_ok, stated_err}
 use Rattle.rp_world.proofs.Placing.{changed, placed_at}
 use Rattle.rp_world.proofs.world.World.make_cut.Goals.{in-Ok-answer, in-Err-answer}
 use Rattle.rp_world.proofs.world.World.make_cut.Goals as goal
@@ -18,9 +17,7 @@ returns-in-Err g c =
     let f = fields_of g.M.Machine.next g.M.Machine.answers g.M.Machine.begin c.self.inside.messages c.self.invariant c.self.view_is in
     let none = c.in-Err.ensures.maker (setting_by f f.was) f.was.world (sym (sent_seen f)) (nodes_seen f c.deref.ensures.value) in
     record {
-      answer = inl (record { resulted = none.cut c.args.kept; unchanged = refl });
-      setup = refl;
-      failures = none_counted _ _ f.was.failures c.in-Err.fault none.reason;
+      answer = inl (record { resulted = none c.args.kept; unchanged = refl });
     }
 
 pub remove-requires : goal.remove-requires
@@ -49,6 +46,4 @@ returns g c =
     ] in
     record {
       answer = answers_cut f change one c.args.kept cut.result.1 cut.ensures.ok cut.ensures.err c.messages-first.ensures.value c.match-answer.result stated;
-      setup = same_setup f;
-      failures = counts_cut f change one c.args.kept cut.result.1 cut.ensures.err cut.ensures.failures (c.messages-first.result + 1) c.match-answer.result stated;
     }

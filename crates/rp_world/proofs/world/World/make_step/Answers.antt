@@ -1,5 +1,5 @@
 use Rattle.std.proofs.Common.{◌≡◌, ℕ, Some, Result, Ok, Err, List, inl, refl, sym, ap, subst, ◌∙◌}
-use Rattle.std.specs.Prelude.{IsOk, IsSome}
+use Rattle.std.specs.Prelude.{IsOk}
 use Rattle.rp_base.specs.declared.action.Action.{Action}
 use Rattle.rp_base.specs.declared.fault.Fault.{Fault}
 use Rattle.rp_base.specs.declared.reply.Answer.{Answer}
@@ -9,26 +9,23 @@ use Rattle.rp_model.specs.Effect.{Setting, Done, NodeInput, node_effect}
 use Rattle.rp_model.specs.Events as events
 use Rattle.rp_model.specs.Events.{Step, step_of}
 use Rattle.rp_model.specs.Parts.{NodePart}
-use Rattle.rp_model.specs.World.{World, part_at, node_done, node_done_if, commanded, node_chosen, chosen_effect, chosen_record, step_effect, cut_step, step_writes, stepping}
-use Rattle.rp_world.specs.Going.{Answers, Counts, stated}
+use Rattle.rp_model.specs.World.{World, part_at, node_done, node_done_if, commanded, chosen_effect, step_effect}
+use Rattle.rp_world.specs.Going.{Answers, stated, step_meant}
 use Rattle.rp_world.specs.Steps.{IsLightStep, ClusterState, setting_of}
 use Rattle.rp_world.proofs.Choosing.{its_node, nodes_seen}
-use Rattle.rp_world.proofs.Failing.{none_counted}
 use Rattle.rp_world.proofs.Fields.{fields_of, setting_by}
 use Rattle.rp_world.proofs.Hearing.{same_input}
 use Rattle.rp_world.proofs.Light.{light_input}
 use Rattle.rp_world.proofs.Messages.{sends_are}
 use Rattle.rp_world.proofs.world.World.make_step.Goals as goal
 
--- what a cluster answers to a step, and what it counts
+-- what a cluster answers to a step
 module _ {S P : Type 0} (next : S → Action → S) (answers : S → Action → List Answer) (start : P → S) (was new : ClusterState P) (result : Result Unit Fault) (effect : Effect) where
   abbrev IsMade : Step → Type 0
   IsMade step =
       let s = setting_of next answers start was in
       record {
-        answer : Answers was.world (step_effect s was.world step) (λ kept. cut_step s was.world step kept) new.world (stated result effect);
-        setup : new.setup ≡ was.setup;
-        failures : Counts (IsSome (step_writes s was.world step)) (stepping was.world step) was.failures new.failures result;
+        answer : Answers was (step_meant s was.world step) new (stated result effect);
         certain : IsLightStep s was.world step → IsOk result;
       }
 
@@ -37,10 +34,6 @@ result_of : {S : Type 0} (s : Setting S) (w : World) (step : Step) (me : ℕ) (i
     → (let a : Result NodeInput Fault = Ok input in let b : Result NodeInput Fault = Ok given in a ≡ b) → part_at w.nodes me ≡ Some part → node_effect s me part given ≡ Ok done → step_effect s w step ≡ Ok (node_done w me done)
 result_of s w step me input {given = given} {part = part} whole is here resulted =
     whole ∙ ap (λ o. chosen_effect s w (commanded me input o)) here ∙ ap (λ (i : NodeInput). node_done_if w me (node_effect s me part i)) (same_input input given is) ∙ ap (node_done_if w me) resulted
-
--- the node of a command is counted
-counted_as : (w : World) (me : ℕ) (given : NodeInput) (why : Type 0) (old new : List ℕ) (r : Result Unit Fault) → Counts why (Some me) old new r → Counts why (node_chosen (commanded me given (part_at w.nodes me))) old new r
-counted_as w me given why old new r counts = subst (λ who. Counts why who old new r) (sym (its_node me given (part_at w.nodes me))) counts
 
 pub give_input-requires-clause-given : goal.give_input-requires-clause-given
 give_input-requires-clause-given g c = ((inputs.Lead c.in-Lead.position), refl)
@@ -96,41 +89,41 @@ give_input-requires-in-Ask-clause-sends g c = λ given part done is here resulte
 pub returns-in-Deliver : goal.returns-in-Deliver
 returns-in-Deliver g c =
     subst (λ step. IsMade g.M.Machine.next g.M.Machine.answers g.M.Machine.begin c.args.self.now c.deliver.new.self c.deliver.result c.deliver.new.effect (step_of step)) (sym c.in-Deliver.is)
-    (record { answer = c.deliver.ensures.answer; setup = c.deliver.ensures.setup; failures = c.deliver.ensures.failures; certain = c.deliver.ensures.certain })
+    (record { answer = c.deliver.ensures.answer; certain = c.deliver.ensures.certain })
 
 pub returns-in-Lead : goal.returns-in-Lead
 returns-in-Lead g c =
     let given = inputs.Lead c.in-Lead.position in
     subst (λ step. IsMade g.M.Machine.next g.M.Machine.answers g.M.Machine.begin c.args.self.now c.give_input.new.self c.give_input.result c.give_input.new.effect (step_of step)) (sym c.in-Lead.is)
-    (record { answer = c.give_input.ensures.answer given refl; setup = c.give_input.ensures.setup; failures = counted_as c.args.self.now.world c.in-Lead.node given _ c.args.self.now.failures c.give_input.new.self.failures c.give_input.result (c.give_input.ensures.failures given refl); certain = λ light. let t = light_input (setting_of g.M.Machine.next g.M.Machine.answers g.M.Machine.begin c.args.self.now) c.args.self.now.world (events.Lead c.in-Lead.node c.in-Lead.position) light c.in-Lead.node (its_node c.in-Lead.node given (part_at c.args.self.now.world.nodes c.in-Lead.node)) given refl refl in c.give_input.ensures.certain given t.part refl (λ long. long) t.here t.takes_none })
+    (record { answer = c.give_input.ensures.answer given refl; certain = λ light. let t = light_input (setting_of g.M.Machine.next g.M.Machine.answers g.M.Machine.begin c.args.self.now) c.args.self.now.world (events.Lead c.in-Lead.node c.in-Lead.position) light c.in-Lead.node (its_node c.in-Lead.node given (part_at c.args.self.now.world.nodes c.in-Lead.node)) given refl refl in c.give_input.ensures.certain given t.part refl (λ long. long) t.here t.takes_none })
 
 pub returns-in-Tick : goal.returns-in-Tick
 returns-in-Tick g c =
     let given = inputs.Tick c.in-Tick.now in
     let made = c.give_input-in-Tick in
     subst (λ step. IsMade g.M.Machine.next g.M.Machine.answers g.M.Machine.begin c.args.self.now made.new.self made.result made.new.effect (step_of step)) (sym c.in-Tick.is)
-    (record { answer = made.ensures.answer given refl; setup = made.ensures.setup; failures = counted_as c.args.self.now.world c.in-Tick.node given _ c.args.self.now.failures made.new.self.failures made.result (made.ensures.failures given refl); certain = λ light. let t = light_input (setting_of g.M.Machine.next g.M.Machine.answers g.M.Machine.begin c.args.self.now) c.args.self.now.world (events.Tick c.in-Tick.node c.in-Tick.now) light c.in-Tick.node (its_node c.in-Tick.node given (part_at c.args.self.now.world.nodes c.in-Tick.node)) given refl refl in made.ensures.certain given t.part refl (λ long. long) t.here t.takes_none })
+    (record { answer = made.ensures.answer given refl; certain = λ light. let t = light_input (setting_of g.M.Machine.next g.M.Machine.answers g.M.Machine.begin c.args.self.now) c.args.self.now.world (events.Tick c.in-Tick.node c.in-Tick.now) light c.in-Tick.node (its_node c.in-Tick.node given (part_at c.args.self.now.world.nodes c.in-Tick.node)) given refl refl in made.ensures.certain given t.part refl (λ long. long) t.here t.takes_none })
 
 pub returns-in-Report : goal.returns-in-Report
 returns-in-Report g c =
     let given = inputs.Report c.in-Report.first in
     let made = c.give_input-in-Report in
     subst (λ step. IsMade g.M.Machine.next g.M.Machine.answers g.M.Machine.begin c.args.self.now made.new.self made.result made.new.effect (step_of step)) (sym c.in-Report.is)
-    (record { answer = made.ensures.answer given refl; setup = made.ensures.setup; failures = counted_as c.args.self.now.world c.in-Report.node given _ c.args.self.now.failures made.new.self.failures made.result (made.ensures.failures given refl); certain = λ light. let t = light_input (setting_of g.M.Machine.next g.M.Machine.answers g.M.Machine.begin c.args.self.now) c.args.self.now.world (events.Report c.in-Report.node c.in-Report.first) light c.in-Report.node (its_node c.in-Report.node given (part_at c.args.self.now.world.nodes c.in-Report.node)) given refl refl in made.ensures.certain given t.part refl (λ long. long) t.here t.takes_none })
+    (record { answer = made.ensures.answer given refl; certain = λ light. let t = light_input (setting_of g.M.Machine.next g.M.Machine.answers g.M.Machine.begin c.args.self.now) c.args.self.now.world (events.Report c.in-Report.node c.in-Report.first) light c.in-Report.node (its_node c.in-Report.node given (part_at c.args.self.now.world.nodes c.in-Report.node)) given refl refl in made.ensures.certain given t.part refl (λ long. long) t.here t.takes_none })
 
 pub returns-in-Ask : goal.returns-in-Ask
 returns-in-Ask g c =
     let given = inputs.Ask c.in-Ask.to in
     let made = c.give_input-in-Ask in
     subst (λ step. IsMade g.M.Machine.next g.M.Machine.answers g.M.Machine.begin c.args.self.now made.new.self made.result made.new.effect (step_of step)) (sym c.in-Ask.is)
-    (record { answer = made.ensures.answer given refl; setup = made.ensures.setup; failures = counted_as c.args.self.now.world c.in-Ask.node given _ c.args.self.now.failures made.new.self.failures made.result (made.ensures.failures given refl); certain = λ light. let t = light_input (setting_of g.M.Machine.next g.M.Machine.answers g.M.Machine.begin c.args.self.now) c.args.self.now.world (events.Ask c.in-Ask.node c.in-Ask.to) light c.in-Ask.node (its_node c.in-Ask.node given (part_at c.args.self.now.world.nodes c.in-Ask.node)) given refl refl in made.ensures.certain given t.part refl (λ long. long) t.here t.takes_none })
+    (record { answer = made.ensures.answer given refl; certain = λ light. let t = light_input (setting_of g.M.Machine.next g.M.Machine.answers g.M.Machine.begin c.args.self.now) c.args.self.now.world (events.Ask c.in-Ask.node c.in-Ask.to) light c.in-Ask.node (its_node c.in-Ask.node given (part_at c.args.self.now.world.nodes c.in-Ask.node)) given refl refl in made.ensures.certain given t.part refl (λ long. long) t.here t.takes_none })
 
 pub returns-in-Ok : goal.returns-in-Ok
 returns-in-Ok g c =
     let given = inputs.LeadRange c.in-LeadRange.first c.in-LeadRange.count in
     let made = c.give_input-in-Ok in
     subst (λ step. IsMade g.M.Machine.next g.M.Machine.answers g.M.Machine.begin c.args.self.now made.new.self made.result made.new.effect (step_of step)) (sym c.in-LeadRange.is)
-    (record { answer = made.ensures.answer given c.in-Ok.ensures.ok; setup = made.ensures.setup; failures = counted_as c.args.self.now.world c.in-LeadRange.node given _ c.args.self.now.failures made.new.self.failures made.result (made.ensures.failures given c.in-Ok.ensures.ok); certain = λ light. let t = light_input (setting_of g.M.Machine.next g.M.Machine.answers g.M.Machine.begin c.args.self.now) c.args.self.now.world (events.LeadRange c.in-LeadRange.node c.in-LeadRange.first c.in-LeadRange.count) light c.in-LeadRange.node (its_node c.in-LeadRange.node given (part_at c.args.self.now.world.nodes c.in-LeadRange.node)) given refl refl in made.ensures.certain given t.part c.in-Ok.ensures.ok (λ long. long) t.here t.takes_none })
+    (record { answer = made.ensures.answer given c.in-Ok.ensures.ok; certain = λ light. let t = light_input (setting_of g.M.Machine.next g.M.Machine.answers g.M.Machine.begin c.args.self.now) c.args.self.now.world (events.LeadRange c.in-LeadRange.node c.in-LeadRange.first c.in-LeadRange.count) light c.in-LeadRange.node (its_node c.in-LeadRange.node given (part_at c.args.self.now.world.nodes c.in-LeadRange.node)) given refl refl in made.ensures.certain given t.part c.in-Ok.ensures.ok (λ long. long) t.here t.takes_none })
 
 pub returns-in-Err : goal.returns-in-Err
 returns-in-Err g c =
@@ -139,8 +132,6 @@ returns-in-Err g c =
     let refused = c.in-Err.ensures.err s f.was.world (nodes_seen f c.deref.ensures.value) in
     record {
       answer = inl (record { resulted = ap (λ step. step_effect s f.was.world (step_of step)) c.in-LeadRange.is ∙ refused.whole; unchanged = refl });
-      setup = refl;
-      failures = none_counted _ _ f.was.failures c.in-Err.fault refused.none.reason;
       certain = λ light.
           let refuses : step_effect s f.was.world (step_of c.args.step) ≡ Err c.in-Err.fault = ap (λ step. step_effect s f.was.world (step_of step)) c.in-LeadRange.is ∙ refused.whole in
           let resulted : step_effect s f.was.world (step_of c.args.step) ≡ Ok light.transition = light.resulted in

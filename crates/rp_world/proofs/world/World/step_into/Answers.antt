@@ -1,14 +1,13 @@
--- Each event's answer is a step of the world, and the counts of failures are as it says.
+-- Each event's answer is a step of the cluster.
 use Rattle.std.proofs.Common.{◌≡◌, sym, ap, subst}
-use Rattle.std.specs.Prelude.{ℤ, IsSome}
+use Rattle.std.specs.Prelude.{ℤ}
 use Rattle.std.specs.Int.{w64}
 use Rattle.std.proofs.lemmas.Int.{to_z-of_z}
-use Rattle.rp_model.specs.Events.{Submit, Again, Makes, Stop, Restart, IsRightEvent, event_of, step_of}
-use Rattle.rp_model.specs.World.{event_effect, step_writes, stepping}
-use Rattle.rp_world.specs.Going.{Answers, no_cut, stated}
+use Rattle.rp_model.specs.Events.{Submit, Makes, IsRightEvent, event_of, step_of}
+use Rattle.rp_model.specs.World.{event_effect}
+use Rattle.rp_world.specs.Going.{Answers, call_meant, stated}
 use Rattle.rp_world.specs.Steps.{IsLightStep, IsStep, setting_of}
-use Rattle.rp_world.proofs.Answering.{submitted, asked, stopped, restarted, as_answers, counts_stated}
-use Rattle.rp_world.proofs.Stepping.{stepped_as, without_device, made_whole, made_cut}
+use Rattle.rp_world.proofs.Stepping.{submitted, asked, made_whole, made_cut, stopped, restarted}
 use Rattle.rp_world.proofs.world.World.step_into.Goals as goal
 use Rattle.rp_world.proofs.world.World.step_into.Goals.{in-Submit, in-Again, in-Cut, in-Stop, in-Restart}
 
@@ -19,9 +18,8 @@ returns-in-Node g c =
     let s = setting_of m.next m.answers m.begin old in
     let step = step_of c.in-Node.step in
     let made = c.make_step in
-    let counts = counts_stated (IsSome (step_writes s old.world step)) (stepping old.world step) old.failures made.new.self.failures made.result made.new.effect made.ensures.failures in
     record {
-      step = made_whole m.next m.answers m.begin old made.new.self c.args.event.now (stated made.result made.new.effect) made.ensures.setup step counts (ap event_of c.in-Node.is) made.ensures.answer;
+      step = made_whole m.next m.answers m.begin old made.new.self c.args.event.now (stated made.result made.new.effect) step (ap event_of c.in-Node.is) made.ensures.answer;
       certain = λ taken is light.
           let made_by : event_of c.args.event.now ≡ Makes step = ap event_of c.in-Node.is in
           let same : taken ≡ step = cc in
@@ -39,33 +37,29 @@ returns-clause-step g c =
           let v = w.in-Submit in
           let made = w.submit-answer in
           let range = subst (λ e. IsRightEvent (event_of e)) v.is c.requires.event in
-          let answer : Answers old.world (event_effect s old.world (Submit v.task v.node v.object v.operation v.arg)) no_cut made.new.self.world made.result =
-          subst (λ (z : ℤ). Answers old.world (event_effect s old.world (Submit v.task v.node v.object v.operation z)) no_cut made.new.self.world made.result) (to_z-of_z w64 v.arg range.4) made.ensures.answer in
+          let answer : Answers old (call_meant (event_effect s old.world (Submit v.task v.node v.object v.operation v.arg))) made.new.self made.result =
+          subst (λ (z : ℤ). Answers old (call_meant (event_effect s old.world (Submit v.task v.node v.object v.operation z))) made.new.self made.result) (to_z-of_z w64 v.arg range.4) made.ensures.answer in
           subst (λ now. stepped now c.match-event.answer) (sym w.self-is) (subst (stepped made.new.self) (sym w.answer-is)
-          (without_device m.next m.answers m.begin old made.new.self c.args.event.now made.result made.ensures.setup (Submit v.task v.node v.object v.operation v.arg) (ap event_of v.is)
-          (submitted s old.world made.new.self.world made.result v.task v.node v.object v.operation v.arg answer) answer made.ensures.failures))
+          (submitted m.next m.answers m.begin old made.new.self c.args.event.now made.result v.task v.node v.object v.operation v.arg (ap event_of v.is) answer))
       | in-Again w ↦
           let v = w.in-Again in
           let made = w.again-answer in
           subst (λ now. stepped now c.match-event.answer) (sym w.self-is) (subst (stepped made.new.self) (sym w.answer-is)
-          (without_device m.next m.answers m.begin old made.new.self c.args.event.now made.result made.ensures.setup (Again v.task v.node) (ap event_of v.is)
-          (asked s old.world made.new.self.world made.result v.task v.node made.ensures.answer) made.ensures.answer made.ensures.failures))
+          (asked m.next m.answers m.begin old made.new.self c.args.event.now made.result v.task v.node (ap event_of v.is) made.ensures.answer))
       | in-Cut w ↦
           let made = w.make_cut-answer in
           subst (λ now. stepped now c.match-event.answer) (sym w.self-is) (subst (stepped made.new.self) (sym w.answer-is)
-          (made_cut m.next m.answers m.begin old made.new.self c.args.event.now made.result made.ensures.setup (step_of w.in-Cut.step) made.ensures.failures w.in-Cut.kept (ap event_of w.in-Cut.is) made.ensures.answer))
+          (made_cut m.next m.answers m.begin old made.new.self c.args.event.now made.result (step_of w.in-Cut.step) w.in-Cut.kept (ap event_of w.in-Cut.is) made.ensures.answer))
       | in-Stop w ↦
           let v = w.in-Stop in
           let made = w.stop-answer in
           subst (λ now. stepped now c.match-event.answer) (sym w.self-is) (subst (stepped made.new.self) (sym w.answer-is)
-          (without_device m.next m.answers m.begin old made.new.self c.args.event.now made.result made.ensures.setup (Stop v.node) (ap event_of v.is)
-          (stopped s old.world made.new.self.world made.result v.node made.ensures.answer) (as_answers old.world (event_effect s old.world (Stop v.node)) made.new.self.world made.result made.ensures.answer) made.ensures.failures))
+          (stopped m.next m.answers m.begin old made.new.self c.args.event.now made.result v.node (ap event_of v.is) made.ensures.answer))
       | in-Restart w ↦
           let v = w.in-Restart in
           let made = w.restart-answer in
           subst (λ now. stepped now c.match-event.answer) (sym w.self-is) (subst (stepped made.new.self) (sym w.answer-is)
-          (stepped_as m.next m.answers m.begin old made.new.self c.args.event.now made.result made.ensures.setup (Restart v.node) (ap event_of v.is)
-          (restarted s old.world made.new.self.world made.result v.node made.ensures.answer) made.ensures.failures))
+          (restarted m.next m.answers m.begin old made.new.self c.args.event.now v.node (ap event_of v.is) made.result made.ensures.answer))
     ])
 
 -- only a step may be light, and these events are none

@@ -1,17 +1,17 @@
 use Rattle.std.proofs.Common.{refl, ap, arith}
 use Rattle.rp_model.specs.World.{stops}
 use Rattle.rp_world.proofs.Ending.{none_seen}
-use Rattle.rp_world.proofs.Fields.{fields_of, same_setup}
-use Rattle.rp_world.proofs.Leaving.{still_by_stop, stop_ok, stop_err, same_left}
+use Rattle.rp_world.proofs.Fields.{fields_of}
+use Rattle.rp_world.proofs.Leaving.{still_by_stop, stop_ok, stop_err}
 use Rattle.rp_world.proofs.Placing.{changed, placed_at}
 use Rattle.rp_world.proofs.world.World.stop.Goals.{in-Ok, in-Err}
 use Rattle.rp_world.proofs.world.World.stop.Goals as goal
 
-pub returns-then-place-len-clause-answer : goal.returns-then-place-len-clause-answer
-returns-then-place-len-clause-answer g c =
+pub returns-then-place-len : goal.returns-then-place-len
+returns-then-place-len g c =
     let f = fields_of g.M.Machine.next g.M.Machine.answers g.M.Machine.begin c.self.inside.messages c.self.invariant c.self.view_is in
     let none = none_seen f (placed_at c.get.ensures c.from-place.ensures) (omega (arith, c.if-place-len.true, c.len.ensures, c.self.inside.nodes.ok.0)) in
-    record { resulted = ap (stops f.was.world c.args.node) none; unchanged = refl }
+    record { answer = record { resulted = ap (stops f.was.world c.args.node) none; unchanged = refl } }
 
 pub invariant_of-self : goal.invariant_of-self
 invariant_of-self g c =
@@ -28,6 +28,4 @@ returns g c =
         | in-Ok b ↦ stop_ok f change b.in-Ok.is b.result-is c.stop-node.ensures.ok c.messages-first.ensures.value b.no_effect.ensures
         | in-Err b ↦ stop_err f change b.in-Err.is b.result-is c.stop-node.ensures.err
       ];
-      setup = same_setup f;
-      failures = same_left f change c.stop-node.ensures.failures;
     }

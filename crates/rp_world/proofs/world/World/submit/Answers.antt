@@ -8,12 +8,12 @@ use Rattle.rp_world.proofs.Moving.{still_tasks}
 use Rattle.rp_world.proofs.Placing.{found_task}
 use Rattle.rp_world.proofs.world.World.submit.Goals as goal
 
-pub returns-in_err-call-clause-answer : goal.returns-in_err-call-clause-answer
-returns-in_err-call-clause-answer g c =
+pub returns-in_err-call : goal.returns-in_err-call
+returns-in_err-call g c =
     let f = fields_of g.M.Machine.next g.M.Machine.answers g.M.Machine.begin c.self.inside.messages c.self.invariant c.self.view_is in
     let at = found_task f.tasks c.index_mut-caller.result.now c.self.invariant.eight c.get.ensures c.from.ensures c.index_mut-caller.ensures.value in
     let asked = asks_of f.config at.it c.args.node c.args.object c.args.operation (to_z-of_z w64 c.args.arg) (record { sfits = c.ranges.arg.sfits }) c.next.ensures in
-    may_not f at asked c.in_err-call.field-0.0 c.from_residual.result c.in_err-call.was c.from_residual.ensures.1
+    record { answer = may_not f at asked c.in_err-call.field-0.0 c.from_residual.result c.in_err-call.was c.from_residual.ensures.1 }
 
 pub send-requires : goal.send-requires
 send-requires g c =
@@ -22,12 +22,12 @@ send-requires g c =
     let asked = asks_of f.config at.it c.args.node c.args.object c.args.operation (to_z-of_z w64 c.args.arg) (record { sfits = c.ranges.arg.sfits }) c.next.ensures in
     record { own = call_own f at asked c.in_ok-call.was; right = call_is_right f at asked c.in_ok-call.was }
 
-pub returns-in_err-send-clause-answer : goal.returns-in_err-send-clause-answer
-returns-in_err-send-clause-answer g c =
+pub returns-in_err-send : goal.returns-in_err-send
+returns-in_err-send g c =
     let f = fields_of g.M.Machine.next g.M.Machine.answers g.M.Machine.begin c.self.inside.messages c.self.invariant c.self.view_is in
     let at = found_task f.tasks c.index_mut-caller.result.now c.self.invariant.eight c.get.ensures c.from.ensures c.index_mut-caller.ensures.value in
     let asked = asks_of f.config at.it c.args.node c.args.object c.args.operation (to_z-of_z w64 c.args.arg) (record { sfits = c.ranges.arg.sfits }) c.next.ensures in
-    call_runs_out f at asked c.in_ok-call.was c.send.new.messages c.from_residual-in_err-send.result c.in_err-send.ensures.err c.from_residual-in_err-send.ensures.1
+    record { answer = call_runs_out f at asked c.in_ok-call.was c.send.new.messages c.from_residual-in_err-send.result c.in_err-send.ensures.err c.from_residual-in_err-send.ensures.1 }
 
 pub invariant_of-self-2 : goal.invariant_of-self-2
 invariant_of-self-2 g c =
@@ -35,9 +35,9 @@ invariant_of-self-2 g c =
     let at = found_task f.tasks c.index_mut-caller.result.now c.self.invariant.eight c.get.ensures c.from.ensures c.index_mut-caller.ensures.value in
     still_tasks f at c.call.new.self (ap (λ (k : Caller). k.task) c.call.ensures)
 
-pub returns-clause-answer : goal.returns-clause-answer
-returns-clause-answer g c =
+pub returns : goal.returns
+returns g c =
     let f = fields_of g.M.Machine.next g.M.Machine.answers g.M.Machine.begin c.self.inside.messages c.self.invariant c.self.view_is in
     let at = found_task f.tasks c.index_mut-caller.result.now c.self.invariant.eight c.get.ensures c.from.ensures c.index_mut-caller.ensures.value in
     let asked = asks_of f.config at.it c.args.node c.args.object c.args.operation (to_z-of_z w64 c.args.arg) (record { sfits = c.ranges.arg.sfits }) c.next.ensures in
-    called f at asked c.in_ok-call.was c.call.new.self c.send.new.messages (ap (λ (k : Caller). k.part) c.call.ensures) c.in_ok-send.ensures.ok c.messages-first.ensures.value c.one_message.ensures
+    record { answer = called f at asked c.in_ok-call.was c.call.new.self c.send.new.messages (ap (λ (k : Caller). k.part) c.call.ensures) c.in_ok-send.ensures.ok c.messages-first.ensures.value c.one_message.ensures }

@@ -20,7 +20,7 @@ use Rattle.rp_boxes.specs.Moments.{WasFull, WasInUse, WasNotFull, WasPut, WasWor
 use Rattle.rp_boxes.specs.Parts.{Part, View, actor_of, box_of, part_in, with_got, with_put}
 use Rattle.rp_boxes.specs.Plays.{IsPutBy, Sight, alone}
 use Rattle.rp_boxes.specs.Rule.{IsCarried, HasOwnPackets}
-use Rattle.rp_boxes.specs.Seats.{SeatState, IsAtTable, IsNodePlace, IsPut, IsSentText, setting_of}
+use Rattle.rp_boxes.specs.Seats.{SeatState, IsAtTable, IsNodePlace, IsPut, IsSentText, table_setting}
 use Rattle.rp_boxes.specs.declared.board.Known.{Known}
 use Rattle.rp_boxes.specs.declared.board.Law.{Law}
 use Rattle.rp_boxes.specs.declared.board.Setup.{Setup}
@@ -38,9 +38,9 @@ Place = Seat (Option (Vec ℕ Global)) Known
 
 -- what a place sees that knows one actor, at the table as it is
 pub world_at : {M P : Type 0} (machine : Ghosts M P) (found board : Board M P) (me : Sight) (part : Part) (with : View → View) → found ≡ board → me ≡ alone 0 part
-    → HasWorld (setting_of machine found.shared.key) (with me.0) → HasWorld (setting_of machine board.shared.key) (with ((0, part) ∷ []))
+    → HasWorld (table_setting machine found.shared.key) (with me.0) → HasWorld (table_setting machine board.shared.key) (with ((0, part) ∷ []))
 world_at {M} {P} machine found board me part with is knows seen =
-    subst (λ (z : Board M P × Sight). HasWorld (setting_of machine z.0.shared.key) (with z.1.0)) (λ i. (is i, knows i)) seen
+    subst (λ (z : Board M P × Sight). HasWorld (table_setting machine z.0.shared.key) (with z.1.0)) (λ i. (is i, knows i)) seen
 
 -- a seat that knows its actor's part anew, and holds no box as before
 pub at_after : (table : TableId) (k : ℕ) (old new : Place) (part : Part) → IsAtTable table old.table_id k old.me → new.table_id ≡ old.table_id → new.me ≡ alone k part
@@ -143,13 +143,13 @@ module _ {M P : Type 0} (step : BoxStep M P) where
   -- what all nodes share, as it is and as the call finds it
   module _ (machine : Ghosts M P) where
     abbrev s : Setting M
-    s = setting_of machine step.board.shared.key
+    s = table_setting machine step.board.shared.key
 
     abbrev here : Setting M
-    here = setting_of machine step.found.shared.key
+    here = table_setting machine step.found.shared.key
 
     shared : here ≡ s
-    shared = ap (λ (board : Board M P). setting_of machine board.shared.key) step.is
+    shared = ap (λ (board : Board M P). table_setting machine board.shared.key) step.is
 
   -- ---- it takes the packet out of the box from an actor, if it is full
 

@@ -28,8 +28,8 @@ use Rattle.rp_world.proofs.Represented.{represents, represents_failed, as_runnin
 use Rattle.rp_world.proofs.Turning.{same_effect, is_cut, taken, false_true}
 use Rattle.rp_boxes.specs.Parts.{Part, OfNode, part_in, part_after}
 use Rattle.rp_boxes.specs.Rule.{HasOwnPackets}
-use Rattle.rp_boxes.specs.Plays.{Sight, IsNoted, alone}
-use Rattle.rp_boxes.specs.Seats.{SeatState, IsAtTable, IsNodePlace, HasInputRanges, IsGot, IsReason, IsTurn, IsCutTurn, IsLightTurn, IsNoTurn, setting_of}
+use Rattle.rp_boxes.specs.Plays.{Sight, IsEventNoted, alone}
+use Rattle.rp_boxes.specs.Seats.{SeatState, IsAtTable, IsNodePlace, HasInputRanges, IsGot, IsReason, IsTurn, IsCutTurn, IsLightTurn, IsNoTurn, table_setting}
 use Rattle.rp_boxes.specs.Steps.{IsEvent, HasEvent}
 use Rattle.rp_boxes.specs.CountedTurns.{HasStepped, HasStopped}
 use Rattle.rp_boxes.specs.declared.board.Setup.{Setup}
@@ -107,7 +107,7 @@ module _ {M D P : Type 0} {machine : Ghosts M P} (at : NodeStep machine D) where
   sits = at.seated.1
 
   abbrev s : Setting M
-  s = setting_of machine key
+  s = table_setting machine key
 
   abbrev member : Member M
   member = member_of number key.config (machine.begin key.program.value)
@@ -127,13 +127,13 @@ module _ {M D P : Type 0} {machine : Ghosts M P} (at : NodeStep machine D) where
 
   -- what is known once the turn is counted at the table, as a call finds it
   abbrev Stepped : ReplicaState M → Sent → Board M P → Part → Type 0
-  Stepped new sent board = HasStepped (setting_of machine board.shared.key) number before input new sent
+  Stepped new sent board = HasStepped (table_setting machine board.shared.key) number before input new sent
 
   abbrev Stopped : ReplicaState M → Board M P → Part → Type 0
-  Stopped new board = HasStopped (setting_of machine board.shared.key) number before input new
+  Stopped new board = HasStopped (table_setting machine board.shared.key) number before input new
 
   abbrev Happens : (Board M P → Part → Type 0) → Board M P → Type 0
-  Happens knows board = HasEvent (setting_of machine board.shared.key) number before (knows board)
+  Happens knows board = HasEvent (table_setting machine board.shared.key) number before (knows board)
 
   -- what the seat is to a contract, with this place
   abbrev pub seat_state : TableId → ℕ → Part → SeatState P
@@ -295,7 +295,7 @@ module _ {M D P : Type 0} {machine : Ghosts M P} (at : NodeStep machine D) where
 
     -- what is known of the part that the place now knows
     abbrev IsKnown : (Board M P → Part → Type 0) → Board M P → Type 0
-    IsKnown knows board = IsNoted (knows board) number place.me
+    IsKnown knows board = IsEventNoted (knows board) number place.me
 
     -- the place and the node of the part after an event
     after_event : (part : NodePart) (sends : List Message) (q : Part) → q ≡ part_after before (OfNode part) sends → place.me ≡ alone number q → HasOwnPackets number q → RepresentsWhile member new part new.failed

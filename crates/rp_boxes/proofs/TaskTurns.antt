@@ -29,8 +29,8 @@ use Rattle.rp_replica.specs.declared.sent.Sent.{Sent}
 use Rattle.rp_world.specs.Callers.{Caller}
 use Rattle.rp_world.specs.Going.{reply_in}
 use Rattle.rp_boxes.specs.Parts.{Part, OfTask, part_in, part_after}
-use Rattle.rp_boxes.specs.Plays.{Sight, IsNoted}
-use Rattle.rp_boxes.specs.Seats.{SeatState, IsAtTable, setting_of}
+use Rattle.rp_boxes.specs.Plays.{Sight, IsEventNoted}
+use Rattle.rp_boxes.specs.Seats.{SeatState, IsAtTable, table_setting}
 use Rattle.rp_boxes.specs.Steps.{HasEvent}
 use Rattle.rp_boxes.specs.declared.task_seat.TaskSeat.TheInside.{Inside}
 use Rattle.rp_boxes.specs.TaskSeats.{IsTaskSeat, asked_of, DescribesPackets, IsTaskTurn, IsNoTaskTurn, reply_effect, IsReplyTurn}
@@ -182,10 +182,10 @@ module _ {M P : Type 0} (event : TaskEvent M P) where
 
     -- the event may be counted
     pub task_event : (machine : Ghosts M P) (found : Board M P) → found ≡ arc_value inside.board → IsTaskInput known.got inside.number event.input
-        → HasEvent (setting_of machine found.shared.key) (7 + inside.number) known (BecomesPart known now sends)
+        → HasEvent (table_setting machine found.shared.key) (7 + inside.number) known (BecomesPart known now sends)
     task_event machine found same given =
         let range = subst IsTask event.seated.1.named event.seated.1.place.task in
-        subst (λ (board : Board M P). HasEvent (setting_of machine board.shared.key) (7 + inside.number) known (BecomesPart known now sends)) (sym same) (
+        subst (λ (board : Board M P). HasEvent (table_setting machine board.shared.key) (7 + inside.number) known (BecomesPart known now sends)) (sym same) (
           part_after known (OfTask event.done.part) event.done.sends,
           inr (
             inside.number,
@@ -206,7 +206,7 @@ module _ {M P : Type 0} (event : TaskEvent M P) where
 
   -- ---- once it is counted
 
-  module _ (place : Place) (same : place.table_id ≡ inside.place.table_id) (new : Caller) (sends : List Message) (t : IsNoted (BecomesPart known new.part sends) (7 + inside.number) place.me) where
+  module _ (place : Place) (same : place.table_id ≡ inside.place.table_id) (new : Caller) (sends : List Message) (t : IsEventNoted (BecomesPart known new.part sends) (7 + inside.number) place.me) where
     sees : part_in place.me.0 ≡ part_after known (OfTask new.part) sends
     sees = ap (λ (seen : Sight). part_in seen.0) t.is ∙ t.picked
 

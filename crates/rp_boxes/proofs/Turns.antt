@@ -19,7 +19,7 @@ use Rattle.rp_boxes.specs.Parts.{Part, View, Role, OfNode, OfTask, actor_in, act
 use Rattle.rp_boxes.specs.Rule.{Slot, IsGood, IsGoodAt, IsWorld, IsBox, IsCarriedOver, Ruled, HasOwnPackets, node_among, task_among, all_sent}
 use Rattle.rp_boxes.specs.Steps.{ResultsInPart, IsNodeEvent, IsTaskEvent, IsEvent, HasEvent}
 use Rattle.rp_boxes.specs.Laws.{EventsKeep}
-use Rattle.rp_boxes.specs.Plays.{Sight, alone, IsNoted}
+use Rattle.rp_boxes.specs.Plays.{Sight, alone, IsEventNoted}
 use Rattle.rp_boxes.proofs.Carrying.{carried_still}
 use Rattle.rp_boxes.proofs.Worlds.{with_value, value_here, value_else, at_each, from_each, was_part, is_actor, seating_after, sent_by, is_sent}
 
@@ -279,10 +279,10 @@ own_packets s parts world k small = record {
 
 -- an actor's word may count one event more, where the seat of that actor alone knows the result of the event
 pub turn_allows : {S : Type 0} (s : Setting S) → EventsKeep s → (slots id k : ℕ) (me : Sight) (says : Part → Type 0) → me ≡ alone k (part_in me.0) → HasEvent s k (part_in me.0) says
-    → Allows (Ruled s) slots id me (256 + k) (λ n. (n + 1) % 2 ^ 64) (λ found new. IsNoted says (actor_in me.0) new)
+    → Allows (Ruled s) slots id me (256 + k) (λ n. (n + 1) % 2 ^ 64) (λ found new. IsEventNoted says (actor_in me.0) new)
 unfolding turned stepped
 turn_allows s keep slots id k me says is event =
-    subst (λ (sight : Sight). Allows (Ruled s) slots id sight (256 + k) (λ n. (n + 1) % 2 ^ 64) (λ found new. IsNoted says (actor_in sight.0) new)) (sym is)
+    subst (λ (sight : Sight). Allows (Ruled s) slots id sight (256 + k) (λ n. (n + 1) % 2 ^ 64) (λ found new. IsEventNoted says (actor_in sight.0) new)) (sym is)
     (λ t r size here fits.
     let p' = event.0 in
     let after = turned s keep t r id k (part_in me.0) p' here event.1 in

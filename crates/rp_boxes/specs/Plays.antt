@@ -31,7 +31,7 @@ pub record Claimed (b : ℕ) (old : Sight) (found : ℕ) (new : Sight) : Type 0 
   pub miss : found ≢ 0 → new ≡ old
 
 -- The packet was in the box, from one actor to the other, and its text is taken out.
-pub record IsTaken (b : ℕ) (old new : Sight) : Type 0 where
+pub record IsTakenOut (b : ℕ) (old new : Sight) : Type 0 where
   pub from : ℕ
   pub to : ℕ
   pub less : (from < 16) × (to < 16)
@@ -43,7 +43,7 @@ pub record IsTaken (b : ℕ) (old new : Sight) : Type 0 where
 
 -- A full box is claimed by its receiver; any other box is left as it is.
 pub record Took (b : ℕ) (old : Sight) (found : ℕ) (new : Sight) : Type 0 where
-  pub hit : found ≡ 2 → IsTaken b old new
+  pub hit : found ≡ 2 → IsTakenOut b old new
   pub miss : found ≢ 2 → new ≡ old
 
 -- The box that was filled is released with its slot, and this fact holds of its sender's part.
@@ -64,7 +64,7 @@ abbrev pub Cleared : Sight → Sight → Type 0
 Cleared old new = new ≡ (on_first emptied old.0, rest old.1)
 
 -- an event of the actor happened, and this fact holds of its part
-pub record IsNoted (says : Part → Type 0) (k : ℕ) (new : Sight) : Type 0 where
+pub record IsEventNoted (says : Part → Type 0) (k : ℕ) (new : Sight) : Type 0 where
   pub part : Part
   pub is : new ≡ alone k part
   pub own : HasOwnPackets k part

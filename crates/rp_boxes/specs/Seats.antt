@@ -55,8 +55,8 @@ pub record SeatState (P : Type 0) : Type 0 where
   pub part : Part
 
 -- what the nodes at a table share, from its setup
-abbrev pub setting_of : {S P : Type 0} → Ghosts S P → Setup S P → Setting S
-setting_of machine setup =
+abbrev pub table_setting : {S P : Type 0} → Ghosts S P → Setup S P → Setting S
+table_setting machine setup =
     setting_for machine.next machine.answers machine.begin setup.config setup.program.value
 
 -- what the nodes at a seat's table share, from the seat's state

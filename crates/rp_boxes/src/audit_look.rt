@@ -4,7 +4,7 @@ ghost use Rattle.std.specs.Prelude.{◌≡◌, ◌+◌, ◌++◌, ◌∷◌, [],
 ghost use Rattle.rp_boxes.specs.Looks.{HasWorld};
 ghost use Rattle.rp_boxes.specs.Parts.{actor_in, part_in};
 ghost use Rattle.rp_boxes.specs.Plays.{IsSized, alone};
-ghost use Rattle.rp_boxes.specs.Seats.{setting_at, setting_of};
+ghost use Rattle.rp_boxes.specs.Seats.{setting_at, table_setting};
 
 use crate::all_seats::split;
 use crate::audit_seat::AuditSeat;
@@ -34,7 +34,7 @@ fn look_together<M: Machine>(slots: &Slots<M>, one: Place, other: Place) -> (Pla
     requires other { other.me ≡ alone (actor_in other.me.0) (part_in other.me.0) }
     ensures same { (result.0.table_id ≡ one.table_id) × (result.1.table_id ≡ one.table_id) }
     ensures places { (result.0.me ≡ one.me) × (result.1.me ≡ other.me) }
-    ensures world { HasWorld (setting_of M.Machine slots.now.key) (one.me.0 ++ other.me.0) }
+    ensures world { HasWorld (table_setting M.Machine slots.now.key) (one.me.0 ++ other.me.0) }
 {
     let mut both = one;
     slots.join_seat::<Both>(&mut both, other);

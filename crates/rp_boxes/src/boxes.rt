@@ -12,7 +12,7 @@ ghost use Rattle.rp_boxes.specs.Moments.{IsMoment, MayClaim, WasFull, WasWord};
 ghost use Rattle.rp_boxes.specs.Parts.{Part, View, box_of, emptying, filled, filling, part_in, with_got};
 ghost use Rattle.rp_boxes.specs.Plays.{IsPutBy, IsSized, alone, holding};
 ghost use Rattle.rp_boxes.specs.Rule.{IsCarried, IsVacant, Slot};
-ghost use Rattle.rp_boxes.specs.Seats.{setting_of};
+ghost use Rattle.rp_boxes.specs.Seats.{table_setting};
 
 use crate::board::{Known, Place, Slots};
 use crate::events::Fact;
@@ -88,7 +88,7 @@ fn claim_empty<M: Machine, J: Fact>(
     from: usize,
     to: usize,
 ) -> bool
-    requires { MayClaim (setting_of M.Machine slots.now.key) slots.now.table_id
+    requires { MayClaim (table_setting M.Machine slots.now.key) slots.now.table_id
         place.old.table_id from from to place.old.me (λ part. part.fills) 0 J.says }
     ensures table { place.new.table_id ≡ place.old.table_id }
     ensures hit { result ≡ true → (slot : Slot) × IsVacant slot × (place.new.me ≡ holding from
@@ -119,7 +119,7 @@ fn deliver<M: Machine, J: Fact>(
     requires packet { (m : Message) × Has m (part_in place.old.me.0).sent
         × IsCarried from to packet.items m
         × ((table : State Slot View)
-        → IsMoment (setting_of M.Machine slots.now.key)
+        → IsMoment (table_setting M.Machine slots.now.key)
         ((from, filled m (part_in place.old.me.0)) ∷ []) table
         → slice_index table.words (box_of from to) ≡ 2
         → get_elem? table.homes (box_of from to) ≡ some (some (Some packet))
@@ -156,13 +156,13 @@ pub(crate) fn fill<M: Machine>(
     ensures place { place.new.me ≡ alone from (part_in place.new.me.0) }
     ensures put { OnOk result (IsPutBy from to packet.items (part_in place.old.me.0)
         (part_in place.new.me.0)) }
-    ensures full { OnOk result (WasFull (setting_of M.Machine slots.now.key) place.new.me.0
+    ensures full { OnOk result (WasFull (table_setting M.Machine slots.now.key) place.new.me.0
         (box_of from to) packet.items) }
     ensures vacant { IfOk result IsVacant }
     ensures back { IfErr result (λ back. back ≡ packet) }
     ensures unchanged { IfErr result (λ back. place.new.me ≡ place.old.me) }
     ensures used { IfErr result
-        (λ back. WasWord (setting_of M.Machine slots.now.key) place.new.me.0 (box_of from to)
+        (λ back. WasWord (table_setting M.Machine slots.now.key) place.new.me.0 (box_of from to)
         (λ word. word ≢ 0)) }
 {
     if !claim_empty::<M, Brand>(slots, place, from, to) {
@@ -179,7 +179,7 @@ fn claim_full<M: Machine, J: Fact>(
     from: usize,
     to: usize,
 ) -> bool
-    requires { MayClaim (setting_of M.Machine slots.now.key) slots.now.table_id
+    requires { MayClaim (table_setting M.Machine slots.now.key) slots.now.table_id
         place.old.table_id to from to place.old.me (λ part. part.takes) 2 J.says }
     ensures table { place.new.table_id ≡ place.old.table_id }
     ensures hit { result ≡ true → (m : Message) × (text : Vec ℕ Global)
@@ -210,11 +210,11 @@ pub(crate) fn empty<M: Machine>(
     ensures table { place.new.table_id ≡ place.old.table_id }
     ensures none { IfNone result (place.new.me ≡ place.old.me) }
     ensures missed { IfNone result
-        (WasWord (setting_of M.Machine slots.now.key) place.new.me.0 (box_of from to)
+        (WasWord (table_setting M.Machine slots.now.key) place.new.me.0 (box_of from to)
         (λ word. word ≢ 2)) }
     ensures some { IfSome result (λ text. (m : Message) × IsCarried from to text.items m
         × (place.new.me ≡ alone to (with_got m (part_in place.old.me.0)))) }
-    ensures world { IfSome result (λ text. HasWorld (setting_of M.Machine slots.now.key)
+    ensures world { IfSome result (λ text. HasWorld (table_setting M.Machine slots.now.key)
         place.new.me.0) }
 {
     if !claim_full::<M, Brand>(slots, place, from, to) {

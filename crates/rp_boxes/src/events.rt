@@ -2,8 +2,8 @@
 
 ghost use Rattle.std.specs.Prelude.{◌≡◌, ◌<◌};
 ghost use Rattle.rp_boxes.specs.Parts.{part_in};
-ghost use Rattle.rp_boxes.specs.Plays.{IsSized, IsNoted, alone};
-ghost use Rattle.rp_boxes.specs.Seats.{setting_of};
+ghost use Rattle.rp_boxes.specs.Plays.{IsSized, IsEventNoted, alone};
+ghost use Rattle.rp_boxes.specs.Seats.{table_setting};
 ghost use Rattle.rp_boxes.specs.Steps.{HasEvent};
 
 use crate::board::{Known, Place, Slots};
@@ -30,9 +30,9 @@ pub(crate) struct Turns<J> {
 
 impl<J: Fact> Play<Option<Vec<u8>>, Known> for Turns<J> {
     ghost use Rattle.rp_boxes.specs.Parts.{actor_in};
-    ghost use Rattle.rp_boxes.specs.Plays.{IsNoted};
+    ghost use Rattle.rp_boxes.specs.Plays.{IsEventNoted};
 
-    ghost then = { λ step old found new. IsNoted J.says (actor_in old.0) new };
+    ghost then = { λ step old found new. IsEventNoted J.says (actor_in old.0) new };
 }
 
 /// Counts an event of the actor whose part the place knows. The fact that the caller chose holds of
@@ -42,10 +42,10 @@ pub(crate) fn note<M: Machine, J: Fact>(slots: &Slots<M>, place: &mut Place, act
     requires sized { IsSized slots.now.table_id }
     requires actor { actor < 16 }
     requires place { place.old.me ≡ alone actor (part_in place.old.me.0) }
-    requires event { HasEvent (setting_of M.Machine slots.now.key) actor
+    requires event { HasEvent (table_setting M.Machine slots.now.key) actor
         (part_in place.old.me.0) J.says }
     ensures table { place.new.table_id ≡ place.old.table_id }
-    ensures noted { IsNoted J.says actor place.new.me }
+    ensures noted { IsEventNoted J.says actor place.new.me }
 {
     events_keep::<M>();
     slots.fetch_add::<Turns<J>>(place, 256 + actor, 1);

@@ -4,7 +4,7 @@ ghost use Rattle.std.specs.Prelude.{◌≡◌, ℕ};
 ghost use Rattle.rp_boxes.specs.Looks.{IsWorldOf};
 ghost use Rattle.rp_boxes.specs.Parts.{Part, part_in};
 ghost use Rattle.rp_boxes.specs.Plays.{IsSized};
-ghost use Rattle.rp_boxes.specs.Seats.{setting_of};
+ghost use Rattle.rp_boxes.specs.Seats.{table_setting};
 
 use crate::board::{Known, Place, Slots};
 use crate::events::Fact;
@@ -30,7 +30,7 @@ pub(crate) fn look<M: Machine, J: Fact>(slots: &Slots<M>, place: &mut Place)
     requires table { place.old.table_id ≡ slots.now.table_id }
     requires sized { IsSized slots.now.table_id }
     requires follows { (parts : ℕ → Part)
-        → IsWorldOf (setting_of M.Machine slots.now.key) place.old.me.0 parts
+        → IsWorldOf (table_setting M.Machine slots.now.key) place.old.me.0 parts
         → J.says (part_in place.old.me.0) }
     ensures table { place.new.table_id ≡ place.old.table_id }
     ensures place { place.new.me ≡ place.old.me }

@@ -2,8 +2,8 @@
 
 ghost use Rattle.std.specs.Prelude.{◌≡◌};
 ghost use Rattle.rp_boxes.specs.Parts.{part_in};
-ghost use Rattle.rp_boxes.specs.Plays.{IsNoted};
-ghost use Rattle.rp_boxes.specs.Seats.{IsAtTable, setting_of};
+ghost use Rattle.rp_boxes.specs.Plays.{IsEventNoted};
+ghost use Rattle.rp_boxes.specs.Seats.{IsAtTable, table_setting};
 ghost use Rattle.rp_boxes.specs.Steps.{HasEvent};
 
 use crate::board::{Place, Slots};
@@ -24,10 +24,10 @@ pub(crate) fn note_turn<M: Machine, D: Device, J: Fact>(
     sent: &Sent,
 )
     requires place { IsAtTable slots.now.table_id place.old.table_id node place.old.me }
-    requires event { HasEvent (setting_of M.Machine slots.now.key) node
+    requires event { HasEvent (table_setting M.Machine slots.now.key) node
         (part_in place.old.me.0) J.says }
     ensures table { place.new.table_id ≡ place.old.table_id }
-    ensures noted { IsNoted J.says node place.new.me }
+    ensures noted { IsEventNoted J.says node place.new.me }
 {
     note::<M, J>(slots, place, usize::from(node.get()));
 }
@@ -41,10 +41,10 @@ pub(crate) fn note_stop<M: Machine, D: Device, J: Fact>(
     input: &Input,
 )
     requires place { IsAtTable slots.now.table_id place.old.table_id node place.old.me }
-    requires event { HasEvent (setting_of M.Machine slots.now.key) node
+    requires event { HasEvent (table_setting M.Machine slots.now.key) node
         (part_in place.old.me.0) J.says }
     ensures table { place.new.table_id ≡ place.old.table_id }
-    ensures noted { IsNoted J.says node place.new.me }
+    ensures noted { IsEventNoted J.says node place.new.me }
 {
     note::<M, J>(slots, place, usize::from(node.get()));
 }

@@ -2,8 +2,8 @@
 
 ghost use Rattle.std.specs.Prelude.{◌≡◌, ◌+◌};
 ghost use Rattle.rp_boxes.specs.Parts.{part_in};
-ghost use Rattle.rp_boxes.specs.Plays.{IsNoted};
-ghost use Rattle.rp_boxes.specs.Seats.{IsAtTable, setting_of};
+ghost use Rattle.rp_boxes.specs.Plays.{IsEventNoted};
+ghost use Rattle.rp_boxes.specs.Seats.{IsAtTable, table_setting};
 ghost use Rattle.rp_boxes.specs.Steps.{HasEvent};
 
 use crate::actors::actor_of;
@@ -25,10 +25,10 @@ pub(crate) fn note_asking<M: Machine, J: Fact>(
     call: &Option<Action>,
 )
     requires place { IsAtTable slots.now.table_id place.old.table_id (7 + number) place.old.me }
-    requires event { HasEvent (setting_of M.Machine slots.now.key) (7 + number)
+    requires event { HasEvent (table_setting M.Machine slots.now.key) (7 + number)
         (part_in place.old.me.0) J.says }
     ensures table { place.new.table_id ≡ place.old.table_id }
-    ensures noted { IsNoted J.says (7 + number) place.new.me }
+    ensures noted { IsEventNoted J.says (7 + number) place.new.me }
 {
     note::<M, J>(slots, place, actor_of(Party::Task(number)));
 }
@@ -41,10 +41,10 @@ pub(crate) fn note_reply<M: Machine, J: Fact>(
     task: &Task,
 )
     requires place { IsAtTable slots.now.table_id place.old.table_id (7 + number) place.old.me }
-    requires event { HasEvent (setting_of M.Machine slots.now.key) (7 + number)
+    requires event { HasEvent (table_setting M.Machine slots.now.key) (7 + number)
         (part_in place.old.me.0) J.says }
     ensures table { place.new.table_id ≡ place.old.table_id }
-    ensures noted { IsNoted J.says (7 + number) place.new.me }
+    ensures noted { IsEventNoted J.says (7 + number) place.new.me }
 {
     note::<M, J>(slots, place, actor_of(Party::Task(number)));
 }

@@ -4,7 +4,7 @@ ghost use Rattle.std.specs.Prelude.{◌≡◌, ◌+◌, ◌++◌, ◌∷◌, [],
 ghost use Rattle.rp_boxes.specs.Looks.{HasWorld};
 ghost use Rattle.rp_boxes.specs.Parts.{actor_in, part_in};
 ghost use Rattle.rp_boxes.specs.Plays.{IsSized, alone};
-ghost use Rattle.rp_boxes.specs.Seats.{setting_at, setting_of};
+ghost use Rattle.rp_boxes.specs.Seats.{setting_at, table_setting};
 ghost use Rattle.rp_boxes.specs.Together.{AreTogether, of_node, of_task};
 
 use crate::audit::Audit;
@@ -95,7 +95,7 @@ fn look_as_one<M: Machine, D: Device>(
     requires sized { IsSized slots.now.table_id }
     requires nodes { All (λ seat. seat.setup.table ≡ slots.now.table_id) nodes.items }
     requires tasks { All (λ seat. seat.setup.table ≡ slots.now.table_id) tasks.items }
-    ensures { HasWorld (setting_of M.Machine slots.now.key)
+    ensures { HasWorld (table_setting M.Machine slots.now.key)
         ((place.me.0 ++ map of_node nodes.items) ++ map of_task tasks.items) }
 {
     let mut all = place;

@@ -1,6 +1,6 @@
 -- A text that is put into the caller's buffer, or does not fit, is the answer of a run.
 use Rattle.std.proofs.Common.{◌≡◌, ◌⊎◌, ℕ, List, Bool, inl, inr, subst, sym, ◌∙◌}
-use Rattle.rp_c.specs.Decks.{IsBadLine, IsOutput, IsPut, IsTooLong, PutsText, RunsDeck}
+use Rattle.rp_c.specs.Decks.{IsBadLine, IsOutput, IsTextPut, IsTextTooLong, PutsText, RunsDeck}
 use Rattle.rp_c.specs.declared.status.Status.{Status}
 use Rattle.rp_c.specs.declared.status.Status.TheVariants.{Done, BadDeck, ShortAnswer}
 
@@ -11,11 +11,11 @@ module _ (traced : Bool) (bytes text old new : List ℕ) (before used : ℕ) (st
 
 module _ (text old new : List ℕ) (used : ℕ) (status : Status) where
   -- the text did not fit
-  pub is_long : PutsText text old new used Done status → status ≡ ShortAnswer → IsTooLong text old new used
+  pub is_long : PutsText text old new used Done status → status ≡ ShortAnswer → IsTextTooLong text old new used
   is_long (inl (is, put)) short = let clash : Done ≡ ShortAnswer = sym is ∙ short in absurd (cc)
   is_long (inr (is, long)) short = long
 
   -- the text fitted
-  pub is_put : PutsText text old new used Done status → (status ≡ ShortAnswer → ⊥) → IsPut text old new used
+  pub is_put : PutsText text old new used Done status → (status ≡ ShortAnswer → ⊥) → IsTextPut text old new used
   is_put (inl (is, put)) fits = put
   is_put (inr (is, long)) fits = absurd (fits is)

@@ -25,12 +25,12 @@ IsBadLine bytes text = (line : ℕ) × (reason : DeckReason)
 
 -- The text is at the front of the buffer, whose other bytes are as they were, and its length was
 -- written.
-pub record IsPut (text old new : List ℕ) (used : ℕ) : Type 0 where
+pub record IsTextPut (text old new : List ℕ) (used : ℕ) : Type 0 where
   pub front : new ≡ text ++ drop (length text) old
   pub length_is : used ≡ length text
 
 -- The text is longer than the buffer, which is as it was, and its length was written.
-pub record IsTooLong (text old new : List ℕ) (used : ℕ) : Type 0 where
+pub record IsTextTooLong (text old new : List ℕ) (used : ℕ) : Type 0 where
   pub longer : length old < length text
   pub kept : new ≡ old
   pub length_is : used ≡ length text
@@ -38,12 +38,12 @@ pub record IsTooLong (text old new : List ℕ) (used : ℕ) : Type 0 where
 -- How a run ends, by its status: what is in the buffer, and what is written as its length.
 abbrev pub RunsDeck : Bool → List ℕ → List ℕ → List ℕ → ℕ → ℕ → Status → Type 0
 RunsDeck traced bytes old new before used Done =
-    (text : List ℕ) × IsOutput traced bytes text × IsPut text old new used
+    (text : List ℕ) × IsOutput traced bytes text × IsTextPut text old new used
 RunsDeck traced bytes old new before used BadDeck =
-    (text : List ℕ) × IsBadLine bytes text × IsPut text old new used
+    (text : List ℕ) × IsBadLine bytes text × IsTextPut text old new used
 RunsDeck traced bytes old new before used ShortAnswer =
     (text : List ℕ) × (IsOutput traced bytes text ⊎ IsBadLine bytes text)
-    × IsTooLong text old new used
+    × IsTextTooLong text old new used
 RunsDeck traced bytes old new before used OutOfMemory =
     (length bytes ≤ most_bytes) × (new ≡ old) × (used ≡ before)
 RunsDeck traced bytes old new before used Io =
@@ -53,5 +53,5 @@ RunsDeck traced bytes old new before used BadPacket = ⊥
 -- A text is put into a buffer, if it fits, with this status.
 abbrev pub PutsText : List ℕ → List ℕ → List ℕ → ℕ → Status → Status → Type 0
 PutsText text old new used done status =
-    ((status ≡ done) × IsPut text old new used)
-    ⊎ ((status ≡ ShortAnswer) × IsTooLong text old new used)
+    ((status ≡ done) × IsTextPut text old new used)
+    ⊎ ((status ≡ ShortAnswer) × IsTextTooLong text old new used)

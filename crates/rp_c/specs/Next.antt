@@ -7,7 +7,7 @@ use Rattle.rp_handles.specs.NextDecks.{HandleGoesOn}
 use Rattle.rp_handles.specs.declared.actor.Actor.{Actor}
 use Rattle.rp_handles.specs.declared.next.NoNextDeck.TheVariants.{OutOfMemory, NotEnded, AtWork}
 use Rattle.rp_script.specs.Given.{most_bytes}
-use Rattle.rp_c.specs.Decks.{IsPut, IsTooLong}
+use Rattle.rp_c.specs.Decks.{IsTextPut, IsTextTooLong}
 use Rattle.rp_c.specs.declared.next.NextEnding.{NextEnding}
 use Rattle.rp_c.specs.declared.next.NextEnding.TheVariants.{Done, ShortAnswer, Io, WrongHandle}
 use Rattle.rp_c.specs.declared.next.NextEnding.TheVariants.{NoDeck}
@@ -26,10 +26,10 @@ next_code (NoDeck AtWork) = 73
 -- for this reason, and nothing has changed.
 abbrev pub GivesNextDeck : List ℕ → Option Actor → List ℕ → List ℕ → ℕ → ℕ → NextEnding → Type 0
 GivesNextDeck text kept old new before used Done =
-    (next : Vec ℕ Global) × HandleGoesOn text kept (Some (Ok next)) × IsPut next.items old new used
+    (next : Vec ℕ Global) × HandleGoesOn text kept (Some (Ok next)) × IsTextPut next.items old new used
 GivesNextDeck text kept old new before used ShortAnswer =
     (next : Vec ℕ Global) × HandleGoesOn text kept (Some (Ok next))
-    × IsTooLong next.items old new used
+    × IsTextTooLong next.items old new used
 GivesNextDeck text kept old new before used Io =
     (new ≡ old) × (used ≡ before) × (most_bytes < length text)
 GivesNextDeck text kept old new before used WrongHandle =

@@ -1,7 +1,7 @@
 //! Runs the script of a deck.
 
 ghost use Rattle.std.specs.Prelude.{◌≡◌, ◌≤◌, length};
-ghost use Rattle.rp_c.specs.Decks.{IsBadLine, IsOutput, IsPut, IsTooLong, PutsText, RunsDeck};
+ghost use Rattle.rp_c.specs.Decks.{IsBadLine, IsOutput, IsTextPut, IsTextTooLong, PutsText, RunsDeck};
 ghost use Rattle.rp_c.specs.Status.{status_code};
 
 use crate::status::Status;

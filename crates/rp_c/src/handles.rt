@@ -1,7 +1,7 @@
 //! Calls and closes a node or a task by its handle.
 
 ghost use Rattle.std.specs.Prelude.{◌≡◌, Option, Result, None};
-ghost use Rattle.rp_handles.specs.Handles.{exchange_of, kind_of};
+ghost use Rattle.rp_handles.specs.Handles.{exchange_of, actor_kind_of};
 ghost use Rattle.rp_requests.specs.declared.buffer.Lengths.{Lengths as LengthsOf};
 ghost use Rattle.rp_requests.specs.declared.refusal.Refusal.{Refusal as RefusalOf};
 ghost use Rattle.rp_c.specs.Handles.{CallByHandle, WritesLengths, answer_code};
@@ -27,7 +27,7 @@ pub extern "C" fn rp_handle_call(
     //   of the reason for which there is none; by a handle that keeps no actor of this kind nothing
     //   has changed
     ensures { (ended : Option (Result LengthsOf RefusalOf)) × (result ≡ answer_code ended)
-        × CallByHandle (kind_of kind) (exchange_of request.now answer.old answer.new)
+        × CallByHandle (actor_kind_of kind) (exchange_of request.now answer.old answer.new)
         handle.old.kept handle.new.kept ended
         × WritesLengths ended lengths.old lengths.new }
 {
@@ -44,7 +44,7 @@ fn called(
     request: &[u8],
     answer: &mut [u8],
 ) -> Option<Result<Lengths, Refusal>>
-    ensures { CallByHandle (kind_of kind) (exchange_of request.now answer.old answer.new)
+    ensures { CallByHandle (actor_kind_of kind) (exchange_of request.now answer.old answer.new)
         handle.old.kept handle.new.kept result }
 {
     let kind = ActorKind::of(kind)?;

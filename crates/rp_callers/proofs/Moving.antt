@@ -21,11 +21,11 @@ use Rattle.rp_outbox.specs.Packets.{texts_of}
 use Rattle.rp_pending.specs.Pending.{noted_by}
 use Rattle.rp_replica.specs.Inputs.{effect_if_given}
 use Rattle.rp_request_texts.specs.Texts.{step_text, FitsStep, task_request_text, FitsTaskRequest}
-use Rattle.rp_requests.specs.Buffers.{IsPut}
+use Rattle.rp_requests.specs.Buffers.{IsPutInFront}
 use Rattle.rp_requests.specs.TaskRequests.{TaskAsked, MakeCall, TakePacket, task_asked_of}
 use Rattle.rp_requests.specs.Tasks.{TaskAnswers, task_bytes, call_packet, reply_taken, once_taken, taken_text}
 use Rattle.rp_tasks.specs.Calls.{Calls, no_calls, refusal_of, with_call, with_reply}
-use Rattle.rp_requests.specs.Nodes.{NodeState, Answers, after_step, stored_by, step_bytes}
+use Rattle.rp_requests.specs.Nodes.{NodeState, RequestAnswers, after_step, stored_by, step_bytes}
 use Rattle.rp_requests.specs.Requests.{Asked, Step, asked_of}
 use Rattle.rp_requests.specs.declared.buffer.Lengths.{Lengths}
 use Rattle.rp_requests.specs.declared.refusal.Refusal.{Refusal}
@@ -176,7 +176,7 @@ module _ (Breaks : Callers → Callers → Type 0) where
         let result : Result Lengths Refusal = Ok lengths in
         let exchange : AnsweredRequest = record { request = step_text input; before = buffer; after = front ++ drop (length front) buffer; result = result } in
         let read = reads input fits in
-        let answer : Answers tally_next tally_answers tally_image (Some (Step (Ok input))) node (after_step node turn) buffer exchange.after result =
+        let answer : RequestAnswers tally_next tally_answers tally_image (Some (Step (Ok input))) node (after_step node turn) buffer exchange.after result =
         record { room = room; turn = turn; takes = effect; goes = refl; put = record { front = refl; stored_is = refl; used_is = refl } } in
         let asks : AsksSite 3 (OpensFrom tally_next tally_answers tally_image three_node_config one_sum) (AnswersBy tally_next tally_answers tally_image) i.handed_on site (with_step site (after_step node turn) (noted_by input)) = record {
           exchange = exchange;
@@ -185,7 +185,7 @@ module _ (Breaks : Callers → Callers → Type 0) where
           opened = opened;
           bytes = bytes_are (step_text input) bytes;
           arrived = came i.handed_on input has;
-          answers = subst (λ (a : Option Asked). Answers tally_next tally_answers tally_image a node (after_step node turn) buffer exchange.after result) (sym read) answer;
+          answers = subst (λ (a : Option Asked). RequestAnswers tally_next tally_answers tally_image a node (after_step node turn) buffer exchange.after result) (sym read) answer;
           goes = sym (ap (λ (a : Option Asked). site_answered site (after_step node turn) (noted_if a) (is_step_made a result)) read);
         } in
         Keeps (moves.Move.OfNode me site (with_step site (after_step node turn) (noted_by input)) [] here (moves.NodeMove.Requested asks refl) refl)
@@ -286,7 +286,7 @@ module _ (Breaks : Callers → Callers → Type 0) where
             packet = message;
             is = whole_again message packet;
             goes = ap (once_taken old) (sym taken);
-            put = subst (λ (o : Option Reply). IsPut [] (taken_text o) buffer exchange.after (record { stored = 0; used = length text })) (sym taken) (record { front = refl; stored_is = refl; used_is = refl });
+            put = subst (λ (o : Option Reply). IsPutInFront [] (taken_text o) buffer exchange.after (record { stored = 0; used = length text })) (sym taken) (record { front = refl; stored_is = refl; used_is = refl });
           },
         ) in
         let asks : AsksTask 3 i.handed_on site changed [] = record {

@@ -14,13 +14,13 @@ use Rattle.rp_run.specs.Runs.{Follows, Says}
 use Rattle.rp_output.specs.Stream.{Writes}
 use Rattle.rp_run.specs.declared.settled.Settled.{Settled}
 use Rattle.rp_output.proofs.Writing.{begins_nothing}
-use Rattle.rp_world.specs.Steps.{ClusterState, setting_of}
+use Rattle.rp_world.specs.Steps.{ClusterState, cluster_setting}
 use Rattle.rp_world.proofs.Answering.{same_setting}
 use Rattle.rp_chart_run.specs.Charts.{HasWays, IsCharted}
 
 -- the chart of a cluster after a step, by the setting before it
 pub charted_by : {S P : Type 0} (next : S → Action → S) (answers : S → Action → List Answer) (start : P → S) (old new : ClusterState P) (chart : Chart) (happened : List Happening) (answer : Result Unit Fault)
-    → new.setup ≡ old.setup → OnOk answer (IsSketchOf (setting_of next answers start old) chart.stage chart.sketch happened new.world)
+    → new.setup ≡ old.setup → OnOk answer (IsSketchOf (cluster_setting next answers start old) chart.stage chart.sketch happened new.world)
     → OnOk answer (IsCharted next answers start new chart happened)
 charted_by next answers start old new chart happened (Ok done) same is =
     subst (λ (s : Setting _). IsSketchOf s chart.stage chart.sketch happened new.world) (sym (same_setting next answers start old new same)) is

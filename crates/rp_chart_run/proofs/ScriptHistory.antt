@@ -14,7 +14,7 @@ use Rattle.rp_model.specs.declared.event.Event.{Event}
 use Rattle.rp_model.specs.declared.event.Event.TheVariants.{Node as NodeStep}
 use Rattle.rp_model.specs.declared.event.Step.TheVariants.{Deliver}
 use Rattle.rp_run.specs.Items.{Refused}
-use Rattle.rp_run.specs.Output.{Play, Said, command_said, effect_of, event_said, from_to, is_among, least_unsettled, lost, note_said}
+use Rattle.rp_run.specs.Output.{Play, Said, command_said, transition_of, event_said, from_to, is_among, least_unsettled, lost, note_said}
 use Rattle.rp_run.proofs.Among.{among_from_to}
 use Rattle.rp_run.specs.Runs.{Follows}
 use Rattle.rp_run.specs.Settled.{is_settled}
@@ -26,7 +26,7 @@ use Rattle.rp_chart_run.proofs.Losses.{IsFilled, begins_at, none_from, one_passe
 -- ---- an event
 
 module _ {S : Type 0} (d : DrawnRun S) (line : ℕ) (play : Play) (event : Event) (world : World) (settled : Settled) (follows : Follows world settled play) where
-  event_is : event_happens d line play event ≡ happening_of d line play.world event (effect_of d.run play.world event)
+  event_is : event_happens d line play event ≡ happening_of d line play.world event (transition_of d.run play.world event)
   unfolding event_happens
   event_is = refl
 

@@ -9,7 +9,7 @@ use Rattle.rp_run.specs.Output.{Play}
 use Rattle.rp_run.specs.Runs.{Follows}
 use Rattle.rp_run.specs.Settled.{is_settled}
 use Rattle.rp_run.specs.declared.settled.Settled.{Settled}
-use Rattle.rp_world.specs.Steps.{ClusterState, setting_of}
+use Rattle.rp_world.specs.Steps.{ClusterState, cluster_setting}
 use Rattle.rp_chart_run.specs.declared.walk.Walk.{Walk}
 
 -- the same messages are settled
@@ -25,7 +25,7 @@ pub record HasWays {P : Type 0} (cluster : ClusterState P) (chart : Chart) : Typ
 abbrev pub IsCharted : {S P : Type 0} → (S → Action → S) → (S → Action → List Answer) → (P → S)
     → ClusterState P → Chart → List Happening → Type 0
 IsCharted next answers start cluster chart happened =
-    IsSketchOf (setting_of next answers start cluster) chart.stage chart.sketch happened
+    IsSketchOf (cluster_setting next answers start cluster) chart.stage chart.sketch happened
     cluster.world
 
 -- the walk goes on in the play that this makes of the one that it is in

@@ -63,9 +63,9 @@ written_text before after (Some written) =
     else record_text written
 
 -- the reply that a task took, or else what the node wrote
-abbrev pub taken_text : Happened → Option Answer → List ℕ
-taken_text h None = written_text h.before.applied h.after.applied (record_of h)
-taken_text h (Some answer) =
+abbrev pub taken_or_written : Happened → Option Answer → List ℕ
+taken_or_written h None = written_text h.before.applied h.after.applied (record_of h)
+taken_or_written h (Some answer) =
     codes "reply " ++ (decimal answer.number ++ (codes " " ++ reply_text_of answer.reply))
 
 -- what a step did
@@ -73,7 +73,7 @@ abbrev pub step_text : Happened → List ℕ
 step_text h =
     if is_unheard h then codes "not heard"
     else if is_full h.effect.dropped then codes "pending full"
-    else taken_text h h.effect.taken
+    else taken_or_written h h.effect.taken
 
 -- what a node found that runs again, and how many actions it has applied; or that it ran already
 abbrev pub restart_text : ℕ → Option (ℕ × ℕ) → List ℕ

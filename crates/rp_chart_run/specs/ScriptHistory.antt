@@ -30,7 +30,7 @@ use Rattle.rp_output.specs.Printed.{applied_line_of, stopped_line_of}
 use Rattle.rp_details.specs.Details.{details_text}
 use Rattle.rp_page.specs.declared.page.Form.{Form}
 use Rattle.rp_page.specs.declared.page.Form.TheVariants.{Drawing, Page}
-use Rattle.rp_run.specs.Output.{RunSetting, Play, effect_of, event_said, command_said, from_to}
+use Rattle.rp_run.specs.Output.{RunSetting, Play, transition_of, event_said, command_said, from_to}
 use Rattle.rp_run.specs.Output.{is_among, least_unsettled, opening_play}
 use Rattle.rp_run.specs.Runs.{run_setting}
 use Rattle.rp_world.specs.Steps.{ClusterState}
@@ -180,7 +180,7 @@ module _ {S : Type 0} (d : DrawnRun S) where
   -- what an event of the line of this number is to a play
   unfoldable pub event_happens : ℕ → Play → Event → Happening
   event_happens line play event =
-      happening_of line play.world event (effect_of d.run play.world event)
+      happening_of line play.world event (transition_of d.run play.world event)
 
   -- one moment if none is lost
   abbrev pub none_lost : ℕ → List ℕ → List Happening

@@ -2,7 +2,7 @@
 
 ghost use Rattle.std.specs.Prelude.{◌≡◌, Some, None, IfOk, map, string_bytes};
 ghost use Rattle.rp_chart_run.specs.Causes.{cause_text, line_text};
-ghost use Rattle.rp_chart_run.specs.Effects.{cut_text, effect_text, record_before, record_for, record_of, record_text, refusal_text, restart_text, step_text, taken_text, written_text};
+ghost use Rattle.rp_chart_run.specs.Effects.{cut_text, effect_text, record_before, record_for, record_of, record_text, refusal_text, restart_text, step_text, taken_or_written, written_text};
 ghost use Rattle.rp_chart_run.specs.ScriptHistory.{image_text};
 ghost use Rattle.rp_drawing.specs.Words.{fitted_text, whole_text};
 ghost use Rattle.rp_history.specs.Histories.{delivered_by};
@@ -213,7 +213,7 @@ fn step_words(alloc: Global, happened: &Happened) -> Result<Words, AllocError>
 /// The words for the reply that a task took, or else for the record that a node wrote.
 fn taken_words(alloc: Global, happened: &Happened) -> Result<Words, AllocError>
     ensures { IfOk result (λ words. string_bytes words.text
-        ≡ whole_text (taken_text happened.now happened.now.effect.taken)) }
+        ≡ whole_text (taken_or_written happened.now happened.now.effect.taken)) }
 {
     match happened.effect.taken {
         Some(answer) => reply_words(alloc, answer),
@@ -260,7 +260,7 @@ fn record_of(happened: &Happened) -> Option<Rec>
 /// The words for a reply that a task takes: `reply 1 value 5`.
 fn reply_words(alloc: Global, answer: Answer) -> Result<Words, AllocError>
     ensures { (happened : Happened) → IfOk result (λ words. string_bytes words.text
-        ≡ whole_text (taken_text happened (Some answer))) }
+        ≡ whole_text (taken_or_written happened (Some answer))) }
 {
     let number = answer.number;
     let reply = ReplyText {

@@ -127,12 +127,12 @@ console =
     bind.top
 
 -- the subcommand that asks for this
-abbrev pub name_of : Args → Text
-name_of (Script traced) = codes "script"
-name_of (Live request) = codes "live"
-name_of (Chart view) = codes "chart"
-name_of (Explore request) = codes "explore"
-name_of (Bind language) = codes "bind"
+abbrev pub subcommand_word : Args → Text
+subcommand_word (Script traced) = codes "script"
+subcommand_word (Live request) = codes "live"
+subcommand_word (Chart view) = codes "chart"
+subcommand_word (Explore request) = codes "explore"
+subcommand_word (Bind language) = codes "bind"
 
 -- `live` with this seed and this many turns
 abbrev pub live_args : ℕ → ℕ → Args

@@ -23,7 +23,7 @@ use Rattle.rp_explore_run.specs.declared.answer.Verdict.{Verdict}
 use Rattle.rp_explore_run.specs.declared.answer.Verdict.TheVariants as verdicts
 use Rattle.rp_chart.specs.declared.chart.ChartRequest.{ChartRequest}
 use Rattle.rp_script.specs.Agreeing.{ScriptBegins, ScriptPrints}
-use Rattle.rp_console.specs.CommandLine.{bind_option, chart_option, console, explore_option, live_args, name_of}
+use Rattle.rp_console.specs.CommandLine.{bind_option, chart_option, console, explore_option, live_args, subcommand_word}
 use Rattle.rp_console.specs.CommandLine.{seed_of, trace_of, turns_of, IsChartRequest, IsRequest}
 use Rattle.rp_console.specs.CommandLine.{IsLanguage, ReadsAs}
 use Rattle.rp_script.specs.Figures.{figures_line_of}
@@ -46,7 +46,7 @@ Content = Option (List ℕ)
 -- these words ask for this
 pub record AsksFor (words : List Text) (args : Args) : Type 0 where
   pub right : fault_of console words ≡ []
-  pub named : option_map (λ found. found.0) (subcommand_of console words) ≡ Some (name_of args)
+  pub named : option_map (λ found. found.0) (subcommand_of console words) ≡ Some (subcommand_word args)
   pub traced : trace_of words ≡ Some (codes "true") → args ≡ Script true
   pub quiet : trace_of words ≡ Some (codes "false") → args ≡ Script false
   pub live : (seed turns : ℕ) → ReadsAs 32 (seed_of words) seed
@@ -82,12 +82,12 @@ HasBegun (Explore request) given old new = ExploreBegins request given old new
 HasBegun (Bind language) given old new = BindingBegins language given old new
 
 -- the fault of what was asked for, by the deck as it is read for that
-abbrev pub Fails : Args → Content → Content → Content → Fault → Type 0
-Fails (Script traced) given old new fault = FailsRun modes.Script given old new fault
-Fails (Live request) given old new fault = FailsRun modes.Live given old new fault
-Fails (Chart request) given old new fault = FailsRun modes.Script given old new fault
-Fails (Explore request) given old new fault = FailsExplore given old new fault
-Fails (Bind language) given old new fault = FailsBinding given old new fault
+abbrev pub IsFaultOf : Args → Content → Content → Content → Fault → Type 0
+IsFaultOf (Script traced) given old new fault = FailsRun modes.Script given old new fault
+IsFaultOf (Live request) given old new fault = FailsRun modes.Live given old new fault
+IsFaultOf (Chart request) given old new fault = FailsRun modes.Script given old new fault
+IsFaultOf (Explore request) given old new fault = FailsExplore given old new fault
+IsFaultOf (Bind language) given old new fault = FailsBinding given old new fault
 
 -- why there is no drawing of a whole run that is too long
 abbrev pub too_long_line : List ℕ
@@ -173,7 +173,7 @@ pub record RunsAs (args : Args) (given output output_after errors errors_after :
   pub hint : Option Hint
   pub printed : IfOk ran (Prints args (Some bytes) output output_after)
   pub begun : OnErr ran (HasBegun args (Some bytes) output output_after)
-  pub fault : IfErr ran (Fails args (Some bytes) output output_after)
+  pub fault : IfErr ran (IsFaultOf args (Some bytes) output output_after)
   pub hinted : IsHintOf (mode_of args) bytes ran hint
   pub status : ending.status ≡ status_of_run ran
   pub reported : Writes errors errors_after (report_of ran hint) ending.reported

@@ -3,7 +3,7 @@
 ghost use Rattle.std.specs.Prelude.{◌≡◌, ℕ, None, Some, true, false, codes, IfOk, map, option_map};
 ghost use Rattle.clap.specs.Words.{app_of, rule_of, subcommand_of, fault_of, found_of, one_text, FailsBy};
 ghost use Rattle.clap.specs.declared.builder.command.Command.TheViews.{out-Command};
-ghost use Rattle.rp_console.specs.CommandLine.{ada_option, bind, bind_option, c_option, chart, chart_option, console, count_option, explore, explore_option, hide_self_option, html_option, live, live_args, name_of, position_option, script, seed, seed_of, states, trace_of, turns, turns_of, IsChartRequest, IsLanguage, IsRequest, IsView, ReadsAs};
+ghost use Rattle.rp_console.specs.CommandLine.{ada_option, bind, bind_option, c_option, chart, chart_option, console, count_option, explore, explore_option, hide_self_option, html_option, live, live_args, subcommand_word, position_option, script, seed, seed_of, states, trace_of, turns, turns_of, IsChartRequest, IsLanguage, IsRequest, IsView, ReadsAs};
 
 use clap::{Arg, ArgAction, ArgMatches, Command, Error, value_parser};
 use rp_base::Position;
@@ -260,7 +260,7 @@ pub fn read_args<S: AsStr>(alloc: Global, words: &[S]) -> Result<Args, Error>
     //   states it may find, and whether it is to print the deck of an outcome, and of which; and for
     //   packages their language
     ensures named { IfOk result (λ args. option_map (λ found. found.0)
-        (subcommand_of console (map S.text words.now)) ≡ Some (name_of args)) }
+        (subcommand_of console (map S.text words.now)) ≡ Some (subcommand_word args)) }
     ensures traced { IfOk result (λ args. trace_of (map S.text words.now) ≡ Some (codes "true")
         → args ≡ Args.Script true) }
     ensures quiet { IfOk result (λ args. trace_of (map S.text words.now) ≡ Some (codes "false")

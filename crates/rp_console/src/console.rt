@@ -1,7 +1,7 @@
 //! Does what the words of the command line ask for, and reports its faults.
 
 ghost use Rattle.std.specs.Prelude.{◌≡◌, ◌≤◌, [], IfErr, IfOk, Ok, OnErr, length, map};
-ghost use Rattle.rp_console.specs.Console.{Fails, FollowsWords, HasBegun, IsHintOf, Prints, EndsAs, fault_report, mode_of, report_of, search_report, search_status, status_of_run};
+ghost use Rattle.rp_console.specs.Console.{IsFaultOf, FollowsWords, HasBegun, IsHintOf, Prints, EndsAs, fault_report, mode_of, report_of, search_report, search_status, status_of_run};
 ghost use Rattle.rp_output.specs.Endings.{status_of};
 ghost use Rattle.rp_output.specs.FaultMessage.{with_line_feed};
 ghost use Rattle.rp_output.specs.Stream.{Writes};
@@ -152,7 +152,7 @@ fn run_as<T: Threads + Wait + Clock + Sync, R: Read, W: Write>(
         (W.contents writer.old) (W.contents writer.new)) }
     ensures begun { OnErr result (HasBegun args (R.remaining reader.old)
         (W.contents writer.old) (W.contents writer.new)) }
-    ensures fault { IfErr result (Fails args (R.remaining reader.old)
+    ensures fault { IfErr result (IsFaultOf args (R.remaining reader.old)
         (W.contents writer.old) (W.contents writer.new)) }
 {
     match args {

@@ -102,15 +102,15 @@ waiting_words _ = []
 
 -- the line of a task of this name: how many replies it got, the last one, and the call that it waits
 -- for
-abbrev pub task_line : List ℕ → TaskPart → List ℕ
-task_line name part =
+abbrev pub task_state_line : List ℕ → TaskPart → List ℕ
+task_state_line name part =
     codes "task " ++ (name ++ (codes " replies " ++ (decimal (length part.replies)
     ++ (last_reply_words (slice_get part.replies (length part.replies - 1))
     ++ waiting_words part.outstanding))))
 
 abbrev pub task_lines : List ℕ → Option TaskPart → List ℕ
 task_lines name None = []
-task_lines name (Some part) = with_line_feed (task_line name part)
+task_lines name (Some part) = with_line_feed (task_state_line name part)
 
 -- the lines of the tasks 1 to n
 abbrev pub tasks_lines : List (List ℕ) → World → ℕ → List ℕ

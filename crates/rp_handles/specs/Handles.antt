@@ -14,7 +14,7 @@ use Rattle.rp_requests.specs.Buffers.{with_front}
 use Rattle.rp_requests.specs.declared.buffer.Lengths.{Lengths}
 use Rattle.rp_requests.specs.declared.refusal.Refusal.{Refusal}
 use Rattle.rp_requests.specs.declared.refusal.Refusal.TheVariants as refusals
-use Rattle.rp_requests.specs.Nodes.{Answers, NodeState}
+use Rattle.rp_requests.specs.Nodes.{RequestAnswers, NodeState}
 use Rattle.rp_requests.specs.Requests.{asked_of}
 use Rattle.rp_requests.specs.TaskRequests.{task_asked_of}
 use Rattle.rp_requests.specs.Tasks.{TaskAnswers}
@@ -27,8 +27,8 @@ use Rattle.rp_handles.specs.declared.actor.ActorKind.TheVariants as kinds
 use Rattle.rp_handles.specs.declared.actor.LastStep.{LastStep}
 
 -- the kind with this number
-abbrev pub kind_of : ℕ → Option ActorKind
-kind_of number =
+abbrev pub actor_kind_of : ℕ → Option ActorKind
+actor_kind_of number =
     if number == 1 then Some kinds.Node else
     if number == 2 then Some kinds.Task else
     None
@@ -55,7 +55,7 @@ ChangesNothing exchange old new = (new ≡ old) × (exchange.after ≡ exchange.
 abbrev pub AnswersAsNode : Exchange → NodeState Running → NodeState Running → Result Lengths Refusal
     → Type 0
 AnswersAsNode exchange old new result =
-    Answers objects_next objects_answers objects_image (asked_of exchange.request) old new
+    RequestAnswers objects_next objects_answers objects_image (asked_of exchange.request) old new
     exchange.before exchange.after result
 
 -- The answer of a task.

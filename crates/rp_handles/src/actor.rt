@@ -1,7 +1,7 @@
 //! A node or a task, which answers requests.
 
 ghost use Rattle.std.specs.Prelude.{◌≡◌, ◌∷◌};
-ghost use Rattle.rp_handles.specs.Handles.{ActorAdvises, ActorAnswers, ActorShows, exchange_of, kind_of, receives_byte};
+ghost use Rattle.rp_handles.specs.Handles.{ActorAdvises, ActorAnswers, ActorShows, exchange_of, actor_kind_of, receives_byte};
 
 use rp_model::Dropped;
 use rp_object::Objects;
@@ -34,7 +34,7 @@ pub struct LastStep {
 impl ActorKind {
     /// The kind with this number, if there is one: 1 is a node, 2 a task.
     pub fn of(number: u8) -> Option<Self>
-        ensures { result ≡ kind_of number }
+        ensures { result ≡ actor_kind_of number }
     {
         match number {
             1 => Some(ActorKind::Node),

@@ -8,8 +8,8 @@ use Rattle.rp_model.specs.Effect.{Setting, NodeInput, running_effect, node_effec
 use Rattle.rp_model.specs.Parts.{Turn}
 use Rattle.rp_replica.specs.Inputs.{effect_if_given}
 use Rattle.rp_replica.specs.State.{part_of}
-use Rattle.rp_requests.specs.Nodes.{NodeState, Answers, StepPut, after_step}
-use Rattle.rp_requests.specs.Buffers.{IsPut}
+use Rattle.rp_requests.specs.Nodes.{NodeState, RequestAnswers, StepPut, after_step}
+use Rattle.rp_requests.specs.Buffers.{IsPutInFront}
 use Rattle.rp_requests.specs.Requests.{Asked, Step, Applied, Image, LastAnswer, Left, Pending, Counted}
 use Rattle.rp_requests.specs.declared.buffer.Lengths.{Lengths}
 use Rattle.rp_requests.specs.declared.refusal.Refusal.{Refusal}
@@ -28,7 +28,7 @@ module _ {S : Type 0} (next : S → Action → S) (answers : S → Action → Li
   stepped (Ok input) old new turn takes goes = Stepped input turn refl takes goes refl
   stepped (Err fault) old new turn takes goes = absurd (cc)
 
-  pub outcome : (asked : Option Asked) (old new : NodeState S) (before after : List ℕ) (result : Result Lengths Refusal) → Answers next answers image asked old new before after result → Outcome next answers asked old new (is_step_made asked result)
+  pub outcome : (asked : Option Asked) (old new : NodeState S) (before after : List ℕ) (result : Result Lengths Refusal) → RequestAnswers next answers image asked old new before after result → Outcome next answers asked old new (is_step_made asked result)
   outcome None old new before after result a = Unchanged a.0.node refl
   outcome (Some (Step given)) old new before after (Ok lengths) a = stepped given old new a.turn a.takes a.goes
   outcome (Some (Step given)) old new before after (Err (refusals.LongAnswer needed)) a = stepped given old new a.turn a.takes a.goes
@@ -63,7 +63,7 @@ after_front : (front rest : List ℕ) → drop (length front) (front ++ rest) �
 after_front [] rest = refl
 after_front (x ∷ front) rest = after_front front rest
 
-pub gives : {S : Type 0} (node : NodeState S) (before after : List ℕ) (lengths : Lengths) → IsPut node.stored node.packets before after lengths → GivesAnswer node after lengths
+pub gives : {S : Type 0} (node : NodeState S) (before after : List ℕ) (lengths : Lengths) → IsPutInFront node.stored node.packets before after lengths → GivesAnswer node after lengths
 gives node before after lengths put =
     let others = drop (length (node.stored ++ node.packets)) before in
     record {
@@ -77,5 +77,5 @@ gives node before after lengths put =
 pub step_gives : {S : Type 0} (effect : Result Turn Fault) (old new : NodeState S) (before after : List ℕ) (lengths : Lengths) → StepPut effect old new before after lengths → GivesAnswer new after lengths
 step_gives effect old new before after lengths a = subst (λ (n : NodeState _). GivesAnswer n after lengths) (sym a.goes) (gives (after_step old a.turn) before after lengths a.put)
 
-pub last_gives : {S : Type 0} (old new : NodeState S) (before after : List ℕ) (lengths : Lengths) → new ≡ old → IsPut old.stored old.packets before after lengths → GivesAnswer new after lengths
+pub last_gives : {S : Type 0} (old new : NodeState S) (before after : List ℕ) (lengths : Lengths) → new ≡ old → IsPutInFront old.stored old.packets before after lengths → GivesAnswer new after lengths
 last_gives old new before after lengths same put = subst (λ (n : NodeState _). GivesAnswer n after lengths) (sym same) (gives old before after lengths put)

@@ -37,9 +37,9 @@ use Rattle.rp_agreement.specs.Order.{AllSent}
 use Rattle.rp_agreement.proofs.Lists.{has_get}
 use Rattle.rp_agreement.proofs.PartPlaces.{put_there, put_beside}
 use Rattle.rp_pending.proofs.Stepping.{goes_on}
-use Rattle.rp_requests.specs.Buffers.{IsPut}
+use Rattle.rp_requests.specs.Buffers.{IsPutInFront}
 use Rattle.rp_requests.specs.TaskRequests.{TaskAsked, MakeCall, SendAgain, TakePacket, task_asked_of}
-use Rattle.rp_requests.specs.Tasks.{TaskAnswers, TaskDoes, CallPut, call_packet, again_text, is_task, reply_in, reply_taken, once_taken, taken_text}
+use Rattle.rp_requests.specs.Tasks.{TaskAnswers, TaskDoes, CallPut, call_packet, again_text, is_task, outstanding_reply, reply_taken, once_taken, taken_text}
 use Rattle.rp_requests.specs.declared.buffer.Lengths.{Lengths}
 use Rattle.rp_requests.specs.declared.refusal.Refusal.{Refusal}
 use Rattle.rp_tasks.specs.Calls.{Calls, no_calls, refusal_of, with_reply}
@@ -55,12 +55,12 @@ taken_whole : (text rest : List ℕ) → take (length text) (text ++ rest) ≡ t
 taken_whole [] rest = refl
 taken_whole (x ∷ text) rest = ap (λ (l : List ℕ). x ∷ l) (taken_whole text rest)
 
-answer_is : (exchange : AnsweredRequest) (text before : List ℕ) (lengths : Lengths) → IsPut [] text before exchange.after lengths → 0 < length text → answer_in exchange (Ok lengths) ≡ text ∷ []
+answer_is : (exchange : AnsweredRequest) (text before : List ℕ) (lengths : Lengths) → IsPutInFront [] text before exchange.after lengths → 0 < length text → answer_in exchange (Ok lengths) ≡ text ∷ []
 answer_is exchange text before lengths put some =
     cond-true (nat_lt 0 lengths.used) (take lengths.used exchange.after ∷ []) [] (lt-ltb 0 lengths.used (omega (arith, put.used_is, some)))
     ∙ ap (λ (l : List ℕ). l ∷ []) (ap (λ (n : ℕ). take n exchange.after) put.used_is ∙ ap (take (length text)) put.front ∙ taken_whole text (drop (length text) before))
 
-answer_none : (exchange : AnsweredRequest) (before : List ℕ) (lengths : Lengths) → IsPut [] [] before exchange.after lengths → answer_in exchange (Ok lengths) ≡ []
+answer_none : (exchange : AnsweredRequest) (before : List ℕ) (lengths : Lengths) → IsPutInFront [] [] before exchange.after lengths → answer_in exchange (Ok lengths) ≡ []
 answer_none exchange before lengths put = ap (λ (n : ℕ). cond (nat_lt 0 n) (take n exchange.after ∷ []) []) put.used_is
 
 some_text : (m : Message) → 0 < length (text_of m)
@@ -244,10 +244,10 @@ module _ {S : Type 0} (s : Setting S) (events : List Event) (w : World) (history
 
     -- it asks again
     asks_on : (waits : Option Action) → outstanding ≡ waits → (node : ℕ) (new : Calls) (given : List (List ℕ)) (lengths : Lengths) → IsNode node → node ≤ s.config.nodes → exchange.result ≡ Ok lengths → new ≡ calls_kept t part_is
-        → IsPut [] (again_text t node outstanding) exchange.before exchange.after lengths → given ≡ call_given exchange (Some (SendAgain node)) → TaskMoved s events w t (after_answer exchange before (Some (SendAgain node)) new) given
+        → IsPutInFront [] (again_text t node outstanding) exchange.before exchange.after lengths → given ≡ call_given exchange (Some (SendAgain node)) → TaskMoved s events w t (after_answer exchange before (Some (SendAgain node)) new) given
     asks_on None is node new given lengths right within done same put gives =
         unchanged (Some (SendAgain node)) new given same refl gives
-        (ap (answer_in exchange) done ∙ answer_none exchange exchange.before lengths (subst (λ (o : Option Action). IsPut [] (again_text t node o) exchange.before exchange.after lengths) is put))
+        (ap (answer_in exchange) done ∙ answer_none exchange exchange.before lengths (subst (λ (o : Option Action). IsPutInFront [] (again_text t node o) exchange.before exchange.after lengths) is put))
     asks_on (Some call) is node new given lengths right within done same put gives =
         let done_is : Done TaskPart = record (goes_on_as part_is) { sends = asks t node call ∷ [] } in
         let effect : task_effect s.config t part_is (tasks.Again node) ≡ Ok done_is =
@@ -255,19 +255,19 @@ module _ {S : Type 0} (s : Setting S) (events : List Event) (w : World) (history
         happens s events w history t part_is here (Again t node) done_is (after_answer exchange before (Some (SendAgain node)) new) given refl (task, right)
         (ap (task_takes s.config w t (tasks.Again node)) here ∙ ap (task_done_if w t) effect)
         (same_over (Some (SendAgain node)) new same refl)
-        (one_given given (asks t node call) (gives ∙ ap (answer_in exchange) done ∙ answer_is exchange (text_of (call_packet t node call)) exchange.before lengths (subst (λ (o : Option Action). IsPut [] (again_text t node o) exchange.before exchange.after lengths) is put) (some_text (call_packet t node call))))
+        (one_given given (asks t node call) (gives ∙ ap (answer_in exchange) done ∙ answer_is exchange (text_of (call_packet t node call)) exchange.before lengths (subst (λ (o : Option Action). IsPutInFront [] (again_text t node o) exchange.before exchange.after lengths) is put) (some_text (call_packet t node call))))
 
     -- a packet with no reply for it
     ignores : (packet : List ℕ) (m : Message) (new : Calls) (given : List (List ℕ)) (lengths : Lengths) → exchange.result ≡ Ok lengths → new ≡ once_taken (calls_kept t part_is) (reply_taken (calls_kept t part_is) m)
-        → IsPut [] (taken_text (reply_taken (calls_kept t part_is) m)) exchange.before exchange.after lengths → given ≡ [] → reply_taken (calls_kept t part_is) m ≡ None
+        → IsPutInFront [] (taken_text (reply_taken (calls_kept t part_is) m)) exchange.before exchange.after lengths → given ≡ [] → reply_taken (calls_kept t part_is) m ≡ None
         → TaskMoved s events w t (after_answer exchange before (Some (TakePacket packet)) new) given
     ignores packet m new given lengths done goes put gives none =
         unchanged (Some (TakePacket packet)) new given (goes ∙ ap (once_taken (calls_kept t part_is)) none)
-        (ap (answer_in exchange) done ∙ answer_none exchange exchange.before lengths (subst (λ (o : Option Reply). IsPut [] (taken_text o) exchange.before exchange.after lengths) none put)) gives refl
+        (ap (answer_in exchange) done ∙ answer_none exchange exchange.before lengths (subst (λ (o : Option Reply). IsPutInFront [] (taken_text o) exchange.before exchange.after lengths) none put)) gives refl
 
     -- a reply is taken
     takes_on : (packet : List ℕ) (m : Message) (number : ℕ) (reply : Reply) (new : Calls) (given : List (List ℕ)) (lengths : Lengths) → Has m w.sent → m.to ≡ parties.Task t → m.body ≡ bodies.Reply number reply → is_reply_to number outstanding ≡ true
-        → exchange.result ≡ Ok lengths → new ≡ with_reply (calls_kept t part_is) → IsPut [] (reply_text reply) exchange.before exchange.after lengths → given ≡ []
+        → exchange.result ≡ Ok lengths → new ≡ with_reply (calls_kept t part_is) → IsPutInFront [] (reply_text reply) exchange.before exchange.after lengths → given ≡ []
         → TaskMoved s events w t (after_answer exchange before (Some (TakePacket packet)) new) given
     takes_on packet m number reply new given lengths sent to body is done goes put gives =
         let answer : Answer = record { task = t; number = number; reply = reply } in
@@ -288,30 +288,30 @@ module _ {S : Type 0} (s : Setting S) (events : List Event) (w : World) (history
         (λ p has. absurd (subst (λ (l : List (List ℕ)). Has p l) gives has))
 
     reply_or : (packet : List ℕ) (m : Message) (body : Body) (new : Calls) (given : List (List ℕ)) (lengths : Lengths) → Has m w.sent → m.to ≡ parties.Task t → m.body ≡ body
-        → exchange.result ≡ Ok lengths → new ≡ once_taken (calls_kept t part_is) (reply_in (calls_kept t part_is) body) → IsPut [] (taken_text (reply_in (calls_kept t part_is) body)) exchange.before exchange.after lengths → given ≡ []
-        → reply_taken (calls_kept t part_is) m ≡ reply_in (calls_kept t part_is) body
+        → exchange.result ≡ Ok lengths → new ≡ once_taken (calls_kept t part_is) (outstanding_reply (calls_kept t part_is) body) → IsPutInFront [] (taken_text (outstanding_reply (calls_kept t part_is) body)) exchange.before exchange.after lengths → given ≡ []
+        → reply_taken (calls_kept t part_is) m ≡ outstanding_reply (calls_kept t part_is) body
         → TaskMoved s events w t (after_answer exchange before (Some (TakePacket packet)) new) given
     reply_or packet m (bodies.Reply number reply) new given lengths sent to is done goes put gives taken =
         elim (cases_Bool (is_reply_to number outstanding)) [
           | inl own ↦
-              let some : reply_in (calls_kept t part_is) (bodies.Reply number reply) ≡ Some reply = cond-true (is_reply_to number outstanding) (Some reply) None own in
-              takes_on packet m number reply new given lengths sent to is own done (goes ∙ ap (once_taken (calls_kept t part_is)) some) (subst (λ (o : Option Reply). IsPut [] (taken_text o) exchange.before exchange.after lengths) some put) gives
+              let some : outstanding_reply (calls_kept t part_is) (bodies.Reply number reply) ≡ Some reply = cond-true (is_reply_to number outstanding) (Some reply) None own in
+              takes_on packet m number reply new given lengths sent to is own done (goes ∙ ap (once_taken (calls_kept t part_is)) some) (subst (λ (o : Option Reply). IsPutInFront [] (taken_text o) exchange.before exchange.after lengths) some put) gives
           | inr other ↦
-              let none : reply_in (calls_kept t part_is) (bodies.Reply number reply) ≡ None = cond-false (is_reply_to number outstanding) (Some reply) None other in
-              ignores packet m new given lengths done (goes ∙ ap (once_taken (calls_kept t part_is)) (sym taken)) (subst (λ (o : Option Reply). IsPut [] (taken_text o) exchange.before exchange.after lengths) (sym taken) put) gives (taken ∙ none)
+              let none : outstanding_reply (calls_kept t part_is) (bodies.Reply number reply) ≡ None = cond-false (is_reply_to number outstanding) (Some reply) None other in
+              ignores packet m new given lengths done (goes ∙ ap (once_taken (calls_kept t part_is)) (sym taken)) (subst (λ (o : Option Reply). IsPutInFront [] (taken_text o) exchange.before exchange.after lengths) (sym taken) put) gives (taken ∙ none)
         ]
     reply_or packet m other new given lengths sent to is done goes put gives taken =
-        ignores packet m new given lengths done (goes ∙ ap (once_taken (calls_kept t part_is)) (sym taken)) (subst (λ (o : Option Reply). IsPut [] (taken_text o) exchange.before exchange.after lengths) (sym taken) put) gives taken
+        ignores packet m new given lengths done (goes ∙ ap (once_taken (calls_kept t part_is)) (sym taken)) (subst (λ (o : Option Reply). IsPutInFront [] (taken_text o) exchange.before exchange.after lengths) (sym taken) put) gives taken
 
     packet_on : (packet : List ℕ) (m : Message) (new : Calls) (given : List (List ℕ)) (lengths : Lengths) → Has m w.sent
-        → exchange.result ≡ Ok lengths → new ≡ once_taken (calls_kept t part_is) (reply_taken (calls_kept t part_is) m) → IsPut [] (taken_text (reply_taken (calls_kept t part_is) m)) exchange.before exchange.after lengths → given ≡ []
+        → exchange.result ≡ Ok lengths → new ≡ once_taken (calls_kept t part_is) (reply_taken (calls_kept t part_is) m) → IsPutInFront [] (taken_text (reply_taken (calls_kept t part_is) m)) exchange.before exchange.after lengths → given ≡ []
         → TaskMoved s events w t (after_answer exchange before (Some (TakePacket packet)) new) given
     packet_on packet m new given lengths sent done goes put gives =
         elim (cases_Bool (is_task t m.to)) [
           | inl own ↦
-              let taken : reply_taken (calls_kept t part_is) m ≡ reply_in (calls_kept t part_is) m.body = cond-true (is_task t m.to) (reply_in (calls_kept t part_is) m.body) None own in
-              reply_or packet m m.body new given lengths sent (is_task_of t m.to own) refl done (goes ∙ ap (once_taken (calls_kept t part_is)) taken) (subst (λ (o : Option Reply). IsPut [] (taken_text o) exchange.before exchange.after lengths) taken put) gives taken
-          | inr foreign ↦ ignores packet m new given lengths done goes put gives (cond-false (is_task t m.to) (reply_in (calls_kept t part_is) m.body) None foreign)
+              let taken : reply_taken (calls_kept t part_is) m ≡ outstanding_reply (calls_kept t part_is) m.body = cond-true (is_task t m.to) (outstanding_reply (calls_kept t part_is) m.body) None own in
+              reply_or packet m m.body new given lengths sent (is_task_of t m.to own) refl done (goes ∙ ap (once_taken (calls_kept t part_is)) taken) (subst (λ (o : Option Reply). IsPutInFront [] (taken_text o) exchange.before exchange.after lengths) taken put) gives taken
+          | inr foreign ↦ ignores packet m new given lengths done goes put gives (cond-false (is_task t m.to) (outstanding_reply (calls_kept t part_is) m.body) None foreign)
         ]
 
     -- ---- whatever is asked

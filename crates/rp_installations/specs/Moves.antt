@@ -14,7 +14,7 @@ use Rattle.rp_codec.specs.Text.{text_of}
 use Rattle.rp_model.specs.World.{part_at, with_part}
 use Rattle.rp_outbox.specs.Packets.{texts_of}
 use Rattle.rp_pending.specs.Pending.{noted_by}
-use Rattle.rp_requests.specs.Nodes.{NodeState, Answers}
+use Rattle.rp_requests.specs.Nodes.{NodeState, RequestAnswers}
 use Rattle.rp_requests.specs.Opening.{IsOpenedNode}
 use Rattle.rp_requests.specs.Requests.{Asked, Step, asked_of}
 use Rattle.rp_requests.specs.TaskRequests.{TaskAsked, MakeCall, SendAgain, TakePacket}
@@ -264,7 +264,7 @@ pub record OpensFrom {S : Type 0} (next : S → Action → S) (answers : S → A
 abbrev pub AnswersBy : {S : Type 0} → (S → Action → S) → (S → Action → List Answer) → (S → List ℕ)
     → AnsweredRequest → NodeState S → NodeState S → Type 0
 AnswersBy next answers image exchange old new =
-    Answers next answers image (asked_of exchange.request) old new exchange.before exchange.after
+    RequestAnswers next answers image (asked_of exchange.request) old new exchange.before exchange.after
     exchange.result
 
 module _ {S : Type 0} (next : S → Action → S) (answers : S → Action → List Answer)

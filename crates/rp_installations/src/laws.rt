@@ -9,7 +9,7 @@ ghost use Rattle.rp_model.specs.Events.{Event};
 ghost use Rattle.rp_model.specs.World.{World};
 ghost use Rattle.rp_agreement.specs.Answered.{setting_for};
 ghost use Rattle.rp_agreement.specs.History.{IsHistory};
-ghost use Rattle.rp_requests.specs.Nodes.{Answers, NodeState};
+ghost use Rattle.rp_requests.specs.Nodes.{RequestAnswers, NodeState};
 ghost use Rattle.rp_requests.specs.Requests.{Step, LastAnswer};
 ghost use Rattle.rp_requests.specs.declared.buffer.Lengths.{Lengths};
 ghost use Rattle.rp_installations.specs.Behind.{HasHistory, HasLonger, IsBehind};
@@ -29,10 +29,10 @@ pub fn answers_give_the_step<M: Machine>()
     //   of an installation take from the step: the bytes for the device, then the packets
     ensures step { (input : Result NodeInput Fault) (old new : NodeState M)
         (before after : List ℕ) (lengths : Lengths)
-        → Answers M.next M.answers M.image (Some (Step input)) old new before after (Ok lengths)
+        → RequestAnswers M.next M.answers M.image (Some (Step input)) old new before after (Ok lengths)
         → GivesAnswer new after lengths }
     ensures last { (old new : NodeState M) (before after : List ℕ) (lengths : Lengths)
-        → Answers M.next M.answers M.image (Some LastAnswer) old new before after (Ok lengths)
+        → RequestAnswers M.next M.answers M.image (Some LastAnswer) old new before after (Ok lengths)
         → GivesAnswer new after lengths }
 {}
 

@@ -19,7 +19,7 @@ use Rattle.rp_boxes.specs.Parts.{Part}
 use Rattle.rp_boxes.specs.Moments.{WasInUse, WasPut}
 use Rattle.rp_boxes.specs.Seats.{SeatState, HasApplied, IsPut, IsReport, IsSentText}
 use Rattle.rp_boxes.proofs.Auditing.{each_with}
-use Rattle.rp_threads.specs.Turns.{IsOffered}
+use Rattle.rp_threads.specs.Turns.{IsOfferedToBox}
 use Rattle.rp_threads.proofs.Puts.{HasOnlyPut, given_back, offer_puts, went_in}
 use Rattle.rp_live.specs.Seats.{AreReports, HasOnlyReported, IsRead, KnowsMore, KnowsSameBut, Reports}
 
@@ -34,7 +34,7 @@ module _ {S P : Type 0} (next : S → Action → S) (answers : S → Action → 
   -- the report is put, or given back
   pub put_or_back : {A E : Type 0} (result : Result A E) (text : List ℕ) (old new : SeatState P) → OnOk result (IsPut text old new) → OnOk result (WasPut next answers begin (Node new.setup.number) text new)
       → IfErr result (λ back. new ≡ old) → IfErr result (λ back. WasInUse next answers begin (Node new.setup.number) text new)
-      → (is_lost : Bool) × IsOffered next answers begin (Node old.setup.number) text old new is_lost
+      → (is_lost : Bool) × IsOfferedToBox next answers begin (Node old.setup.number) text old new is_lost
   put_or_back (Ok x) text old new put full same used = (false, went_in next answers begin Node text old new put full)
   put_or_back (Err e) text old new put full same used = (true, given_back next answers begin Node text old new new refl same used)
 

@@ -13,7 +13,7 @@ use Rattle.rp_rules.specs.declared.input.Input.TheVariants.{Receive, Lead, LeadR
 use Rattle.rp_rules.specs.declared.input.Input.TheVariants.{Tick, Report, Ask}
 use Rattle.rp_replica.specs.declared.sent.Sent.{Sent}
 use Rattle.rp_threads.specs.Rounds.{IsNodeFault, Runs}
-use Rattle.rp_threads.specs.Turns.{IsOffered}
+use Rattle.rp_threads.specs.Turns.{IsOfferedToBox}
 use Rattle.rp_threads.specs.declared.loops.NodeEnd.{NodeEnd}
 
 -- an interrupt or a tick, within its ranges
@@ -61,7 +61,7 @@ module _ {S P : Type 0} (next : S → Action → S) (answers : S → Action → 
     pub sent : Sent
     pub report : IsReport first old stepped sent
     pub is_lost : Bool
-    pub offered : IsOffered next answers begin (Node stepped.setup.number) sent.bytes.items
+    pub offered : IsOfferedToBox next answers begin (Node stepped.setup.number) sent.bytes.items
         stepped new is_lost
 
   -- a node of which `start` actions were known made n reports, and now more are known: each report

@@ -5,7 +5,7 @@ ghost use Rattle.std.specs.List.{AllZip};
 ghost use Rattle.rp_boxes.specs.Audits.{known_of};
 ghost use Rattle.rp_boxes.specs.Seats.{HasApplied, IsReport, IsSentText};
 ghost use Rattle.rp_codec.specs.declared.packet.Party.TheVariants.{Node};
-ghost use Rattle.rp_threads.specs.Turns.{IsOffered};
+ghost use Rattle.rp_threads.specs.Turns.{IsOfferedToBox};
 ghost use Rattle.rp_live.specs.Ends.{HadNoFault};
 ghost use Rattle.rp_live.specs.LiveOutcome.{KnowsAll};
 ghost use Rattle.rp_live.specs.Seats.{AreNumbered, HasAppliedAt, HasOnlyReported, HasReportedSince, IsEndOfRun, IsRead, IsReadFrom, KnowsMore, KnowsNothingAbove, KnowsSameBut, Reports, StillRuns};
@@ -39,7 +39,7 @@ fn report_from<M: Machine, D: InfallibleDevice>(
 /// Puts a report that the node sent into its box. If the box is in use, the report is lost.
 fn put_report<M: Machine, D: InfallibleDevice>(seat: &mut NodeSeat<M, D>, report: Vec<u8>)
     requires { IsSentText seat.old.part report.items }
-    ensures { (is_lost : Bool) × IsOffered M.next M.answers M.begin (Node seat.old.setup.number)
+    ensures { (is_lost : Bool) × IsOfferedToBox M.next M.answers M.begin (Node seat.old.setup.number)
         report.items seat.old seat.new is_lost }
 {
     let _given_back = seat.put(report);

@@ -13,7 +13,7 @@ use Rattle.rp_outbox.specs.Packets.{ends_of, texts_of}
 use Rattle.rp_replica.specs.State.{ReplicaState, after_turn, with_text}
 use Rattle.rp_replica.specs.Turning.{StopsIf, TurnsOnto}
 use Rattle.rp_requests.specs.declared.buffer.Lengths.{Lengths}
-use Rattle.rp_requests.specs.Buffers.{IsPut, IsTooLong}
+use Rattle.rp_requests.specs.Buffers.{IsPutInFront, IsTooLongForBuffer}
 use Rattle.rp_requests.specs.Nodes.{IsSame, NodeState, StepAnswers, StepMade, StepPut, StepTooLong, step_bytes, step_refusal, stored_by}
 
 -- what a record puts on a device is after what it held
@@ -71,22 +71,22 @@ module _ {S : Type 0} (old : NodeState S) (replica : ReplicaState S) where
       (took effect sent dropped (subst (λ (b : List Message). TurnsOnto effect old.replica replica b sent dropped) none turns))
 
 module _ {S : Type 0} (effect : Result Turn Fault) (old new : NodeState S) (before after : List ℕ) where
-  pub step_put : (lengths : Lengths) → step_bytes ≤ length before → StepMade effect old new → IsPut new.stored new.packets before after lengths → StepPut effect old new before after lengths
+  pub step_put : (lengths : Lengths) → step_bytes ≤ length before → StepMade effect old new → IsPutInFront new.stored new.packets before after lengths → StepPut effect old new before after lengths
   step_put lengths room done put = record {
     room = room;
     turn = done.turn;
     takes = done.takes;
     goes = done.goes;
-    put = subst (λ (n : NodeState S). IsPut n.stored n.packets before after lengths) done.goes put;
+    put = subst (λ (n : NodeState S). IsPutInFront n.stored n.packets before after lengths) done.goes put;
   }
 
-  pub step_too_long : (needed : ℕ) → step_bytes ≤ length before → StepMade effect old new → IsTooLong new.stored new.packets before after needed → StepTooLong effect old new before after needed
+  pub step_too_long : (needed : ℕ) → step_bytes ≤ length before → StepMade effect old new → IsTooLongForBuffer new.stored new.packets before after needed → StepTooLong effect old new before after needed
   step_too_long needed room done long = record {
     room = room;
     turn = done.turn;
     takes = done.takes;
     goes = done.goes;
-    long = subst (λ (n : NodeState S). IsTooLong n.stored n.packets before after needed) done.goes long;
+    long = subst (λ (n : NodeState S). IsTooLongForBuffer n.stored n.packets before after needed) done.goes long;
   }
 
   -- a step that was refused for a fault

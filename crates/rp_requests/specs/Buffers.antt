@@ -8,13 +8,13 @@ use Rattle.rp_requests.specs.declared.refusal.Refusal.TheVariants.{LongAnswer, T
 
 -- The bytes to be stored, and the other bytes after them, are at the front of the buffer, whose
 -- remaining bytes are as they were.
-pub record IsPut (stored others before after : List ℕ) (lengths : Lengths) : Type 0 where
+pub record IsPutInFront (stored others before after : List ℕ) (lengths : Lengths) : Type 0 where
   pub front : after ≡ (stored ++ others) ++ drop (length (stored ++ others)) before
   pub stored_is : lengths.stored ≡ length stored
   pub used_is : lengths.used ≡ length (stored ++ others)
 
 -- They are longer than the buffer, which is as it was, and this is their total length.
-pub record IsTooLong (stored others before after : List ℕ) (needed : ℕ) : Type 0 where
+pub record IsTooLongForBuffer (stored others before after : List ℕ) (needed : ℕ) : Type 0 where
   pub longer : length before < needed
   pub kept : after ≡ before
   pub needed_is : needed ≡ length (stored ++ others)
@@ -25,14 +25,14 @@ with_front front before = take (length before) front ++ drop (length front) befo
 
 -- They are put into the buffer, or are too long.
 abbrev pub Puts : List ℕ → List ℕ → List ℕ → List ℕ → Result Lengths ℕ → Type 0
-Puts stored others before after (Ok lengths) = IsPut stored others before after lengths
-Puts stored others before after (Err needed) = IsTooLong stored others before after needed
+Puts stored others before after (Ok lengths) = IsPutInFront stored others before after lengths
+Puts stored others before after (Err needed) = IsTooLongForBuffer stored others before after needed
 
 -- As `Puts`, but if they are too long only their length is given out.
 abbrev pub PutsOr : List ℕ → List ℕ → List ℕ → List ℕ → Result Lengths Refusal → Type 0
-PutsOr stored others before after (Ok lengths) = IsPut stored others before after lengths
+PutsOr stored others before after (Ok lengths) = IsPutInFront stored others before after lengths
 PutsOr stored others before after (Err (ShortAnswer needed)) =
-    IsTooLong stored others before after needed
+    IsTooLongForBuffer stored others before after needed
 PutsOr stored others before after (Err (Fault fault)) = ⊥
 PutsOr stored others before after (Err BadRequest) = ⊥
 PutsOr stored others before after (Err NoObjects) = ⊥

@@ -25,7 +25,7 @@ use Rattle.rp_server.specs.Free.{free_items}
 use Rattle.rp_requests.specs.declared.buffer.Lengths.{Lengths}
 use Rattle.rp_requests.specs.declared.refusal.Refusal.{Refusal}
 use Rattle.rp_requests.specs.declared.refusal.Refusal.TheVariants as refusals
-use Rattle.rp_requests.specs.Buffers.{IsPut, IsTooLong, PutsOr}
+use Rattle.rp_requests.specs.Buffers.{IsPutInFront, IsTooLongForBuffer, PutsOr}
 use Rattle.rp_requests.specs.Requests.{Asked, Step, Applied, Image, LastAnswer, Left, Pending}
 use Rattle.rp_requests.specs.Requests.{Counted}
 
@@ -71,7 +71,7 @@ pub record StepPut {S : Type 0} (effect : Result Turn Fault) (old new : NodeStat
   pub turn : Turn
   pub takes : effect ≡ Ok turn
   pub goes : new ≡ after_step old turn
-  pub put : IsPut (stored_by turn.written) (texts_of turn.sent) before after lengths
+  pub put : IsPutInFront (stored_by turn.written) (texts_of turn.sent) before after lengths
 
 -- The step took effect, and its record and its packets are more bytes than the buffer has.
 pub record StepTooLong {S : Type 0} (effect : Result Turn Fault) (old new : NodeState S)
@@ -80,7 +80,7 @@ pub record StepTooLong {S : Type 0} (effect : Result Turn Fault) (old new : Node
   pub turn : Turn
   pub takes : effect ≡ Ok turn
   pub goes : new ≡ after_step old turn
-  pub long : IsTooLong (stored_by turn.written) (texts_of turn.sent) before after needed
+  pub long : IsTooLongForBuffer (stored_by turn.written) (texts_of turn.sent) before after needed
 
 -- Nothing changed.
 pub record IsSame {S : Type 0} (old new : NodeState S) (before after : List ℕ) : Type 0 where
@@ -152,25 +152,25 @@ module _ {S : Type 0} (next : S → Action → S) (answers : S → Action → Li
       image (replay_state next answers node.replica.begin (applied_of node.replica.records))
 
   -- The answer to a request.
-  abbrev pub Answers : Option Asked → NodeState S → NodeState S → List ℕ → List ℕ
+  abbrev pub RequestAnswers : Option Asked → NodeState S → NodeState S → List ℕ → List ℕ
       → Result Lengths Refusal → Type 0
-  Answers None old new before after result =
+  RequestAnswers None old new before after result =
       IsSame old new before after × (result ≡ Err refusals.BadRequest)
-  Answers (Some (Step input)) old new before after result =
+  RequestAnswers (Some (Step input)) old new before after result =
       StepAnswers (effect_if_given next answers old.replica input) (is_at_end old.replica input)
       old new before after result
-  Answers (Some Applied) old new before after result =
+  RequestAnswers (Some Applied) old new before after result =
       (new ≡ old)
       × PutsOr [] (to_be_bytes w32 (length (applied_of old.replica.records))) before after result
-  Answers (Some Image) old new before after result =
+  RequestAnswers (Some Image) old new before after result =
       (new ≡ old) × ImageAnswers (image_of old) before after result
-  Answers (Some LastAnswer) old new before after result =
+  RequestAnswers (Some LastAnswer) old new before after result =
       (new ≡ old) × PutsOr old.stored old.packets before after result
-  Answers (Some Left) old new before after result =
+  RequestAnswers (Some Left) old new before after result =
       (new ≡ old)
       × PutsOr [] (to_be_bytes w32 (positions_left old.replica)) before after result
-  Answers (Some Pending) old new before after result =
+  RequestAnswers (Some Pending) old new before after result =
       (new ≡ old) × PutsOr [] (to_be_bytes w32 (free_at next answers old)) before after result
-  Answers (Some (Counted task)) old new before after result =
+  RequestAnswers (Some (Counted task)) old new before after result =
       (new ≡ old)
       × PutsOr [] (to_be_bytes w32 (last_number task (counted_at next answers old))) before after result

@@ -20,7 +20,7 @@ use Rattle.rp_tasks.specs.Calls.{Calls, refusal_of, with_call, with_reply}
 use Rattle.rp_requests.specs.declared.buffer.Lengths.{Lengths}
 use Rattle.rp_requests.specs.declared.refusal.Refusal.{Refusal}
 use Rattle.rp_requests.specs.declared.refusal.Refusal.TheVariants as refusals
-use Rattle.rp_requests.specs.Buffers.{IsPut}
+use Rattle.rp_requests.specs.Buffers.{IsPutInFront}
 use Rattle.rp_requests.specs.TaskRequests.{TaskAsked, MakeCall, SendAgain, TakePacket}
 
 -- the fewest bytes of a buffer for the answer of a task
@@ -48,14 +48,14 @@ is_task task (Node number) = false
 is_task task Audit = false
 
 -- the reply to the outstanding call in a body, if it has one
-abbrev pub reply_in : Calls → Body → Option Reply
-reply_in calls (bodies.Reply number reply) =
+abbrev pub outstanding_reply : Calls → Body → Option Reply
+outstanding_reply calls (bodies.Reply number reply) =
     if is_reply_to number calls.outstanding then Some reply else None
-reply_in calls _ = None
+outstanding_reply calls _ = None
 
 -- the reply to the task's outstanding call in a packet, if it has one
 abbrev pub reply_taken : Calls → Message → Option Reply
-reply_taken calls packet = if is_task calls.task packet.to then reply_in calls packet.body else None
+reply_taken calls packet = if is_task calls.task packet.to then outstanding_reply calls packet.body else None
 
 abbrev pub once_taken : Calls → Option Reply → Calls
 once_taken calls None = calls
@@ -70,7 +70,7 @@ pub record CallPut (call : Action) (node : ℕ) (old new : Calls) (before after 
     (lengths : Lengths) : Type 0 where
   pub may : refusal_of old ≡ None
   pub goes : new ≡ with_call old call
-  pub put : IsPut [] (text_of (call_packet old.task node call)) before after lengths
+  pub put : IsPutInFront [] (text_of (call_packet old.task node call)) before after lengths
 
 -- The reply in the packet, if it is one to the outstanding call, is taken, and is in the buffer.
 pub record ReplyPut (read : Result Message PacketReason) (old new : Calls) (before after : List ℕ)
@@ -78,7 +78,7 @@ pub record ReplyPut (read : Result Message PacketReason) (old new : Calls) (befo
   pub packet : Message
   pub is : read ≡ Ok packet
   pub goes : new ≡ once_taken old (reply_taken old packet)
-  pub put : IsPut [] (taken_text (reply_taken old packet)) before after lengths
+  pub put : IsPutInFront [] (taken_text (reply_taken old packet)) before after lengths
 
 -- Why a packet was not taken: the bytes are no packet, or memory ran out for one that takes memory
 -- to read.
@@ -103,7 +103,7 @@ CallDoes call node old new before after (Err refusal) =
 -- The answer to a request for the packet of the outstanding call again.
 abbrev pub AgainDoes : ℕ → Calls → Calls → List ℕ → List ℕ → Result Lengths Refusal → Type 0
 AgainDoes node old new before after (Ok lengths) =
-    (new ≡ old) × IsPut [] (again_text old.task node old.outstanding) before after lengths
+    (new ≡ old) × IsPutInFront [] (again_text old.task node old.outstanding) before after lengths
 AgainDoes node old new before after (Err refusal) = ⊥
 
 -- The answer to a packet.

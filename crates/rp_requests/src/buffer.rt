@@ -1,7 +1,7 @@
 //! Answers that are put into a caller's buffer.
 
 ghost use Rattle.std.specs.Prelude.{◌≡◌, ◌≤◌, [], length};
-ghost use Rattle.rp_requests.specs.Buffers.{IsPut, Puts, PutsOr, with_front};
+ghost use Rattle.rp_requests.specs.Buffers.{IsPutInFront, Puts, PutsOr, with_front};
 
 use crate::refusal::Refusal;
 
@@ -44,7 +44,7 @@ pub(crate) fn put(text: &[u8], answer: &mut [u8]) -> Result<Lengths, Refusal>
 /// Puts a text with nothing to be stored at the front of the buffer, which is long enough.
 pub(crate) fn put_short(text: &[u8], answer: &mut [u8]) -> Lengths
     requires { length text.now ≤ length answer.old }
-    ensures { IsPut [] text.now answer.old answer.new result }
+    ensures { IsPutInFront [] text.now answer.old answer.new result }
 {
     answer[..text.len()].copy_from_slice(text);
     Lengths {

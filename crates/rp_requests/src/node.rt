@@ -6,7 +6,7 @@ ghost use Rattle.rp_replica.specs.Turning.{StopsIf};
 ghost use Rattle.rp_rules.specs.Inputs.{IsRightInput, given_by};
 ghost use Rattle.rp_model.specs.declared.effect.Dropped.TheVariants.{No};
 ghost use Rattle.rp_requests.specs.Buffers.{Puts, PutsOr, with_front};
-ghost use Rattle.rp_requests.specs.Nodes.{Answers, ImageAnswers, StepAnswers, StepMade, image_of, is_at_end, positions_left, step_refusal};
+ghost use Rattle.rp_requests.specs.Nodes.{RequestAnswers, ImageAnswers, StepAnswers, StepMade, image_of, is_at_end, positions_left, step_refusal};
 ghost use Rattle.rp_requests.specs.Requests.{IsRightRequest, asked, asked_of};
 
 use crate::buffer::{Lengths, put, put_front, put_parts};
@@ -101,7 +101,7 @@ impl<M: Machine> Node<M> {
         // claim: A node by handle makes of each request what its bytes ask for: a step has the effect
         //   that the definitions give, and its answer is the record to be stored and then the packets;
         //   a question changes nothing; and what is refused changes nothing
-        ensures { Answers M.next M.answers M.image (asked_of request.now) self.old self.new
+        ensures { RequestAnswers M.next M.answers M.image (asked_of request.now) self.old self.new
             answer.old answer.new result }
     {
         match request_of(request) {
@@ -118,7 +118,7 @@ impl<M: Machine> Node<M> {
         answer: &mut [u8],
     ) -> Result<Lengths, Refusal>
         requires { IsRightRequest request.now }
-        ensures { Answers M.next M.answers M.image (Some (asked request.now)) self.old self.new
+        ensures { RequestAnswers M.next M.answers M.image (Some (asked request.now)) self.old self.new
             answer.old answer.new result }
     {
         match request {
@@ -144,7 +144,7 @@ impl<M: Machine> Node<M> {
         answer: &mut [u8],
     ) -> Result<Lengths, Refusal>
         // claim: A node by handle makes of a packet alone what it makes of the request that brings it
-        ensures { Answers M.next M.answers M.image (asked_of (1 ∷ packet.now)) self.old self.new
+        ensures { RequestAnswers M.next M.answers M.image (asked_of (1 ∷ packet.now)) self.old self.new
             answer.old answer.new result }
     {
         self.step(alloc, &Input::Receive(packet), answer)

@@ -9,7 +9,7 @@ ghost use Rattle.rp_codec.specs.Message.{IsCallOf};
 ghost use Rattle.rp_codec.specs.Text.{text_of, reply_text};
 ghost use Rattle.rp_codec.specs.declared.packet.Party.TheVariants.{Task as TaskParty};
 ghost use Rattle.rp_tasks.specs.Calls.{no_calls, task_after};
-ghost use Rattle.rp_requests.specs.Buffers.{IsPut};
+ghost use Rattle.rp_requests.specs.Buffers.{IsPutInFront};
 ghost use Rattle.rp_requests.specs.TaskRequests.{task_asked, task_asked_of, IsRightTaskRequest, TakePacket};
 ghost use Rattle.rp_requests.specs.Tasks.{TaskAnswers, TaskDoes, again_text, call_packet, is_task, once_taken, reply_taken, taken_text};
 ghost use Rattle.rp_requests.specs.declared.refusal.Refusal.TheVariants as refusals;
@@ -147,7 +147,7 @@ impl Task {
     /// Puts the packet of the outstanding call to a node, or nothing if there is no such call.
     fn put_again(&self, node: NodeId, answer: &mut [u8]) -> Lengths
         requires room { 40 ≤ length answer.old }
-        ensures { IsPut [] (again_text self.now.task node self.now.outstanding)
+        ensures { IsPutInFront [] (again_text self.now.task node self.now.outstanding)
             answer.old answer.new result }
     {
         match self.stub.retry() {
@@ -180,7 +180,7 @@ impl Task {
     fn take(&mut self, packet: &Packet, answer: &mut [u8]) -> Lengths
         requires room { 40 ≤ length answer.old }
         ensures taken { self.new ≡ once_taken self.old (reply_taken self.old packet.now) }
-        ensures put { IsPut [] (taken_text (reply_taken self.old packet.now))
+        ensures put { IsPutInFront [] (taken_text (reply_taken self.old packet.now))
             answer.old answer.new result }
     {
         if !self.is_to(packet.to()) {
@@ -211,7 +211,7 @@ fn put_call(task: TaskId, node: NodeId, action: Action, answer: &mut [u8]) -> Le
     requires own { IsCallOf (TaskParty task) action }
     requires right { IsRight action }
     requires room { 40 ≤ length answer.old }
-    ensures { IsPut [] (text_of (call_packet task node action)) answer.old answer.new result }
+    ensures { IsPutInFront [] (text_of (call_packet task node action)) answer.old answer.new result }
 {
     let packet = Packet::new(Party::Task(task), Party::Node(node), Body::Call { action });
     put_short(text_of_packet(&packet).as_slice(), answer)
@@ -220,7 +220,7 @@ fn put_call(task: TaskId, node: NodeId, action: Action, answer: &mut [u8]) -> Le
 /// Puts a reply: 1 and a value of eight bytes, 2 and a boolean of one byte, or 3 to 5 alone.
 fn put_reply(reply: Reply, answer: &mut [u8]) -> Lengths
     requires room { 40 ≤ length answer.old }
-    ensures { IsPut [] (reply_text reply) answer.old answer.new result }
+    ensures { IsPutInFront [] (reply_text reply) answer.old answer.new result }
 {
     match reply {
         Reply::Value(value) => put_tagged(1, &value.to_be_bytes(), answer),
@@ -234,7 +234,7 @@ fn put_reply(reply: Reply, answer: &mut [u8]) -> Lengths
 /// Puts a byte and then eight others.
 fn put_tagged(tag: u8, bytes: &[u8; 8], answer: &mut [u8]) -> Lengths
     requires room { 40 ≤ length answer.old }
-    ensures { IsPut [] (tag ∷ bytes.now) answer.old answer.new result }
+    ensures { IsPutInFront [] (tag ∷ bytes.now) answer.old answer.new result }
 {
     answer[0] = tag;
     answer[1..9].copy_from_slice(bytes);

@@ -18,7 +18,7 @@ use Rattle.rp_model.specs.declared.event.Step.TheVariants as TakenStep
 use Rattle.rp_agreement.specs.History.{IsHistory, AreMoments}
 use Rattle.rp_agreement.specs.Noted.{IsNoted}
 use Rattle.rp_run.specs.Agreeing.{world_after, IsAskedIn, IsNotedIn}
-use Rattle.rp_run.specs.Output.{RunSetting, Play, Said, least_unsettled, effect_of, effect_said, event_said, drain_from, command_said, script_said, opening_play}
+use Rattle.rp_run.specs.Output.{RunSetting, Play, Said, least_unsettled, transition_of, effect_said, event_said, drain_from, command_said, script_said, opening_play}
 use Rattle.rp_deck.specs.Script.{KeepsRanges}
 use Rattle.rp_deck.specs.declared.deck.Command.{Command}
 use Rattle.rp_deck.specs.declared.deck.Command.TheVariants.{Take, Lose, Drain, Show}
@@ -80,13 +80,13 @@ module _ {S : Type 0} (s : RunSetting S) (all : List Line) where
   -- ---- an event, a drain, a line, lines
 
   effect_leads : (line : ℕ) (play : Play) (event : TakenEvent) (answer : Result Transition Fault) → IsRightEvent (event_of event) → IsOfLines all (event_of event)
-      → effect_of s play.world event ≡ answer → Leads play.world (effect_said s line play event answer).play.world
+      → transition_of s play.world event ≡ answer → Leads play.world (effect_said s line play event answer).play.world
   effect_leads line play event (Ok transition) right such is = results (IsOfLines all) s.setting play.world (event_of event) transition right such is
   effect_leads line play event (Err refusal) right such is = rests play.world
 
   event_leads : (line : ℕ) (play : Play) (event : TakenEvent) → IsRightEvent (event_of event) → IsOfLines all (event_of event) → Leads play.world (event_said s line play event).play.world
   unfolding event_said
-  event_leads line play event right such = effect_leads line play event (effect_of s play.world event) right such refl
+  event_leads line play event right such = effect_leads line play event (transition_of s play.world event) right such refl
 
   drain_leads : (line : ℕ) (play : Play) (message : Option ℕ) (most : ℕ) → Leads play.world (drain_from s line play message most).play.world
   unfolding drain_from

@@ -27,7 +27,7 @@ use Rattle.rp_agreement.specs.Answered.{named, calls_so_far, calls_by, AreMade, 
 use Rattle.rp_agreement.proofs.Lists.{has_get}
 use Rattle.rp_run.specs.Agreeing.{call_for, HasReplyIn, IsShownBy, IsRepliedBy, IsPrinted, RunIsPrinted, RunAgrees, RunPrints}
 use Rattle.rp_run.specs.Items.{Item, Replied, Shown, asked_by}
-use Rattle.rp_run.specs.Output.{RunSetting, text_of, run_said}
+use Rattle.rp_run.specs.Output.{RunSetting, text_of_said, run_said}
 use Rattle.rp_output.specs.Stream.{Writes}
 use Rattle.rp_deck.specs.declared.deck.Line.{Line}
 use Rattle.rp_run.proofs.Recounting.{IsRecounted, run_recounts}
@@ -189,6 +189,6 @@ run_is_printed s most lines right ordered short =
 
 -- what was written is what is printed
 pub prints_if : {S : Type 0} (s : RunSetting S) (most : ℕ) (lines : List Line) (old new : Option (List ℕ)) (answer : Result Unit Fault)
-    → Writes old new (text_of (run_said s most lines)) answer → RunIsPrinted s most lines → RunAgrees s most lines → OnOk answer (RunPrints s most lines old new)
+    → Writes old new (text_of_said (run_said s most lines)) answer → RunIsPrinted s most lines → RunAgrees s most lines → OnOk answer (RunPrints s most lines old new)
 prints_if s most lines old new (Ok done) written printed agrees = record { written = written; printed = printed; agrees = agrees }
 prints_if s most lines old new (Err fault) written printed agrees = tt

@@ -32,7 +32,7 @@ use Rattle.rp_agreement.specs.Asked.{Asks}
 use Rattle.rp_agreement.proofs.PartPlaces.{part_below, put_there, put_beside}
 use Rattle.rp_run.specs.Agreeing.{call_for}
 use Rattle.rp_run.specs.Items.{Item, Replied, Shown, Noted, Note, Stopped, Refused, DrainLimit, Asked, asked_in, asked_by, reply_in, replies_by}
-use Rattle.rp_run.specs.Output.{RunSetting, Play, Said, nothing_said, note_said, and_then, called_by, taken_items, traced_notes, changed_notes, state_item, part_items, nodes_items, least_unsettled, effect_of, effect_said, event_said, drain_from, command_said, script_said, opening_play, run_said, from_to}
+use Rattle.rp_run.specs.Output.{RunSetting, Play, Said, nothing_said, note_said, and_then, called_by, taken_items, traced_notes, changed_notes, state_item, part_items, nodes_items, least_unsettled, transition_of, effect_said, event_said, drain_from, command_said, script_said, opening_play, run_said, from_to}
 use Rattle.rp_output.specs.Trace.{task_name}
 use Rattle.rp_run.proofs.Acting.{made_by, calls_as, IsForNone, IsFor, event_is_for, StepsOn, task_steps_on}
 use Rattle.rp_run.proofs.Refusing.{part_there}
@@ -453,7 +453,7 @@ module _ {S : Type 0} (s : RunSetting S) where
       subst (λ (l : List Item). IsRecounted l (further here.play).play.world) (append_assoc items here.items (further here.play).items)
       (second (items ++ here.items) (first items old))
 
-  recounts_effect : (line : ℕ) (play : Play) (event : Event) (answer : Result Transition Fault) → effect_of s play.world event ≡ answer → Recounts play (effect_said s line play event answer)
+  recounts_effect : (line : ℕ) (play : Play) (event : Event) (answer : Result Transition Fault) → transition_of s play.world event ≡ answer → Recounts play (effect_said s line play event answer)
   recounts_effect line play event (Ok transition) is items old =
       event_adds items play.world event transition
       (traced_notes s.traced s.names (length play.world.sent + 1) transition.sends ++ changed_notes transition.world.sent event transition.opened transition.dropped) is old
@@ -461,7 +461,7 @@ module _ {S : Type 0} (s : RunSetting S) where
 
   recounts_event : (line : ℕ) (play : Play) (event : Event) → Recounts play (event_said s line play event)
   unfolding event_said
-  recounts_event line play event = recounts_effect line play event (effect_of s play.world event) refl
+  recounts_event line play event = recounts_effect line play event (transition_of s play.world event) refl
 
   recounts_drain : (line : ℕ) (play : Play) (message : Option ℕ) (most : ℕ) → Recounts play (drain_from s line play message most)
   unfolding drain_from

@@ -19,7 +19,7 @@ use Rattle.rp_model.specs.Events.{event_of}
 use Rattle.rp_model.specs.Growing.{Grows}
 use Rattle.rp_model.specs.World.{World, Transition, event_effect}
 use Rattle.rp_model.specs.Answers.{IsDone, IsRefused}
-use Rattle.rp_run.specs.Output.{RunSetting, Play, Said, opening_play, text_of, nothing_said, note_said, and_then, is_among, from_to, least_unsettled, settled_by, lost, traced_text, effect_text, effect_of, effect_said, event_said, drain_from, drained, command_said, script_said, nodes_text}
+use Rattle.rp_run.specs.Output.{RunSetting, Play, Said, opening_play, text_of_said, nothing_said, note_said, and_then, is_among, from_to, least_unsettled, settled_by, lost, traced_text, effect_text, transition_of, effect_said, event_said, drain_from, drained, command_said, script_said, nodes_text}
 use Rattle.rp_run.specs.Items.{Item, Note, Noted, Refused, DrainLimit, items_text, note_line}
 use Rattle.rp_output.specs.Printed.{refused_line_of}
 use Rattle.rp_run.specs.Runs.{Follows, Says}
@@ -34,18 +34,18 @@ use Rattle.rp_output.proofs.Writing.{begins_nothing, begins_longer, begins_after
 
 -- what is said, by what is written
 pub says_by : (world : World) (settled : Settled) (old new : Option (List ℕ)) (said : Said) (answer : Result Unit Fault)
-    → Follows world settled said.play → Writes old new (text_of said) answer → Says world settled old new said answer
+    → Follows world settled said.play → Writes old new (text_of_said said) answer → Says world settled old new said answer
 says_by world settled old new said (Ok done) follows written = (follows, written)
 says_by world settled old new said (Err fault) follows written = written
 
 pub says_failed : (world : World) (settled : Settled) (old new : Option (List ℕ)) (said : Said) (answer : Result Unit Fault)
-    → IsErr answer → Begins old new (text_of said) → Says world settled old new said answer
+    → IsErr answer → Begins old new (text_of_said said) → Says world settled old new said answer
 says_failed world settled old new said (Ok done) failed begun = absurd (cc)
 says_failed world settled old new said (Err fault) failed begun = begun
 
 -- a note that was written
 pub note_written : (play : Play) (old new : Option (List ℕ)) (note : Note) (answer : Result Unit Fault)
-    → Writes old new (with_line_feed (note_line note)) answer → Writes old new (text_of (note_said play note)) answer
+    → Writes old new (with_line_feed (note_line note)) answer → Writes old new (text_of_said (note_said play note)) answer
 note_written play old new note answer printed =
     subst (λ (t : List ℕ). Writes old new t answer) (sym (item_text-one (Noted (note ∷ [])) ∙ append-nil (with_line_feed (note_line note)))) printed
 
@@ -55,7 +55,7 @@ note_written play old new note answer printed =
 pub record Underway (world : World) (settled : Settled) (old new : Option (List ℕ)) (whole : Said) (rest : Play → Said) : Type 0 where
   pub said : Said
   pub follows : Follows world settled said.play
-  pub written : Appends old new (text_of said)
+  pub written : Appends old new (text_of_said said)
   pub parts : whole ≡ and_then said rest
 
 -- nothing is said yet
@@ -78,18 +78,18 @@ module _ (world later : World) (settled after : Settled) (old middle new : Optio
       ∙ ap (λ (l : List Item). record { items = l; play = (further here.play).play }) (sym (append_assoc so_far.said.items here.items (further here.play).items))
 
   -- one thing more is written after what was
-  written_too : (here : Said) → Appends middle new (text_of here) → Appends old new (items_text (so_far.said.items ++ here.items))
+  written_too : (here : Said) → Appends middle new (text_of_said here) → Appends old new (items_text (so_far.said.items ++ here.items))
   written_too here written =
       subst (λ (t : List ℕ). Appends old new t) (sym (items_text-append so_far.said.items here.items))
-      (Appends-trans old middle new (text_of so_far.said) (text_of here) so_far.written written)
+      (Appends-trans old middle new (text_of_said so_far.said) (text_of_said here) so_far.written written)
 
-  begun_too : (here : Said) → Begins middle new (text_of here) → Begins old new (items_text (so_far.said.items ++ here.items))
+  begun_too : (here : Said) → Begins middle new (text_of_said here) → Begins old new (items_text (so_far.said.items ++ here.items))
   begun_too here begun =
       subst (λ (t : List ℕ). Begins old new t) (sym (items_text-append so_far.said.items here.items))
-      (begins_after old middle new (text_of so_far.said) (text_of here) so_far.written begun)
+      (begins_after old middle new (text_of_said so_far.said) (text_of_said here) so_far.written begun)
 
   -- one thing more
-  pub goes_on : (here : Said) (further : Play → Said) → rest so_far.said.play ≡ and_then here further → Follows later after here.play → Appends middle new (text_of here)
+  pub goes_on : (here : Said) (further : Play → Said) → rest so_far.said.play ≡ and_then here further → Follows later after here.play → Appends middle new (text_of_said here)
       → Underway later after old new whole further
   goes_on here further next follows written = record {
     said = record { items = so_far.said.items ++ here.items; play = here.play };
@@ -99,11 +99,11 @@ module _ (world later : World) (settled after : Settled) (old middle new : Optio
   }
 
   -- one thing more, which failed
-  pub fails : (here : Said) (further : Play → Said) → rest so_far.said.play ≡ and_then here further → Begins middle new (text_of here) → Begins old new (text_of whole)
+  pub fails : (here : Said) (further : Play → Said) → rest so_far.said.play ≡ and_then here further → Begins middle new (text_of_said here) → Begins old new (text_of_said whole)
   fails here further next begun =
-      subst (λ (s : Said). Begins old new (text_of s)) (sym (following here further next))
+      subst (λ (s : Said). Begins old new (text_of_said s)) (sym (following here further next))
       (subst (λ (t : List ℕ). Begins old new t) (sym (items_text-append (so_far.said.items ++ here.items) (further here.play).items))
-      (begins_longer old new (items_text (so_far.said.items ++ here.items)) (text_of (further here.play)) (begun_too here begun)))
+      (begins_longer old new (items_text (so_far.said.items ++ here.items)) (text_of_said (further here.play)) (begun_too here begun)))
 
   -- the last thing
   pub ends_by : (here : Said) (answer : Result Unit Fault) → rest so_far.said.play ≡ here → Says later after middle new here answer → Says later after old new whole answer
@@ -145,7 +145,7 @@ stated_same traced names event before after sends first opened found dropped lac
     ∙ ap (λ (t : Option Answer). traced_text traced names (length before + 1) sends ++ effect_text names after event found lacking t) e3
 
 module _ {S : Type 0} (s : RunSetting S) (line : ℕ) (play : Play) (event : Event) (world : World) (settled : Settled) (follows : Follows world settled play) where
-  event_is : event_said s line play event ≡ effect_said s line play event (effect_of s play.world event)
+  event_is : event_said s line play event ≡ effect_said s line play event (transition_of s play.world event)
   unfolding event_said
   event_is = refl
 
@@ -164,7 +164,7 @@ module _ {S : Type 0} (s : RunSetting S) (line : ℕ) (play : Play) (event : Eve
       let is : event_said s line play event ≡ said = at_play ∙ ap (λ (r : Result Transition Fault). effect_said s line play event r) done.resulted in
       let prints = λ (w : World). transition_prints s w event transition in
       let grown : later.sent ≡ world.sent ++ transition.sends = ap (λ (w : World). w.sent) done.world ∙ grows.sent in
-      let text : traced_text s.traced s.names effect.first (drop (effect.first - 1) later.sent) ++ effect_text s.names later.sent event effect.opened effect.dropped effect.taken ≡ text_of said =
+      let text : traced_text s.traced s.names effect.first (drop (effect.first - 1) later.sent) ++ effect_text s.names later.sent event effect.opened effect.dropped effect.taken ≡ text_of_said said =
       stated_same s.traced s.names event world.sent later.sent transition.sends effect.first effect.opened transition.opened effect.dropped transition.dropped effect.taken transition.taken
       done.describes.first grown done.describes.opened done.describes.dropped done.describes.taken
       ∙ ap (λ (l : List Message). traced_text s.traced s.names (length world.sent + 1) transition.sends ++ effect_text s.names l event transition.opened transition.dropped transition.taken) (ap (λ (w : World). w.sent) done.world)
@@ -228,13 +228,13 @@ module _ (line first last : ℕ) (play : Play) (world : World) (settled : Settle
       (grind (arith, nat_tests, sent_is, first_sent)) (grind (arith, nat_tests, sent_is, last_sent))
 
   pub some_lost : (after : Settled) (old : Option (List ℕ)) (answer : Result Unit Fault) → IsErr answer → Says world after old old (lost line play first last) answer
-  some_lost after old answer failed = says_failed world after old old (lost line play first last) answer failed (begins_nothing old (text_of (lost line play first last)))
+  some_lost after old answer failed = says_failed world after old old (lost line play first last) answer failed (begins_nothing old (text_of_said (lost line play first last)))
 
   pub was_lost : (after : Settled) (old : Option (List ℕ)) → first ≤ length world.sent → last ≤ length world.sent
       → ((m : ℕ) → is_settled after m ≡ (is_among (from_to first last) m || is_settled settled m))
-      → Follows world after (lost line play first last).play × Appends old old (text_of (lost line play first last))
+      → Follows world after (lost line play first last).play × Appends old old (text_of_said (lost line play first last))
   was_lost after old first_sent last_sent settles =
-      subst (λ (x : Said). Follows world after x.play × Appends old old (text_of x)) (sym (lost_is first_sent last_sent)) (
+      subst (λ (x : Said). Follows world after x.play × Appends old old (text_of_said x)) (sym (lost_is first_sent last_sent)) (
         record {
           world_is = follows.world_is;
           settled_are = λ m. settles m ∙ ap (λ (b : Bool). is_among (from_to first last) m || b) (follows.settled_are m)
@@ -270,14 +270,14 @@ next_line s most play lines i line below is =
 module _ {S : Type 0} (s : RunSetting S) (most : ℕ) (lines : List Line) (i : ℕ) (line : Line) (below : i < length lines) (is : line ≡ slice_index_or lines i line)
     {world : World} {settled : Settled} {old middle new : Option (List ℕ)} (so_far : Underway world settled old middle (script_said s most (opening_play s) lines) (λ now. script_said s most now (drop i lines))) where
   -- it is done
-  pub line_goes_on : {later : World} {after : Settled} → Follows later after (command_said s most line.number so_far.said.play line.command).play → Appends middle new (text_of (command_said s most line.number so_far.said.play line.command))
+  pub line_goes_on : {later : World} {after : Settled} → Follows later after (command_said s most line.number so_far.said.play line.command).play → Appends middle new (text_of_said (command_said s most line.number so_far.said.play line.command))
       → Underway later after old new (script_said s most (opening_play s) lines) (λ now. script_said s most now (drop (i + 1) lines))
   line_goes_on {later} {after} follows written =
       goes_on world later settled after old middle new (script_said s most (opening_play s) lines) (λ now. script_said s most now (drop i lines)) so_far
       (command_said s most line.number so_far.said.play line.command) (λ now. script_said s most now (drop (i + 1) lines)) (next_line s most so_far.said.play lines i line below is) follows written
 
   -- it failed
-  pub line_fails : Begins middle new (text_of (command_said s most line.number so_far.said.play line.command)) → Begins old new (text_of (script_said s most (opening_play s) lines))
+  pub line_fails : Begins middle new (text_of_said (command_said s most line.number so_far.said.play line.command)) → Begins old new (text_of_said (script_said s most (opening_play s) lines))
   line_fails begun =
       fails world world settled settled old middle new (script_said s most (opening_play s) lines) (λ now. script_said s most now (drop i lines)) so_far
       (command_said s most line.number so_far.said.play line.command) (λ now. script_said s most now (drop (i + 1) lines)) (next_line s most so_far.said.play lines i line below is) begun

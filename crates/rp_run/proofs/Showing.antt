@@ -17,7 +17,7 @@ use Rattle.rp_agreement.proofs.Lists.{one_to_has}
 use Rattle.rp_agreement.proofs.PartPlaces.{part_below}
 use Rattle.rp_run.specs.Agreeing.{HasApplied, ShowsNodes}
 use Rattle.rp_run.specs.Items.{Item, Shown, Noted, Note, Refused, DrainLimit}
-use Rattle.rp_run.specs.Output.{RunSetting, Play, Said, note_said, called_by, taken_items, traced_notes, changed_notes, state_item, part_items, nodes_items, least_unsettled, effect_of, effect_said, event_said, drain_from, command_said, script_said, from_to}
+use Rattle.rp_run.specs.Output.{RunSetting, Play, Said, note_said, called_by, taken_items, traced_notes, changed_notes, state_item, part_items, nodes_items, least_unsettled, transition_of, effect_said, event_said, drain_from, command_said, script_said, from_to}
 use Rattle.rp_deck.specs.declared.deck.Command.{Command}
 use Rattle.rp_deck.specs.declared.deck.Command.TheVariants.{Take, Lose, Drain, Show}
 use Rattle.rp_deck.specs.declared.deck.Line.{Line}
@@ -150,7 +150,7 @@ module _ {S : Type 0} (s : RunSetting S) where
 
   event_none : (line : ℕ) (play : Play) (event : Event) → ShowNone (event_said s line play event).items
   unfolding event_said
-  event_none line play event = effect_none line play event (effect_of s play.world event)
+  event_none line play event = effect_none line play event (transition_of s play.world event)
 
   drain_none : (line : ℕ) (play : Play) (message : Option ℕ) (most : ℕ) → ShowNone (drain_from s line play message most).items
   unfolding drain_from

@@ -18,7 +18,7 @@ use Rattle.rp_model.specs.Parts.{fresh_node, fresh_task}
 use Rattle.rp_model.specs.World.{World, Transition, event_effect, node_of, opening_world, part_at}
 use Rattle.rp_agreement.proofs.PartPlaces.{put_there}
 use Rattle.rp_world.specs.Failures.{AreCounted, RisesAt, RisesOnly}
-use Rattle.rp_world.specs.Steps.{ClusterState, Setup, setting_of}
+use Rattle.rp_world.specs.Steps.{ClusterState, Setup, cluster_setting}
 use Rattle.rp_run.specs.Faults.{IsDeviceRunFault}
 use Rattle.rp_output.specs.Faults.{IsRunFault}
 use Rattle.rp_run.specs.Runs.{HasParts, run_setting}
@@ -45,22 +45,22 @@ rises_somewhere (Some me) before after rises = (me, rises)
 
 module _ {S P : Type 0} (next : S → Action → S) (answers : S → Action → List Answer) (start : P → S) (nodes : ℕ) (old new : ClusterState P) (event : Event)
     (parts : HasParts nodes old) (fits : IsEventWithin nodes 8 8 event) where
-  keeps : Keeps old.world (event_effect (setting_of next answers start old) old.world (event_of event))
+  keeps : Keeps old.world (event_effect (cluster_setting next answers start old) old.world (event_of event))
   keeps =
-      event_keeps (setting_of next answers start old) old.world event (parts.nodes_there ∙ sym parts.config) parts.tasks
+      event_keeps (cluster_setting next answers start old) old.world event (parts.nodes_there ∙ sym parts.config) parts.tasks
       (subst (λ (n : ℕ). IsEventWithin n 8 8 event) (sym parts.config) fits)
 
   -- nodes and tasks neither come nor go
-  pub parts_stay : (effect : Effect) → new.setup ≡ old.setup → IsDone (setting_of next answers start old) old.world (event_of event) new.world effect → HasParts nodes new
+  pub parts_stay : (effect : Effect) → new.setup ≡ old.setup → IsDone (cluster_setting next answers start old) old.world (event_of event) new.world effect → HasParts nodes new
   parts_stay effect same done =
-      let lengths = kept_lengths old.world (event_effect (setting_of next answers start old) old.world (event_of event)) done.transition done.resulted keeps in
+      let lengths = kept_lengths old.world (event_effect (cluster_setting next answers start old) old.world (event_of event)) done.transition done.resulted keeps in
       record {
         config = ap (λ (u : Setup P). u.config.nodes) same ∙ parts.config;
         nodes_there = ap (λ (w : World). length w.nodes) done.world ∙ lengths.0 ∙ parts.nodes_there;
         tasks = ap (λ (w : World). length w.tasks) done.world ∙ lengths.1 ∙ parts.tasks;
       }
 
-  pub parts_left : (fault : Fault) → new.setup ≡ old.setup → IsRefused (setting_of next answers start old) old.world (event_of event) new.world fault → HasParts nodes new
+  pub parts_left : (fault : Fault) → new.setup ≡ old.setup → IsRefused (cluster_setting next answers start old) old.world (event_of event) new.world fault → HasParts nodes new
   parts_left fault same refused = record {
     config = ap (λ (u : Setup P). u.config.nodes) same ∙ parts.config;
     nodes_there = ap (λ (w : World). length w.nodes) refused.unchanged ∙ parts.nodes_there;
@@ -68,7 +68,7 @@ module _ {S P : Type 0} (next : S → Action → S) (answers : S → Action → 
   }
 
   -- a fault that is no refusal ends the run
-  pub ends_with : (fault : Fault) → IsFaulted (setting_of next answers start old) old.world (event_of event) new.world fault → (IsNumbered fault → ⊥)
+  pub ends_with : (fault : Fault) → IsFaulted (cluster_setting next answers start old) old.world (event_of event) new.world fault → (IsNumbered fault → ⊥)
       → FailsAsCounted (node_of old.world (event_of event)) old.failures new.failures fault → IsDeviceRunFault old.failures new.failures fault
   ends_with fault (inl refused) other counted = absurd (other (subst (Keeps old.world) refused.refusal keeps))
   ends_with fault (inr (inl memory)) other counted = inl (subst IsRunFault (sym memory.0) tt)

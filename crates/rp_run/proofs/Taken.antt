@@ -7,15 +7,15 @@ use Rattle.rp_model.specs.declared.effect.Dropped.TheVariants.{No, Full, Foreign
 use Rattle.rp_model.specs.declared.effect.Effect.{Effect}
 use Rattle.rp_model.specs.declared.event.Event.{Event}
 use Rattle.rp_model.specs.declared.event.Event.TheVariants.{Submit, Again, Node, Cut, Stop, Restart}
-use Rattle.rp_run.specs.Output.{is_among, listed, is_restart, is_full, opened_text, dropped_text, taken_text, node_of_event, names_of}
+use Rattle.rp_run.specs.Output.{is_among, message_list, is_restart, is_full, opened_text, dropped_text, taken_text, node_of_event, names_of}
 use Rattle.rp_run.specs.Runs.{printed_text}
 use Rattle.rp_run.specs.Settled.{is_settled}
 use Rattle.rp_run.specs.declared.options.RunOptions.{RunOptions}
 use Rattle.rp_run.specs.declared.settled.Settled.{Settled}
 
 -- a message that is settled, by the list of it
-pub settled_alike : (before after : Settled) (message : Option ℕ) (messages : List ℕ) → listed message ≡ messages
-    → ((m : ℕ) → is_settled after m ≡ (is_among (listed message) m || is_settled before m)) → (m : ℕ) → is_settled after m ≡ (is_among messages m || is_settled before m)
+pub settled_alike : (before after : Settled) (message : Option ℕ) (messages : List ℕ) → message_list message ≡ messages
+    → ((m : ℕ) → is_settled after m ≡ (is_among (message_list message) m || is_settled before m)) → (m : ℕ) → is_settled after m ≡ (is_among messages m || is_settled before m)
 settled_alike before after message messages same settles = λ m. settles m ∙ ap (λ (l : List ℕ). is_among l m || is_settled before m) same
 
 -- nothing is printed of an event but the reply that a task takes

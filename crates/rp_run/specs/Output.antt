@@ -54,8 +54,8 @@ pub record Said : Type 0 where
   pub play : Play
 
 -- the text that it prints
-abbrev pub text_of : Said → List ℕ
-text_of said = items_text said.items
+abbrev pub text_of_said : Said → List ℕ
+text_of_said said = items_text said.items
 
 -- nothing is printed, and the play does not change
 abbrev pub nothing_said : Play → Said
@@ -108,9 +108,9 @@ settled_by (Stop node) = []
 settled_by (Restart node) = []
 
 -- a message, if there is one, as a list
-abbrev pub listed : Option ℕ → List ℕ
-listed None = []
-listed (Some message) = message ∷ []
+abbrev pub message_list : Option ℕ → List ℕ
+message_list None = []
+message_list (Some message) = message ∷ []
 
 -- The messages from the first to the last count as settled, if all of them were sent.
 abbrev pub lost : ℕ → Play → ℕ → ℕ → Said
@@ -273,8 +273,8 @@ effect_text names sent event opened dropped taken =
 
 module _ {S : Type 0} (s : RunSetting S) where
   -- the effect of an event
-  abbrev pub effect_of : World → Event → Result Transition Fault
-  effect_of world event = event_effect s.setting world (event_of event)
+  abbrev pub transition_of : World → Event → Result Transition Fault
+  transition_of world event = event_effect s.setting world (event_of event)
 
   -- The items of an event that happened in a world: the call that is made, the notes, packets first
   -- if they are printed, and the reply that is taken.
@@ -297,7 +297,7 @@ module _ {S : Type 0} (s : RunSetting S) where
 
   -- an event of the line of this number
   unfoldable pub event_said : ℕ → Play → Event → Said
-  event_said line play event = effect_said line play event (effect_of play.world event)
+  event_said line play event = effect_said line play event (transition_of play.world event)
 
   -- The least unsettled message, if there is one, is delivered, and so on, until none is left or n
   -- were delivered.

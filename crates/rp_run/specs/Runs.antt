@@ -10,8 +10,8 @@ use Rattle.rp_codec.specs.Message.{Message}
 use Rattle.rp_model.specs.World.{World, opening_world}
 use Rattle.rp_model.specs.declared.effect.Effect.{Effect}
 use Rattle.rp_model.specs.declared.event.Event.{Event}
-use Rattle.rp_world.specs.Steps.{ClusterState, setting_of}
-use Rattle.rp_run.specs.Output.{RunSetting, Play, Said, text_of, names_of, is_among, traced_text}
+use Rattle.rp_world.specs.Steps.{ClusterState, cluster_setting}
+use Rattle.rp_run.specs.Output.{RunSetting, Play, Said, text_of_said, names_of, is_among, traced_text}
 use Rattle.rp_run.specs.Output.{effect_text}
 use Rattle.rp_run.specs.Settled.{is_settled}
 use Rattle.rp_output.specs.Stream.{Begins}
@@ -22,7 +22,7 @@ use Rattle.rp_run.specs.declared.settled.Settled.{Settled}
 abbrev pub run_setting : {S P : Type 0} → (S → Action → S) → (S → Action → List Answer) → (P → S)
     → (S → List ℕ) → ClusterState P → RunOptions → RunSetting S
 run_setting next answers start image cluster options = record {
-  setting = setting_of next answers start cluster;
+  setting = cluster_setting next answers start cluster;
   image = image;
   names = names_of options.tasks.now;
   traced = options.traced;
@@ -59,5 +59,5 @@ pub record Follows (world : World) (settled : Settled) (play : Play) : Type 0 wh
 abbrev pub Says : World → Settled → Option (List ℕ) → Option (List ℕ) → Said → Result Unit Fault
     → Type 0
 Says world settled old new said (Ok done) =
-    Follows world settled said.play × Appends old new (text_of said)
-Says world settled old new said (Err fault) = Begins old new (text_of said)
+    Follows world settled said.play × Appends old new (text_of_said said)
+Says world settled old new said (Err fault) = Begins old new (text_of_said said)

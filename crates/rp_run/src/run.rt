@@ -3,7 +3,7 @@
 ghost use Rattle.std.specs.Prelude.{◌≡◌, ◌≤◌, ◌<◌, ◌^◌, ◌||◌, [], length, All, IfErr, OnOk};
 ghost use Rattle.rp_model.specs.World.{part_at};
 ghost use Rattle.rp_deck.specs.Script.{FitsIn, IsEventWithin};
-ghost use Rattle.rp_run.specs.Output.{Play, event_said, lost, drained, part_text, nodes_text, command_said, run_said, text_of, is_restart, is_full};
+ghost use Rattle.rp_run.specs.Output.{Play, event_said, lost, drained, part_text, nodes_text, command_said, run_said, text_of_said, is_restart, is_full};
 ghost use Rattle.rp_run.specs.Runs.{run_setting, opening_cluster, printed_text, HasParts, Follows, Says};
 ghost use Rattle.rp_output.specs.Stream.{Writes};
 ghost use Rattle.rp_run.specs.Faults.{IsDeviceRunFault};
@@ -42,7 +42,7 @@ pub fn run_lines<M: Machine, D: CutDevice + InfallibleDevice, W: Write>(
     //   devices that never fail. If a fault ends such a run, it is `OutOfMemory` or `Io`: a run in
     //   memory never returns `Device`
     ensures output { Writes (W.contents writer.old) (W.contents writer.new)
-        (text_of (run_said (run_setting M.next M.answers M.begin M.image
+        (text_of_said (run_said (run_setting M.next M.answers M.begin M.image
         (opening_cluster options.now.config program) options.now)
         options.now.most options.now.lines.now)) result }
     ensures fault { IfErr result IsRunFault }

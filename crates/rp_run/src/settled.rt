@@ -20,7 +20,7 @@ pub struct Settled {
 
 impl Settled {
     ghost use Rattle.rp_run.specs.Settled.{is_settled, least_of};
-    ghost use Rattle.rp_run.specs.Output.{is_among, from_to, listed};
+    ghost use Rattle.rp_run.specs.Output.{is_among, from_to, message_list};
 
     /// No message is settled.
     pub fn new(alloc: Global) -> Self
@@ -95,7 +95,7 @@ impl Settled {
     pub fn settle_any(&mut self, message: Option<u64>) -> Result<(), AllocError>
         requires { IfSome message (λ m. (1 ≤ m) × (m < 2 ^ 63)) }
         ensures ok { OnOk result ((m : ℕ)
-            → is_settled self.new m ≡ (is_among (listed message) m || is_settled self.old m)) }
+            → is_settled self.new m ≡ (is_among (message_list message) m || is_settled self.old m)) }
         ensures err { OnErr result ((m : ℕ) → is_settled self.new m ≡ is_settled self.old m) }
     {
         match message {

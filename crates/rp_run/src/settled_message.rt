@@ -1,7 +1,7 @@
 //! Which message an event settles.
 
 ghost use Rattle.std.specs.Prelude.{◌≡◌, ◌^◌, ◌<◌, ◌≤◌, All, IfSome};
-ghost use Rattle.rp_run.specs.Output.{delivered_by, listed, settled_by};
+ghost use Rattle.rp_run.specs.Output.{delivered_by, message_list, settled_by};
 
 use rp_model::{Event, Step};
 
@@ -9,7 +9,7 @@ use rp_model::{Event, Step};
 #[inline(always)]
 pub fn settled_by(event: &Event) -> Option<u64>
     requires { All (λ m. (1 ≤ m) × (m < 2 ^ 63)) (settled_by event.now) }
-    ensures value { listed result ≡ settled_by event.now }
+    ensures value { message_list result ≡ settled_by event.now }
     ensures in_range { IfSome result (λ m. (1 ≤ m) × (m < 2 ^ 63)) }
 {
     match *event {
@@ -22,7 +22,7 @@ pub fn settled_by(event: &Event) -> Option<u64>
 #[inline(always)]
 fn delivered_by(step: Step) -> Option<u64>
     requires { All (λ m. (1 ≤ m) × (m < 2 ^ 63)) (delivered_by step) }
-    ensures value { listed result ≡ delivered_by step }
+    ensures value { message_list result ≡ delivered_by step }
     ensures in_range { IfSome result (λ m. (1 ≤ m) × (m < 2 ^ 63)) }
 {
     match step {

@@ -6,7 +6,7 @@ use Rattle.rp_object.specs.Image.{objects_image}
 use Rattle.rp_object.specs.State.{first_state, Running as ObjectsState}
 use Rattle.rp_object.specs.declared.program.Program.{Program}
 use Rattle.rp_object.specs.Step.{objects_next, objects_answers}
-use Rattle.rp_run.specs.Output.{RunSetting, text_of, names_of, run_said}
+use Rattle.rp_run.specs.Output.{RunSetting, text_of_said, names_of, run_said}
 use Rattle.rp_deck.specs.declared.deck.Deck.{Deck}
 use Rattle.rp_deck_declarations.specs.declared.deck_program.DeckProgram.{DeckProgram}
 use Rattle.rp_deck_declarations.specs.declared.deck_program.DeckProgram.TheVariants.{Tally, Objects}
@@ -17,7 +17,7 @@ drain_limit = 100000
 
 -- the output of a deck's script with a machine
 abbrev pub output_at : {S : Type 0} → ℕ → Deck → RunSetting S → List ℕ
-output_at most deck s = text_of (run_said s most deck.script.items)
+output_at most deck s = text_of_said (run_said s most deck.script.items)
 
 -- a run of a tally of n sums
 abbrev pub tally_run : Bool → Deck → ℕ → RunSetting (List ℤ)

@@ -15,7 +15,7 @@ use Rattle.rp_replica.specs.declared.sent.Sent.{Sent}
 use Rattle.rp_outbox.proofs.Joined.{texts_append}
 use Rattle.rp_boxes.specs.Parts.{Part}
 use Rattle.rp_boxes.specs.Seats.{SeatState, IsSentText}
-use Rattle.rp_threads.specs.Turns.{AreGivenOut, AreOffered, AreOfferedInPart, AreSent, AreSentTexts, AreTextsOffered, AreTextsOfferedInPart, IsAllOffered, IsOffered, IsOfferedInPart}
+use Rattle.rp_threads.specs.Turns.{AreGivenOut, AreOffered, AreOfferedInPart, AreSent, AreSentTexts, AreTextsOffered, AreTextsOfferedInPart, IsAllOffered, IsOfferedToBox, IsOfferedInPart}
 use Rattle.rp_threads.proofs.Puts.{HasOnlyPut, offers_put}
 
 -- ---- one packet
@@ -80,10 +80,10 @@ module _ {S P : Type 0} (next : S → Action → S) (answers : S → Action → 
       (first.0, first.1 + b, first.2, first.3, then_offered ps qs first.2 between new first.1 b first.4 following, omega (arith, sum))
 
   -- one packet
-  one_text_offered : (bytes : List ℕ) (m : Message) (old new : SeatState P) (is_lost : Bool) → bytes ≡ text_of m → IsOffered next answers begin from bytes old new is_lost
+  one_text_offered : (bytes : List ℕ) (m : Message) (old new : SeatState P) (is_lost : Bool) → bytes ≡ text_of m → IsOfferedToBox next answers begin from bytes old new is_lost
       → AreOffered next answers begin from (m ∷ []) old new (one_if is_lost)
   one_text_offered bytes m old new is_lost text offered =
-      (is_lost, 0, new, subst (λ (t : List ℕ). IsOffered next answers begin from t old new is_lost) text offered, (refl, refl), omega arith)
+      (is_lost, 0, new, subst (λ (t : List ℕ). IsOfferedToBox next answers begin from t old new is_lost) text offered, (refl, refl), omega arith)
 
   -- ---- one packet after the other
 
@@ -115,7 +115,7 @@ module _ {S P : Type 0} (next : S → Action → S) (answers : S → Action → 
       ∙ ap (λ (t : List ℕ). t ++ drop len left) texts
 
   pub one_more_offered : (first between now : SeatState P) (bytes left : List ℕ) (len lost : ℕ) (is_lost : Bool) → IsPartOffered first between bytes left lost → IsSentText first.part (take len left)
-      → IsOffered next answers begin from (take len left) between now is_lost → IsPartOffered first now bytes (drop len left) (lost + one_if is_lost)
+      → IsOfferedToBox next answers begin from (take len left) between now is_lost → IsPartOffered first now bytes (drop len left) (lost + one_if is_lost)
   one_more_offered first between now bytes left len lost is_lost so_far text offered = record {
     packets = so_far.packets ++ text.0 ∷ [];
     whole = cut_at bytes left len so_far.packets text.0 so_far.whole text.2;
@@ -157,14 +157,14 @@ module _ {S P : Type 0} (next : S → Action → S) (answers : S → Action → 
 
   -- ---- those of a step
 
-  alone : (bytes : List ℕ) (old new : SeatState P) (is_lost : Bool) → IsOffered next answers begin from bytes old new is_lost → (packets : List Message) → bytes ≡ texts_of packets → 1 ≡ length packets
+  alone : (bytes : List ℕ) (old new : SeatState P) (is_lost : Bool) → IsOfferedToBox next answers begin from bytes old new is_lost → (packets : List Message) → bytes ≡ texts_of packets → 1 ≡ length packets
       → AreOffered next answers begin from packets old new (one_if is_lost)
   alone bytes old new is_lost offered [] texts one = absurd (omega (arith, one))
   alone bytes old new is_lost offered (p ∷ []) texts one = one_text_offered bytes p old new is_lost (texts ∙ append-nil (text_of p)) offered
   alone bytes old new is_lost offered (p ∷ q ∷ packets) texts one = absurd (omega (arith, one))
 
   -- the one packet was offered
-  pub one_is_offered : (sent : Sent) (old new : SeatState P) (is_lost : Bool) → sent.packets ≡ 1 → IsOffered next answers begin from sent.bytes.items old new is_lost
+  pub one_is_offered : (sent : Sent) (old new : SeatState P) (is_lost : Bool) → sent.packets ≡ 1 → IsOfferedToBox next answers begin from sent.bytes.items old new is_lost
       → IsAllOffered next answers begin from sent old new (one_if is_lost)
   one_is_offered sent old new is_lost one offered packets given = alone sent.bytes.items old new is_lost offered packets given.texts (sym one ∙ given.count)
 

@@ -7,7 +7,7 @@ use Rattle.rp_codec.specs.Text.{text_of}
 use Rattle.rp_codec.specs.declared.packet.Party.{Party}
 use Rattle.rp_boxes.specs.Moments.{WasInUse, WasPut}
 use Rattle.rp_boxes.specs.Seats.{SeatState, IsPut}
-use Rattle.rp_threads.specs.Turns.{AreOffered, IsOffered}
+use Rattle.rp_threads.specs.Turns.{AreOffered, IsOfferedToBox}
 
 -- The seat is the same in all but the packets that its actor put.
 pub record HasOnlyPut {P : Type 0} (old new : SeatState P) : Type 0 where
@@ -23,18 +23,18 @@ module _ {P : Type 0} where
 
 module _ {S P : Type 0} (next : S → Action → S) (answers : S → Action → List Answer) (begin : P → S) (party : ℕ → Party) (text : List ℕ) (old new : SeatState P) where
   -- the packet went into its box
-  pub went_in : IsPut text old new → WasPut next answers begin (party new.setup.number) text new → IsOffered next answers begin (party old.setup.number) text old new false
+  pub went_in : IsPut text old new → WasPut next answers begin (party new.setup.number) text new → IsOfferedToBox next answers begin (party old.setup.number) text old new false
   went_in put full =
       (put, subst (λ (n : ℕ). WasPut next answers begin (party n) text new) (ap (λ (s : SeatState P). s.setup.number) put.after) full)
 
   -- or it was given back, and its buffer lent to the seat
-  pub given_back : (lent : SeatState P) → lent ≡ new → new ≡ old → WasInUse next answers begin (party new.setup.number) text new → IsOffered next answers begin (party old.setup.number) text old lent true
+  pub given_back : (lent : SeatState P) → lent ≡ new → new ≡ old → WasInUse next answers begin (party new.setup.number) text new → IsOfferedToBox next answers begin (party old.setup.number) text old lent true
   given_back lent is same used =
-      subst (λ (s : SeatState P). IsOffered next answers begin (party old.setup.number) text old s true) (sym is)
+      subst (λ (s : SeatState P). IsOfferedToBox next answers begin (party old.setup.number) text old s true) (sym is)
       (same, subst (λ (n : ℕ). WasInUse next answers begin (party n) text new) (ap (λ (s : SeatState P). s.setup.number) same) used)
 
 module _ {S P : Type 0} (next : S → Action → S) (answers : S → Action → List Answer) (begin : P → S) (from : Party) where
-  pub offer_puts : (text : List ℕ) (old new : SeatState P) (is_lost : Bool) → IsOffered next answers begin from text old new is_lost → HasOnlyPut old new
+  pub offer_puts : (text : List ℕ) (old new : SeatState P) (is_lost : Bool) → IsOfferedToBox next answers begin from text old new is_lost → HasOnlyPut old new
   offer_puts text old new false offered = record { put = old.part.put ++ offered.0.packet ∷ []; after = offered.0.after }
   offer_puts text old new true offered = none_put old new offered.0
 

@@ -19,7 +19,7 @@ use Rattle.rp_boxes.specs.Seats.{SeatSetup, SeatState}
 use Rattle.rp_threads.specs.Lines.{given_on, line_after}
 use Rattle.rp_threads.specs.Loops.{node_at}
 use Rattle.rp_threads.specs.Tasks.{HasMade, TaskAt, before_calls, call_after}
-use Rattle.rp_threads.specs.TaskRounds.{AreTaskTurns, Asks, Hears, IsHeard, IsLastTaskTurn, IsTaskAsked, IsRefused, IsTaskFault, IsTaskTurnOf, IsUnmadeTurn, untaken, unheard, unasked, asked_by, asked_for, asked_in, has_all_replies, heard_by, made_by, submitted, with_call, with_lost}
+use Rattle.rp_threads.specs.TaskRounds.{AreTaskTurns, Asks, Hears, IsHeard, IsLastTaskTurn, IsTaskAsked, IsTaskRefused, IsTaskFault, IsTaskTurnOf, IsUnmadeTurn, untaken, unheard, unasked, asked_by, asked_for, asked_in, has_all_replies, heard_by, made_by, submitted, with_call, with_lost}
 use Rattle.rp_threads.specs.Threads.{IsTaskLooped, task_end_of}
 use Rattle.rp_threads.specs.Turns.{IsBrought, IsLost, MayFetch}
 use Rattle.rp_threads.specs.declared.tasks.Calls.{Calls}
@@ -156,7 +156,7 @@ module _ {S P : Type 0} (next : S → Action → S) (answers : S → Action → 
     memory_fault seat made fault is = subst (IsTaskFault nodes calls seat made) (sym is) tt
 
     submit_fault : (call : Option TaskCall) (old new : SeatState P) (made : ℕ) (fault : Fault) → slice_get calls made ≡ call → HasMade calls old made false
-        → IsRefused (submitted call) old new fault → IsTaskFault nodes calls old made fault
+        → IsTaskRefused (submitted call) old new fault → IsTaskFault nodes calls old made fault
     submit_fault None old new made fault at h r = absurd r
     submit_fault (Some call) old new made fault at h r = elim r.why [
       | inl memory ↦ memory_fault old made fault memory.0
@@ -168,7 +168,7 @@ module _ {S P : Type 0} (next : S → Action → S) (answers : S → Action → 
     ]
 
     retry_fault : (due : Bool) (turn : ℕ) (old new : SeatState P) (made : ℕ) (fault : Fault) → 1 ≤ nodes
-        → IsRefused (if due then Some (Again (node_at nodes turn)) else None) old new fault → IsTaskFault nodes calls old made fault
+        → IsTaskRefused (if due then Some (Again (node_at nodes turn)) else None) old new fault → IsTaskFault nodes calls old made fault
     retry_fault true turn old new made fault some r = elim r.why [
       | inl memory ↦ memory_fault old made fault memory.0
       | inr refused ↦ again_fault old made turn r.task (nat_lt old.setup.config.nodes (node_at nodes turn)) fault some refl refused
@@ -176,7 +176,7 @@ module _ {S P : Type 0} (next : S → Action → S) (answers : S → Action → 
     retry_fault false turn old new made fault some r = absurd r
 
     asked_fault : (waits : Bool) (turn : ℕ) (old new : SeatState P) (made : ℕ) (fault : Fault) → 1 ≤ nodes → HasMade calls old made waits
-        → IsRefused (asked_by waits nodes calls made turn) old new fault → IsTaskFault nodes calls old made fault
+        → IsTaskRefused (asked_by waits nodes calls made turn) old new fault → IsTaskFault nodes calls old made fault
     asked_fault true turn old new made fault some h r = retry_fault (nat_eq (turn % 16) 0) (turn / 16) old new made fault some r
     asked_fault false turn old new made fault some h r = submit_fault (slice_get calls made) old new made fault refl h r
 
@@ -194,7 +194,7 @@ module _ {S P : Type 0} (next : S → Action → S) (answers : S → Action → 
     ]
     at_first first old made _ same f = absurd f
 
-    refused_same : (asked : Option TaskInput) (old new : SeatState P) (fault : Fault) → IsRefused asked old new fault → new ≡ old
+    refused_same : (asked : Option TaskInput) (old new : SeatState P) (fault : Fault) → IsTaskRefused asked old new fault → new ≡ old
     refused_same None old new fault r = absurd r
     refused_same (Some input) old new fault r = r.unchanged
 
@@ -305,11 +305,11 @@ module _ {S P : Type 0} (next : S → Action → S) (answers : S → Action → 
         → IsTaskTurnOf next answers begin nodes calls turn old new
     turn_made lost asks made = record { heard = heard; so_far = so_far; hears = is_heard; lost = lost; asks = asks; counts = made }
 
-    pub turn_unmade : (fault : Fault) → new.so_far ≡ so_far → IsRefused (asked_in nodes calls turn so_far) heard new.seat fault → IsUnmadeTurn next answers begin nodes calls turn old new fault
+    pub turn_unmade : (fault : Fault) → new.so_far ≡ so_far → IsTaskRefused (asked_in nodes calls turn so_far) heard new.seat fault → IsUnmadeTurn next answers begin nodes calls turn old new fault
     turn_unmade fault stays refused = unasked (record {
       heard = heard;
       hears = subst (λ (c : Calls). IsHeard next answers begin nodes calls turn old heard new.line c) (sym stays) is_heard;
-      refused = subst (λ (c : Calls). IsRefused (asked_in nodes calls turn c) heard new.seat fault) (sym stays) refused;
+      refused = subst (λ (c : Calls). IsTaskRefused (asked_in nodes calls turn c) heard new.seat fault) (sym stays) refused;
     })
 
   -- the packet that was fetched is lost

@@ -70,9 +70,9 @@ module _ {S P : Type 0} (next : S → Action → S) (answers : S → Action → 
   Asks (Some input) old new lost = IsAskedBy input old new lost
 
 -- it is refused
-abbrev pub IsRefused : {P : Type 0} → Option TaskInput → SeatState P → SeatState P → Fault → Type 0
-IsRefused None old new fault = ⊥
-IsRefused (Some input) old new fault = IsNoTaskTurn old input new fault
+abbrev pub IsTaskRefused : {P : Type 0} → Option TaskInput → SeatState P → SeatState P → Fault → Type 0
+IsTaskRefused None old new fault = ⊥
+IsTaskRefused (Some input) old new fault = IsNoTaskTurn old input new fault
 
 -- how many calls are then made, and whether the task waits: a task that waits continues to wait,
 -- and any other waits for its next call, if there is one
@@ -138,7 +138,7 @@ module _ {S P : Type 0} (next : S → Action → S) (answers : S → Action → 
   pub record IsUnasked (turn : ℕ) (old new : TaskAt P) (fault : Fault) : Type 0 where
     pub heard : SeatState P
     pub hears : IsHeard turn old heard new.line new.so_far
-    pub refused : IsRefused (asked_in nodes calls turn new.so_far) heard new.seat fault
+    pub refused : IsTaskRefused (asked_in nodes calls turn new.so_far) heard new.seat fault
 
   -- Why the turn with this number was not made: memory ran out for the packet that was fetched, or
   -- for the one that the link passed on; or what the task asks is refused.

@@ -95,16 +95,16 @@ module _ {S P : Type 0} (next : S → Action → S) (answers : S → Action → 
     (begin : P → S) where
   -- the packet with this text went from the seat of a party into its box; or that box was in use,
   -- and the packet is lost, which changes nothing at the seat
-  abbrev pub IsOffered : Party → List ℕ → SeatState P → SeatState P → Bool → Type 0
-  IsOffered from text old new false = IsPut text old new × WasPut next answers begin from text new
-  IsOffered from text old new true = (new ≡ old) × WasInUse next answers begin from text new
+  abbrev pub IsOfferedToBox : Party → List ℕ → SeatState P → SeatState P → Bool → Type 0
+  IsOfferedToBox from text old new false = IsPut text old new × WasPut next answers begin from text new
+  IsOfferedToBox from text old new true = (new ≡ old) × WasInUse next answers begin from text new
 
   -- each of these packets was offered to its box, one after the other, and n of them are lost
   abbrev pub AreOffered : Party → List Message → SeatState P → SeatState P → ℕ → Type 0
   AreOffered from [] old new lost = (new ≡ old) × (lost ≡ 0)
   AreOffered from (m ∷ others) old new lost =
       (is_lost : Bool) × (more : ℕ) × (between : SeatState P)
-      × IsOffered from (text_of m) old between is_lost × AreOffered from others between new more
+      × IsOfferedToBox from (text_of m) old between is_lost × AreOffered from others between new more
       × (lost ≡ (if is_lost then 1 else 0) + more)
 
   -- The first of these packets were offered to their boxes, one after the other, but not all of

@@ -3,7 +3,7 @@
 ghost use Rattle.std.specs.Prelude.{◌≡◌, IfOk, OnErr};
 ghost use Rattle.rp_codec.specs.declared.packet.Party.TheVariants.{Node};
 ghost use Rattle.rp_boxes.specs.Seats.{IsSentText};
-ghost use Rattle.rp_threads.specs.Turns.{AreSent, AreSentTexts, AreTextsOffered, AreTextsOfferedInPart, IsAllOffered, IsOffered, IsOfferedInPart};
+ghost use Rattle.rp_threads.specs.Turns.{AreSent, AreSentTexts, AreTextsOffered, AreTextsOfferedInPart, IsAllOffered, IsOfferedToBox, IsOfferedInPart};
 
 use rp_boxes::NodeSeat;
 use rp_codec::{one_text, text_len};
@@ -16,7 +16,7 @@ use std::alloc::{AllocError, Global};
 /// the seat keeps its buffer. Returns whether it is lost.
 fn put_text<M: Machine, D: Device>(seat: &mut NodeSeat<M, D>, packet: Vec<u8>) -> bool
     requires { IsSentText seat.old.part packet.items }
-    ensures { IsOffered M.next M.answers M.begin (Node seat.old.setup.number) packet.items
+    ensures { IsOfferedToBox M.next M.answers M.begin (Node seat.old.setup.number) packet.items
         seat.old seat.new result }
 {
     match seat.put(packet) {
@@ -35,7 +35,7 @@ fn put_copy<M: Machine, D: Device>(
     text: &[u8],
 ) -> Result<bool, AllocError>
     requires { IsSentText seat.old.part text.now }
-    ensures offered { IfOk result (IsOffered M.next M.answers M.begin (Node seat.old.setup.number)
+    ensures offered { IfOk result (IsOfferedToBox M.next M.answers M.begin (Node seat.old.setup.number)
         text.now seat.old seat.new) }
     ensures unchanged { OnErr result (seat.new ≡ seat.old) }
 {

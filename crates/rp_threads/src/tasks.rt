@@ -8,10 +8,10 @@ ghost use Rattle.rp_codec.specs.declared.packet.Party.TheVariants as parties;
 ghost use Rattle.rp_model.specs.Parts.{fresh_task};
 ghost use Rattle.rp_model.specs.Tasks.{Again};
 ghost use Rattle.rp_threads.specs.Lines.{HoldsTextsOf, given_on, line_after};
-ghost use Rattle.rp_threads.specs.TaskRounds.{Hears, Asks, IsRefused, IsTaskTurnOf, IsUnmadeTurn, asked_in, asked_for, has_all_replies, heard_by, submitted, with_lost};
+ghost use Rattle.rp_threads.specs.TaskRounds.{Hears, Asks, IsTaskRefused, IsTaskTurnOf, IsUnmadeTurn, asked_in, asked_for, has_all_replies, heard_by, submitted, with_lost};
 ghost use Rattle.rp_threads.specs.Tasks.{caller_at};
 ghost use Rattle.rp_threads.specs.Threads.{IsTaskLooped, task_end_of};
-ghost use Rattle.rp_threads.specs.Turns.{AreSent, IsAllOffered, IsOffered};
+ghost use Rattle.rp_threads.specs.Turns.{AreSent, IsAllOffered, IsOfferedToBox};
 
 use crate::gate::Gate;
 use crate::options::LoopOptions;
@@ -123,7 +123,7 @@ fn hear<M: Machine>(
 /// the seat keeps its buffer. Returns whether it is lost.
 fn put_text<M: Machine>(seat: &mut TaskSeat<M>, packet: Vec<u8>) -> bool
     requires { IsSentText seat.old.part packet.items }
-    ensures { IsOffered M.next M.answers M.begin (parties.Task seat.old.setup.number) packet.items
+    ensures { IsOfferedToBox M.next M.answers M.begin (parties.Task seat.old.setup.number) packet.items
         seat.old seat.new result }
 {
     match seat.put(packet) {
@@ -153,7 +153,7 @@ fn make<M: Machine>(seat: &mut TaskSeat<M>, alloc: Global, call: TaskCall) -> Re
     ensures got { seat.new.part.got ≡ seat.old.part.got }
     ensures ok { IfOk result
         (Asks M.next M.answers M.begin (submitted (Some call)) seat.old seat.new) }
-    ensures err { IfErr result (IsRefused (submitted (Some call)) seat.old seat.new) }
+    ensures err { IfErr result (IsTaskRefused (submitted (Some call)) seat.old seat.new) }
 {
     let sent = seat.call(alloc, call.node, call.object, call.operation, call.arg)?;
     Ok(put_sent(seat, sent))
@@ -168,7 +168,7 @@ fn ask_again<M: Machine>(
 ) -> Result<usize, Fault>
     ensures got { seat.new.part.got ≡ seat.old.part.got }
     ensures ok { IfOk result (Asks M.next M.answers M.begin (Some (Again node)) seat.old seat.new) }
-    ensures err { IfErr result (IsRefused (Some (Again node)) seat.old seat.new) }
+    ensures err { IfErr result (IsTaskRefused (Some (Again node)) seat.old seat.new) }
 {
     let sent = seat.retry(alloc, node)?;
     Ok(put_sent(seat, sent))
@@ -207,7 +207,7 @@ impl<M: Machine> Caller<M> {
             (asked_in nodes calls.now turn self.old.so_far) self.old.seat self.new.seat) }
         ensures made { OnOk result (self.new.so_far ≡ asked_for calls.now self.old.so_far) }
         ensures err { IfErr result (λ fault. (self.new.so_far ≡ self.old.so_far)
-            × IsRefused (asked_in nodes calls.now turn self.old.so_far)
+            × IsTaskRefused (asked_in nodes calls.now turn self.old.so_far)
             self.old.seat self.new.seat fault) }
     {
         if self.so_far.waits {

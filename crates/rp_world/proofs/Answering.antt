@@ -7,7 +7,7 @@ use Rattle.rp_model.specs.Effect.{Setting}
 use Rattle.rp_model.specs.Events.{Event}
 use Rattle.rp_model.specs.World.{World, event_effect}
 use Rattle.rp_model.specs.Answers.{Steps, Happen}
-use Rattle.rp_world.specs.Steps.{ClusterState, Setup, setting_of}
+use Rattle.rp_world.specs.Steps.{ClusterState, Setup, cluster_setting}
 
 module _ {S : Type 0} (s : Setting S) where
   -- one event more happens
@@ -19,6 +19,6 @@ module _ {S : Type 0} (s : Setting S) where
 
 module _ {S P : Type 0} (next : S → Action → S) (answers : S → Action → List Answer) (start : P → S) where
   -- the nodes of two clusters of one setup share the same
-  pub same_setting : (old new : ClusterState P) → new.setup ≡ old.setup → setting_of next answers start new ≡ setting_of next answers start old
+  pub same_setting : (old new : ClusterState P) → new.setup ≡ old.setup → cluster_setting next answers start new ≡ cluster_setting next answers start old
   same_setting old new same =
-      ap (λ (u : Setup P). setting_of next answers start (record old { setup = u })) same
+      ap (λ (u : Setup P). cluster_setting next answers start (record old { setup = u })) same

@@ -24,7 +24,7 @@ use Rattle.rp_rules.specs.Inputs.{given_by}
 use Rattle.rp_rules.specs.declared.input.Input.{Input}
 use Rattle.rp_rules.specs.declared.input.Input.TheVariants as inputs
 use Rattle.rp_store.specs.Disk.{Disk}
-use Rattle.rp_world.specs.Choosing.{AreNodesOf, IsOf, IsOfNone, IsRefused}
+use Rattle.rp_world.specs.Choosing.{AreNodesOf, IsOf, IsOfNone, IsStepRefused}
 use Rattle.rp_world.specs.Nodes.{Represents, member_of}
 use Rattle.rp_world.specs.Shape.{part_by}
 use Rattle.rp_world.specs.declared.node.Node.{Node as OneNode}
@@ -179,21 +179,21 @@ module _ {S : Type 0} (s : Setting S) (w : World) (me first count : ℕ) where
   given_range = nodes.LeadRange first count
 
   -- there is no such node
-  pub no_node_leads : part_at w.nodes me ≡ None → IsRefused s w (LeadRange me first count) BadConfig
+  pub no_node_leads : part_at w.nodes me ≡ None → IsStepRefused s w (LeadRange me first count) BadConfig
   no_node_leads none = record {
     whole = ap (λ o. chosen_effect s w (commanded me given_range o)) none;
     none = λ kept. ap (λ o. chosen_cut s w kept (commanded me given_range o)) none;
   }
 
   module _ (part : NodePart) (here : part_at w.nodes me ≡ Some part) where
-    refuses : (fault : Fault) → node_effect s me part given_range ≡ Err fault → IsRefused s w (LeadRange me first count) fault
+    refuses : (fault : Fault) → node_effect s me part given_range ≡ Err fault → IsStepRefused s w (LeadRange me first count) fault
     refuses fault resulted = record {
       whole = ap (λ o. chosen_effect s w (commanded me given_range o)) here ∙ ap (node_done_if w me) resulted;
       none = λ kept. ap (λ o. chosen_cut s w kept (commanded me given_range o)) here ∙ ap (λ effect. node_done_if w me (cut_if kept part effect)) resulted;
     }
 
     -- the node is stopped
-    pub stopped_leads : part.running ≡ None → IsRefused s w (LeadRange me first count) NotRunning
+    pub stopped_leads : part.running ≡ None → IsStepRefused s w (LeadRange me first count) NotRunning
     stopped_leads stopped = refuses NotRunning (ap (effect_while s me part given_range) stopped)
 
     refused_while : (known : Option Running) (fault : Fault) → IsSome known → range_of first count ≡ Err fault → effect_while s me part given_range known ≡ Err fault
@@ -201,5 +201,5 @@ module _ {S : Type 0} (s : Setting S) (w : World) (me first count : ℕ) where
     refused_while (Some running) fault runs is = ap (λ found. turn_done_if part (turn_if (running_node s me part.records running) (on_lead_range (running_node s me part.records running) found))) is
 
     -- it runs, and the numbers make no range
-    pub leads_no_range : (fault : Fault) → IsSome part.running → range_of first count ≡ Err fault → IsRefused s w (LeadRange me first count) fault
+    pub leads_no_range : (fault : Fault) → IsSome part.running → range_of first count ≡ Err fault → IsStepRefused s w (LeadRange me first count) fault
     leads_no_range fault runs is = refuses fault (refused_while part.running fault runs is)

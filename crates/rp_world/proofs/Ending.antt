@@ -16,7 +16,7 @@ use Rattle.rp_rules.specs.declared.input.Input.{Input}
 use Rattle.rp_rules.specs.Inputs.{given_by}
 use Rattle.rp_world.specs.declared.node.Node.{Node}
 use Rattle.rp_world.specs.Failures.{RisesAt}
-use Rattle.rp_world.specs.Going.{Meant, Goes, Answers, AnswersRestart, Refuses}
+use Rattle.rp_world.specs.Going.{Meant, Goes, Answers, AnswersRestart, IsRefusedWhole}
 use Rattle.rp_world.specs.Nodes.{Member, Represents, HasNotFailed, GoesBy, RefusedBy, IsCutBy, IsLeftTorn, IsNotStarted, IsResting, NotTaken, DescribesNothing, DescribesOpened, failures_in, node_step}
 use Rattle.rp_world.specs.Steps.{ClusterState}
 use Rattle.rp_world.proofs.Failing.{same_counts, rises_at}
@@ -104,9 +104,9 @@ module _ {S D P : Type 0} (f : Fields S D P) (change : Changed f.nodes) where
       })))
 
   -- or it is refused, and changes nothing
-  refused_as : (whole : Result Transition Fault) (fault : Fault) → whole ≡ Err fault → Represents f.disk here change.new was → HasNotFailedHere → Refuses (now f) whole after fault
+  refused_as : (whole : Result Transition Fault) (fault : Fault) → whole ≡ Err fault → Represents f.disk here change.new was → HasNotFailedHere → IsRefusedWhole (now f) whole after fault
   refused_as whole fault resulted so same =
-      to_put (λ x. Refuses (now f) whole x fault) (record { resulted = resulted; unchanged = stayed f change.at change.new f.messages so same refl })
+      to_put (λ x. IsRefusedWhole (now f) whole x fault) (record { resulted = resulted; unchanged = stayed f change.at change.new f.messages so same refl })
 
   -- ---- stops
 
@@ -117,7 +117,7 @@ module _ {S D P : Type 0} (f : Fields S D P) (change : Changed f.nodes) where
       quiet (stops w me (part_at w.nodes me)) d.0 None stated (ap (stops w me) (is_here f change.at) ∙ ap (node_done_if w me) d.1) d.2 d.4 (goes_quiet (stop_part was) d.0 same)
       (sym (ap (λ (x : Done NodePart). x.opened) same)) is_stated
 
-  pub not_stopped : (fault : Fault) → RefusedBy f.disk here change.at.it change.new stop_effect fault → Refuses (now f) (stops w me (part_at w.nodes me)) after fault
+  pub not_stopped : (fault : Fault) → RefusedBy f.disk here change.at.it change.new stop_effect fault → IsRefusedWhole (now f) (stops w me (part_at w.nodes me)) after fault
   not_stopped fault by =
       let d = by was (represents_now f change.at) in
       refused_as (stops w me (part_at w.nodes me)) fault (ap (stops w me) (is_here f change.at) ∙ ap (node_done_if w me) d.0) d.1 d.2

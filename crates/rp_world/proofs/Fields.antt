@@ -12,7 +12,7 @@ use Rattle.rp_outbox.specs.Packets.{Sending}
 use Rattle.rp_world.specs.Callers.{Caller}
 use Rattle.rp_world.specs.Nodes.{Member, member_of, failures_in}
 use Rattle.rp_world.specs.Shape.{IsWorld, world_of}
-use Rattle.rp_world.specs.Steps.{ClusterState, setting_of}
+use Rattle.rp_world.specs.Steps.{ClusterState, cluster_setting}
 use Rattle.rp_world.specs.declared.node.Node.{Node}
 
 -- a world of these parts and messages
@@ -55,7 +55,7 @@ module _ {S D P : Type 0} (f : Fields S D P) where
 
   -- the same of any cluster of this machine
   abbrev pub setting_by : ClusterState P → Setting S
-  setting_by v = setting_of f.next f.answers f.start v
+  setting_by v = cluster_setting f.next f.answers f.start v
 
   -- the node of this number
   abbrev pub member : ℕ → Member S

@@ -13,13 +13,13 @@ use Rattle.rp_model.specs.declared.event.Event.{Event as Taken}
 use Rattle.rp_model.specs.Events.{Event, Step, Submit, Again, Makes, Cut, Stop, Restart, event_of}
 use Rattle.rp_model.specs.World.{Transition, event_effect, node_of}
 use Rattle.rp_world.specs.Failures.{AreCounted, RisesOnly}
-use Rattle.rp_world.specs.Going.{Meant, Goes, Refuses, Fails, Answers, AnswersStop, AnswersRestart, call_meant, cut_meant, step_meant}
-use Rattle.rp_world.specs.Steps.{ClusterState, IsStep, setting_of}
+use Rattle.rp_world.specs.Going.{Meant, Goes, IsRefusedWhole, IsCutByDevice, Answers, AnswersStop, AnswersRestart, call_meant, cut_meant, step_meant}
+use Rattle.rp_world.specs.Steps.{ClusterState, IsStep, cluster_setting}
 use Rattle.rp_world.proofs.Reports.{as_fault}
 
 module _ {S P : Type 0} (next : S → Action → S) (answers : S → Action → List Answer) (begin : P → S) (old new : ClusterState P) (given : Taken) (event : Event) (is : event_of given ≡ event) where
   abbrev s : Setting S
-  s = setting_of next answers begin old
+  s = cluster_setting next answers begin old
 
   abbrev pub IsIts : Result Effect Fault → Type 0
   IsIts answer = IsStep next answers begin old given new answer
@@ -48,7 +48,7 @@ module _ {S P : Type 0} (next : S → Action → S) (answers : S → Action → 
   none_rose Device none same = absurd none
   none_rose _ none same = same
 
-  refuses : (fault : Fault) → Refuses old effect new fault → IsIts (as_fault fault)
+  refuses : (fault : Fault) → IsRefusedWhole old effect new fault → IsIts (as_fault fault)
   refuses fault refused =
       by_parts (as_fault fault) (inl (record { refusal = refused.resulted; unchanged = ap (λ (v : ClusterState P). v.world) refused.unchanged })) (ap (λ (v : ClusterState P). v.setup) refused.unchanged)
       (none_rose fault (subst NoDevice refused.resulted (event_is s old.world event)) (ap (λ (v : ClusterState P). v.failures) refused.unchanged))
@@ -63,12 +63,12 @@ module _ {S P : Type 0} (next : S → Action → S) (answers : S → Action → 
   failed device fails setup rises = subst (λ (f : Fault). IsIts (as_fault f)) (sym device) (by_parts (as_fault Device) (inr (inr (refl, fails))) setup rises)
 
   module _ (m : Meant) (whole : effect ≡ m.whole) (left : new.world ≡ old.world → IsLeft old.world event new.world)
-      (fails : (fault : Fault) → Fails old m new fault → FailsBy s old.world event new.world × RisesOnly (node_of old.world event) old.failures new.failures) where
+      (fails : (fault : Fault) → IsCutByDevice old m new fault → FailsBy s old.world event new.world × RisesOnly (node_of old.world event) old.failures new.failures) where
     answered : (answer : Result Effect Fault) → Answers old m new answer → IsIts answer
     answered (Ok stated) goes = goes_on stated (subst (λ r. Goes old r new stated) (sym whole) goes)
     answered (Err fault) stops =
         elim stops [
-          | inl refused ↦ refuses fault (subst (λ r. Refuses old r new fault) (sym whole) refused)
+          | inl refused ↦ refuses fault (subst (λ r. IsRefusedWhole old r new fault) (sym whole) refused)
           | inr other ↦
               elim other [
                 | inl out ↦
@@ -84,13 +84,13 @@ module _ {S P : Type 0} (next : S → Action → S) (answers : S → Action → 
 
 module _ {S P : Type 0} (next : S → Action → S) (answers : S → Action → List Answer) (begin : P → S) (old new : ClusterState P) (given : Taken) (answer : Result Effect Fault) where
   abbrev setting : Setting S
-  setting = setting_of next answers begin old
+  setting = cluster_setting next answers begin old
 
   abbrev IsItsStep : Type 0
   IsItsStep = IsStep next answers begin old given new answer
 
   -- a task uses no device
-  no_cut : {Q : Type 0} (effect : Result Transition Fault) (fault : Fault) → Fails old (call_meant effect) new fault → Q
+  no_cut : {Q : Type 0} (effect : Result Transition Fault) (fault : Fault) → IsCutByDevice old (call_meant effect) new fault → Q
   no_cut effect fault fails = absurd (let resulted = fails.resulted in cc)
 
   pub submitted : (task node object : ℕ) (operation : Operation) (arg : ℤ) → event_of given ≡ Submit task node object operation arg
@@ -120,7 +120,7 @@ module _ {S P : Type 0} (next : S → Action → S) (answers : S → Action → 
 
 -- a restart
 module _ {S P : Type 0} (next : S → Action → S) (answers : S → Action → List Answer) (begin : P → S) (old new : ClusterState P) (given : Taken) (node : ℕ) (is : event_of given ≡ Restart node) where
-  pub restarted : (answer : Result Effect Fault) → AnswersRestart old node (event_effect (setting_of next answers begin old) old.world (Restart node)) new answer → IsStep next answers begin old given new answer
+  pub restarted : (answer : Result Effect Fault) → AnswersRestart old node (event_effect (cluster_setting next answers begin old) old.world (Restart node)) new answer → IsStep next answers begin old given new answer
   restarted (Ok stated) goes = goes_on next answers begin old new given (Restart node) is stated goes
   restarted (Err fault) stops =
       elim stops [

@@ -22,7 +22,7 @@ use Rattle.rp_replica.specs.declared.sent.Sent.{Sent}
 use Rattle.rp_replica.specs.State.{ReplicaState, part_of, setting_of, with_text, after_turn}
 use Rattle.rp_replica.specs.Kept.{HoldsPart, HoldsOnly, HoldsItsRecords, HoldsCut}
 use Rattle.rp_rules.specs.declared.input.Input.{Input}
-use Rattle.rp_replica.specs.Inputs.{effect_if_given, input_effect, effect_of}
+use Rattle.rp_replica.specs.Inputs.{effect_if_given, input_effect, replica_effect}
 use Rattle.rp_rules.specs.Inputs.{given_by}
 use Rattle.rp_replica.specs.Turning.{AnswersOnto, TurnsIf, TurnsOnto, FailsAt, Stops, StopsIf, IsRefused}
 use Rattle.rp_replica.specs.Cutting.{CutsIf, IsNotCutIf, cut_disk}
@@ -61,12 +61,12 @@ torn_counted kept disk (Some rec) = refl
 
 module _ {S : Type 0} (next : S → Action → S) (answers : S → Action → List Answer) (member : Member S) (old : ReplicaState S) (part : NodePart) (runs : RunsAs member old part) where
   -- an input has the same result for the part and for the replica
-  pub same_effect : (input : NodeInput) → node_effect (setting_at next answers member) member.me part input ≡ turn_done_if part (effect_of next answers old input)
+  pub same_effect : (input : NodeInput) → node_effect (setting_at next answers member) member.me part input ≡ turn_done_if part (replica_effect next answers old input)
   same_effect input =
       let setting : setting_of next answers old ≡ setting_at next answers member =
       ap (λ (c : Config). let s : Setting S = record { config = c; next = next; answers = answers; begin = old.begin } in s) runs.config
       ∙ ap (λ (b : S). let s : Setting S = record { config = member.config; next = next; answers = answers; begin = b } in s) runs.begin in
-      subst (λ (p : NodePart). node_effect (setting_at next answers member) member.me p input ≡ turn_done_if p (effect_of next answers old input)) (sym runs.known)
+      subst (λ (p : NodePart). node_effect (setting_at next answers member) member.me p input ≡ turn_done_if p (replica_effect next answers old input)) (sym runs.known)
       (ap (λ (s : Setting S). turn_done_if (part_of old) (running_effect s member.me old.records old.running input)) (sym setting)
       ∙ ap (λ (k : ℕ). turn_done_if (part_of old) (running_effect (setting_of next answers old) k old.records old.running input)) (sym runs.node))
 
@@ -96,7 +96,7 @@ module _ {S : Type 0} (next : S → Action → S) (answers : S → Action → Li
   }
 
   -- what was answered, if it was taken
-  pub taken : (input : NodeInput) (new : ReplicaState S) (sent : Sent) (turn : Result Turn Fault) → effect_of next answers old input ≡ turn → TurnsIf turn old new sent
+  pub taken : (input : NodeInput) (new : ReplicaState S) (sent : Sent) (turn : Result Turn Fault) → replica_effect next answers old input ≡ turn → TurnsIf turn old new sent
       → (done : Done NodePart) × (node_effect (setting_at next answers member) member.me part input ≡ Ok done) × RunsAs member new done.part × DescribesSent sent done
   taken input new sent (Ok turn) is turns = (
     turn_done part turn,
@@ -107,7 +107,7 @@ module _ {S : Type 0} (next : S → Action → S) (answers : S → Action → Li
   taken input new sent (Err refusal) is turns = absurd turns
 
   -- and what was sent after others
-  pub taken_onto : (input : NodeInput) (new : ReplicaState S) (before after : List Message) (dropped : Dropped) (turn : Result Turn Fault) → effect_of next answers old input ≡ turn → TurnsOnto turn old new before after dropped
+  pub taken_onto : (input : NodeInput) (new : ReplicaState S) (before after : List Message) (dropped : Dropped) (turn : Result Turn Fault) → replica_effect next answers old input ≡ turn → TurnsOnto turn old new before after dropped
       → (done : Done NodePart) × (node_effect (setting_at next answers member) member.me part input ≡ Ok done) × RunsAs member new done.part × DescribesSending before after dropped done × (new.disk.failures ≡ old.disk.failures)
   taken_onto input new before after dropped (Ok turn) is turns = (
     turn_done part turn,
@@ -128,7 +128,7 @@ module _ {S D P : Type 0} (r : NodeRuns S D P) (input : NodeInput) where
   old = r.replica
 
   abbrev effect : Result Turn Fault
-  effect = effect_of r.next r.answers r.replica input
+  effect = replica_effect r.next r.answers r.replica input
 
   abbrev step : Member S → NodePart → Result (Done NodePart) Fault
   step member part = node_step r.next r.answers member input part
@@ -240,7 +240,7 @@ module _ {S D P : Type 0} (r : NodeRuns S D P) (input : NodeInput) where
 
 module _ {S D P : Type 0} (r : NodeRuns S D P) {A : Type 0} (input : A → NodeInput) (Q : A → Type 0) (new : ReplicaState S) (sent later : List Message) where
   abbrev pub Each : Result Dropped Fault → Type 0
-  Each answer = (a : A) → Q a → AnswersOnto (effect_of r.next r.answers r.replica (input a)) r.replica new sent later answer
+  Each answer = (a : A) → Q a → AnswersOnto (replica_effect r.next r.answers r.replica (input a)) r.replica new sent later answer
 
   pub each_ok : (answer : Result Dropped Fault) → Each answer
       → IfOk answer (λ dropped. (member : Member S) (a : A) → Q a → GoesBy r.disk member r.node (Running new) (node_step r.next r.answers member (input a)) (DescribesSending sent later) dropped)
@@ -266,7 +266,7 @@ got_at (m ∷ ms) (suc k) less = got_at ms k (omega (arith, less))
 -- ---- an input that gives this to the node
 
 module _ {S D P : Type 0} (r : NodeRuns S D P) (input : Input) where
-  same_input : (given : NodeInput) → given_by input ≡ Ok given → input_effect r.next r.answers r.replica input ≡ effect_of r.next r.answers r.replica given
+  same_input : (given : NodeInput) → given_by input ≡ Ok given → input_effect r.next r.answers r.replica input ≡ replica_effect r.next r.answers r.replica given
   same_input given is = ap (effect_if_given r.next r.answers r.replica) is
 
   pub each_given : (new : ReplicaState S) (sent later : List Message) (answer : Result Dropped Fault) → AnswersOnto (input_effect r.next r.answers r.replica input) r.replica new sent later answer
@@ -277,16 +277,16 @@ module _ {S D P : Type 0} (r : NodeRuns S D P) (input : Input) where
   pub is_cut_so : (kept : ℕ) (device : D) → CutsIf (input_effect r.next r.answers r.replica input) kept r.replica (r.disk device)
       → (member : Member S) (given : NodeInput) → given_by input ≡ Ok given → IsCutBy r.disk member r.node (Stopped device) kept (node_step r.next r.answers member given)
   is_cut_so kept device cuts member given gives part is =
-      cut_by r given member part is (effect_of r.next r.answers r.replica given) refl kept device (subst (λ (t : Result Turn Fault). CutsIf t kept r.replica (r.disk device)) (same_input given gives) cuts)
+      cut_by r given member part is (replica_effect r.next r.answers r.replica given) refl kept device (subst (λ (t : Result Turn Fault). CutsIf t kept r.replica (r.disk device)) (same_input given gives) cuts)
 
   pub failed_in_cut : (device : D) → IsNotCutIf r.disk (input_effect r.next r.answers r.replica input) r.replica (let n : NotCut S D P = DeviceFailed device in n)
       → (member : Member S) (given : NodeInput) → given_by input ≡ Ok given → NotTaken r.disk member r.node (Stopped device) (node_step r.next r.answers member given) Device
   failed_in_cut device fails member given gives part is =
-      fails_in_cut r given member part is (effect_of r.next r.answers r.replica given) refl device
+      fails_in_cut r given member part is (replica_effect r.next r.answers r.replica given) refl device
       (subst (λ (t : Result Turn Fault). IsNotCutIf r.disk t r.replica (let n : NotCut S D P = DeviceFailed device in n)) (same_input given gives) fails)
 
   pub refused_in_cut : (fault : Fault) (new : ReplicaState S) → IsNotCutIf r.disk (input_effect r.next r.answers r.replica input) r.replica (let n : NotCut S D P = Refused fault new in n)
       → (member : Member S) (given : NodeInput) → given_by input ≡ Ok given → NotTaken r.disk member r.node (Running new) (node_step r.next r.answers member given) fault
   refused_in_cut fault new stops member given gives part is =
-      refused_cut r given member part is (effect_of r.next r.answers r.replica given) refl fault new
+      refused_cut r given member part is (replica_effect r.next r.answers r.replica given) refl fault new
       (subst (λ (t : Result Turn Fault). IsNotCutIf r.disk t r.replica (let n : NotCut S D P = Refused fault new in n)) (same_input given gives) stops)

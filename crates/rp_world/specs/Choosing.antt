@@ -39,7 +39,7 @@ module _ {S : Type 0} (s : Setting S) (w : World) (step : Step) where
   IsOfNone fault = (kept : ℕ) → cut_step s w step kept ≡ Err fault
 
   -- the step is refused so, whole or cut
-  pub record IsRefused (fault : Fault) : Type 0 where
+  pub record IsStepRefused (fault : Fault) : Type 0 where
     pub whole : step_effect s w step ≡ Err fault
     pub none : IsOfNone fault
 

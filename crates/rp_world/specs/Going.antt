@@ -64,13 +64,13 @@ module _ {P : Type 0} (old : ClusterState P) (effect : Result Transition Fault)
     pub unchanged : new ≡ old
 
   -- it is refused for this reason, and nothing changed
-  pub record Refuses (fault : Fault) : Type 0 where
+  pub record IsRefusedWhole (fault : Fault) : Type 0 where
     pub resulted : effect ≡ Err fault
     pub unchanged : new ≡ old
 
 -- The device of its node failed, whose count alone rose; the step, which writes a record, is cut
 -- where some number of bytes is kept.
-pub record Fails {P : Type 0} (old : ClusterState P) (m : Meant) (new : ClusterState P)
+pub record IsCutByDevice {P : Type 0} (old : ClusterState P) (m : Meant) (new : ClusterState P)
     (fault : Fault) : Type 0 where
   pub device : fault ≡ Device
   pub wrote : IsSome m.writes
@@ -85,13 +85,13 @@ abbrev pub Answers : {P : Type 0} → ClusterState P → Meant → ClusterState 
     → Type 0
 Answers old m new (Ok stated) = Goes old m.whole new stated
 Answers old m new (Err fault) =
-    Refuses old m.whole new fault ⊎ (RunsOut old m.whole new fault ⊎ Fails old m new fault)
+    IsRefusedWhole old m.whole new fault ⊎ (RunsOut old m.whole new fault ⊎ IsCutByDevice old m new fault)
 
 -- what a stop answers, which takes no memory and has no device: it happened, or was refused
 abbrev pub AnswersStop : {P : Type 0} → ClusterState P → Result Transition Fault → ClusterState P
     → Result Effect Fault → Type 0
 AnswersStop old effect new (Ok stated) = Goes old effect new stated
-AnswersStop old effect new (Err fault) = Refuses old effect new fault
+AnswersStop old effect new (Err fault) = IsRefusedWhole old effect new fault
 
 -- what a call answers that returns its effect in place
 abbrev pub stated : {A : Type 0} → Result A Fault → Effect → Result Effect Fault
@@ -113,7 +113,7 @@ abbrev pub AnswersRestart : {P : Type 0} → ClusterState P → ℕ → Result T
     → ClusterState P → Result Effect Fault → Type 0
 AnswersRestart old me effect new (Ok stated) = Goes old effect new stated
 AnswersRestart old me effect new (Err fault) =
-    Refuses old effect new fault ⊎ StartsNot old me effect new fault
+    IsRefusedWhole old effect new fault ⊎ StartsNot old me effect new fault
 
 -- the number and the reply in a body, if it is a reply
 abbrev pub reply_in : Body → Option (ℕ × Reply)

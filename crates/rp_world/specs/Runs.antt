@@ -8,7 +8,7 @@ use Rattle.rp_model.specs.Events.{event_of}
 use Rattle.rp_model.specs.World.{World, node_of}
 use Rattle.rp_model.specs.Answers.{Happen, IsFaulted}
 use Rattle.rp_world.specs.Failures.{AreCounted}
-use Rattle.rp_world.specs.Steps.{ClusterState, setting_of}
+use Rattle.rp_world.specs.Steps.{ClusterState, cluster_setting}
 use Rattle.rp_world.specs.declared.effect.Refused.{Refused}
 
 module _ {S P : Type 0} (next : S → Action → S) (answers : S → Action → List Answer) (start : P
@@ -16,7 +16,7 @@ module _ {S P : Type 0} (next : S → Action → S) (answers : S → Action → 
   -- the events happen, and lead to this world
   abbrev pub LeadsTo : ClusterState P → List Event → World → Type 0
   LeadsTo old events world =
-      Happen (setting_of next answers start old) old.world (map event_of events) world
+      Happen (cluster_setting next answers start old) old.world (map event_of events) world
 
   -- The events before a place happen, and the event there is answered by a fault.
   pub record StopsAt (old : ClusterState P) (events : List Event) (left : World) (place : ℕ)
@@ -25,7 +25,7 @@ module _ {S P : Type 0} (next : S → Action → S) (answers : S → Action → 
     pub event : Event
     pub before : LeadsTo old (take place events) stopped
     pub here : slice_get events place ≡ Some event
-    pub faulted : IsFaulted (setting_of next answers start old) stopped (event_of event) left fault
+    pub faulted : IsFaulted (cluster_setting next answers start old) stopped (event_of event) left fault
 
   -- where a run ends, by what it answers
   abbrev pub EndsIn : ClusterState P → List Event → World → Result Unit Refused → Type 0

@@ -40,15 +40,15 @@ pub record ClusterState (P : Type 0) : Type 0 where
 module _ {S P : Type 0} (next : S → Action → S) (answers : S → Action → List Answer) (start : P
     → S) where
   -- what the nodes of a cluster share
-  abbrev pub setting_of : ClusterState P → Setting S
-  setting_of c =
+  abbrev pub cluster_setting : ClusterState P → Setting S
+  cluster_setting c =
       record { config = c.setup.config; next = next; answers = answers; begin = start c.setup.program }
 
   -- A step of a cluster: its world goes by the event; the counts of failures stay, but that of the
   -- event's node where a device failed; and its setup stays.
   pub record IsStep (old : ClusterState P) (event : Event) (new : ClusterState P) (answer : Result Effect Fault)
       : Type 0 where
-    pub world : Steps (setting_of old) old.world (event_of event) new.world answer
+    pub world : Steps (cluster_setting old) old.world (event_of event) new.world answer
     pub setup : new.setup ≡ old.setup
     pub failures : AreCounted (node_of old.world (event_of event)) old.failures new.failures answer
 
@@ -91,16 +91,16 @@ IsQueryAnswer answer describes (Some part) =
     IsRunningQueryAnswer answer describes part.records part.running
 
 -- there is such a node, and it runs
-abbrev pub Runs : Option NodePart → Type 0
-Runs None = ⊥
-Runs (Some part) = IsSome part.running
+abbrev pub IsRunningNode : Option NodePart → Type 0
+IsRunningNode None = ⊥
+IsRunningNode (Some part) = IsSome part.running
 
 -- the same, but for a node that runs memory may run out
 abbrev pub IsQueryAnswerUnlessMemory : {A : Type 0} → Result A Fault → (A → List Rec → Type 0)
     → Option NodePart
     → Type 0
 IsQueryAnswerUnlessMemory answer describes part =
-    ((answer ≡ Err OutOfMemory) × Runs part) ⊎ IsQueryAnswer answer describes part
+    ((answer ≡ Err OutOfMemory) × IsRunningNode part) ⊎ IsQueryAnswer answer describes part
 
 -- how many bytes a node's device holds: BadConfig where there is no such node
 abbrev pub IsStored : Result ℕ Fault → Option NodePart → Type 0

@@ -28,7 +28,7 @@ ghost use Rattle.rp_world.specs.Failures.{SomeHasFailed};
 ghost use Rattle.rp_world.specs.Going.{stated};
 ghost use Rattle.rp_world.specs.Runs.{IsRun};
 ghost use Rattle.rp_world.specs.Shape.{IsCluster};
-ghost use Rattle.rp_world.specs.Steps.{IsLightStep, IsStep, IsStored, IsQueryAnswer, IsQueryAnswerUnlessMemory, IsServerOf, setting_of};
+ghost use Rattle.rp_world.specs.Steps.{IsLightStep, IsStep, IsStored, IsQueryAnswer, IsQueryAnswerUnlessMemory, IsServerOf, cluster_setting};
 
 use crate::effect::{Refused, no_effect};
 use crate::world::World;
@@ -55,14 +55,14 @@ pub struct Cluster<M: Machine, D: CutDevice> {
 }
 
 impl<M: Machine, D: CutDevice> Model for Cluster<M, D> {
-    ghost use Rattle.rp_world.specs.Steps.{ClusterState, setting_of};
+    ghost use Rattle.rp_world.specs.Steps.{ClusterState, cluster_setting};
     ghost use Rattle.rp_world.specs.Shape.{IsCluster};
 
     ghost Value = { ClusterState M.Program };
 
     ghost view = { λ c. c.world };
 
-    ghost invariant = { λ c. IsCluster (setting_of M.next M.answers M.begin c.world)
+    ghost invariant = { λ c. IsCluster (cluster_setting M.next M.answers M.begin c.world)
         c.world.world };
 }
 
@@ -118,7 +118,7 @@ impl<M: Machine, D: CutDevice> Cluster<M, D> {
         // claim as Cluster::step_into
         ensures step { IsStep M.next M.answers M.begin self.old event.now self.new result }
         ensures certain { (step : events.Step) → event_of event.now ≡ events.Makes step
-            → IsLightStep (setting_of M.next M.answers M.begin self.old) self.old.world step
+            → IsLightStep (cluster_setting M.next M.answers M.begin self.old) self.old.world step
             → IsOk result }
     {
         let mut effect = no_effect(0);
@@ -153,7 +153,7 @@ impl<M: Machine, D: CutDevice> Cluster<M, D> {
         // claim: A step that sends no packet, writes no record and counts no vote takes no memory:
         //   at a node that runs it takes effect, unless a long packet is delivered by it
         ensures certain { (step : events.Step) → event_of event.now ≡ events.Makes step
-            → IsLightStep (setting_of M.next M.answers M.begin self.old) self.old.world step
+            → IsLightStep (cluster_setting M.next M.answers M.begin self.old) self.old.world step
             → IsOk result }
     {
         if let Event::Node(Step::Deliver(number)) = *event {
@@ -176,7 +176,7 @@ impl<M: Machine, D: CutDevice> Cluster<M, D> {
     ) -> Result<(), Fault>
         ensures step { IsStep M.next M.answers M.begin self.old (Node (Deliver number)) self.new
             (stated result effect.new) }
-        ensures certain { IsLightStep (setting_of M.next M.answers M.begin self.old) self.old.world
+        ensures certain { IsLightStep (cluster_setting M.next M.answers M.begin self.old) self.old.world
             (events.Deliver number) → IsOk result }
     {
         events_keep_replies::<M>();
@@ -243,7 +243,7 @@ impl<M: Machine, D: CutDevice> Cluster<M, D> {
     /// The cluster's world satisfies the invariant from which agreement and the replies follow. It
     /// does nothing: its contract is for the callers' proofs.
     fn is_kept(&self)
-        ensures { IsCluster (setting_of M.next M.answers M.begin self.now) self.now.world }
+        ensures { IsCluster (cluster_setting M.next M.answers M.begin self.now) self.now.world }
     {
         let _ = self.world.messages();
     }

@@ -17,10 +17,10 @@ ghost use Rattle.rp_model.specs.World as worlds;
 ghost use Rattle.rp_model.specs.World.{part_at, commanded};
 ghost use Rattle.rp_agreement.specs.Ranges.{IsRangedWorld};
 ghost use Rattle.rp_rules.specs.Inputs.{IsLong, IsRightInput, given_by};
-ghost use Rattle.rp_world.specs.Choosing.{AreNodesOf, IsMaker, IsRefused};
+ghost use Rattle.rp_world.specs.Choosing.{AreNodesOf, IsMaker, IsStepRefused};
 ghost use Rattle.rp_world.specs.Going.{Answers, cut_meant, meant_by, reply_read, stated, step_meant};
 ghost use Rattle.rp_world.specs.Nodes.{IsLight};
-ghost use Rattle.rp_world.specs.Steps.{IsLightStep, IsStep, setting_of};
+ghost use Rattle.rp_world.specs.Steps.{IsLightStep, IsStep, cluster_setting};
 
 use crate::effect::{no_effect, of_step, taken};
 use crate::node;
@@ -61,7 +61,7 @@ impl<M: Machine, D: CutDevice> World<M, D> {
         ensures step { IsStep M.next M.answers M.begin self.old event.now self.new
             (stated result effect.new) }
         ensures certain { (step : events.Step) → event_of event.now ≡ events.Makes step
-            → IsLightStep (setting_of M.next M.answers M.begin self.old) self.old.world step
+            → IsLightStep (cluster_setting M.next M.answers M.begin self.old) self.old.world step
             → IsOk result }
     {
         let answer = match *event {
@@ -114,10 +114,10 @@ impl<M: Machine, D: CutDevice> World<M, D> {
         requires config { IsRightConfig self.old.setup.config }
         requires ranged { IsRangedWorld self.old.setup.config.nodes self.old.world }
         requires step { events.IsRightStep (step_of step) }
-        ensures answer { let setting = setting_of M.next M.answers M.begin self.old in
+        ensures answer { let setting = cluster_setting M.next M.answers M.begin self.old in
             Answers self.old (step_meant setting self.old.world (step_of step)) self.new
             (stated result effect.new) }
-        ensures certain { IsLightStep (setting_of M.next M.answers M.begin self.old) self.old.world
+        ensures certain { IsLightStep (cluster_setting M.next M.answers M.begin self.old) self.old.world
             (step_of step) → IsOk result }
     {
         events_keep_ranges::<M>();
@@ -155,7 +155,7 @@ impl<M: Machine, D: CutDevice> World<M, D> {
     #[inline(never)]
     pub(crate) fn make_cut(&mut self, alloc: Global, step: Step, kept: u64) -> Result<Effect, Fault>
         requires ranged { IsRangedWorld self.old.setup.config.nodes self.old.world }
-        ensures answer { let setting = setting_of M.next M.answers M.begin self.old in
+        ensures answer { let setting = cluster_setting M.next M.answers M.begin self.old in
             Answers self.old (cut_meant setting self.old.world (step_of step) kept) self.new
             result }
     {
@@ -231,7 +231,7 @@ impl<M: Machine, D: CutDevice> World<M, D> {
             ≡ Ok (NodeInput.LeadRange first count)) }
         ensures err { IfErr result (λ fault. (setting : Setting M) (w : worlds.World)
             → AreNodesOf D.disk setting.begin nodes.now w
-            → IsRefused setting w (events.LeadRange node first count) fault) }
+            → IsStepRefused setting w (events.LeadRange node first count) fault) }
     {
         match nodes.get(usize::from(node.get()) - 1) {
             Some(node) => {
@@ -260,16 +260,16 @@ impl<M: Machine, D: CutDevice> World<M, D> {
         requires given { (given : NodeInput) × (given_by input.now ≡ Ok given) }
         requires sends { (given : NodeInput) (part : NodePart) (done : Done NodePart)
             → given_by input.now ≡ Ok given → part_at self.old.world.nodes node ≡ Some part
-            → node_effect (setting_of M.next M.answers M.begin self.old) node part given ≡ Ok done
+            → node_effect (cluster_setting M.next M.answers M.begin self.old) node part given ≡ Ok done
             → AllByRecursion IsPacket done.sends }
         ensures answer { (given : NodeInput) → given_by input.now ≡ Ok given
-            → let setting = setting_of M.next M.answers M.begin self.old in
+            → let setting = cluster_setting M.next M.answers M.begin self.old in
             let chosen = commanded node given (part_at self.old.world.nodes node) in
             Answers self.old (meant_by setting self.old.world chosen) self.new
             (stated result effect.new) }
         ensures certain { (given : NodeInput) (part : NodePart) → given_by input.now ≡ Ok given
             → (¬ IsLong input.now) → part_at self.old.world.nodes node ≡ Some part
-            → IsLight part (node_effect (setting_of M.next M.answers M.begin self.old) node
+            → IsLight part (node_effect (cluster_setting M.next M.answers M.begin self.old) node
             part given) → IsOk result }
     {
         let first = self.messages() + 1;
@@ -302,10 +302,10 @@ impl<M: Machine, D: CutDevice> World<M, D> {
         effect: &mut Effect,
     ) -> Result<(), Fault>
         requires ranged { IsRangedWorld self.old.setup.config.nodes self.old.world }
-        ensures answer { let setting = setting_of M.next M.answers M.begin self.old in
+        ensures answer { let setting = cluster_setting M.next M.answers M.begin self.old in
             Answers self.old (step_meant setting self.old.world (events.Deliver number)) self.new
             (stated result effect.new) }
-        ensures certain { IsLightStep (setting_of M.next M.answers M.begin self.old) self.old.world
+        ensures certain { IsLightStep (cluster_setting M.next M.answers M.begin self.old) self.old.world
             (events.Deliver number) → IsOk result }
     {
         let Some(receiver) = self.receiver_of_number(number) else {
@@ -346,7 +346,7 @@ impl<M: Machine, D: CutDevice> World<M, D> {
         requires ranged { IsRangedWorld self.old.setup.config.nodes self.old.world }
         requires to { (m : Message) × (part_at self.old.world.sent number ≡ Some m)
             × (m.to ≡ Task task) }
-        ensures answer { let setting = setting_of M.next M.answers M.begin self.old in
+        ensures answer { let setting = cluster_setting M.next M.answers M.begin self.old in
             Answers self.old (step_meant setting self.old.world (events.Deliver number)) self.new
             (stated result effect.new) }
     {

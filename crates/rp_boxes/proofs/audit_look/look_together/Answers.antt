@@ -2,14 +2,14 @@
 use Rattle.std.proofs.Common.{◌<◌, ap, subst, ◌∙◌, arith}
 use Rattle.rp_boxes.specs.Looks.{HasWorld}
 use Rattle.rp_boxes.specs.Plays.{Sight}
-use Rattle.rp_boxes.specs.Seats.{setting_of}
+use Rattle.rp_boxes.specs.Seats.{table_setting}
 use Rattle.rp_boxes.proofs.Joining.{join_allows, some_first, one_back, other_back}
 use Rattle.rp_boxes.proofs.audit_look.look_together.Goals as goal
 
 pub join_seat-requires : goal.join_seat-requires
 join_seat-requires g c =
     let words : 0 < c.args.slots.now.table_id.words = omega (arith, c.requires.sized.0) in
-    let both = join_allows (setting_of g.M.Machine c.args.slots.now.key) c.args.one.id c.args.one.me.0 c.args.other.id c.args.other.me c.requires.other in
+    let both = join_allows (table_setting g.M.Machine c.args.slots.now.key) c.args.one.id c.args.one.me.0 c.args.other.id c.args.other.me c.requires.other in
     (c.requires.table.0, c.requires.table.1, ap (λ (me : Sight). me.1) c.requires.other, words, both)
 
 pub look-requires-clause-follows : goal.look-requires-clause-follows
@@ -29,4 +29,4 @@ returns-clause-places g c =
     )
 
 pub returns-clause-world : goal.returns-clause-world
-returns-clause-world g c = subst (λ (me : Sight). HasWorld (setting_of g.M.Machine c.args.slots.now.key) me.0) c.join_seat.ensures.2 c.look.ensures.picked
+returns-clause-world g c = subst (λ (me : Sight). HasWorld (table_setting g.M.Machine c.args.slots.now.key) me.0) c.join_seat.ensures.2 c.look.ensures.picked

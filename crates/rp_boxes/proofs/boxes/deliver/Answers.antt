@@ -3,7 +3,7 @@ use Rattle.std.proofs.Common.{◌≡◌, ◌<◌, ◌≤◌, Some, sym, subst, �
 use Rattle.rp_boxes.specs.Parts.{part_in, box_of}
 use Rattle.rp_boxes.specs.Plays.{holding}
 use Rattle.rp_boxes.specs.Rule.{IsVacant}
-use Rattle.rp_boxes.specs.Seats.{setting_of}
+use Rattle.rp_boxes.specs.Seats.{table_setting}
 use Rattle.rp_boxes.proofs.Filling.{publish_allows}
 use Rattle.rp_boxes.proofs.Sights.{taken_out, out_with, sees_published, sees_written}
 use Rattle.rp_boxes.proofs.boxes.deliver.Given as given
@@ -30,7 +30,7 @@ store-requires g c =
     let buffer : 256 ≤ table.slots = rw c.requires.sized.1 (omega arith) in (
       c.exchange-left.ensures.0 ∙ c.requires.table,
       inside,
-      publish_allows (setting_of g.M.Machine c.args.slots.now.key) table.slots c.exchange-left.new.seat.id c.args.from c.args.to (part_in c.args.place.now.me.0) c.requires.from c.requires.to buffer _ packet.0
+      publish_allows (table_setting g.M.Machine c.args.slots.now.key) table.slots c.exchange-left.new.seat.id c.args.from c.args.to (part_in c.args.place.now.me.0) c.requires.from c.requires.to buffer _ packet.0
           c.args.packet (written g (goal.at.store-requires g c).After-exchange-left) c.requires.fills packet.1 packet.2 g.J.Fact.says packet.3,
     )
 

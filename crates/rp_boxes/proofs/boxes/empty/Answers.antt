@@ -1,7 +1,7 @@
 -- The box is claimed, its packet taken out, and it is cleared.
 use Rattle.std.proofs.Common.{◌<◌, ◌≤◌, Some, refl, ◌∙◌, arith}
 use Rattle.rp_boxes.specs.Parts.{part_in, box_of, emptying}
-use Rattle.rp_boxes.specs.Seats.{setting_of}
+use Rattle.rp_boxes.specs.Seats.{table_setting}
 use Rattle.rp_boxes.proofs.Emptying.{clear_allows}
 use Rattle.rp_boxes.proofs.Sights.{sees_written, out_with}
 use Rattle.rp_boxes.proofs.boxes.empty.Goals as goal
@@ -32,7 +32,7 @@ store-requires g c =
     let here = sees_written c.args.to b (emptying b taken.0 p) (Some taken.1) c.spare-left.result _ _ taken.3 c.exchange-packet.ensures.3 in (
       c.exchange-packet.ensures.0 ∙ (c.claim_full.ensures.table ∙ c.requires.table),
       inside,
-      clear_allows (setting_of g.M.Machine c.args.slots.now.key) table.slots c.exchange-packet.new.seat.id c.args.from c.args.to (emptying b taken.0 p) c.requires.from c.requires.to buffer _
+      clear_allows (table_setting g.M.Machine c.args.slots.now.key) table.slots c.exchange-packet.new.seat.id c.args.from c.args.to (emptying b taken.0 p) c.requires.from c.requires.to buffer _
           c.spare-left.result here refl c.spare-left.ensures,
     )
 

@@ -3,11 +3,11 @@ use Rattle.std.proofs.Common.{◌≢◌}
 use Rattle.rp_boxes.specs.Looks.{HasWorld}
 use Rattle.rp_boxes.specs.Moments.{WasWord}
 use Rattle.rp_boxes.specs.Parts.{box_of}
-use Rattle.rp_boxes.specs.Seats.{setting_of}
+use Rattle.rp_boxes.specs.Seats.{table_setting}
 use Rattle.rp_boxes.proofs.boxes.empty.Given as goal
 
 abbrev pub ghosts-look : goal.ghosts-look
-ghosts-look g a = record { says = λ part. HasWorld (setting_of g.M.Machine a.slots.now.key) a.place.now.me.0 }
+ghosts-look g a = record { says = λ part. HasWorld (table_setting g.M.Machine a.slots.now.key) a.place.now.me.0 }
 
 abbrev pub ghosts-claim_full : goal.ghosts-claim_full
-ghosts-claim_full g a = record { says = λ part. WasWord (setting_of g.M.Machine a.slots.now.key) a.place.now.me.0 (box_of a.from a.to) (λ word. word ≢ 2) }
+ghosts-claim_full g a = record { says = λ part. WasWord (table_setting g.M.Machine a.slots.now.key) a.place.now.me.0 (box_of a.from a.to) (λ word. word ≢ 2) }

@@ -4,7 +4,7 @@ use Rattle.rp_base.specs.Sets.{Has}
 use Rattle.rp_boxes.specs.Moments.{WasFull}
 use Rattle.rp_boxes.specs.Parts.{Part, box_of, part_in}
 use Rattle.rp_boxes.specs.Plays.{IsPutBy, Sight}
-use Rattle.rp_boxes.specs.Seats.{setting_of}
+use Rattle.rp_boxes.specs.Seats.{table_setting}
 use Rattle.rp_boxes.proofs.boxes.fill.Goals as goal
 
 pub claim_empty-requires : goal.claim_empty-requires
@@ -39,5 +39,5 @@ returns-clause-put g c =
 
 pub returns-clause-full : goal.returns-clause-full
 returns-clause-full g c =
-    let s = setting_of g.M.Machine c.args.slots.now.key in
+    let s = table_setting g.M.Machine c.args.slots.now.key in
     subst (λ (me : Sight). WasFull s me.0 (box_of c.args.from c.args.to) c.args.packet.items) (sym c.deliver.ensures.place) c.deliver.ensures.picked.1

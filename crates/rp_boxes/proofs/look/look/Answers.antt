@@ -1,13 +1,13 @@
 -- What follows of every world allows the step.
 use Rattle.std.proofs.Common.{◌<◌, arith}
 use Rattle.rp_boxes.specs.Parts.{part_in}
-use Rattle.rp_boxes.specs.Seats.{setting_of}
+use Rattle.rp_boxes.specs.Seats.{table_setting}
 use Rattle.rp_boxes.proofs.WorldLooks.{look_allows}
 use Rattle.rp_boxes.proofs.look.look.Goals as goal
 
 pub load-requires : goal.load-requires
 load-requires g c =
-    let s = setting_of g.M.Machine c.args.slots.now.key in
+    let s = table_setting g.M.Machine c.args.slots.now.key in
     let table = c.args.slots.now.table_id in
     let place = c.args.place.now in
     let inside : 0 < table.words = rw c.requires.sized.0 (omega arith) in

@@ -1,12 +1,12 @@
 -- The place knows what both knew.
 use Rattle.std.proofs.Common.{◌<◌, ap, arith}
 use Rattle.rp_boxes.specs.Plays.{Sight}
-use Rattle.rp_boxes.specs.Seats.{setting_of}
+use Rattle.rp_boxes.specs.Seats.{table_setting}
 use Rattle.rp_boxes.proofs.Joining.{join_allows}
 use Rattle.rp_boxes.proofs.together.take_in.Goals as goal
 
 pub join_seat-requires : goal.join_seat-requires
 join_seat-requires g c =
     let words : 0 < c.args.slots.now.table_id.words = omega (arith, c.requires.sized.0) in
-    let both = join_allows (setting_of g.M.Machine c.args.slots.now.key) c.args.all.now.id c.args.all.now.me.0 c.args.other.id c.args.other.me c.requires.other in
+    let both = join_allows (table_setting g.M.Machine c.args.slots.now.key) c.args.all.now.id c.args.all.now.me.0 c.args.other.id c.args.other.me c.requires.other in
     (c.requires.table.0, c.requires.table.1, ap (λ (me : Sight). me.1) c.requires.other, words, both)

@@ -1,6 +1,6 @@
 -- The text of the next deck is put into the buffer, or does not fit.
 use Rattle.std.proofs.Common.{◌≡◌, List, ℕ, Result, Ok, Some, Vec, Global, subst}
-use Rattle.rp_c.specs.Decks.{IsPut, IsTooLong}
+use Rattle.rp_c.specs.Decks.{IsTextPut, IsTextTooLong}
 use Rattle.rp_handles.specs.NextDecks.{HandleGoesOn}
 use Rattle.rp_handles.specs.declared.next.NoNextDeck.{NoNextDeck}
 use Rattle.rp_c.proofs.Putting.{is_long, is_put}
@@ -15,7 +15,7 @@ returns-in-ShortAnswer-clause-given c =
     let is : c.in-Some-Ok.field-0 ≡ Ok c.in-Some-Ok.next = cc in (
       c.in-Some-Ok.next,
       subst (λ (found : Result (Vec ℕ Global) NoNextDeck). HandleGoesOn c.args.deck.now c.args.handle.now.kept (Some found)) is c.in-Some-Ok.ensures.next,
-      subst (λ (text : List ℕ). IsTooLong text old c.put.new.answer c.put.new.used) c.deref.ensures.value
+      subst (λ (text : List ℕ). IsTextTooLong text old c.put.new.answer c.put.new.used) c.deref.ensures.value
           (is_long c.deref.result.now old c.put.new.answer c.put.new.used c.put.result c.put.ensures c.in-ShortAnswer.is),
     )
 
@@ -30,7 +30,7 @@ returns-in-Some-Ok c =
       given = (
         c.in-Some-Ok.next,
         subst (λ (found : Result (Vec ℕ Global) NoNextDeck). HandleGoesOn c.args.deck.now c.args.handle.now.kept (Some found)) is c.in-Some-Ok.ensures.next,
-        subst (λ (text : List ℕ). IsPut text old c.put.new.answer c.put.new.used) c.deref.ensures.value
+        subst (λ (text : List ℕ). IsTextPut text old c.put.new.answer c.put.new.used) c.deref.ensures.value
             (is_put c.deref.result.now old c.put.new.answer c.put.new.used c.put.result c.put.ensures c.in_default.not-ShortAnswer),
       );
       same = c.next_deck_of.ensures.same;

@@ -11,7 +11,7 @@ use Rattle.rp_page.specs.Pages.{IsDrawnAs}
 use Rattle.rp_history.specs.declared.stage.Stage.{Stage}
 use Rattle.rp_run.proofs.RunParts.{sets_out, ends, no_line, line_goes_on}
 use Rattle.rp_run.proofs.Stepping.{same_run_setting, opening_parts}
-use Rattle.rp_world.specs.Steps.{setting_of}
+use Rattle.rp_world.specs.Steps.{cluster_setting}
 use Rattle.rp_world.proofs.Answering.{same_setting}
 use Rattle.rp_chart_run.specs.ScriptHistory.{command_happens, drawn_run, lines_happen, script_happens}
 use Rattle.rp_chart_run.proofs.Charting.{goes_on as chart_goes_on, ends as chart_ends}
@@ -26,7 +26,7 @@ loop-line-init g c =
     let cluster = c.in_ok-new.field-0 in
     let opened = c.in_ok-new.ensures.opened in
     let world = ap (λ k. k.world) opened in
-    let t = setting_of m.next m.answers m.begin cluster in
+    let t = cluster_setting m.next m.answers m.begin cluster in
     let nodes : opening_world t.config.nodes ≡ cluster.world = ap (λ k. opening_world k.setup.config.nodes) opened ∙ sym world in
     let chart = c.new-3.result in
     let opens = subst (λ (w : World). IsSketchOf t chart.stage chart.sketch [] w) nodes (c.new-3.ensures.opening t) in

@@ -3,7 +3,7 @@ use Rattle.std.proofs.Common.{ℕ, ◌+◌, ◌≤◌, List, take, drop, length,
 use Rattle.rp_codec.specs.declared.packet.Party.TheVariants.{Node}
 use Rattle.rp_boxes.specs.Seats.{SeatState, IsSentText}
 use Rattle.rp_boxes.proofs.Auditing.{on_any_error}
-use Rattle.rp_threads.specs.Turns.{AreSentTexts, AreTextsOfferedInPart, IsOffered}
+use Rattle.rp_threads.specs.Turns.{AreSentTexts, AreTextsOfferedInPart, IsOfferedToBox}
 use Rattle.rp_threads.proofs.Cuts.{begins, is_first, none_left, some_left}
 use Rattle.rp_threads.proofs.Offers.{IsPartOffered, all_offered, none_offered, offered_in_part, one_at_most, one_if_is, one_less, one_more_offered, part_puts, still_sent_text}
 use Rattle.rp_threads.proofs.sends.put_each.Goals as goal
@@ -46,9 +46,9 @@ packets-preserved g c =
     let first = is_first seat.part rest len c.sends_packets.ensures inv.texts (some_left rest c.is_empty.result c.is_empty.ensures c.packets-test.true) c.text_len.ensures in
     let puts = part_puts m.next m.answers m.begin (Node seat.setup.number) seat between texts rest c.packets.lost inv.offered in
     let number = ap (λ (s : SeatState g.row.M-Program.Denot). s.setup.number) puts.after in
-    let offered : IsOffered m.next m.answers m.begin (Node seat.setup.number) (take len rest) between now is_lost =
-    subst (λ (n : ℕ). IsOffered m.next m.answers m.begin (Node n) (take len rest) between now is_lost) number
-    (subst (λ (text : List ℕ). IsOffered m.next m.answers m.begin (Node between.setup.number) text between now is_lost) c.split_at.ensures.front c.in_ok-put_copy.ensures.offered) in
+    let offered : IsOfferedToBox m.next m.answers m.begin (Node seat.setup.number) (take len rest) between now is_lost =
+    subst (λ (n : ℕ). IsOfferedToBox m.next m.answers m.begin (Node n) (take len rest) between now is_lost) number
+    (subst (λ (text : List ℕ). IsOfferedToBox m.next m.answers m.begin (Node between.setup.number) text between now is_lost) c.split_at.ensures.front c.in_ok-put_copy.ensures.offered) in
     let more = one_more_offered m.next m.answers m.begin (Node seat.setup.number) seat between now texts rest len c.packets.lost is_lost inv.offered first.text offered in
     record {
       texts = subst (AreSentTexts seat.part) (sym c.split_at.ensures.back) first.others;

@@ -7,8 +7,8 @@ use Rattle.rp_agreement.specs.Inputs.{IsTaskInput}
 use Rattle.rp_world.specs.Callers.{Caller}
 use Rattle.rp_world.proofs.Replied.{reply_of_text}
 use Rattle.rp_boxes.specs.Parts.{part_in}
-use Rattle.rp_boxes.specs.Plays.{Sight, IsNoted, alone}
-use Rattle.rp_boxes.specs.Seats.{SeatState, IsGotText, setting_of}
+use Rattle.rp_boxes.specs.Plays.{Sight, IsEventNoted, alone}
+use Rattle.rp_boxes.specs.Seats.{SeatState, IsGotText, table_setting}
 use Rattle.rp_boxes.specs.TaskSeats.{reply_effect, IsReplyTurn}
 use Rattle.rp_boxes.proofs.SeatBoxes.{same_party}
 use Rattle.rp_boxes.proofs.TaskOrder.{one_order}
@@ -59,7 +59,7 @@ returns-clause-ok g c =
     let at = (goal.at.returns-clause-ok g c).In_ok-taken in
     let place = c.look.new.place in
     let new = c.take.new.task in
-    let noted = subst (IsNoted (BecomesPart (part_in c.self.inside.place.me.0) new.part []) (7 + c.self.inside.number)) (sym c.look.ensures.place) c.note_reply.ensures.noted in
+    let noted = subst (IsEventNoted (BecomesPart (part_in c.self.inside.place.me.0) new.part []) (7 + c.self.inside.number)) (sym c.look.ensures.place) c.note_reply.ensures.noted in
     subst (λ (seat : SeatState g.row.M-Program.Denot). IsReplyTurn seat c.args.packet.now (state_at c.self.inside place) c.in_ok-taken.taken) c.self.view_is
     (replied_state (event g at) place (c.look.ensures.table ∙ c.note_reply.ensures.table) new [] noted (now g at) (quiet g at) (got g at).0 c.args.packet.now c.in_ok-taken.taken refl (got g at).1 (got g at).2 (taken g at))
 
@@ -70,5 +70,5 @@ returns-clause-stated g c =
     let key = c.deref-2.result.now.shared.key in
     let me = c.note_reply.new.place.me in
     let here : me ≡ alone (7 + seat.setup.number) (part_in me.0) = subst (λ (sight : Sight). sight ≡ alone (7 + seat.setup.number) (part_in sight.0)) (sym c.note_reply.ensures.noted.is) refl in
-    one_order m.next m.answers m.begin seat (setting_of m key) me (ap (λ board. setting_of m board.shared.key) c.deref-2.ensures)
+    one_order m.next m.answers m.begin seat (table_setting m key) me (ap (λ board. table_setting m board.shared.key) c.deref-2.ensures)
     (here ∙ ap (λ (sight : Sight). alone (7 + seat.setup.number) (part_in sight.0)) (sym c.look.ensures.place)) c.look.ensures.picked (c.order_laws.ensures seat.setup.config seat.setup.program)

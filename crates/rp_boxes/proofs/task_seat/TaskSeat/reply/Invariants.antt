@@ -2,7 +2,7 @@
 use Rattle.std.proofs.Common.{[]}
 use Rattle.rp_boxes.specs.Looks.{HasWorld}
 use Rattle.rp_boxes.specs.Parts.{part_in}
-use Rattle.rp_boxes.specs.Seats.{setting_of}
+use Rattle.rp_boxes.specs.Seats.{table_setting}
 use Rattle.rp_boxes.proofs.TaskTurns.{BecomesPart}
 use Rattle.rp_boxes.proofs.task_seat.TaskSeat.reply.Given as goal
 
@@ -12,4 +12,4 @@ ghosts-note_reply g a = record {
 }
 
 abbrev pub ghosts-look : goal.ghosts-look
-ghosts-look g a = record { says = λ part. HasWorld (setting_of g.M.Machine a.slots.now.key) a.place.now.me.0 }
+ghosts-look g a = record { says = λ part. HasWorld (table_setting g.M.Machine a.slots.now.key) a.place.now.me.0 }

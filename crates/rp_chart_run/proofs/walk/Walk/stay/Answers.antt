@@ -2,7 +2,7 @@
 use Rattle.std.proofs.Common.{ℕ, length, sym, subst}
 use Rattle.rp_drawing.specs.Ways.{IsEndingWithin}
 use Rattle.rp_history.specs.Histories.{lost_of}
-use Rattle.rp_world.specs.Steps.{setting_of}
+use Rattle.rp_world.specs.Steps.{cluster_setting}
 use Rattle.rp_chart_run.proofs.Charting.{has_ways}
 use Rattle.rp_chart_run.proofs.walk.Walk.stay.Goals as goal
 
@@ -19,4 +19,4 @@ pub returns-clause-charted : goal.returns-clause-charted
 returns-clause-charted g c = λ happened charted.
     let m = g.M.Machine in
     let cluster = c.args.self.now.cluster in
-    c.stay.ensures.stays (setting_of m.next m.answers m.begin cluster) happened cluster.world charted
+    c.stay.ensures.stays (cluster_setting m.next m.answers m.begin cluster) happened cluster.world charted

@@ -4,7 +4,7 @@ use Rattle.std.proofs.lemmas.Option.{slice_get_read, slice_get_past}
 use Rattle.rp_base.specs.declared.fault.Fault.{Fault}
 use Rattle.rp_boxes.proofs.TaskTurns.{at_fault}
 use Rattle.rp_model.specs.Tasks.{TaskInput}
-use Rattle.rp_threads.specs.TaskRounds.{Asks, IsRefused, asked_in}
+use Rattle.rp_threads.specs.TaskRounds.{Asks, IsTaskRefused, asked_in}
 use Rattle.rp_threads.proofs.TaskChains.{asked_next, made_next}
 use Rattle.rp_threads.proofs.tasks.Caller.ask.Goals as goal
 
@@ -17,8 +17,8 @@ returns-in_err-lost-clause-err g c =
     let found = c.in-Some.ensures.lookup in
     let here = slice_get_read a.calls.now (length a.calls.now) self.so_far.made c.in-Some.call.now refl found.3.0 found.1 in
     let asked = asked_next a.nodes a.calls.now a.turn self.so_far (Some c.in-Some.call.now) c.if-self.false here in
-    at_fault (λ (e : Fault). (self.so_far ≡ self.so_far) × IsRefused (asked_in a.nodes a.calls.now a.turn self.so_far) self.seat now e) fault c.from_residual.result c.from_residual.ensures.1
-    (refl, subst (λ (o : Option TaskInput). IsRefused o self.seat now fault) (sym asked) c.in_err-lost.ensures.err)
+    at_fault (λ (e : Fault). (self.so_far ≡ self.so_far) × IsTaskRefused (asked_in a.nodes a.calls.now a.turn self.so_far) self.seat now e) fault c.from_residual.result c.from_residual.ensures.1
+    (refl, subst (λ (o : Option TaskInput). IsTaskRefused o self.seat now fault) (sym asked) c.in_err-lost.ensures.err)
 
 pub returns-clause-ok : goal.returns-clause-ok
 returns-clause-ok g c =

@@ -3,7 +3,7 @@ use Rattle.std.proofs.Common.{◌≡◌, [], All, length, refl, sym, subst, arit
 use Rattle.rp_base.specs.Config.{IsRightConfig}
 use Rattle.rp_model.specs.World.{opening_world}
 use Rattle.rp_world.specs.Shape.{IsCluster}
-use Rattle.rp_world.specs.Steps.{setting_of}
+use Rattle.rp_world.specs.Steps.{cluster_setting}
 use Rattle.rp_world.proofs.cluster.Cluster.new.Goals as goal
 
 pub invariant_of-result : goal.invariant_of-result
@@ -11,10 +11,10 @@ invariant_of-result g c =
     let m = g.M.Machine in
     let right : IsRightConfig c.args.config = c.is_right.ensures.0 c.if-not-is_right.false in
     let opening = opening_world c.args.config.nodes in
-    subst (λ v. IsCluster (setting_of m.next m.answers m.begin v) v.world) (sym c.in_ok-new.ensures.opened)
+    subst (λ v. IsCluster (cluster_setting m.next m.answers m.begin v) v.world) (sym c.in_ok-new.ensures.opened)
     (record {
       right = right;
-      kept = c.replies_follow_the_order.ensures.histories (setting_of m.next m.answers m.begin (record { setup = record { config = c.args.config; program = c.args.program }; world = opening; failures = [] })) [] opening (record { config = right; right = λ event h. absurd h; happened = refl });
+      kept = c.replies_follow_the_order.ensures.histories (cluster_setting m.next m.answers m.begin (record { setup = record { config = c.args.config; program = c.args.program }; world = opening; failures = [] })) [] opening (record { config = right; right = λ event h. absurd h; happened = refl });
       ranged = c.events_keep_ranges.ensures.opening c.args.config.nodes;
     })
 

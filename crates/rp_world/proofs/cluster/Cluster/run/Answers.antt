@@ -2,7 +2,7 @@
 use Rattle.std.proofs.Common.{subst}
 use Rattle.rp_model.specs.Effect.{Setting}
 use Rattle.rp_agreement.specs.Answered.{IsKeptWorld}
-use Rattle.rp_world.specs.Steps.{setting_of}
+use Rattle.rp_world.specs.Steps.{cluster_setting}
 use Rattle.rp_world.proofs.Answering.{same_setting}
 use Rattle.rp_world.proofs.Sounding.{agree, ordered}
 use Rattle.rp_world.proofs.cluster.Cluster.run.Goals as goal
@@ -19,7 +19,7 @@ returns g c =
       run = ran.run;
       agree = agree m.next m.answers m.image (m.begin old.setup.program) old.setup.config.nodes c.applied_lists_are_alike.ensures (c.states_are_alike.ensures (m.begin old.setup.program)) old.world new.world
           c.is_kept.ensures.kept.kept.sound later.kept.sound ran.sent;
-      ordered = ordered (setting_of m.next m.answers m.begin old) c.the_order_exists.ensures c.applied_lists_are_prefixes.ensures (c.replies_answer_calls_that_count.ensures old.setup.config old.setup.program)
+      ordered = ordered (cluster_setting m.next m.answers m.begin old) c.the_order_exists.ensures c.applied_lists_are_prefixes.ensures (c.replies_answer_calls_that_count.ensures old.setup.config old.setup.program)
           (c.calls_count_in_order.ensures old.setup.config old.setup.program) (c.only_made_calls_count.ensures old.setup.config old.setup.program) (c.a_call_has_one_place.ensures (m.begin old.setup.program)) new.world later;
       decided = c.decisions_stay.ensures old.setup.config.nodes old.world.sent new.world.sent ran.sent;
     }

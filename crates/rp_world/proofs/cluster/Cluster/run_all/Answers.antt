@@ -9,7 +9,7 @@ use Rattle.rp_model.specs.World.{node_of}
 use Rattle.rp_base.specs.declared.fault.Fault.{Fault}
 use Rattle.rp_world.specs.Failures.{AreCounted}
 use Rattle.rp_world.proofs.Lists.{here_of}
-use Rattle.rp_world.specs.Steps.{setting_of}
+use Rattle.rp_world.specs.Steps.{cluster_setting}
 use Rattle.rp_world.specs.Runs.{LeadsTo}
 use Rattle.rp_world.proofs.Answering.{happen_more, same_setting}
 use Rattle.rp_world.proofs.Sounding.{sent_stays}
@@ -20,7 +20,7 @@ loop-place-preserved g c =
     let m = g.M.Machine in
     let machine = g.M.Machine in
     let old = c.args.self.now in
-    let s = setting_of m.next m.answers m.begin old in
+    let s = cluster_setting m.next m.answers m.begin old in
     let events = c.args.events.now in
     let place = c.loop-place.place in
     let event = c.index-events-place.result in
@@ -39,13 +39,13 @@ loop-place-preserved g c =
       so_far = subst (λ (list : List PlainEvent). LeadsTo m.next m.answers m.begin old list after) (sym more)
           (subst (λ (list : List Event). Happen s old.world list after) (sym (map-append event_of (take place events) (event ∷ [])))
           (happen_more s old.world (map event_of (take place events)) now after (event_of event) effect c.loop-place.invariant.so_far step));
-      sent = λ m h. sent_stays (setting_of machine.next machine.answers machine.begin c.loop-place.self) (c.worlds_grow.ensures (setting_of machine.next machine.answers machine.begin c.loop-place.self)) now after (event_of event) (Ok effect) stepped.world m (c.loop-place.invariant.sent m h);
+      sent = λ m h. sent_stays (cluster_setting machine.next machine.answers machine.begin c.loop-place.self) (c.worlds_grow.ensures (cluster_setting machine.next machine.answers machine.begin c.loop-place.self)) now after (event_of event) (Ok effect) stepped.world m (c.loop-place.invariant.sent m h);
     }
 
 pub returns-in-Err-clause-sent : goal.returns-in-Err-clause-sent
 returns-in-Err-clause-sent g c =
     let machine = g.M.Machine in
-    let s = setting_of machine.next machine.answers machine.begin c.loop-place.self in
+    let s = cluster_setting machine.next machine.answers machine.begin c.loop-place.self in
     λ m h. sent_stays s (c.worlds_grow.ensures s) c.loop-place.self.world c.step.new.self.world (event_of c.index-events-place.result) c.step.result c.step.ensures.step.world m (c.loop-place.invariant.sent m h)
 
 pub returns-in-Err-clause-run : goal.returns-in-Err-clause-run

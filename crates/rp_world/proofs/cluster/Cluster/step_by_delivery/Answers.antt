@@ -6,7 +6,7 @@ use Rattle.rp_model.specs.Effect.{Setting}
 use Rattle.rp_model.specs.Events.{Makes, Deliver}
 use Rattle.rp_world.specs.Going.{stated}
 use Rattle.rp_world.specs.Shape.{IsCluster}
-use Rattle.rp_world.specs.Steps.{IsLightStep, IsStep, setting_of}
+use Rattle.rp_world.specs.Steps.{IsLightStep, IsStep, cluster_setting}
 use Rattle.rp_world.proofs.Answering.{same_setting}
 use Rattle.rp_world.proofs.Stepping.{made_whole}
 use Rattle.rp_world.proofs.cluster.Cluster.step_by_delivery.Goals as goal
@@ -16,7 +16,7 @@ invariant_of-self g c =
     let m = g.M.Machine in
     let old = c.self.inside.world in
     let new = c.deliver.new.self in
-    let s = setting_of m.next m.answers m.begin old in
+    let s = cluster_setting m.next m.answers m.begin old in
     let step = Deliver c.args.number in
     let answer = stated c.deliver.result c.deliver.new.effect in
     let whole = made_whole m.next m.answers m.begin old new (Node (steps.Deliver c.args.number)) answer step refl c.deliver.ensures.answer in
@@ -41,4 +41,4 @@ returns-clause-step g c =
 pub returns-clause-certain : goal.returns-clause-certain
 returns-clause-certain g c = λ light.
     let m = g.M.Machine in
-    c.deliver.ensures.certain (subst (λ was. IsLightStep (setting_of m.next m.answers m.begin was) was.world (Deliver c.args.number)) (sym c.self.view_is) light)
+    c.deliver.ensures.certain (subst (λ was. IsLightStep (cluster_setting m.next m.answers m.begin was) was.world (Deliver c.args.number)) (sym c.self.view_is) light)

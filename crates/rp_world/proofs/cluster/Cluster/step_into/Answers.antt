@@ -5,10 +5,10 @@ use Rattle.rp_model.specs.declared.event.Event.TheVariants.{Node}
 use Rattle.rp_model.specs.declared.event.Step.TheVariants as steps
 use Rattle.rp_model.specs.Events.{Makes, Deliver, Step, event_of}
 use Rattle.rp_world.specs.Going.{stated}
-use Rattle.rp_world.specs.Steps.{IsLightStep, IsStep, setting_of}
+use Rattle.rp_world.specs.Steps.{IsLightStep, IsStep, cluster_setting}
 use Rattle.rp_world.proofs.cluster.Cluster.step_into.Goals as goal
 
 pub returns-clause-certain : goal.returns-clause-certain
 returns-clause-certain g c = λ taken is light.
     let m = g.M.Machine in
-    c.step_into.ensures.certain taken is (subst (λ was. IsLightStep (setting_of m.next m.answers m.begin was) was.world taken) (sym c.self.view_is) light)
+    c.step_into.ensures.certain taken is (subst (λ was. IsLightStep (cluster_setting m.next m.answers m.begin was) was.world taken) (sym c.self.view_is) light)

@@ -1,6 +1,6 @@
 use Rattle.std.proofs.Common.{◌≡◌, Some, slice_get}
 use Rattle.rp_model.specs.Effect.{Receive}
-use Rattle.rp_replica.specs.Inputs.{effect_of}
+use Rattle.rp_replica.specs.Inputs.{replica_effect}
 use Rattle.rp_world.proofs.Light.{light_turn}
 use Rattle.rp_world.proofs.Represented.{node_runs, runs_as}
 use Rattle.rp_world.proofs.Turning.{each_ok, each_err, got_at, unsent}
@@ -13,7 +13,7 @@ returns-else-has_failed g c =
     let sent = c.args.messages.now.sent in
     let later = c.deliver.new.out.sent in
     let there = got_at sent c.args.place c.requires.place in
-    let effect = effect_of r.next r.answers r.replica (Receive there.0) in
+    let effect = replica_effect r.next r.answers r.replica (Receive there.0) in
     record {
       ok = each_ok r Receive (λ m. slice_get sent c.args.place ≡ Some m) new sent later c.deliver.result c.deliver.ensures.answer;
       err = each_err r Receive (λ m. slice_get sent c.args.place ≡ Some m) new sent later c.deliver.result c.deliver.ensures.answer;

@@ -6,7 +6,7 @@ use Rattle.std.proofs.lemmas.Int.{to_z-of_z}
 use Rattle.rp_model.specs.Events.{Submit, Makes, IsRightEvent, event_of, step_of}
 use Rattle.rp_model.specs.World.{event_effect}
 use Rattle.rp_world.specs.Going.{Answers, call_meant, stated}
-use Rattle.rp_world.specs.Steps.{IsLightStep, IsStep, setting_of}
+use Rattle.rp_world.specs.Steps.{IsLightStep, IsStep, cluster_setting}
 use Rattle.rp_world.proofs.Stepping.{submitted, asked, made_whole, made_cut, stopped, restarted}
 use Rattle.rp_world.proofs.world.World.step_into.Goals as goal
 use Rattle.rp_world.proofs.world.World.step_into.Goals.{in-Submit, in-Again, in-Cut, in-Stop, in-Restart}
@@ -15,7 +15,7 @@ pub returns-in-Node : goal.returns-in-Node
 returns-in-Node g c =
     let m = g.M.Machine in
     let old = c.args.self.now in
-    let s = setting_of m.next m.answers m.begin old in
+    let s = cluster_setting m.next m.answers m.begin old in
     let step = step_of c.in-Node.step in
     let made = c.make_step in
     record {
@@ -30,7 +30,7 @@ pub returns-clause-step : goal.returns-clause-step
 returns-clause-step g c =
     let m = g.M.Machine in
     let old = c.args.self.now in
-    let s = setting_of m.next m.answers m.begin old in
+    let s = cluster_setting m.next m.answers m.begin old in
     let stepped = IsStep m.next m.answers m.begin old c.args.event.now in
     subst (stepped c.match-event.self) (sym c.write_effect.ensures) (elim c.match-event.branch [
       | in-Submit w ↦

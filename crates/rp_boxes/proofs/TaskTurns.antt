@@ -225,7 +225,7 @@ module _ {M P : Type 0} (event : TaskEvent M P) where
 
     module _ (part_is : new.part ≡ event.done.part) (sends_are : sends ≡ event.done.sends) where
       after_is : state_at inside place ≡ record (state inside) { part = part_after known (OfTask event.done.part) event.done.sends }
-      after_is = λ i. record (state inside) { table = same i; part = (sees ∙ sym (becomes new.part sends part_is sends_are)) i }
+      after_is = λ i. record (state inside) { setup = record ((state inside).setup) { table = same i }; part = (sees ∙ sym (becomes new.part sends part_is sends_are)) i }
 
       pub asked_state : (sent : Sent) → DescribesPackets sent sends → IsTaskTurn (state inside) event.input (state_at inside place) sent
       asked_state sent describes = record {

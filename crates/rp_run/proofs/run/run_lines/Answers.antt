@@ -31,7 +31,7 @@ returns-in_err-taken-clause-output g c =
     let options = c.args.options.now in
     let s = run_setting m.next m.answers m.begin m.image (opening_cluster options.config c.args.program) options in
     let so_far = c.loop-line.invariant.so_far in
-    let same = same_run_setting m.next m.answers m.begin m.image options _ c.loop-line.run.cluster c.loop-line.invariant.setup in
+    let same = same_run_setting m.next m.answers m.begin m.image options (opening_cluster options.config c.args.program) c.loop-line.run.cluster c.loop-line.invariant.setup in
     let said = c.in_err-taken.ensures.printed so_far.said.play so_far.follows in
     writes_failed _ _ _ c.from_residual-in_err-taken.result c.from_residual-in_err-taken.ensures.0
     (line_fails s options.most options.lines.now c.loop-line.line-index c.line-item.result (omega arith) c.line-item.is so_far (rw same at said))

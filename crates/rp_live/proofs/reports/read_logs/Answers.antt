@@ -1,5 +1,5 @@
 -- One node more has reported.
-use Rattle.std.proofs.Common.{◌≡◌, ℕ, All, length, arith, refl, sym, ap, subst}
+use Rattle.std.proofs.Common.{◌≡◌, ◌∙◌, ℕ, All, length, arith, refl, sym, ap, subst}
 use Rattle.rp_boxes.specs.Audits.{known_of}
 use Rattle.rp_boxes.specs.Seats.{SeatSetup, HasApplied}
 use Rattle.rp_world.proofs.Fresh.{rest_of}

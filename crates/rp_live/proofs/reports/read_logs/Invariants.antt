@@ -1,5 +1,5 @@
 -- The nodes so far have reported.
-use Rattle.std.proofs.Common.{All, length}
+use Rattle.std.proofs.Common.{◌≡◌, All, length}
 use Rattle.std.specs.List.{AllZip}
 use Rattle.rp_boxes.specs.Seats.{HasApplied}
 use Rattle.rp_threads.proofs.Places.{AreZippedSoFar}

@@ -1,5 +1,5 @@
 -- A node leads anew after an idle turn, or need not.
-use Rattle.std.proofs.Common.{◌≡◌, ◌⊎◌, ℕ, suc, add-one, ◌+◌, ◌<◌, ◌≤◌, nat_lt, length, Bool, true, false, Option, Some, None, Result, Ok, Err, List, inl, inr, refl, sym, ap, subst, ◌∙◌, arith}
+use Rattle.std.proofs.Common.{◌≡◌, ◌⊎◌, ℕ, ◌+◌, ◌<◌, ◌≤◌, nat_lt, length, Bool, true, false, Option, Some, None, Result, Ok, Err, List, inl, inr, refl, sym, ap, subst, ◌∙◌, arith}
 use Rattle.std.proofs.lemmas.Grind.{common_steps}
 use Rattle.std.specs.Prelude.{IfOk, IfErr, IfNone, IfSome, IsSome, OnSome}
 use Rattle.rp_base.specs.Records.{applied_of}
@@ -13,7 +13,7 @@ use Rattle.rp_boxes.specs.Parts.{Part}
 use Rattle.rp_boxes.specs.Seats.{SeatState, HasApplied, HasUncounted, IsStopped}
 use Rattle.rp_threads.specs.Loops.{is_idle, is_to_lead, sender_at}
 use Rattle.rp_patience.specs.Patience.{waits, is_over, after_quiet}
-use Rattle.rp_threads.specs.Rounds.{NodeAt, HasWaited, IsToLeadAt, NeedNotLead, still_waits, no_position_left, CountsQuiet, IsLeadAnew, WorkerAt, IsMade, IsUnmade}
+use Rattle.rp_threads.specs.Rounds.{HasWaited, IsToLeadAt, NeedNotLead, still_waits, no_position_left, CountsQuiet, IsLeadAnew, WorkerAt, IsMade, IsUnmade}
 use Rattle.rp_threads.specs.Turns.{IsEventBy, IsLost, IsStopBy, IsNodeTurn, IsStoppedTurn}
 use Rattle.rp_patience.specs.declared.patience.Patience.{Patience}
 use Rattle.rp_threads.specs.declared.turns.Turn.{Turn}
@@ -113,12 +113,3 @@ module _ {S P : Type 0} (next : S → Action → S) (answers : S → Action → 
   unmade_at from lead fault sent leads why =
       subst (λ (l : Bool). IsUnmade next answers begin (sender_at nodes turn) l old new fault) (leads ∙ ap (λ (n : ℕ). is_to_lead n turn) is)
       (subst (λ (p : Party). IsUnmade next answers begin p lead old new fault) sent why)
-
--- ---- what the gate is asked
-
-pub asked_at : {P : Type 0} (over : Party → ℕ → Bool → Bool → Type 0) (now : NodeAt P) (done number : ℕ) (is_over said : Bool) → number ≡ now.worker.seat.setup.number → is_over ≡ said
-    → over (Node number) (done + 1) now.rests is_over → over (Node now.worker.seat.setup.number) (suc done) now.rests said
-asked_at over now done number is_over said is says asked =
-    subst (λ (b : Bool). over (Node now.worker.seat.setup.number) (suc done) now.rests b) says
-    (subst (λ (n : ℕ). over (Node n) (suc done) now.rests is_over) is
-    (subst (λ (t : ℕ). over (Node number) t now.rests is_over) (add-one done) asked))

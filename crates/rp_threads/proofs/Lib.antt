@@ -7,6 +7,7 @@ pub mod Running
 pub mod Refusals
 pub mod Later
 pub mod Chains
+pub mod NodeChains
 pub mod TaskSteps
 pub mod TaskChains
 pub mod Puts

@@ -1,7 +1,8 @@
 -- The turns of a task's loop, one after the other: what calls they made, and why one is not made.
-use Rattle.std.proofs.Common.{◌≡◌, ℕ, zero, suc, add-one, ◌+◌, ◌%◌, ◌/◌, ◌<◌, ◌≤◌, ◌||◌, not, nat_eq, nat_lt, Bool, true, false, Option, Some, None, Ok, Err, List, [], ◌∷◌, length, is_some, slice_get, inl, inr, refl, sym, ap, subst, ◌∙◌, arith, if◌then◌else◌}
+use Rattle.std.proofs.Common.{◌≡◌, ℕ, zero, suc, ◌+◌, ◌%◌, ◌/◌, ◌<◌, ◌≤◌, ◌||◌, not, nat_eq, nat_lt, Bool, true, false, Option, Some, None, Ok, Err, List, [], ◌∷◌, length, is_some, slice_get, inl, inr, refl, sym, ap, subst, ◌∙◌, arith, if◌then◌else◌}
 use Rattle.std.proofs.lemmas.Grind.{common_steps}
 use Rattle.std.proofs.lemmas.Nat.{mod_below}
+use Rattle.std.specs.Prelude.{IfSome}
 use Rattle.rp_base.specs.Action.{is_right}
 use Rattle.rp_base.specs.Calls.{are_exhausted, next_call}
 use Rattle.rp_base.specs.declared.action.Action.{Action}
@@ -17,14 +18,15 @@ use Rattle.rp_tasks.specs.Line.{Line}
 use Rattle.rp_boxes.specs.Parts.{OfTask, fresh_part}
 use Rattle.rp_boxes.specs.Seats.{SeatSetup, SeatState}
 use Rattle.rp_threads.specs.Lines.{given_on, line_after}
+use Rattle.rp_threads.specs.LoopTurns.{EndsBy, HasEnded}
 use Rattle.rp_threads.specs.Loops.{node_at}
-use Rattle.rp_threads.specs.Tasks.{HasMade, TaskAt, before_calls, call_after}
-use Rattle.rp_threads.specs.TaskRounds.{AreTaskTurns, Asks, Hears, IsHeard, IsLastTaskTurn, IsTaskAsked, IsTaskRefused, IsTaskFault, IsTaskTurnOf, IsUnmadeTurn, untaken, unheard, unasked, asked_by, asked_for, asked_in, has_all_replies, heard_by, made_by, submitted, with_call, with_lost}
+use Rattle.rp_threads.specs.Tasks.{HasMade, TaskAt, before_calls, call_after, task_party}
+use Rattle.rp_threads.specs.TaskRounds.{Asks, Hears, IsHeard, IsTaskRefused, IsTaskFault, IsTaskTurnOf, IsUnmadeTurn, untaken, unheard, unasked, asked_by, asked_for, asked_in, heard_by, made_by, submitted, task_rests, with_call, with_lost}
 use Rattle.rp_threads.specs.Threads.{IsTaskLooped, task_end_of}
 use Rattle.rp_threads.specs.Turns.{IsBrought, IsLost, MayFetch}
 use Rattle.rp_threads.specs.declared.tasks.Calls.{Calls}
 use Rattle.rp_threads.specs.declared.tasks.TaskCall.{TaskCall}
-use Rattle.rp_threads.specs.declared.tasks.TaskEnd.{TaskEnd}
+use Rattle.rp_threads.proofs.Chains.{by_turns}
 use Rattle.rp_threads.proofs.TaskSteps.{again_made, asked_puts, asked_same, call_made, fetched_made, heard_made, none_made, put_made, same_task}
 
 no_first : (xs : List TaskCall) → 0 < length xs → slice_get xs 0 ≡ None → ⊥
@@ -42,6 +44,19 @@ with_some calls (Some call) so_far at some = omega arith
 
 less_of : (m n : ℕ) → nat_lt m n ≡ true → m < n
 less_of m n is = grind (arith, common_steps)
+
+-- What n turns of the task of this seat leave: they made the first of its calls, one of them at once.
+pub record HasMadeCalls {P : Type 0} (calls : List TaskCall) (seat : SeatState P) (n : ℕ) (now : TaskAt P) : Type 0 where
+  pub same : now.seat.setup ≡ seat.setup
+  pub made : HasMade calls now.seat now.so_far.made now.so_far.waits
+  pub first : 0 < length calls → 0 < n → 0 < now.so_far.made
+
+-- What a loop that made n turns and ended by this fault, or without one, leaves of the seat.
+pub record IsLeftBy {P : Type 0} (nodes : ℕ) (calls : List TaskCall) (seat : SeatState P) (n : ℕ) (last : TaskAt P) (fault : Option Fault) : Type 0 where
+  pub same : last.seat.setup ≡ seat.setup
+  pub made : HasMade calls last.seat last.so_far.made last.so_far.waits
+  pub first : fault ≡ None → 0 < length calls → 0 < n → 0 < last.so_far.made
+  pub cause : IfSome fault (IsTaskFault nodes calls seat last.so_far.made)
 
 -- ---- what is heard
 
@@ -110,11 +125,6 @@ module _ {S P : Type 0} (next : S → Action → S) (answers : S → Action → 
         subst (λ (c : Calls). IsMadeOn old.seat new.seat old.so_far c) (sym t.counts)
         (made_then old.seat t.heard new.seat old.so_far t.so_far (asked_for calls t.so_far)
         (hears_on turn old t.heard new.line t.so_far t.hears) (asked_on t.so_far.waits turn t.heard new.seat t.so_far t.lost t.asks))
-
-    turns_on : (over : Party → ℕ → Bool → Bool → Type 0) (first : TaskAt P) (n : ℕ) (now : TaskAt P) → AreTaskTurns next answers begin over nodes calls first n now → IsMadeOn first.seat now.seat first.so_far now.so_far
-    turns_on over first zero now are = subst (λ (at : TaskAt P). IsMadeOn first.seat at.seat first.so_far at.so_far) (sym are) (stays_on first.seat first.seat first.so_far refl)
-    turns_on over first (suc n) now are =
-        made_then first.seat are.0.seat now.seat first.so_far are.0.so_far now.so_far (turns_on over first n are.0 are.1) (turn_on (suc n) are.0 now are.2)
 
     -- ---- what is refused
 
@@ -229,61 +239,60 @@ module _ {S P : Type 0} (next : S → Action → S) (answers : S → Action → 
     some_made true so_far seat h some = let e = h.waiting.2 in omega (arith, e)
     some_made false so_far seat h some = with_some calls (slice_get calls so_far.made) so_far refl some
 
-    first_made : (over : Party → ℕ → Bool → Bool → Type 0) (first : TaskAt P) (n : ℕ) (now : TaskAt P) → HasMade calls first.seat first.so_far.made first.so_far.waits
-        → AreTaskTurns next answers begin over nodes calls first n now
-        → 0 < length calls → 0 < n → 0 < now.so_far.made
-    first_made over first zero now h are some more = absurd (omega (arith, more))
-    first_made over first (suc n) now h are some more =
-        let t = are.2 in
-        let made = (hears_on (suc n) are.0 t.heard now.line t.so_far t.hears).1 ((turns_on over first n are.0 are.1).1 h) in
-        subst (λ (c : Calls). 0 < c.made) (sym t.counts) (some_made t.so_far.waits t.so_far t.heard made some)
+    -- ---- the turns, one after the other
+
+    abbrev IsTurn : ℕ → TaskAt P → TaskAt P → Type 0
+    IsTurn = IsTaskTurnOf next answers begin nodes calls
+
+    abbrev IsNoTurn : ℕ → TaskAt P → TaskAt P → Fault → Type 0
+    IsNoTurn = IsUnmadeTurn next answers begin nodes calls
+
+    one_turned : (first : SeatState P) (n : ℕ) (old new : TaskAt P) → HasMadeCalls calls first n old → IsTurn (suc n) old new → HasMadeCalls calls first (suc n) new
+    one_turned first n old new has t =
+        let on = turn_on (suc n) old new t in
+        let heard = (hears_on (suc n) old t.heard new.line t.so_far t.hears).1 has.made in
+        record {
+          same = on.0 ∙ has.same;
+          made = on.1 has.made;
+          first = λ some more. subst (λ (c : Calls). 0 < c.made) (sym t.counts) (some_made t.so_far.waits t.so_far t.heard heard some);
+        }
 
     -- ---- ends of loops
 
-    module _ {M : Type 0} (over : Party → ℕ → Bool → Bool → Type 0) (ended : Party → Option Fault → Type 0) (turns : ℕ) (seat : SeatState P) (line : Line) (fresh : seat.part ≡ fresh_part (OfTask fresh_task)) where
-      abbrev IsEnd : TaskEnd M P → Type 0
-      IsEnd end = IsTaskLooped next answers begin over ended nodes turns calls seat line end
+    module _ (over : Party → ℕ → Bool → Bool → Type 0) (turns : ℕ) (seat : SeatState P) (line : Line) (fresh : seat.part ≡ fresh_part (OfTask fresh_task)) where
+      abbrev Ended : TaskAt P → Option Fault → Type 0
+      Ended last fault = HasEnded over task_party (task_rests calls) IsTurn IsNoTurn turns (before_calls seat line) last fault
 
-      pub task_looped : (done : ℕ) (now : TaskAt P) → AreTaskTurns next answers begin over nodes calls (before_calls seat line) done now → IsLastTaskTurn next answers begin over nodes calls turns done now
-          → ended (Task now.seat.setup.number) None → IsEnd (task_end_of now None)
-      task_looped done now are stops notified =
-          let on = turns_on over (before_calls seat line) done now are in
-          let none = none_made calls seat fresh in
-          record {
-            same = on.0;
-            notified = subst (λ (s : SeatSetup P). ended (Task s.number) None) on.0 notified;
-            made = (now.so_far.waits, on.1 none);
-            whole = λ faultless. record {
-              done = done;
-              last = now;
-              is = refl;
-              turned = are;
-              stops = stops;
-              first = λ some more. first_made over (before_calls seat line) done now none are some more;
-            };
-            fault = tt;
-          }
+      none_turned : HasMadeCalls calls seat 0 (before_calls seat line)
+      none_turned = record { same = refl; made = none_made calls seat fresh; first = λ some more. absurd (omega (arith, more)) }
 
-      pub task_ended : (done : ℕ) (before last : TaskAt P) (fault : Fault) → 1 ≤ nodes → AreTaskTurns next answers begin over nodes calls (before_calls seat line) done before → done < turns
-          → IsTaskAsked next answers begin over nodes calls (suc done) before false → IsUnmadeTurn next answers begin nodes calls (suc done) before last fault
-          → ended (Task last.seat.setup.number) (Some fault) → IsEnd (task_end_of last (Some fault))
-      task_ended done before last fault some are within asked unmade notified =
-          let on = turns_on over (before_calls seat line) done before are in
-          let left = unmade_on (suc done) seat before last fault on.0 (on.1 (none_made calls seat fresh)) some unmade in
-          record {
-            same = left.0;
-            notified = subst (λ (s : SeatSetup P). ended (Task s.number) (Some fault)) left.0 notified;
-            made = (last.so_far.waits, left.1);
-            whole = λ none. absurd (some_fault fault none);
-            fault = record {
-              last = last;
-              is = refl;
-              until = record { cause = left.2; done = done; within = within; before = before; made = are; asked = asked; unmade = unmade };
-            };
-          }
+      left_by : 1 ≤ nodes → (fault : Option Fault) (done : ℕ) (before last : TaskAt P) → HasMadeCalls calls seat done before → EndsBy over task_party (task_rests calls) IsTurn IsNoTurn fault turns done before last
+          → IsLeftBy nodes calls seat done last fault
+      left_by some None done before last has ends =
+          let now = subst (HasMadeCalls calls seat done) (sym ends.0) has in
+          record { same = now.same; made = now.made; first = λ none. now.first; cause = tt }
+      left_by some (Some fault) done before last has ends =
+          let left = unmade_on (suc done) seat before last fault has.same has.made some ends.2 in
+          record { same = left.0; made = left.1; first = λ none. absurd (some_fault fault none); cause = left.2 }
         where
           some_fault : (f : Fault) → Some f ≡ None → ⊥
           some_fault f is = cc
+
+      pub task_looped : {M : Type 0} (notifies : Party → Option Fault → Type 0) → 1 ≤ nodes → (last : TaskAt P) (fault : Option Fault) → Ended last fault → notifies (task_party last) fault
+          → IsTaskLooped {M = M} next answers begin over notifies nodes turns calls seat line (task_end_of last fault)
+      task_looped notifies some last fault ended notified =
+          let has = by_turns over task_party (task_rests calls) IsTurn (HasMadeCalls calls seat) (one_turned seat) (before_calls seat line) none_turned ended.done ended.before ended.turned in
+          let left = left_by some fault ended.done ended.before last has ended.ends in
+          record {
+            last = last;
+            is = refl;
+            ran = ended;
+            same = left.same;
+            notified = subst (λ (s : SeatSetup P). notifies (Task s.number) fault) left.same notified;
+            made = (last.so_far.waits, left.made);
+            first = left.first;
+            cause = left.cause;
+          }
 
 -- ---- one turn, by its steps
 
@@ -325,13 +334,3 @@ module _ (nodes : ℕ) (calls : List TaskCall) (turn : ℕ) (so_far : Calls) (ca
 
   pub made_next : asked_for calls so_far ≡ with_call call so_far
   made_next = ap (λ (b : Bool). made_by b calls so_far) off ∙ ap (λ (o : Option TaskCall). with_call o so_far) at
-
--- ---- what the gate is asked
-
-pub task_asked_at : {P : Type 0} (over : Party → ℕ → Bool → Bool → Type 0) (calls : List TaskCall) (now : TaskAt P) (done number : ℕ) (rests is_over said : Bool) → number ≡ now.seat.setup.number
-    → rests ≡ has_all_replies calls now.so_far → is_over ≡ said → over (Task number) (done + 1) rests is_over → over (Task now.seat.setup.number) (suc done) (has_all_replies calls now.so_far) said
-task_asked_at over calls now done number rests is_over said is has says asked =
-    subst (λ (b : Bool). over (Task now.seat.setup.number) (suc done) (has_all_replies calls now.so_far) b) says
-    (subst (λ (r : Bool). over (Task now.seat.setup.number) (suc done) r is_over) has
-    (subst (λ (n : ℕ). over (Task n) (suc done) rests is_over) is
-    (subst (λ (t : ℕ). over (Task number) t rests is_over) (add-one done) asked)))

@@ -1,5 +1,6 @@
 pub mod Lines
 pub mod Turns
+pub mod LoopTurns
 pub mod Loops
 pub mod Rounds
 pub mod Tasks

@@ -153,6 +153,21 @@ pub record NodeAt (P : Type 0) : Type 0 where
   pub counts : Counts
   pub rests : Bool
 
+-- the state of the loop of this worker
+abbrev pub node_state : {M D P : Type 0} → Worker M D P → NodeAt P
+node_state worker = record {
+  worker = worker_at worker;
+  counts = worker.counts;
+  rests = worker.rests;
+}
+
+-- who it is, as the gate knows it
+abbrev pub node_party : {P : Type 0} → NodeAt P → Party
+node_party now = Node now.worker.seat.setup.number
+
+abbrev pub node_rests : {P : Type 0} → NodeAt P → Bool
+node_rests now = now.rests
+
 -- before its first turn
 abbrev pub before_turns : {P : Type 0} → SeatState P → Line → NodeAt P
 before_turns seat line = record {
@@ -187,41 +202,16 @@ module _ {S P : Type 0} (next : S → Action → S) (answers : S → Action → 
       × IsUnmade next answers begin (sender_at nodes turn)
       (is_to_lead old.seat.setup.number turn) old new fault
 
-module _ {S P : Type 0} (next : S → Action → S) (answers : S → Action → List Answer)
-    (begin : P → S) (lets : ℕ → ℕ → Bool) (heard : ℕ → ℕ → ℕ → Type 0)
-    (over : Party → ℕ → Bool → Bool → Type 0) (nodes : ℕ) where
-  -- the gate, asked before the turn with this number, said whether the run is over
-  abbrev pub IsAsked : ℕ → NodeAt P → Bool → Type 0
-  IsAsked turn now is_over = over (Node now.worker.seat.setup.number) turn now.rests is_over
-
-  -- One more turn, before which the gate said that the run is not over; it is counted.
-  pub record IsNextTurn (turn : ℕ) (old new : NodeAt P) : Type 0 where
-    pub asked : IsAsked turn old false
+  -- The turn with this number was made or skipped, and is counted.
+  pub record IsCountedTurn (turn : ℕ) (old new : NodeAt P) : Type 0 where
     pub made : Option TurnResult
-    pub turns : IsTurnOf next answers begin lets heard nodes turn old.worker new.worker made
+    pub turns : IsTurnOf turn old.worker new.worker made
     pub counts : new.counts ≡ counted made old.counts
     pub rests : RestsAfter made new.worker.seat.part new.rests
 
-  -- the turns 1 to n, one after the other
-  abbrev pub AreTurns : NodeAt P → ℕ → NodeAt P → Type 0
-  AreTurns first zero now = now ≡ first
-  AreTurns first (suc n) now =
-      (before : NodeAt P) × AreTurns first n before × IsNextTurn (suc n) before now
-
-  -- why no turn follows the first n, in this state: they are all, or the gate said then that the
-  -- run is over
-  abbrev pub IsLastTurn : ℕ → ℕ → NodeAt P → Type 0
-  IsLastTurn turns done now = (done ≡ turns) ⊎ ((done < turns) × IsAsked (suc done) now true)
-
-  -- After some turns the next one, of at most n, was not made, because of a fault other than a
-  -- refusal to lead.
-  pub record IsEndedBy (first : NodeAt P) (turns : ℕ) (last : WorkerAt P) (fault : Fault)
-      : Type 0 where
-    pub cause : IsNodeFault first.worker.seat last.seat fault
-    pub done : ℕ
-    pub within : done < turns
-    pub before : NodeAt P
-    pub made : AreTurns first done before
-    pub asked : IsAsked (suc done) before false
-    pub unmade : IsTurnUnmade next answers begin lets heard nodes (suc done) before.worker last
-        fault
+  -- The turn with this number was not made, because of a fault other than a refusal to lead. It is
+  -- not counted.
+  pub record IsUncountedTurn (turn : ℕ) (old new : NodeAt P) (fault : Fault) : Type 0 where
+    pub ends : is_refusal fault ≡ false
+    pub unmade : IsTurnUnmade turn old.worker new.worker fault
+    pub counts : new.counts ≡ old.counts

@@ -91,6 +91,10 @@ asked_for calls so_far = made_by so_far.waits calls so_far
 abbrev pub has_all_replies : List TaskCall → Calls → Bool
 has_all_replies calls so_far = not so_far.waits && nat_eq so_far.made (length calls)
 
+-- then it rests
+abbrev pub task_rests : {P : Type 0} → List TaskCall → TaskAt P → Bool
+task_rests calls now = has_all_replies calls now.so_far
+
 -- n more packets are lost at boxes
 abbrev pub with_lost : ℕ → Calls → Calls
 with_lost lost so_far = record so_far { lost = saturating_sum so_far.lost lost }
@@ -157,36 +161,3 @@ module _ {S P : Type 0} (next : S → Action → S) (answers : S → Action → 
     pub lost : ℕ
     pub asks : Asks next answers begin (asked_in nodes calls turn so_far) heard new.seat lost
     pub counts : new.so_far ≡ with_lost lost (asked_for calls so_far)
-
-module _ {S P : Type 0} (next : S → Action → S) (answers : S → Action → List Answer)
-    (begin : P → S) (over : Party → ℕ → Bool → Bool → Type 0) (nodes : ℕ)
-    (calls : List TaskCall) where
-  -- the gate, asked before the turn with this number, said whether the run is over
-  abbrev pub IsTaskAsked : ℕ → TaskAt P → Bool → Type 0
-  IsTaskAsked turn now is_over =
-      over (Task now.seat.setup.number) turn (has_all_replies calls now.so_far) is_over
-
-  -- the turns 1 to n, one after the other; before each the gate said that the run is not over
-  abbrev pub AreTaskTurns : TaskAt P → ℕ → TaskAt P → Type 0
-  AreTaskTurns first zero now = now ≡ first
-  AreTaskTurns first (suc n) now =
-      (before : TaskAt P) × AreTaskTurns first n before
-      × IsTaskTurnOf next answers begin nodes calls (suc n) before now
-      × IsTaskAsked (suc n) before false
-
-  -- why no turn follows the first n, in this state: they are all, or the gate said then that the
-  -- run is over
-  abbrev pub IsLastTaskTurn : ℕ → ℕ → TaskAt P → Type 0
-  IsLastTaskTurn turns done now =
-      (done ≡ turns) ⊎ ((done < turns) × IsTaskAsked (suc done) now true)
-
-  -- After some turns the next one, of at most n, was not made.
-  pub record IsTaskEndedBy (first : TaskAt P) (turns : ℕ) (last : TaskAt P) (fault : Fault)
-      : Type 0 where
-    pub cause : IsTaskFault nodes calls first.seat last.so_far.made fault
-    pub done : ℕ
-    pub within : done < turns
-    pub before : TaskAt P
-    pub made : AreTaskTurns first done before
-    pub asked : IsTaskAsked (suc done) before false
-    pub unmade : IsUnmadeTurn next answers begin nodes calls (suc done) before last fault

@@ -5,6 +5,8 @@ use Rattle.rp_base.specs.Sets.{Has}
 use Rattle.rp_base.specs.declared.action.Action.{Action}
 use Rattle.rp_base.specs.Calls.{next_call}
 use Rattle.rp_codec.specs.Message.{Message}
+use Rattle.rp_codec.specs.declared.packet.Party.{Party}
+use Rattle.rp_codec.specs.declared.packet.Party.TheVariants.{Task}
 use Rattle.rp_model.specs.Parts.{TaskPart}
 use Rattle.rp_model.specs.Tasks.{asks}
 use Rattle.rp_tasks.specs.Line.{Line}
@@ -59,6 +61,10 @@ pub record TaskAt (P : Type 0) : Type 0 where
 
 abbrev pub caller_at : {M P : Type 0} → Caller M P → TaskAt P
 caller_at caller = record { seat = caller.seat; line = caller.link; so_far = caller.so_far }
+
+-- who it is, as the gate knows it
+abbrev pub task_party : {P : Type 0} → TaskAt P → Party
+task_party now = Task now.seat.setup.number
 
 -- before its first turn
 abbrev pub before_calls : {P : Type 0} → SeatState P → Line → TaskAt P

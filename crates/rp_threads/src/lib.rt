@@ -1,18 +1,20 @@
 //! Nodes and tasks in their own threads.
 //!
 //! In reading order:
-//! - `sends`: puts the packets of a step into their boxes
-//! - `turns`: a node's turn
 //! - `gate`: decides which turns a node makes
 //! - `options`: what the loops of a run share
+//! - `actor`: the turns of a node or a task, one after the other: the one loop
+//! - `sends`: puts the packets of a step into their boxes
+//! - `turns`: a node's turn
 //! - `rotation`: whose box a loop empties, and in which turns a node is to lead
-//! - `loops`: a node's turns, one after the other
-//! - `tasks`: a task's calls, one after the other
+//! - `loops`: a node in its loop
+//! - `tasks`: a task in its loop
 //! - `crossing`: seats may be moved to other threads
 //! - `starts`: starts the loop of a node or a task in its own thread
 //! - `threads`: runs all of them, and joins them
 #![tactic(auto)]
 
+mod actor;
 mod crossing;
 mod gate;
 mod loops;

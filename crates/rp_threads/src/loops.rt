@@ -1,13 +1,13 @@
 //! A node's turns, one after the other.
 
-ghost use Rattle.std.specs.Prelude.{◌≡◌, ◌+◌, ◌^◌, ◌<◌, ◌≤◌, false, true, [], None, IfOk, IfErr, IfSome, IfNone, OnSome};
-ghost use Rattle.rp_codec.specs.declared.packet.Party.TheVariants as parties;
+ghost use Rattle.std.specs.Prelude.{◌≡◌, ◌+◌, ◌^◌, ◌<◌, ◌≤◌, false, [], None, IfOk, IfErr, IfSome, IfNone, OnSome};
 ghost use Rattle.rp_threads.specs.Lines.{HoldsTextsOf};
 ghost use Rattle.rp_threads.specs.Loops.{is_refusal, is_idle, is_uneventful, counted, total_of, with_turn};
-ghost use Rattle.rp_threads.specs.Rounds.{IsToLeadAt, HasWaited, NeedNotLead, CountsQuiet, IsLeadAnew, IsMade, IsUnmade, IsTurnOf, IsTurnUnmade, RestsAfter, worker_at};
+ghost use Rattle.rp_threads.specs.Rounds.{IsToLeadAt, HasWaited, NeedNotLead, CountsQuiet, IsLeadAnew, IsMade, IsUnmade, IsTurnOf, IsTurnUnmade, RestsAfter, node_state, worker_at};
 ghost use Rattle.rp_threads.specs.Threads.{IsLooped, end_of};
 ghost use Rattle.rp_threads.specs.Turns.{IsEventBy, IsStopBy};
 
+use crate::actor::{Actor, run_turns};
 use crate::gate::Gate;
 use crate::options::LoopOptions;
 use crate::rotation::{is_to_lead, sender};
@@ -81,12 +81,16 @@ fn refuses_to_lead(fault: Fault) -> bool
     matches!(fault, Fault::BallotsSpent | Fault::LogFull)
 }
 
-/// A node in its loop: its seat, the link that delivers its packets, and its patience.
+/// A node in its loop, among n nodes: its seat, the link that delivers its packets, its patience,
+/// its turns so far, and whether it rests.
 #[derive(Drop)]
 struct Worker<M: Machine, D: Device> {
     seat: NodeSeat<M, D>,
     link: FaultLine,
     patience: Patience,
+    counts: Counts,
+    rests: bool,
+    nodes: u8,
 }
 
 /// Whether a turn was idle.
@@ -166,6 +170,8 @@ impl<M: Machine, D: Device> Worker<M, D> {
     fn work(&mut self, alloc: Global, from: Party, lead: bool) -> Result<TurnResult, Fault>
         requires held { HoldsTextsOf self.old.seat.part.got self.old.link }
         ensures held { HoldsTextsOf self.new.seat.part.got self.new.link }
+        ensures counts { self.new.counts ≡ self.old.counts }
+        ensures nodes { self.new.nodes ≡ self.old.nodes }
         ensures ok { IfOk result (IsMade M.next M.answers M.begin from lead
             (worker_at self.old) (worker_at self.new)) }
         ensures err { IfErr result (IsUnmade M.next M.answers M.begin from lead
@@ -182,7 +188,7 @@ impl<M: Machine, D: Device> Worker<M, D> {
     }
 
     /// Whether the node rests after a turn: nothing happened in it, and nothing is pending.
-    fn rests(&self, made: Option<TurnResult>) -> bool
+    fn rests_after(&self, made: Option<TurnResult>) -> bool
         ensures { RestsAfter made self.now.seat.part result }
     {
         if self.seat.has_pending() {
@@ -191,35 +197,22 @@ impl<M: Machine, D: Device> Worker<M, D> {
         is_uneventful(made)
     }
 
-    /// The end of a loop with these counts, of which the gate is notified.
-    fn ended<G: Gate>(self, gate: &G, counts: Counts, fault: Option<Fault>) -> NodeEnd<M, D>
-        ensures end { result ≡ end_of (worker_at self) counts fault }
-        ensures heard { G.ended (parties.Node self.seat.setup.number) fault }
-    {
-        gate.end(Party::Node(self.seat.number()), fault);
-        let lost = counts.lost.saturating_add(self.link.lost());
-        NodeEnd {
-            seat: self.seat,
-            counts: Counts { lost, ..counts },
-            fault,
-        }
-    }
-
     /// One turn of a loop. `None` if it is skipped.
-    fn turn<G: Gate>(
+    fn make_turn<G: Gate>(
         &mut self,
         alloc: Global,
-        nodes: u8,
         gate: &G,
         turn: u64,
     ) -> Result<Option<TurnResult>, Fault>
-        requires nodes { nodes ≤ 7 }
+        requires nodes { self.old.nodes ≤ 7 }
         requires held { HoldsTextsOf self.old.seat.part.got self.old.link }
         ensures held { HoldsTextsOf self.new.seat.part.got self.new.link }
-        ensures ok { IfOk result (IsTurnOf M.next M.answers M.begin G.lets G.heard nodes turn
-            (worker_at self.old) (worker_at self.new)) }
+        ensures counts { self.new.counts ≡ self.old.counts }
+        ensures nodes { self.new.nodes ≡ self.old.nodes }
+        ensures ok { IfOk result (IsTurnOf M.next M.answers M.begin G.lets G.heard self.old.nodes
+            turn (worker_at self.old) (worker_at self.new)) }
         ensures err { IfErr result (λ fault. (is_refusal fault ≡ false)
-            × IsTurnUnmade M.next M.answers M.begin G.lets G.heard nodes turn
+            × IsTurnUnmade M.next M.answers M.begin G.lets G.heard self.old.nodes turn
             (worker_at self.old) (worker_at self.new) fault) }
     {
         let node = self.seat.number();
@@ -227,7 +220,7 @@ impl<M: Machine, D: Device> Worker<M, D> {
             return Ok(None);
         }
         let lead = is_to_lead(node, turn);
-        match self.work(alloc, sender(nodes, turn), lead) {
+        match self.work(alloc, sender(self.nodes, turn), lead) {
             Ok(turned) => {
                 gate.after(node, turn, turned.packets.sent);
                 Ok(Some(turned))
@@ -238,6 +231,59 @@ impl<M: Machine, D: Device> Worker<M, D> {
             }
             Err(fault) => Err(fault),
         }
+    }
+
+    /// The end of a loop.
+    fn ended(self, fault: Option<Fault>) -> NodeEnd<M, D>
+        ensures { result ≡ end_of (node_state self) fault }
+    {
+        let lost = self.counts.lost.saturating_add(self.link.lost());
+        NodeEnd {
+            seat: self.seat,
+            counts: Counts {
+                lost,
+                ..self.counts
+            },
+            fault,
+        }
+    }
+}
+
+impl<M: Machine, D: Device, G: Gate> Actor<G> for Worker<M, D> {
+    ghost use Rattle.std.specs.Prelude.{◌≡◌, ◌+◌, ◌≤◌};
+    ghost use Rattle.rp_codec.specs.declared.packet.Party.TheVariants.{Node};
+    ghost use Rattle.rp_threads.specs.Lines.{HoldsTextsOf};
+    ghost use Rattle.rp_threads.specs.Loops.{total_of};
+    ghost use Rattle.rp_threads.specs.Rounds.{IsCountedTurn, IsUncountedTurn, node_state};
+
+    ghost party = { λ worker. Node worker.seat.setup.number };
+
+    ghost rests = { λ worker. worker.rests };
+
+    ghost ready = { λ turn worker. (worker.nodes ≤ 7)
+        × HoldsTextsOf worker.seat.part.got worker.link × (total_of worker.counts + 1 ≡ turn) };
+
+    ghost turned = { λ turn old new. (new.nodes ≡ old.nodes)
+        × IsCountedTurn M.next M.answers M.begin G.lets G.heard old.nodes turn (node_state old)
+        (node_state new) };
+
+    ghost unmade = { λ turn old new fault.
+        IsUncountedTurn M.next M.answers M.begin G.lets G.heard old.nodes turn (node_state old)
+        (node_state new) fault };
+
+    fn party(&self) -> Party {
+        Party::Node(self.seat.number())
+    }
+
+    fn rests(&self) -> bool {
+        self.rests
+    }
+
+    fn turn(&mut self, alloc: Global, gate: &G, turn: u64) -> Result<(), Fault> {
+        let made = self.make_turn(alloc, gate, turn)?;
+        self.counts.count(made);
+        self.rests = self.rests_after(made);
+        Ok(())
     }
 }
 
@@ -286,27 +332,16 @@ pub fn node_loop<M: Machine, D: Device, G: Gate>(
         seat,
         link: line,
         patience: Patience::new(),
+        counts: Counts {
+            received: 0,
+            led: 0,
+            idle: 0,
+            skipped: 0,
+            lost: 0,
+        },
+        rests: false,
+        nodes,
     };
-    let mut counts = Counts {
-        received: 0,
-        led: 0,
-        idle: 0,
-        skipped: 0,
-        lost: 0,
-    };
-    let gate = options.gate;
-    let mut rests = false;
-    for done in 0..options.turns {
-        if gate.is_over(Party::Node(worker.seat.number()), done + 1, rests) {
-            return worker.ended(gate, counts, None);
-        }
-        match worker.turn(options.alloc, nodes, gate, done + 1) {
-            Ok(made) => {
-                counts.count(made);
-                rests = worker.rests(made);
-            }
-            Err(fault) => return worker.ended(gate, counts, Some(fault)),
-        }
-    }
-    worker.ended(gate, counts, None)
+    let fault = run_turns(&mut worker, options);
+    worker.ended(fault)
 }

@@ -8,11 +8,12 @@ ghost use Rattle.rp_codec.specs.declared.packet.Party.TheVariants as parties;
 ghost use Rattle.rp_model.specs.Parts.{fresh_task};
 ghost use Rattle.rp_model.specs.Tasks.{Again};
 ghost use Rattle.rp_threads.specs.Lines.{HoldsTextsOf, given_on, line_after};
-ghost use Rattle.rp_threads.specs.TaskRounds.{Hears, Asks, IsTaskRefused, IsTaskTurnOf, IsUnmadeTurn, asked_in, asked_for, has_all_replies, heard_by, submitted, with_lost};
+ghost use Rattle.rp_threads.specs.TaskRounds.{Hears, Asks, IsTaskRefused, asked_in, asked_for, has_all_replies, heard_by, submitted, with_lost};
 ghost use Rattle.rp_threads.specs.Tasks.{caller_at};
 ghost use Rattle.rp_threads.specs.Threads.{IsTaskLooped, task_end_of};
 ghost use Rattle.rp_threads.specs.Turns.{AreSent, IsAllOffered, IsOfferedToBox};
 
+use crate::actor::{Actor, run_turns};
 use crate::gate::Gate;
 use crate::options::LoopOptions;
 use crate::rotation::node_in_turn;
@@ -88,12 +89,15 @@ impl Calls {
     }
 }
 
-/// A task in its loop: its seat, the link that delivers its packets, and its calls so far.
+/// A task in its loop, among n nodes: its seat, the link that delivers its packets, its calls so
+/// far, and the calls that it is to make.
 #[derive(Drop)]
-struct Caller<M: Machine> {
+struct Caller<'a, M: Machine> {
     seat: TaskSeat<M>,
     link: FaultLine,
     so_far: Calls,
+    calls: &'a [TaskCall],
+    nodes: u8,
 }
 
 /// The task takes the packet that the link passes on, if there is one. Returns whether a call got
@@ -174,13 +178,44 @@ fn ask_again<M: Machine>(
     Ok(put_sent(seat, sent))
 }
 
-impl<M: Machine> Caller<M> {
-    /// The end of a loop, of which the gate is notified.
-    fn ended<G: Gate>(self, gate: &G, fault: Option<Fault>) -> TaskEnd<M>
-        ensures end { result ≡ task_end_of (caller_at self) fault }
-        ensures heard { G.ended (parties.Task self.seat.setup.number) fault }
+impl<M: Machine> Caller<'_, M> {
+    /// The task makes its next call, if it waits for no reply and there is a next call. While it
+    /// waits, it asks the next node again in every 16th turn. Returns how many packets are lost.
+    fn ask(&mut self, alloc: Global, turn: u64) -> Result<usize, Fault>
+        requires nodes { (1 ≤ self.old.nodes) × (self.old.nodes ≤ 7) }
+        ensures got { self.new.seat.part.got ≡ self.old.seat.part.got }
+        ensures link { self.new.link ≡ self.old.link }
+        ensures calls { self.new.calls ≡ self.old.calls }
+        ensures nodes { self.new.nodes ≡ self.old.nodes }
+        ensures ok { IfOk result (Asks M.next M.answers M.begin
+            (asked_in self.old.nodes self.old.calls.now turn self.old.so_far)
+            self.old.seat self.new.seat) }
+        ensures made { OnOk result
+            (self.new.so_far ≡ asked_for self.old.calls.now self.old.so_far) }
+        ensures err { IfErr result (λ fault. (self.new.so_far ≡ self.old.so_far)
+            × IsTaskRefused (asked_in self.old.nodes self.old.calls.now turn self.old.so_far)
+            self.old.seat self.new.seat fault) }
     {
-        gate.end(Party::Task(self.seat.number()), fault);
+        if self.so_far.waits {
+            if turn % ASK_PERIOD != 0 {
+                return Ok(0);
+            }
+            let node = node_in_turn(self.nodes, turn / ASK_PERIOD);
+            return ask_again(&mut self.seat, alloc, node);
+        }
+        let Some(call) = self.calls.get(self.so_far.made) else {
+            return Ok(0);
+        };
+        let lost = make(&mut self.seat, alloc, *call)?;
+        self.so_far.made += 1;
+        self.so_far.waits = true;
+        Ok(lost)
+    }
+
+    /// The end of a loop.
+    fn ended(self, fault: Option<Fault>) -> TaskEnd<M>
+        ensures { result ≡ task_end_of (caller_at self) fault }
+    {
         let lost = self.so_far.lost.saturating_add(self.link.lost());
         TaskEnd {
             seat: self.seat,
@@ -190,62 +225,47 @@ impl<M: Machine> Caller<M> {
             fault,
         }
     }
+}
 
-    /// The task makes its next call, if it waits for no reply and there is a next call. While it
-    /// waits, it asks the next node again in every 16th turn. Returns how many packets are lost.
-    fn ask(
-        &mut self,
-        alloc: Global,
-        nodes: u8,
-        calls: &[TaskCall],
-        turn: u64,
-    ) -> Result<usize, Fault>
-        requires nodes { (1 ≤ nodes) × (nodes ≤ 7) }
-        ensures got { self.new.seat.part.got ≡ self.old.seat.part.got }
-        ensures link { self.new.link ≡ self.old.link }
-        ensures ok { IfOk result (Asks M.next M.answers M.begin
-            (asked_in nodes calls.now turn self.old.so_far) self.old.seat self.new.seat) }
-        ensures made { OnOk result (self.new.so_far ≡ asked_for calls.now self.old.so_far) }
-        ensures err { IfErr result (λ fault. (self.new.so_far ≡ self.old.so_far)
-            × IsTaskRefused (asked_in nodes calls.now turn self.old.so_far)
-            self.old.seat self.new.seat fault) }
-    {
-        if self.so_far.waits {
-            if turn % ASK_PERIOD != 0 {
-                return Ok(0);
-            }
-            return ask_again(
-                &mut self.seat,
-                alloc,
-                node_in_turn(nodes, turn / ASK_PERIOD),
-            );
-        }
-        let Some(call) = calls.get(self.so_far.made) else {
-            return Ok(0);
-        };
-        let lost = make(&mut self.seat, alloc, *call)?;
-        self.so_far.made += 1;
-        self.so_far.waits = true;
-        Ok(lost)
+impl<M: Machine, G: Gate> Actor<G> for Caller<'_, M> {
+    ghost use Rattle.std.specs.Prelude.{◌≡◌, ◌≤◌};
+    ghost use Rattle.rp_codec.specs.declared.packet.Party.TheVariants.{Task};
+    ghost use Rattle.rp_threads.specs.Lines.{HoldsTextsOf};
+    ghost use Rattle.rp_threads.specs.TaskRounds.{IsTaskTurnOf, IsUnmadeTurn, has_all_replies};
+    ghost use Rattle.rp_threads.specs.Tasks.{caller_at};
+
+    ghost party = { λ caller. Task caller.seat.setup.number };
+
+    ghost rests = { λ caller. has_all_replies caller.calls.now caller.so_far };
+
+    ghost ready = { λ turn caller. ((1 ≤ caller.nodes) × (caller.nodes ≤ 7))
+        × HoldsTextsOf caller.seat.part.got caller.link };
+
+    ghost turned = { λ turn old new. (new.nodes ≡ old.nodes) × (new.calls ≡ old.calls)
+        × IsTaskTurnOf M.next M.answers M.begin old.nodes old.calls.now turn (caller_at old)
+        (caller_at new) };
+
+    ghost unmade = { λ turn old new fault.
+        IsUnmadeTurn M.next M.answers M.begin old.nodes old.calls.now turn (caller_at old)
+        (caller_at new) fault };
+
+    fn party(&self) -> Party {
+        Party::Task(self.seat.number())
     }
 
-    /// A turn of a task: it fetches from a node through its link, takes the packet that the link
-    /// passes on, and then asks.
-    fn turn(&mut self, alloc: Global, nodes: u8, calls: &[TaskCall], turn: u64) -> Result<(), Fault>
-        requires nodes { (1 ≤ nodes) × (nodes ≤ 7) }
-        requires held { HoldsTextsOf self.old.seat.part.got self.old.link }
-        ensures held { HoldsTextsOf self.new.seat.part.got self.new.link }
-        ensures ok { OnOk result (IsTaskTurnOf M.next M.answers M.begin nodes calls.now turn
-            (caller_at self.old) (caller_at self.new)) }
-        ensures err { IfErr result (IsUnmadeTurn M.next M.answers M.begin nodes calls.now turn
-            (caller_at self.old) (caller_at self.new)) }
-    {
+    fn rests(&self) -> bool {
+        self.so_far.has_all_replies(self.calls)
+    }
+
+    /// The task fetches from a node through its link, takes the packet that the link passes on, and
+    /// then asks.
+    fn turn(&mut self, alloc: Global, _gate: &G, turn: u64) -> Result<(), Fault> {
         gives_what_it_took();
-        let fetched = self.seat.fetch(Party::Node(node_in_turn(nodes, turn)));
+        let fetched = self.seat.fetch(Party::Node(node_in_turn(self.nodes, turn)));
         take_fetched(&mut self.link, alloc, fetched)?;
         let answered = hear(&mut self.seat, &mut self.link, alloc)?;
         self.so_far.hear(answered, turn);
-        let lost = self.ask(alloc, nodes, calls, turn)?;
+        let lost = self.ask(alloc, turn)?;
         self.so_far.lose(lost);
         Ok(())
     }
@@ -296,16 +316,9 @@ pub fn task_loop<M: Machine, G: Gate>(
             last_reply: 0,
             lost: 0,
         },
+        calls,
+        nodes,
     };
-    let gate = options.gate;
-    for done in 0..options.turns {
-        let rests = caller.so_far.has_all_replies(calls);
-        if gate.is_over(Party::Task(caller.seat.number()), done + 1, rests) {
-            return caller.ended(gate, None);
-        }
-        if let Err(fault) = caller.turn(options.alloc, nodes, calls, done + 1) {
-            return caller.ended(gate, Some(fault));
-        }
-    }
-    caller.ended(gate, None)
+    let fault = run_turns(&mut caller, options);
+    caller.ended(fault)
 }

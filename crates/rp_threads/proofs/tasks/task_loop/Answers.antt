@@ -1,75 +1,31 @@
--- The line is empty and the task fresh at first, and each turn is one more.
-use Rattle.std.proofs.Common.{◌≡◌, ℕ, false, true, inl, inr, refl, sym, subst, arith, add-one}
-use Rattle.rp_threads.specs.Tasks.{TaskAt, before_calls, caller_at}
-use Rattle.rp_threads.specs.TaskRounds.{AreTaskTurns, IsTaskTurnOf, IsUnmadeTurn}
+-- The link is empty and the task fresh at first, and the turns of the caller are those of its task.
+use Rattle.std.proofs.Common.{◌≡◌, ℕ, List, refl, sym, ap, subst, ◌∙◌}
+use Rattle.rp_base.specs.declared.fault.Fault.{Fault}
+use Rattle.rp_threads.specs.Tasks.{caller_at, task_party}
+use Rattle.rp_threads.specs.TaskRounds.{IsTaskTurnOf, IsUnmadeTurn, has_all_replies, task_rests}
 use Rattle.rp_threads.specs.Threads.{IsTaskLooped}
-use Rattle.rp_threads.proofs.TaskChains.{task_asked_at, task_looped, task_ended}
+use Rattle.rp_threads.specs.declared.tasks.TaskCall.{TaskCall}
+use Rattle.rp_threads.proofs.Chains.{seen_ended}
+use Rattle.rp_threads.proofs.TaskChains.{task_looped}
 use Rattle.rp_threads.proofs.Texts.{empty_holds}
 use Rattle.rp_threads.proofs.tasks.task_loop.Goals as goal
 
-pub loop-done-init : goal.loop-done-init
-loop-done-init g c = record { held = empty_holds c.args.seat.part.got c.args.line c.requires.line; turns = refl }
-
-pub loop-done-preserved : goal.loop-done-preserved
-loop-done-preserved g c =
-    let m = g.M.Machine in
-    let over = g.G.Gate.over in
-    let a = c.args in
-    let done = c.loop-done.done in
-    let caller = c.loop-done.caller in
-    let after = c.turn.new.self in
-    let before : TaskAt g.row.M-Program.Denot = caller_at caller in
-    let now : TaskAt g.row.M-Program.Denot = caller_at after in
-    let one = add-one done in
-    record {
-      held = c.turn.ensures.held;
-      turns = subst (λ (n : ℕ). AreTaskTurns m.next m.answers m.begin over a.nodes a.calls.now (before_calls a.seat a.line) n now) (sym one) (
-        before,
-        c.loop-done.invariant.turns,
-        subst (λ (n : ℕ). IsTaskTurnOf m.next m.answers m.begin a.nodes a.calls.now n before now) one c.in_default.ensures.ok,
-        task_asked_at over a.calls.now before done c.number.result c.has_all_replies-rests.result c.is_over.result false c.number.ensures c.has_all_replies-rests.ensures c.if-is_over.false c.is_over.ensures,
-      );
-    }
-
-pub returns-in-Err : goal.returns-in-Err
-returns-in-Err g c =
-    let m = g.M.Machine in
-    let over = g.G.Gate.over in
-    let ended = g.G.Gate.ended in
-    let a = c.args in
-    let done = c.loop-done.done in
-    let caller = c.loop-done.caller in
-    let after = c.turn.new.self in
-    let before : TaskAt g.row.M-Program.Denot = caller_at caller in
-    let last : TaskAt g.row.M-Program.Denot = caller_at after in
-    let unmade = subst (λ (n : ℕ). IsUnmadeTurn m.next m.answers m.begin a.nodes a.calls.now n before last c.in-Err.fault) (add-one done) c.in-Err.ensures.err in
-    subst (IsTaskLooped m.next m.answers m.begin over ended a.nodes a.options.turns a.calls.now a.seat a.line) (sym c.ended-in-Err.ensures.end)
-    (task_ended m.next m.answers m.begin a.calls.now a.nodes over ended a.options.turns a.seat a.line c.requires.fresh done before last c.in-Err.fault c.requires.nodes.0 c.loop-done.invariant.turns
-    (omega (arith, c.loop-done-test.true))
-    (task_asked_at over a.calls.now before done c.number.result c.has_all_replies-rests.result c.is_over.result false c.number.ensures c.has_all_replies-rests.ensures c.if-is_over.false c.is_over.ensures)
-    unmade c.ended-in-Err.ensures.heard)
+pub run_turns-requires : goal.run_turns-requires
+run_turns-requires g c = (c.requires.nodes, empty_holds c.args.seat.part.got c.args.line c.requires.line)
 
 pub returns : goal.returns
 returns g c =
     let m = g.M.Machine in
-    let over = g.G.Gate.over in
-    let ended = g.G.Gate.ended in
+    let gate = g.G.Gate in
     let a = c.args in
-    let caller = c.loop-done.caller in
-    let now : TaskAt g.row.M-Program.Denot = caller_at caller in
-    let all : c.loop-done.done ≡ a.options.turns = omega (arith, c.loop-done-test.false, c.loop-done.auto.done-end) in
-    subst (IsTaskLooped m.next m.answers m.begin over ended a.nodes a.options.turns a.calls.now a.seat a.line) (sym c.ended-2.ensures.end)
-    (task_looped m.next m.answers m.begin a.calls.now a.nodes over ended a.options.turns a.seat a.line c.requires.fresh c.loop-done.done now c.loop-done.invariant.turns (inl all) c.ended-2.ensures.heard)
-
-pub returns-then-is_over : goal.returns-then-is_over
-returns-then-is_over g c =
-    let m = g.M.Machine in
-    let over = g.G.Gate.over in
-    let ended = g.G.Gate.ended in
-    let a = c.args in
-    let done = c.loop-done.done in
-    let now : TaskAt g.row.M-Program.Denot = caller_at c.loop-done.caller in
-    let asked = task_asked_at over a.calls.now now done c.number.result c.has_all_replies-rests.result c.is_over.result true c.number.ensures c.has_all_replies-rests.ensures c.if-is_over.true c.is_over.ensures in
-    subst (IsTaskLooped m.next m.answers m.begin over ended a.nodes a.options.turns a.calls.now a.seat a.line) (sym c.ended.ensures.end)
-    (task_looped m.next m.answers m.begin a.calls.now a.nodes over ended a.options.turns a.seat a.line c.requires.fresh done now c.loop-done.invariant.turns
-    (inr (omega (arith, c.loop-done-test.true), asked)) c.ended.ensures.heard)
+    let run = c.run_turns-fault in
+    let last = caller_at run.new.actor in
+    let Turned = IsTaskTurnOf m.next m.answers m.begin in
+    let Unmade = IsUnmadeTurn m.next m.answers m.begin in
+    let ended = seen_ended gate.over task_party (task_rests a.calls.now) caller_at _ (λ caller. (caller.nodes ≡ a.nodes) × (caller.calls.now ≡ a.calls.now))
+        (λ now fixed. ap (λ (calls : List TaskCall). has_all_replies calls now.so_far) fixed.1) _ _ (Turned a.nodes a.calls.now) (Unmade a.nodes a.calls.now)
+        (λ turn old new fixed t. ((t.0 ∙ fixed.0, ap (λ calls. calls.now) t.1 ∙ fixed.1), subst (λ (n : ℕ). Turned n a.calls.now turn (caller_at old) (caller_at new)) fixed.0 (subst (λ (calls : List TaskCall). Turned old.nodes calls turn (caller_at old) (caller_at new)) fixed.1 t.2)))
+        (λ turn old new fault fixed none. subst (λ (n : ℕ). Unmade n a.calls.now turn (caller_at old) (caller_at new) fault) fixed.0 (subst (λ (calls : List TaskCall). Unmade old.nodes calls turn (caller_at old) (caller_at new) fault) fixed.1 none))
+        a.options.turns _ run.new.actor run.result (refl, refl) run.ensures.ran in
+    subst (IsTaskLooped m.next m.answers m.begin gate.over gate.ended a.nodes a.options.turns a.calls.now a.seat a.line) (sym c.ended.ensures)
+    (task_looped m.next m.answers m.begin a.calls.now a.nodes gate.over a.options.turns a.seat a.line c.requires.fresh gate.ended c.requires.nodes.0 last run.result ended run.ensures.notified)

@@ -19,7 +19,7 @@ use Rattle.atomic_table.specs.Seated.{TableId}
 use Rattle.rp_boxes.specs.FirstSeats.{first_seat}
 use Rattle.rp_boxes.specs.Seats.{SeatSetup, SeatState}
 use Rattle.rp_boxes.specs.Together.{IsTaskOf}
-use Rattle.rp_threads.specs.Rounds.{IsNodeFault, Runs}
+use Rattle.rp_threads.specs.Rounds.{Runs}
 use Rattle.rp_threads.specs.Tasks.{HasMade}
 use Rattle.rp_threads.specs.Threads.{IsLooped, IsTaskLooped}
 use Rattle.rp_threads.specs.declared.loops.NodeEnd.{NodeEnd}
@@ -34,7 +34,7 @@ use Rattle.rp_live.specs.Seats.{AreNumbered, HasAppliedAt, HasReportedSince, IsE
 use Rattle.rp_live.specs.declared.run.LiveOutcome.{LiveOutcome}
 use Rattle.rp_boxes.proofs.OneWorld.{made_at}
 use Rattle.rp_live.proofs.Counting.{counts_calls, so_far}
-use Rattle.rp_threads.proofs.Chains.{all_turned}
+use Rattle.rp_threads.proofs.NodeChains.{still_runs}
 use Rattle.rp_live.proofs.Noting.{IsSame, all_noted}
 use Rattle.rp_live.proofs.Seating.{all_has, all_mapped, first_tables, member_at, some_then, zip_length}
 use Rattle.rp_live.proofs.Zips.{all_both, zip_all, zip_kinds, zip_places}
@@ -104,14 +104,11 @@ module _ {S P : Type 0} {next : S → Action → S} {answers : S → Action → 
       zip_places IsOfNumber (IsNodeEnd next answers begin config events seed turns) (λ place end. IsOfNumber place end.seat) (λ place seat end here ran. ap number_of ran.same ∙ here) whole.0.noted nodes before whole.0.node_loops
 
   pub nodes_ended : All IsEndOfRun nodes
-  nodes_ended = zip_all (λ seat. Runs seat.part) (IsNodeEnd next answers begin config events seed turns) IsEndOfRun
-      (λ seat end run ran. (seat, (run, some_then _ (IsNodeFault seat end.seat) (λ fault until. subst (λ (c : SeatState P). IsNodeFault seat c fault) (sym (ap (λ (e : NodeEnd S Memory P). e.seat) until.is)) until.until.cause) end.fault ran.fault))) whole.0.noted nodes whole.1 whole.0.node_loops
+  nodes_ended = zip_all (λ seat. Runs seat.part) (IsNodeEnd next answers begin config events seed turns) IsEndOfRun (λ seat end run ran. (seat, (run, ran.cause))) whole.0.noted nodes whole.1 whole.0.node_loops
 
   pub nodes_still : All StillRuns nodes
   nodes_still = zip_all (λ seat. Runs seat.part) (IsNodeEnd next answers begin config events seed turns) StillRuns
-      (λ seat end run ran none. let t = ran.whole none in
-      subst (λ (c : SeatState P). Runs c.part) (sym (ap (λ (e : NodeEnd S Memory P). e.seat) t.is))
-      ((all_turned next answers begin paced heard over config.nodes seat (party_line seed (Node seat.setup.number)) t.done t.last t.turned).later.runs run)) whole.0.noted nodes whole.1 whole.0.node_loops
+      (λ seat end run ran none. still_runs next answers begin paced heard config.nodes over turns seat (party_line seed (Node seat.setup.number)) ended end ran none run) whole.0.noted nodes whole.1 whole.0.node_loops
 
   -- each task made calls among the events
   abbrev HasCalls : TaskEnd S P → Type 0

@@ -59,3 +59,19 @@ zip_on R S T both [] (y ∷ ys) zs r s = absurd r
 zip_on R S T both (x ∷ xs) [] zs r s = absurd r
 zip_on R S T both (x ∷ xs) (y ∷ ys) [] r s = absurd s
 zip_on R S T both (x ∷ xs) (y ∷ ys) (z ∷ zs) r s = (both x y z r.0 s.0, zip_on R S T both xs ys zs r.1 s.1)
+
+-- what each handle guarantees of the start at its place, for these numbers of nodes and of turns
+module _ {S H E : Type 0} (start_of : H → S) (nodes_of turns_of : H → ℕ) (Ends : S → ℕ → ℕ → E → Type 0) where
+  abbrev pub Guarantees : ℕ → ℕ → S → H → Type 0
+  Guarantees nodes turns start handle = (start_of handle ≡ start) × (nodes_of handle ≡ nodes) × (turns_of handle ≡ turns)
+
+  kept_by : {nodes count turns : ℕ} → nodes ≡ count → (start : S) (handle : H) (end : E) → Guarantees nodes turns start handle → Ends (start_of handle) (nodes_of handle) (turns_of handle) end → Ends start count turns end
+  kept_by {count = count} {turns = turns} counted start handle end owed kept =
+      subst (λ (s : S). Ends s count turns end) owed.0
+      (subst (λ (n : ℕ). Ends (start_of handle) n turns end) (owed.1 ∙ counted)
+      (subst (λ (n : ℕ). Ends (start_of handle) (nodes_of handle) n end) owed.2 kept))
+
+  pub all_kept : {nodes count : ℕ} (turns : ℕ) → nodes ≡ count → (starts : List S) (handles : List H) (ends : List E) → AllZip (Guarantees nodes turns) starts handles
+      → AllZip (λ handle end. Ends (start_of handle) (nodes_of handle) (turns_of handle) end) handles ends → AllZip (λ start end. Ends start count turns end) starts ends
+  all_kept {nodes = nodes} {count = count} turns counted starts handles ends owed kept =
+      zip_on (Guarantees nodes turns) (λ handle end. Ends (start_of handle) (nodes_of handle) (turns_of handle) end) (λ start end. Ends start count turns end) (kept_by counted) starts handles ends owed kept

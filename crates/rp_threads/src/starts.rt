@@ -34,43 +34,48 @@ pub struct TaskStart<M: Machine> {
     pub line: FaultLine,
 }
 
-/// The thread of a node guarantees what `node_loop` ensures of its seat and link, for this number
-/// of nodes and of turns.
+/// How the loop of a node or a task starts, and what it ensures of its end.
+pub(crate) trait Start<G: Gate> {
+    ghost use Rattle.std.specs.Prelude.{ℕ};
+
+    /// How the loop ends.
+    type End;
+
+    /// What the loop ensures, for these numbers of nodes and of turns.
+    ghost ends: { Self → ℕ → ℕ → Self.End → Type 0 };
+}
+
+impl<M: Machine, D: Device, G: Gate> Start<G> for NodeStart<M, D> {
+    type End = NodeEnd<M, D>;
+
+    ghost use Rattle.rp_threads.specs.Runs.{IsNodeEnd};
+
+    ghost ends = { λ start nodes turns end. IsNodeEnd M.next M.answers M.begin G.lets G.heard
+        G.over G.ended nodes turns start end };
+}
+
+impl<M: Machine, G: Gate> Start<G> for TaskStart<M> {
+    type End = TaskEnd<M>;
+
+    ghost use Rattle.rp_threads.specs.Runs.{IsTaskEnd};
+
+    ghost ends = { λ start nodes turns end. IsTaskEnd M.next M.answers M.begin G.over G.ended
+        nodes turns start end };
+}
+
+/// The thread of a node or a task guarantees what its loop ensures, for these numbers of nodes and
+/// of turns.
 #[derive(Drop)]
-pub(crate) struct NodeGuarantee<M: Machine, D: Device, G: Gate> {
-    pub(crate) seat: Snapshot<NodeSeat<M, D>>,
-    pub(crate) line: Snapshot<FaultLine>,
+pub(crate) struct LoopGuarantee<S: Start<G>, G: Gate> {
+    pub(crate) start: Snapshot<S>,
     pub(crate) gate: PhantomData<G>,
     pub(crate) nodes: u8,
     pub(crate) turns: u64,
 }
 
-impl<M: Machine, D: Device, G: Gate> Promise<NodeEnd<M, D>> for NodeGuarantee<M, D, G> {
-    ghost use Rattle.rp_threads.specs.Threads.{IsLooped};
-
-    ghost kept_by = { λ guarantee end. IsLooped M.next M.answers M.begin G.lets G.heard
-        G.over G.ended guarantee.nodes guarantee.turns guarantee.seat.value
-        guarantee.line.value end };
-}
-
-/// The thread of a task guarantees what `task_loop` ensures of its seat, calls and link, for this
-/// number of nodes and of turns.
-#[derive(Drop)]
-pub(crate) struct TaskGuarantee<M: Machine, G: Gate> {
-    pub(crate) seat: Snapshot<TaskSeat<M>>,
-    pub(crate) calls: Snapshot<Vec<TaskCall>>,
-    pub(crate) line: Snapshot<FaultLine>,
-    pub(crate) gate: PhantomData<G>,
-    pub(crate) nodes: u8,
-    pub(crate) turns: u64,
-}
-
-impl<M: Machine, G: Gate> Promise<TaskEnd<M>> for TaskGuarantee<M, G> {
-    ghost use Rattle.rp_threads.specs.Threads.{IsTaskLooped};
-
-    ghost kept_by = { λ guarantee end. IsTaskLooped M.next M.answers M.begin G.over
-        G.ended guarantee.nodes guarantee.turns guarantee.calls.value.items guarantee.seat.value
-        guarantee.line.value end };
+impl<S: Start<G>, G: Gate> Promise<S::End> for LoopGuarantee<S, G> {
+    ghost kept_by = { λ guarantee end.
+        S.ends guarantee.start.value guarantee.nodes guarantee.turns end };
 }
 
 /// Starts a node's loop in a thread. If no thread can be made, it is refused and the seat is
@@ -80,24 +85,22 @@ pub(crate) fn start_node<'s, E, M: Machine + Send + 's, D: Device + Send + 's, G
     start: NodeStart<M, D>,
     nodes: u8,
     options: LoopOptions<'s, G>,
-) -> Result<PromisedHandle<NodeEnd<M, D>, NodeGuarantee<M, D, G>>, AllocError>
+) -> Result<PromisedHandle<NodeEnd<M, D>, LoopGuarantee<NodeStart<M, D>, G>>, AllocError>
 where
     M::Program: Send,
     requires nodes { nodes ≤ 7 }
     requires line { start.line.held ≡ [] }
-    ensures seat { IfOk result (λ handle. handle.promise.seat.value ≡ start.seat) }
-    ensures line { IfOk result (λ handle. handle.promise.line.value ≡ start.line) }
+    ensures start { IfOk result (λ handle. handle.promise.start.value ≡ start) }
     ensures nodes { IfOk result (λ handle. handle.promise.nodes ≡ nodes) }
     ensures turns { IfOk result (λ handle. handle.promise.turns ≡ options.entry.turns) }
 {
-    let NodeStart { seat, line } = start;
-    let guarantee = NodeGuarantee {
-        seat: Snapshot::of(&seat),
-        line: Snapshot::of(&line),
+    let guarantee = LoopGuarantee {
+        start: Snapshot::of(&start),
         gate: PhantomData::<G>,
         nodes,
         turns: options.turns,
     };
+    let NodeStart { seat, line } = start;
     let handle = scope.spawn_with(
         guarantee,
         move || -> NodeEnd<M, D>
@@ -116,27 +119,23 @@ pub(crate) fn start_task<'s, E, M: Machine + Send + 's, G: Gate + Sync>(
     start: TaskStart<M>,
     nodes: u8,
     options: LoopOptions<'s, G>,
-) -> Result<PromisedHandle<TaskEnd<M>, TaskGuarantee<M, G>>, AllocError>
+) -> Result<PromisedHandle<TaskEnd<M>, LoopGuarantee<TaskStart<M>, G>>, AllocError>
 where
     M::Program: Send,
     requires nodes { (1 ≤ nodes) × (nodes ≤ 7) }
     requires line { start.line.held ≡ [] }
     requires fresh { start.seat.part ≡ fresh_part (OfTask fresh_task) }
-    ensures seat { IfOk result (λ handle. handle.promise.seat.value ≡ start.seat) }
-    ensures calls { IfOk result (λ handle. handle.promise.calls.value ≡ start.calls) }
-    ensures line { IfOk result (λ handle. handle.promise.line.value ≡ start.line) }
+    ensures start { IfOk result (λ handle. handle.promise.start.value ≡ start) }
     ensures nodes { IfOk result (λ handle. handle.promise.nodes ≡ nodes) }
     ensures turns { IfOk result (λ handle. handle.promise.turns ≡ options.entry.turns) }
 {
-    let TaskStart { seat, calls, line } = start;
-    let guarantee = TaskGuarantee {
-        seat: Snapshot::of(&seat),
-        calls: Snapshot::of(&calls),
-        line: Snapshot::of(&line),
+    let guarantee = LoopGuarantee {
+        start: Snapshot::of(&start),
         gate: PhantomData::<G>,
         nodes,
         turns: options.turns,
     };
+    let TaskStart { seat, calls, line } = start;
     let handle = scope.spawn_with(
         guarantee,
         move || -> TaskEnd<M>

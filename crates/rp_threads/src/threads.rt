@@ -5,12 +5,11 @@ ghost use Rattle.std.specs.List.{AllZip};
 ghost use Rattle.rp_boxes.specs.Parts.{fresh_part, OfTask};
 ghost use Rattle.rp_model.specs.Parts.{fresh_task};
 ghost use Rattle.rp_threads.specs.Runs.{MayRun, HaveRun, RunsOrStops, IsNodeEnd, IsTaskEnd};
-ghost use Rattle.rp_threads.specs.Threads.{IsLooped, IsTaskLooped};
 
 use crate::gate::Gate;
 use crate::loops::NodeEnd;
 use crate::options::LoopOptions;
-use crate::starts::{NodeGuarantee, NodeStart, TaskGuarantee, TaskStart, start_node, start_task};
+use crate::starts::{LoopGuarantee, NodeStart, Start, TaskStart, start_node, start_task};
 use crate::tasks::TaskEnd;
 use rp_machine::Machine;
 use rp_store::Device;
@@ -25,15 +24,14 @@ fn start_nodes<'s, E, M: Machine + Send + 's, D: Device + Send + 's, G: Gate + S
     starts: Vec<NodeStart<M, D>>,
     nodes: u8,
     options: LoopOptions<'s, G>,
-) -> Result<Vec<PromisedHandle<NodeEnd<M, D>, NodeGuarantee<M, D, G>>>, AllocError>
+) -> Result<Vec<PromisedHandle<NodeEnd<M, D>, LoopGuarantee<NodeStart<M, D>, G>>>, AllocError>
 where
     M::Program: Send,
     requires nodes { nodes ≤ 7 }
     requires lines { All (λ start. start.line.held ≡ []) starts.items }
     ensures { IfOk result (λ handles. AllZip (λ start handle.
-        (handle.promise.seat.value ≡ start.seat) × (handle.promise.line.value ≡ start.line)
-        × (handle.promise.nodes ≡ nodes) × (handle.promise.turns ≡ options.entry.turns))
-        starts.items handles.items) }
+        (handle.promise.start.value ≡ start) × (handle.promise.nodes ≡ nodes)
+        × (handle.promise.turns ≡ options.entry.turns)) starts.items handles.items) }
 {
     let mut handles = Vec::new(options.alloc);
     for start in starts {
@@ -48,15 +46,14 @@ fn start_tasks<'s, E, M: Machine + Send + 's, G: Gate + Sync>(
     starts: Vec<TaskStart<M>>,
     nodes: u8,
     options: LoopOptions<'s, G>,
-) -> Result<Vec<PromisedHandle<TaskEnd<M>, TaskGuarantee<M, G>>>, AllocError>
+) -> Result<Vec<PromisedHandle<TaskEnd<M>, LoopGuarantee<TaskStart<M>, G>>>, AllocError>
 where
     M::Program: Send,
     requires nodes { (1 ≤ nodes) × (nodes ≤ 7) }
     requires lines { All (λ start. start.line.held ≡ []) starts.items }
     requires fresh { All (λ start. start.seat.part ≡ fresh_part (OfTask fresh_task)) starts.items }
     ensures { IfOk result (λ handles. AllZip (λ start handle.
-        (handle.promise.seat.value ≡ start.seat) × (handle.promise.calls.value ≡ start.calls)
-        × (handle.promise.line.value ≡ start.line) × (handle.promise.nodes ≡ nodes)
+        (handle.promise.start.value ≡ start) × (handle.promise.nodes ≡ nodes)
         × (handle.promise.turns ≡ options.entry.turns)) starts.items handles.items) }
 {
     let mut handles = Vec::new(options.alloc);
@@ -66,28 +63,15 @@ where
     Ok(handles)
 }
 
-/// Joins the threads of the nodes.
-fn join_nodes<R: Threads, M: Machine, D: Device, G: Gate>(
+/// Joins the threads of nodes or of tasks.
+fn join_all<R: Threads, S: Start<G>, G: Gate>(
     rt: &R,
-    handles: Vec<PromisedHandle<NodeEnd<M, D>, NodeGuarantee<M, D, G>>>,
-) -> Result<Vec<NodeEnd<M, D>>, AllocError>
-    ensures { IfOk result (λ ends. AllZip (λ handle end.
-        IsLooped M.next M.answers M.begin G.lets G.heard G.over G.ended handle.promise.nodes
-        handle.promise.turns handle.promise.seat.value handle.promise.line.value end) handles.items ends.items) }
-{
-    let ends = thread::join_promised(rt, handles)?;
-    Ok(ends)
-}
-
-/// Joins the threads of the tasks.
-fn join_tasks<R: Threads, M: Machine, G: Gate>(
-    rt: &R,
-    handles: Vec<PromisedHandle<TaskEnd<M>, TaskGuarantee<M, G>>>,
-) -> Result<Vec<TaskEnd<M>>, AllocError>
-    ensures { IfOk result (λ ends. AllZip (λ handle end.
-        IsTaskLooped M.next M.answers M.begin G.over G.ended handle.promise.nodes
-        handle.promise.turns handle.promise.calls.value.items handle.promise.seat.value
-        handle.promise.line.value end) handles.items ends.items) }
+    handles: Vec<PromisedHandle<S::End, LoopGuarantee<S, G>>>,
+) -> Result<Vec<S::End>, AllocError>
+where
+    S::End: Drop,
+    ensures { IfOk result (λ ends. AllZip (λ handle end. S.ends handle.promise.start.value
+        handle.promise.nodes handle.promise.turns end) handles.items ends.items) }
 {
     let ends = thread::join_promised(rt, handles)?;
     Ok(ends)
@@ -110,8 +94,8 @@ where
     let count = nodes.len() as u8;
     let nodes = start_nodes(scope, nodes, count, options)?;
     let tasks = start_tasks(scope, tasks, count, options)?;
-    let nodes = join_nodes::<R, M, D, G>(rt, nodes)?;
-    let tasks = join_tasks::<R, M, G>(rt, tasks)?;
+    let nodes = join_all(rt, nodes)?;
+    let tasks = join_all(rt, tasks)?;
     Ok((nodes, tasks))
 }
 

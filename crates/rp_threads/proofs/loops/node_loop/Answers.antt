@@ -26,9 +26,9 @@ returns g c =
     let Unmade = IsUncountedTurn m.next m.answers m.begin gate.lets gate.heard in
     let first : Patience → NodeAt g.row.M-Program.Denot = λ patience. record { worker = record { seat = a.seat; line = a.line; patience = patience }; counts = no_turns; rests = false } in
     let ended = seen_ended gate.over node_party node_rests node_state _ (λ worker. worker.nodes ≡ a.nodes) (λ now fixed. refl) _ _ (Turned a.nodes) (Unmade a.nodes)
-        (λ turn old new fixed t. (t.0 ∙ fixed, subst (λ (n : ℕ). Turned n turn (node_state old) (node_state new)) fixed t.1))
-        (λ turn old new fault fixed none. subst (λ (n : ℕ). Unmade n turn (node_state old) (node_state new) fault) fixed none)
-        a.options.turns _ run.new.actor run.result refl run.ensures.ran in
+    (λ turn old new fixed t. (t.0 ∙ fixed, subst (λ (n : ℕ). Turned n turn (node_state old) (node_state new)) fixed t.1))
+    (λ turn old new fault fixed none. subst (λ (n : ℕ). Unmade n turn (node_state old) (node_state new) fault) fixed none)
+    a.options.turns _ run.new.actor run.result refl run.ensures.ran in
     subst (IsLooped m.next m.answers m.begin gate.lets gate.heard gate.over gate.ended a.nodes a.options.turns a.seat a.line) (sym c.ended.ensures)
     (looped m.next m.answers m.begin gate.lets gate.heard a.nodes gate.over a.options.turns a.seat a.line gate.ended last run.result
     (subst (λ (at : NodeAt g.row.M-Program.Denot). HasEnded gate.over node_party node_rests (Turned a.nodes) (Unmade a.nodes) a.options.turns at last run.result) (ap first c.new.ensures) ended)

@@ -19,7 +19,7 @@ loop-start-preserved g c =
     let steps = c.in-Some.ensures.steps.0 in
     let stated = c.in_ok-start_node.ensures in
     record {
-      started = one_more_zipped was.started steps c.in_ok-push.ensures.items (stated.seat, stated.line, stated.nodes, stated.turns);
+      started = one_more_zipped was.started steps c.in_ok-push.ensures.items (stated.start, stated.nodes, stated.turns);
       lines = rest_of (λ start. start.line.held ≡ []) rest c.in-Some.start c.next.new.self.rest.items steps was.lines;
     }
 

@@ -5,7 +5,7 @@ use Rattle.rp_threads.proofs.threads.start_nodes.Given as goal
 
 abbrev pub invariant-loop-start : goal.invariant-loop-start
 invariant-loop-start g l = record {
-  started : AreZippedSoFar (λ start handle. (handle.promise.seat.value ≡ start.seat) × (handle.promise.line.value ≡ start.line) × (handle.promise.nodes ≡ l.nodes) × (handle.promise.turns ≡ l.options.turns))
+  started : AreZippedSoFar (λ start handle. (handle.promise.start.value ≡ start) × (handle.promise.nodes ≡ l.nodes) × (handle.promise.turns ≡ l.options.turns))
       l.fn.starts.items l.start-iterator.rest.items l.handles.items;
   lines : All (λ start. start.line.held ≡ []) l.start-iterator.rest.items;
 }

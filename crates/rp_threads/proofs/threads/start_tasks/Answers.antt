@@ -23,7 +23,7 @@ loop-start-preserved g c =
     let steps = c.in-Some.ensures.steps.0 in
     let stated = c.in_ok-start_task.ensures in
     record {
-      started = one_more_zipped was.started steps c.in_ok-push.ensures.items (stated.seat, stated.calls, stated.line, stated.nodes, stated.turns);
+      started = one_more_zipped was.started steps c.in_ok-push.ensures.items (stated.start, stated.nodes, stated.turns);
       lines = rest_of (λ start. start.line.held ≡ []) rest c.in-Some.start rest' steps was.lines;
       fresh = rest_of (λ start. start.seat.part ≡ fresh_part (OfTask fresh_task)) rest c.in-Some.start rest' steps was.fresh;
     }

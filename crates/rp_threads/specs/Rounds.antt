@@ -19,6 +19,7 @@ use Rattle.rp_threads.specs.Loops.{counted}
 use Rattle.rp_patience.specs.Patience.{fresh_wait, waits, is_over, after_quiet}
 use Rattle.rp_threads.specs.Turns.{IsLost, IsEventBy, IsStopBy, IsNodeTurn, IsStoppedTurn}
 use Rattle.rp_threads.specs.declared.loops.Counts.{Counts}
+use Rattle.rp_threads.specs.declared.loops.NodeLoop.{NodeLoop}
 use Rattle.rp_threads.specs.declared.loops.Worker.{Worker}
 use Rattle.rp_patience.specs.declared.patience.Patience.{Patience}
 use Rattle.rp_threads.specs.declared.turns.PacketCounts.{PacketCounts}
@@ -153,12 +154,11 @@ pub record NodeAt (P : Type 0) : Type 0 where
   pub counts : Counts
   pub rests : Bool
 
--- the state of the loop of this worker
-abbrev pub node_state : {M D P : Type 0} → Worker M D P → NodeAt P
-node_state worker = record {
-  worker = worker_at worker;
-  counts = worker.counts;
-  rests = worker.rests;
+abbrev pub node_state : {M D P : Type 0} → NodeLoop M D P → NodeAt P
+node_state node = record {
+  worker = worker_at node.worker;
+  counts = node.counts;
+  rests = node.rests;
 }
 
 -- who it is, as the gate knows it

@@ -15,6 +15,7 @@ use Rattle.rp_boxes.specs.Seats.{SeatState}
 use Rattle.rp_threads.specs.declared.tasks.Caller.{Caller}
 use Rattle.rp_threads.specs.declared.tasks.Calls.{Calls}
 use Rattle.rp_threads.specs.declared.tasks.TaskCall.{TaskCall}
+use Rattle.rp_threads.specs.declared.tasks.TaskLoop.{TaskLoop}
 
 -- the call that a task makes after n others, as nodes know it
 abbrev pub call_after : ℕ → ℕ → TaskCall → Action
@@ -61,6 +62,9 @@ pub record TaskAt (P : Type 0) : Type 0 where
 
 abbrev pub caller_at : {M P : Type 0} → Caller M P → TaskAt P
 caller_at caller = record { seat = caller.seat; line = caller.link; so_far = caller.so_far }
+
+abbrev pub task_state : {M P : Type 0} → TaskLoop M P → TaskAt P
+task_state task = caller_at task.caller
 
 -- who it is, as the gate knows it
 abbrev pub task_party : {P : Type 0} → TaskAt P → Party

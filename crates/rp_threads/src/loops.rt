@@ -1,6 +1,6 @@
 //! A node's turns, one after the other.
 
-ghost use Rattle.std.specs.Prelude.{◌≡◌, ◌+◌, ◌^◌, ◌<◌, ◌≤◌, false, [], None, IfOk, IfErr, IfSome, IfNone, OnSome};
+ghost use Rattle.std.specs.Prelude.{◌≡◌, ◌+◌, ◌^◌, ◌<◌, ◌≤◌, false, true, [], None, IfOk, IfErr, IfSome, IfNone, OnSome};
 ghost use Rattle.rp_threads.specs.Lines.{HoldsTextsOf};
 ghost use Rattle.rp_threads.specs.Loops.{is_refusal, is_idle, is_uneventful, counted, total_of, with_turn};
 ghost use Rattle.rp_threads.specs.Rounds.{IsToLeadAt, HasWaited, NeedNotLead, CountsQuiet, IsLeadAnew, IsMade, IsUnmade, IsTurnOf, IsTurnUnmade, RestsAfter, node_state, worker_at};
@@ -81,16 +81,12 @@ fn refuses_to_lead(fault: Fault) -> bool
     matches!(fault, Fault::BallotsSpent | Fault::LogFull)
 }
 
-/// A node in its loop, among n nodes: its seat, the link that delivers its packets, its patience,
-/// its turns so far, and whether it rests.
+/// A node that makes turns: its seat, the link that delivers its packets, and its patience.
 #[derive(Drop)]
 struct Worker<M: Machine, D: Device> {
     seat: NodeSeat<M, D>,
     link: FaultLine,
     patience: Patience,
-    counts: Counts,
-    rests: bool,
-    nodes: u8,
 }
 
 /// Whether a turn was idle.
@@ -170,8 +166,6 @@ impl<M: Machine, D: Device> Worker<M, D> {
     fn work(&mut self, alloc: Global, from: Party, lead: bool) -> Result<TurnResult, Fault>
         requires held { HoldsTextsOf self.old.seat.part.got self.old.link }
         ensures held { HoldsTextsOf self.new.seat.part.got self.new.link }
-        ensures counts { self.new.counts ≡ self.old.counts }
-        ensures nodes { self.new.nodes ≡ self.old.nodes }
         ensures ok { IfOk result (IsMade M.next M.answers M.begin from lead
             (worker_at self.old) (worker_at self.new)) }
         ensures err { IfErr result (IsUnmade M.next M.answers M.begin from lead
@@ -188,7 +182,7 @@ impl<M: Machine, D: Device> Worker<M, D> {
     }
 
     /// Whether the node rests after a turn: nothing happened in it, and nothing is pending.
-    fn rests_after(&self, made: Option<TurnResult>) -> bool
+    fn rests(&self, made: Option<TurnResult>) -> bool
         ensures { RestsAfter made self.now.seat.part result }
     {
         if self.seat.has_pending() {
@@ -198,21 +192,20 @@ impl<M: Machine, D: Device> Worker<M, D> {
     }
 
     /// One turn of a loop. `None` if it is skipped.
-    fn make_turn<G: Gate>(
+    fn turn<G: Gate>(
         &mut self,
         alloc: Global,
+        nodes: u8,
         gate: &G,
         turn: u64,
     ) -> Result<Option<TurnResult>, Fault>
-        requires nodes { self.old.nodes ≤ 7 }
+        requires nodes { nodes ≤ 7 }
         requires held { HoldsTextsOf self.old.seat.part.got self.old.link }
         ensures held { HoldsTextsOf self.new.seat.part.got self.new.link }
-        ensures counts { self.new.counts ≡ self.old.counts }
-        ensures nodes { self.new.nodes ≡ self.old.nodes }
-        ensures ok { IfOk result (IsTurnOf M.next M.answers M.begin G.lets G.heard self.old.nodes
-            turn (worker_at self.old) (worker_at self.new)) }
+        ensures ok { IfOk result (IsTurnOf M.next M.answers M.begin G.lets G.heard nodes turn
+            (worker_at self.old) (worker_at self.new)) }
         ensures err { IfErr result (λ fault. (is_refusal fault ≡ false)
-            × IsTurnUnmade M.next M.answers M.begin G.lets G.heard self.old.nodes turn
+            × IsTurnUnmade M.next M.answers M.begin G.lets G.heard nodes turn
             (worker_at self.old) (worker_at self.new) fault) }
     {
         let node = self.seat.number();
@@ -220,7 +213,7 @@ impl<M: Machine, D: Device> Worker<M, D> {
             return Ok(None);
         }
         let lead = is_to_lead(node, turn);
-        match self.work(alloc, sender(self.nodes, turn), lead) {
+        match self.work(alloc, sender(nodes, turn), lead) {
             Ok(turned) => {
                 gate.after(node, turn, turned.packets.sent);
                 Ok(Some(turned))
@@ -232,14 +225,25 @@ impl<M: Machine, D: Device> Worker<M, D> {
             Err(fault) => Err(fault),
         }
     }
+}
 
-    /// The end of a loop.
+/// A node in its loop, among n nodes: how many turns it made, and whether it rests.
+#[derive(Drop)]
+struct NodeLoop<M: Machine, D: Device> {
+    worker: Worker<M, D>,
+    counts: Counts,
+    rests: bool,
+    nodes: u8,
+}
+
+impl<M: Machine, D: Device> NodeLoop<M, D> {
+    /// The end of the loop.
     fn ended(self, fault: Option<Fault>) -> NodeEnd<M, D>
         ensures { result ≡ end_of (node_state self) fault }
     {
-        let lost = self.counts.lost.saturating_add(self.link.lost());
+        let lost = self.counts.lost.saturating_add(self.worker.link.lost());
         NodeEnd {
-            seat: self.seat,
+            seat: self.worker.seat,
             counts: Counts {
                 lost,
                 ..self.counts
@@ -249,19 +253,20 @@ impl<M: Machine, D: Device> Worker<M, D> {
     }
 }
 
-impl<M: Machine, D: Device, G: Gate> Actor<G> for Worker<M, D> {
+impl<M: Machine, D: Device, G: Gate> Actor<G> for NodeLoop<M, D> {
     ghost use Rattle.std.specs.Prelude.{◌≡◌, ◌+◌, ◌≤◌};
     ghost use Rattle.rp_codec.specs.declared.packet.Party.TheVariants.{Node};
     ghost use Rattle.rp_threads.specs.Lines.{HoldsTextsOf};
     ghost use Rattle.rp_threads.specs.Loops.{total_of};
     ghost use Rattle.rp_threads.specs.Rounds.{IsCountedTurn, IsUncountedTurn, node_state};
 
-    ghost party = { λ worker. Node worker.seat.setup.number };
+    ghost party = { λ node. Node node.worker.seat.setup.number };
 
-    ghost rests = { λ worker. worker.rests };
+    ghost rests = { λ node. node.rests };
 
-    ghost ready = { λ turn worker. (worker.nodes ≤ 7)
-        × HoldsTextsOf worker.seat.part.got worker.link × (total_of worker.counts + 1 ≡ turn) };
+    ghost ready = { λ turn node. (node.nodes ≤ 7)
+        × HoldsTextsOf node.worker.seat.part.got node.worker.link
+        × (total_of node.counts + 1 ≡ turn) };
 
     ghost turned = { λ turn old new. (new.nodes ≡ old.nodes)
         × IsCountedTurn M.next M.answers M.begin G.lets G.heard old.nodes turn (node_state old)
@@ -272,7 +277,7 @@ impl<M: Machine, D: Device, G: Gate> Actor<G> for Worker<M, D> {
         (node_state new) fault };
 
     fn party(&self) -> Party {
-        Party::Node(self.seat.number())
+        Party::Node(self.worker.seat.number())
     }
 
     fn rests(&self) -> bool {
@@ -280,9 +285,9 @@ impl<M: Machine, D: Device, G: Gate> Actor<G> for Worker<M, D> {
     }
 
     fn turn(&mut self, alloc: Global, gate: &G, turn: u64) -> Result<(), Fault> {
-        let made = self.make_turn(alloc, gate, turn)?;
+        let made = self.worker.turn(alloc, self.nodes, gate, turn)?;
         self.counts.count(made);
-        self.rests = self.rests_after(made);
+        self.rests = self.worker.rests(made);
         Ok(())
     }
 }
@@ -328,20 +333,24 @@ pub fn node_loop<M: Machine, D: Device, G: Gate>(
     ensures { IsLooped M.next M.answers M.begin G.lets G.heard G.over G.ended nodes
         options.entry.turns seat line result }
 {
-    let mut worker = Worker {
+    let worker = Worker {
         seat,
         link: line,
         patience: Patience::new(),
-        counts: Counts {
-            received: 0,
-            led: 0,
-            idle: 0,
-            skipped: 0,
-            lost: 0,
-        },
+    };
+    let counts = Counts {
+        received: 0,
+        led: 0,
+        idle: 0,
+        skipped: 0,
+        lost: 0,
+    };
+    let mut node = NodeLoop {
+        worker,
+        counts,
         rests: false,
         nodes,
     };
-    let fault = run_turns(&mut worker, options);
-    worker.ended(fault)
+    let fault = run_turns(&mut node, options);
+    node.ended(fault)
 }

@@ -8,8 +8,8 @@ ghost use Rattle.rp_codec.specs.declared.packet.Party.TheVariants as parties;
 ghost use Rattle.rp_model.specs.Parts.{fresh_task};
 ghost use Rattle.rp_model.specs.Tasks.{Again};
 ghost use Rattle.rp_threads.specs.Lines.{HoldsTextsOf, given_on, line_after};
-ghost use Rattle.rp_threads.specs.TaskRounds.{Hears, Asks, IsTaskRefused, asked_in, asked_for, has_all_replies, heard_by, submitted, with_lost};
-ghost use Rattle.rp_threads.specs.Tasks.{caller_at};
+ghost use Rattle.rp_threads.specs.TaskRounds.{Hears, Asks, IsTaskRefused, IsTaskTurnOf, IsUnmadeTurn, asked_in, asked_for, has_all_replies, heard_by, submitted, with_lost};
+ghost use Rattle.rp_threads.specs.Tasks.{caller_at, task_state};
 ghost use Rattle.rp_threads.specs.Threads.{IsTaskLooped, task_end_of};
 ghost use Rattle.rp_threads.specs.Turns.{AreSent, IsAllOffered, IsOfferedToBox};
 
@@ -89,15 +89,12 @@ impl Calls {
     }
 }
 
-/// A task in its loop, among n nodes: its seat, the link that delivers its packets, its calls so
-/// far, and the calls that it is to make.
+/// A task that makes turns: its seat, the link that delivers its packets, and its calls so far.
 #[derive(Drop)]
-struct Caller<'a, M: Machine> {
+struct Caller<M: Machine> {
     seat: TaskSeat<M>,
     link: FaultLine,
     so_far: Calls,
-    calls: &'a [TaskCall],
-    nodes: u8,
 }
 
 /// The task takes the packet that the link passes on, if there is one. Returns whether a call got
@@ -178,32 +175,37 @@ fn ask_again<M: Machine>(
     Ok(put_sent(seat, sent))
 }
 
-impl<M: Machine> Caller<'_, M> {
+impl<M: Machine> Caller<M> {
     /// The task makes its next call, if it waits for no reply and there is a next call. While it
     /// waits, it asks the next node again in every 16th turn. Returns how many packets are lost.
-    fn ask(&mut self, alloc: Global, turn: u64) -> Result<usize, Fault>
-        requires nodes { (1 ≤ self.old.nodes) × (self.old.nodes ≤ 7) }
+    fn ask(
+        &mut self,
+        alloc: Global,
+        nodes: u8,
+        calls: &[TaskCall],
+        turn: u64,
+    ) -> Result<usize, Fault>
+        requires nodes { (1 ≤ nodes) × (nodes ≤ 7) }
         ensures got { self.new.seat.part.got ≡ self.old.seat.part.got }
         ensures link { self.new.link ≡ self.old.link }
-        ensures calls { self.new.calls ≡ self.old.calls }
-        ensures nodes { self.new.nodes ≡ self.old.nodes }
         ensures ok { IfOk result (Asks M.next M.answers M.begin
-            (asked_in self.old.nodes self.old.calls.now turn self.old.so_far)
-            self.old.seat self.new.seat) }
-        ensures made { OnOk result
-            (self.new.so_far ≡ asked_for self.old.calls.now self.old.so_far) }
+            (asked_in nodes calls.now turn self.old.so_far) self.old.seat self.new.seat) }
+        ensures made { OnOk result (self.new.so_far ≡ asked_for calls.now self.old.so_far) }
         ensures err { IfErr result (λ fault. (self.new.so_far ≡ self.old.so_far)
-            × IsTaskRefused (asked_in self.old.nodes self.old.calls.now turn self.old.so_far)
+            × IsTaskRefused (asked_in nodes calls.now turn self.old.so_far)
             self.old.seat self.new.seat fault) }
     {
         if self.so_far.waits {
             if turn % ASK_PERIOD != 0 {
                 return Ok(0);
             }
-            let node = node_in_turn(self.nodes, turn / ASK_PERIOD);
-            return ask_again(&mut self.seat, alloc, node);
+            return ask_again(
+                &mut self.seat,
+                alloc,
+                node_in_turn(nodes, turn / ASK_PERIOD),
+            );
         }
-        let Some(call) = self.calls.get(self.so_far.made) else {
+        let Some(call) = calls.get(self.so_far.made) else {
             return Ok(0);
         };
         let lost = make(&mut self.seat, alloc, *call)?;
@@ -212,62 +214,85 @@ impl<M: Machine> Caller<'_, M> {
         Ok(lost)
     }
 
-    /// The end of a loop.
-    fn ended(self, fault: Option<Fault>) -> TaskEnd<M>
-        ensures { result ≡ task_end_of (caller_at self) fault }
+    /// A turn of a task: it fetches from a node through its link, takes the packet that the link
+    /// passes on, and then asks.
+    fn turn(&mut self, alloc: Global, nodes: u8, calls: &[TaskCall], turn: u64) -> Result<(), Fault>
+        requires nodes { (1 ≤ nodes) × (nodes ≤ 7) }
+        requires held { HoldsTextsOf self.old.seat.part.got self.old.link }
+        ensures held { HoldsTextsOf self.new.seat.part.got self.new.link }
+        ensures ok { OnOk result (IsTaskTurnOf M.next M.answers M.begin nodes calls.now turn
+            (caller_at self.old) (caller_at self.new)) }
+        ensures err { IfErr result (IsUnmadeTurn M.next M.answers M.begin nodes calls.now turn
+            (caller_at self.old) (caller_at self.new)) }
     {
-        let lost = self.so_far.lost.saturating_add(self.link.lost());
+        gives_what_it_took();
+        let fetched = self.seat.fetch(Party::Node(node_in_turn(nodes, turn)));
+        take_fetched(&mut self.link, alloc, fetched)?;
+        let answered = hear(&mut self.seat, &mut self.link, alloc)?;
+        self.so_far.hear(answered, turn);
+        let lost = self.ask(alloc, nodes, calls, turn)?;
+        self.so_far.lose(lost);
+        Ok(())
+    }
+}
+
+/// A task in its loop, among n nodes, with the calls that it is to make.
+#[derive(Drop)]
+struct TaskLoop<'a, M: Machine> {
+    caller: Caller<M>,
+    calls: &'a [TaskCall],
+    nodes: u8,
+}
+
+impl<M: Machine> TaskLoop<'_, M> {
+    /// The end of the loop.
+    fn ended(self, fault: Option<Fault>) -> TaskEnd<M>
+        ensures { result ≡ task_end_of (task_state self) fault }
+    {
+        let caller = self.caller;
+        let lost = caller.so_far.lost.saturating_add(caller.link.lost());
         TaskEnd {
-            seat: self.seat,
-            made: self.so_far.made,
-            last_reply: self.so_far.last_reply,
+            seat: caller.seat,
+            made: caller.so_far.made,
+            last_reply: caller.so_far.last_reply,
             lost,
             fault,
         }
     }
 }
 
-impl<M: Machine, G: Gate> Actor<G> for Caller<'_, M> {
+impl<M: Machine, G: Gate> Actor<G> for TaskLoop<'_, M> {
     ghost use Rattle.std.specs.Prelude.{◌≡◌, ◌≤◌};
     ghost use Rattle.rp_codec.specs.declared.packet.Party.TheVariants.{Task};
     ghost use Rattle.rp_threads.specs.Lines.{HoldsTextsOf};
     ghost use Rattle.rp_threads.specs.TaskRounds.{IsTaskTurnOf, IsUnmadeTurn, has_all_replies};
-    ghost use Rattle.rp_threads.specs.Tasks.{caller_at};
+    ghost use Rattle.rp_threads.specs.Tasks.{task_state};
 
-    ghost party = { λ caller. Task caller.seat.setup.number };
+    ghost party = { λ task. Task task.caller.seat.setup.number };
 
-    ghost rests = { λ caller. has_all_replies caller.calls.now caller.so_far };
+    ghost rests = { λ task. has_all_replies task.calls.now task.caller.so_far };
 
-    ghost ready = { λ turn caller. ((1 ≤ caller.nodes) × (caller.nodes ≤ 7))
-        × HoldsTextsOf caller.seat.part.got caller.link };
+    ghost ready = { λ turn task. ((1 ≤ task.nodes) × (task.nodes ≤ 7))
+        × HoldsTextsOf task.caller.seat.part.got task.caller.link };
 
     ghost turned = { λ turn old new. (new.nodes ≡ old.nodes) × (new.calls ≡ old.calls)
-        × IsTaskTurnOf M.next M.answers M.begin old.nodes old.calls.now turn (caller_at old)
-        (caller_at new) };
+        × IsTaskTurnOf M.next M.answers M.begin old.nodes old.calls.now turn (task_state old)
+        (task_state new) };
 
     ghost unmade = { λ turn old new fault.
-        IsUnmadeTurn M.next M.answers M.begin old.nodes old.calls.now turn (caller_at old)
-        (caller_at new) fault };
+        IsUnmadeTurn M.next M.answers M.begin old.nodes old.calls.now turn (task_state old)
+        (task_state new) fault };
 
     fn party(&self) -> Party {
-        Party::Task(self.seat.number())
+        Party::Task(self.caller.seat.number())
     }
 
     fn rests(&self) -> bool {
-        self.so_far.has_all_replies(self.calls)
+        self.caller.so_far.has_all_replies(self.calls)
     }
 
-    /// The task fetches from a node through its link, takes the packet that the link passes on, and
-    /// then asks.
     fn turn(&mut self, alloc: Global, _gate: &G, turn: u64) -> Result<(), Fault> {
-        gives_what_it_took();
-        let fetched = self.seat.fetch(Party::Node(node_in_turn(self.nodes, turn)));
-        take_fetched(&mut self.link, alloc, fetched)?;
-        let answered = hear(&mut self.seat, &mut self.link, alloc)?;
-        self.so_far.hear(answered, turn);
-        let lost = self.ask(alloc, turn)?;
-        self.so_far.lose(lost);
-        Ok(())
+        self.caller.turn(alloc, self.nodes, self.calls, turn)
     }
 }
 
@@ -307,18 +332,22 @@ pub fn task_loop<M: Machine, G: Gate>(
     ensures { IsTaskLooped M.next M.answers M.begin G.over G.ended nodes options.entry.turns
         calls.now seat line result }
 {
-    let mut caller = Caller {
+    let so_far = Calls {
+        made: 0,
+        waits: false,
+        last_reply: 0,
+        lost: 0,
+    };
+    let caller = Caller {
         seat,
         link: line,
-        so_far: Calls {
-            made: 0,
-            waits: false,
-            last_reply: 0,
-            lost: 0,
-        },
+        so_far,
+    };
+    let mut task = TaskLoop {
+        caller,
         calls,
         nodes,
     };
-    let fault = run_turns(&mut caller, options);
-    caller.ended(fault)
+    let fault = run_turns(&mut task, options);
+    task.ended(fault)
 }

@@ -1,11 +1,10 @@
--- The link is empty at first, and the turns of the worker are those of its node.
+-- The link is empty at first, and its turns are those of the node.
 use Rattle.std.proofs.Common.{◌≡◌, ℕ, false, refl, sym, ap, subst, ◌∙◌}
 use Rattle.rp_base.specs.declared.fault.Fault.{Fault}
 use Rattle.rp_threads.specs.LoopTurns.{HasEnded}
 use Rattle.rp_threads.specs.Loops.{no_turns}
 use Rattle.rp_threads.specs.Rounds.{NodeAt, IsCountedTurn, IsUncountedTurn, node_party, node_rests, node_state}
 use Rattle.rp_threads.specs.Threads.{IsLooped}
-use Rattle.rp_threads.specs.declared.loops.Worker.{Worker}
 use Rattle.rp_patience.specs.declared.patience.Patience.{Patience}
 use Rattle.rp_threads.proofs.Chains.{seen_ended}
 use Rattle.rp_threads.proofs.NodeChains.{looped}
@@ -25,7 +24,7 @@ returns g c =
     let Turned = IsCountedTurn m.next m.answers m.begin gate.lets gate.heard in
     let Unmade = IsUncountedTurn m.next m.answers m.begin gate.lets gate.heard in
     let first : Patience → NodeAt g.row.M-Program.Denot = λ patience. record { worker = record { seat = a.seat; line = a.line; patience = patience }; counts = no_turns; rests = false } in
-    let ended = seen_ended gate.over node_party node_rests node_state _ (λ worker. worker.nodes ≡ a.nodes) (λ now fixed. refl) _ _ (Turned a.nodes) (Unmade a.nodes)
+    let ended = seen_ended gate.over node_party node_rests node_state _ (λ node. node.nodes ≡ a.nodes) (λ now fixed. refl) _ _ (Turned a.nodes) (Unmade a.nodes)
     (λ turn old new fixed t. (t.0 ∙ fixed, subst (λ (n : ℕ). Turned n turn (node_state old) (node_state new)) fixed t.1))
     (λ turn old new fault fixed none. subst (λ (n : ℕ). Unmade n turn (node_state old) (node_state new) fault) fixed none)
     a.options.turns _ run.new.actor run.result refl run.ensures.ran in

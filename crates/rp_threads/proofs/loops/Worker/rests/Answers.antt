@@ -1,7 +1,7 @@
 -- What is pending is what the seat returns, and then nothing else matters.
 use Rattle.std.proofs.Common.{Bool, not, ◌&&◌, ap, sym, ◌∙◌}
 use Rattle.rp_threads.specs.Loops.{is_uneventful}
-use Rattle.rp_threads.proofs.loops.Worker.rests_after.Goals as goal
+use Rattle.rp_threads.proofs.loops.Worker.rests.Goals as goal
 
 pub returns-then-has_pending : goal.returns-then-has_pending
 returns-then-has_pending g c = record {

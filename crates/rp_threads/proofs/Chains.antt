@@ -4,13 +4,23 @@ use Rattle.rp_base.specs.declared.fault.Fault.{Fault}
 use Rattle.rp_codec.specs.declared.packet.Party.{Party}
 use Rattle.rp_threads.specs.LoopTurns.{AreTurns, EndsBy, HasEnded, IsAsked, IsLastTurn}
 
--- what holds at first and is kept by each turn holds after all of them
-pub by_turns : {A : Type 0} (over : Party → ℕ → Bool → Bool → Type 0) (party : A → Party) (rests : A → Bool) (Turned : ℕ → A → A → Type 0) (Holds : ℕ → A → Type 0)
-    → ((n : ℕ) (old new : A) → Holds n old → Turned (suc n) old new → Holds (suc n) new)
-    → (first : A) → Holds 0 first → (n : ℕ) (now : A) → AreTurns over party rests Turned first n now → Holds n now
-by_turns over party rests Turned Holds kept first holds zero now are = subst (Holds 0) (sym are) holds
-by_turns over party rests Turned Holds kept first holds (suc n) now are =
-    kept n are.0 now (by_turns over party rests Turned Holds kept first holds n are.0 are.1) are.2.turned
+-- What holds at first and is kept by each turn holds after all of them; and so does what follows of it at an end without a
+-- fault, and at one by a fault.
+module _ {A : Type 0} (over : Party → ℕ → Bool → Bool → Type 0) (party : A → Party) (rests : A → Bool) (Turned : ℕ → A → A → Type 0) (Unmade : ℕ → A → A → Fault → Type 0)
+    (Holds : ℕ → A → Type 0) (Left : ℕ → A → Option Fault → Type 0)
+    (kept : (n : ℕ) (old new : A) → Holds n old → Turned (suc n) old new → Holds (suc n) new)
+    (whole : (n : ℕ) (now : A) → Holds n now → Left n now None)
+    (stopped : (n : ℕ) (before last : A) (fault : Fault) → Holds n before → Unmade (suc n) before last fault → Left n last (Some fault)) where
+  by_turns : (first : A) → Holds 0 first → (n : ℕ) (now : A) → AreTurns over party rests Turned first n now → Holds n now
+  by_turns first holds zero now are = subst (Holds 0) (sym are) holds
+  by_turns first holds (suc n) now are = kept n are.0 now (by_turns first holds n are.0 are.1) are.2.turned
+
+  left_by : (fault : Option Fault) (turns done : ℕ) (before last : A) → Holds done before → EndsBy over party rests Turned Unmade fault turns done before last → Left done last fault
+  left_by None turns done before last holds ends = subst (λ (now : A). Left done now None) (sym ends.0) (whole done before holds)
+  left_by (Some fault) turns done before last holds ends = stopped done before last fault holds ends.2
+
+  pub by_end : (turns : ℕ) (first last : A) (fault : Option Fault) → Holds 0 first → (ended : HasEnded over party rests Turned Unmade turns first last fault) → Left ended.done last fault
+  by_end turns first last fault holds ended = left_by fault turns ended.done ended.before last (by_turns first holds ended.done ended.before ended.turned) ended.ends
 
 -- ---- the same turns, by what a definition sees of each state
 

@@ -10,12 +10,12 @@ use Rattle.rp_codec.specs.declared.packet.Party.TheVariants.{Node}
 use Rattle.rp_tasks.specs.Line.{Line}
 use Rattle.rp_boxes.specs.Seats.{SeatSetup, SeatState}
 use Rattle.rp_threads.specs.Loops.{events_made, is_refusal, is_to_lead, lead_period, sender_at, total_of, turns_off}
-use Rattle.rp_threads.specs.LoopTurns.{EndsBy, HasEnded}
+use Rattle.rp_threads.specs.LoopTurns.{HasEnded}
 use Rattle.rp_threads.specs.Rounds.{NodeAt, IsCountedTurn, IsUncountedTurn, IsNodeFault, Runs, before_turns, node_party, node_rests}
 use Rattle.rp_threads.specs.Threads.{IsLooped, end_of}
 use Rattle.rp_threads.specs.declared.loops.Counts.{Counts}
 use Rattle.rp_threads.specs.declared.loops.NodeEnd.{NodeEnd}
-use Rattle.rp_threads.proofs.Chains.{by_turns}
+use Rattle.rp_threads.proofs.Chains.{by_end}
 use Rattle.rp_threads.proofs.Later.{IsCause, IsLater, later_on, later_same, turned_idle, turned_later, unmade_left}
 use Rattle.rp_threads.proofs.Rounds.{IsIdle, counted_idle, counted_more}
 
@@ -80,34 +80,31 @@ module _ {S P : Type 0} (next : S → Action → S) (answers : S → Action → 
 
   -- ---- ends of loops
 
+  whole_left : (seat : SeatState P) (n : ℕ) (now : NodeAt P) → HasMadeTurns seat n now → IsLeftBy seat n now None
+  whole_left seat n now has = record { same = has.later.same; failures = λ other. has.later.failures; turned = λ none. has; cause = tt }
+
+  stopped_left : (seat : SeatState P) (n : ℕ) (before last : NodeAt P) (fault : Fault) → HasMadeTurns seat n before → IsNoTurn (suc n) before last fault → IsLeftBy seat n last (Some fault)
+  stopped_left seat n before last fault has none =
+      let now = before.worker.seat in
+      let left = unmade_left next answers begin (sender_at nodes (suc n)) (is_to_lead now.setup.number (suc n)) before.worker last.worker fault none.unmade.1 in
+      let count = before.counts.received + before.counts.led in
+      record {
+        same = left.same ∙ has.later.same;
+        failures = λ other. kept_failures seat now last.worker.seat count fault has.later left.cause (λ device. other (ap (λ (f : Fault). Some f) device));
+        turned = λ none. absurd (some_fault fault none);
+        cause = cause_of seat now last.worker.seat count fault has.later none.ends left.cause;
+      }
+    where
+      some_fault : (f : Fault) → Some f ≡ None → ⊥
+      some_fault f is = cc
+
   module _ (over : Party → ℕ → Bool → Bool → Type 0) (turns : ℕ) (seat : SeatState P) (line : Line) where
     abbrev Ended : NodeAt P → Option Fault → Type 0
     Ended last fault = HasEnded over node_party node_rests IsTurn IsNoTurn turns (before_turns seat line) last fault
 
-    left_by : (fault : Option Fault) (done : ℕ) (before last : NodeAt P) → HasMadeTurns seat done before → EndsBy over node_party node_rests IsTurn IsNoTurn fault turns done before last
-        → IsLeftBy seat done last fault
-    left_by None done before last has ends =
-        let now = subst (HasMadeTurns seat done) (sym ends.0) has in
-        record { same = now.later.same; failures = λ other. now.later.failures; turned = λ none. now; cause = tt }
-    left_by (Some fault) done before last has ends =
-        let now = before.worker.seat in
-        let none = ends.2 in
-        let left = unmade_left next answers begin (sender_at nodes (suc done)) (is_to_lead now.setup.number (suc done)) before.worker last.worker fault none.unmade.1 in
-        let count = before.counts.received + before.counts.led in
-        record {
-          same = left.same ∙ has.later.same;
-          failures = λ other. kept_failures seat now last.worker.seat count fault has.later left.cause (λ device. other (ap (λ (f : Fault). Some f) device));
-          turned = λ none. absurd (some_fault fault none);
-          cause = cause_of seat now last.worker.seat count fault has.later none.ends left.cause;
-        }
-      where
-        some_fault : (f : Fault) → Some f ≡ None → ⊥
-        some_fault f is = cc
-
     ended_left : (last : NodeAt P) (fault : Option Fault) (ended : Ended last fault) → IsLeftBy seat ended.done last fault
     ended_left last fault ended =
-        let has = by_turns over node_party node_rests IsTurn (HasMadeTurns seat) (one_turned seat) (before_turns seat line) (none_turned seat line) ended.done ended.before ended.turned in
-        left_by fault ended.done ended.before last has ended.ends
+        by_end over node_party node_rests IsTurn IsNoTurn (HasMadeTurns seat) (IsLeftBy seat) (one_turned seat) (whole_left seat) (stopped_left seat) turns (before_turns seat line) last fault (none_turned seat line) ended
 
     module _ {M D : Type 0} (notifies : Party → Option Fault → Type 0) where
       abbrev IsEnd : NodeEnd M D P → Type 0

@@ -18,7 +18,7 @@ use Rattle.rp_tasks.specs.Line.{Line}
 use Rattle.rp_boxes.specs.Parts.{OfTask, fresh_part}
 use Rattle.rp_boxes.specs.Seats.{SeatSetup, SeatState}
 use Rattle.rp_threads.specs.Lines.{given_on, line_after}
-use Rattle.rp_threads.specs.LoopTurns.{EndsBy, HasEnded}
+use Rattle.rp_threads.specs.LoopTurns.{HasEnded}
 use Rattle.rp_threads.specs.Loops.{node_at}
 use Rattle.rp_threads.specs.Tasks.{HasMade, TaskAt, before_calls, call_after, task_party}
 use Rattle.rp_threads.specs.TaskRounds.{Asks, Hears, IsHeard, IsTaskRefused, IsTaskFault, IsTaskTurnOf, IsUnmadeTurn, untaken, unheard, unasked, asked_by, asked_for, asked_in, heard_by, made_by, submitted, task_rests, with_call, with_lost}
@@ -26,7 +26,7 @@ use Rattle.rp_threads.specs.Threads.{IsTaskLooped, task_end_of}
 use Rattle.rp_threads.specs.Turns.{IsBrought, IsLost, MayFetch}
 use Rattle.rp_threads.specs.declared.tasks.Calls.{Calls}
 use Rattle.rp_threads.specs.declared.tasks.TaskCall.{TaskCall}
-use Rattle.rp_threads.proofs.Chains.{by_turns}
+use Rattle.rp_threads.proofs.Chains.{by_end}
 use Rattle.rp_threads.proofs.TaskSteps.{again_made, asked_puts, asked_same, call_made, fetched_made, heard_made, none_made, put_made, same_task}
 
 no_first : (xs : List TaskCall) → 0 < length xs → slice_get xs 0 ≡ None → ⊥
@@ -259,6 +259,17 @@ module _ {S P : Type 0} (next : S → Action → S) (answers : S → Action → 
 
     -- ---- ends of loops
 
+    whole_left : (seat : SeatState P) (n : ℕ) (now : TaskAt P) → HasMadeCalls calls seat n now → IsLeftBy nodes calls seat n now None
+    whole_left seat n now has = record { same = has.same; made = has.made; first = λ none. has.first; cause = tt }
+
+    stopped_left : 1 ≤ nodes → (seat : SeatState P) (n : ℕ) (before last : TaskAt P) (fault : Fault) → HasMadeCalls calls seat n before → IsNoTurn (suc n) before last fault → IsLeftBy nodes calls seat n last (Some fault)
+    stopped_left some seat n before last fault has none =
+        let left = unmade_on (suc n) seat before last fault has.same has.made some none in
+        record { same = left.0; made = left.1; first = λ none. absurd (some_fault fault none); cause = left.2 }
+      where
+        some_fault : (f : Fault) → Some f ≡ None → ⊥
+        some_fault f is = cc
+
     module _ (over : Party → ℕ → Bool → Bool → Type 0) (turns : ℕ) (seat : SeatState P) (line : Line) (fresh : seat.part ≡ fresh_part (OfTask fresh_task)) where
       abbrev Ended : TaskAt P → Option Fault → Type 0
       Ended last fault = HasEnded over task_party (task_rests calls) IsTurn IsNoTurn turns (before_calls seat line) last fault
@@ -266,23 +277,10 @@ module _ {S P : Type 0} (next : S → Action → S) (answers : S → Action → 
       none_turned : HasMadeCalls calls seat 0 (before_calls seat line)
       none_turned = record { same = refl; made = none_made calls seat fresh; first = λ some more. absurd (omega (arith, more)) }
 
-      left_by : 1 ≤ nodes → (fault : Option Fault) (done : ℕ) (before last : TaskAt P) → HasMadeCalls calls seat done before → EndsBy over task_party (task_rests calls) IsTurn IsNoTurn fault turns done before last
-          → IsLeftBy nodes calls seat done last fault
-      left_by some None done before last has ends =
-          let now = subst (HasMadeCalls calls seat done) (sym ends.0) has in
-          record { same = now.same; made = now.made; first = λ none. now.first; cause = tt }
-      left_by some (Some fault) done before last has ends =
-          let left = unmade_on (suc done) seat before last fault has.same has.made some ends.2 in
-          record { same = left.0; made = left.1; first = λ none. absurd (some_fault fault none); cause = left.2 }
-        where
-          some_fault : (f : Fault) → Some f ≡ None → ⊥
-          some_fault f is = cc
-
       pub task_looped : {M : Type 0} (notifies : Party → Option Fault → Type 0) → 1 ≤ nodes → (last : TaskAt P) (fault : Option Fault) → Ended last fault → notifies (task_party last) fault
           → IsTaskLooped {M = M} next answers begin over notifies nodes turns calls seat line (task_end_of last fault)
       task_looped notifies some last fault ended notified =
-          let has = by_turns over task_party (task_rests calls) IsTurn (HasMadeCalls calls seat) (one_turned seat) (before_calls seat line) none_turned ended.done ended.before ended.turned in
-          let left = left_by some fault ended.done ended.before last has ended.ends in
+          let left = by_end over task_party (task_rests calls) IsTurn IsNoTurn (HasMadeCalls calls seat) (IsLeftBy nodes calls seat) (one_turned seat) (whole_left seat) (stopped_left some seat) turns (before_calls seat line) last fault none_turned ended in
           record {
             last = last;
             is = refl;

@@ -241,13 +241,12 @@ impl<M: Machine, D: Device> NodeLoop<M, D> {
     fn ended(self, fault: Option<Fault>) -> NodeEnd<M, D>
         ensures { result ≡ end_of (node_state self) fault }
     {
-        let lost = self.counts.lost.saturating_add(self.worker.link.lost());
+        let counts = self.counts;
+        let worker = self.worker;
+        let lost = counts.lost.saturating_add(worker.link.lost());
         NodeEnd {
-            seat: self.worker.seat,
-            counts: Counts {
-                lost,
-                ..self.counts
-            },
+            seat: worker.seat,
+            counts: Counts { lost, ..counts },
             fault,
         }
     }

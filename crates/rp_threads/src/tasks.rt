@@ -247,7 +247,7 @@ struct TaskLoop<'a, M: Machine> {
 impl<M: Machine> TaskLoop<'_, M> {
     /// The end of the loop.
     fn ended(self, fault: Option<Fault>) -> TaskEnd<M>
-        ensures { result ≡ task_end_of (task_state self) fault }
+        ensures { result ≡ task_end_of (task_state self.entry) fault }
     {
         let caller = self.caller;
         let lost = caller.so_far.lost.saturating_add(caller.link.lost());

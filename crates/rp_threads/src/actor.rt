@@ -34,7 +34,7 @@ pub(crate) trait Actor<G: Gate> {
     fn party(&self) -> Party
         ensures { result ≡ party self.now };
 
-    /// Whether it rests, which the gate is told before each turn.
+    /// Whether it rests now, which is passed to the gate before each turn.
     fn rests(&self) -> bool
         ensures { result ≡ rests self.now };
 

@@ -11,8 +11,8 @@ use Rattle.rp_threads.proofs.NodeChains.{looped}
 use Rattle.rp_threads.proofs.Texts.{empty_holds}
 use Rattle.rp_threads.proofs.loops.node_loop.Goals as goal
 
-pub run_turns-requires : goal.run_turns-requires
-run_turns-requires g c = (c.requires.nodes, empty_holds c.args.seat.part.got c.args.line c.requires.line, refl)
+pub run_turns-fault-requires : goal.run_turns-fault-requires
+run_turns-fault-requires g c = (c.requires.nodes, empty_holds c.args.seat.part.got c.args.line c.requires.line, refl)
 
 pub returns : goal.returns
 returns g c =

@@ -10,8 +10,8 @@ use Rattle.rp_threads.proofs.TaskChains.{task_looped}
 use Rattle.rp_threads.proofs.Texts.{empty_holds}
 use Rattle.rp_threads.proofs.tasks.task_loop.Goals as goal
 
-pub run_turns-requires : goal.run_turns-requires
-run_turns-requires g c = (c.requires.nodes, empty_holds c.args.seat.part.got c.args.line c.requires.line)
+pub run_turns-fault-requires : goal.run_turns-fault-requires
+run_turns-fault-requires g c = (c.requires.nodes, empty_holds c.args.seat.part.got c.args.line c.requires.line)
 
 pub returns : goal.returns
 returns g c =
@@ -23,7 +23,7 @@ returns g c =
     let Turned = IsTaskTurnOf m.next m.answers m.begin in
     let Unmade = IsUnmadeTurn m.next m.answers m.begin in
     let ended = seen_ended gate.over task_party (task_rests a.calls.now) task_state _ (λ task. (task.nodes ≡ a.nodes) × (task.calls.now ≡ a.calls.now))
-    (λ now fixed. ap (λ (calls : List TaskCall). has_all_replies calls now.so_far) fixed.1) _ _ (Turned a.nodes a.calls.now) (Unmade a.nodes a.calls.now)
+    (λ now fixed. ap (λ (calls : List TaskCall). has_all_replies calls now.caller.so_far) fixed.1) _ _ (Turned a.nodes a.calls.now) (Unmade a.nodes a.calls.now)
     (λ turn old new fixed t. ((t.0 ∙ fixed.0, ap (λ calls. calls.now) t.1 ∙ fixed.1), subst (λ (n : ℕ). Turned n a.calls.now turn (task_state old) (task_state new)) fixed.0 (subst (λ (calls : List TaskCall). Turned old.nodes calls turn (task_state old) (task_state new)) fixed.1 t.2)))
     (λ turn old new fault fixed none. subst (λ (n : ℕ). Unmade n a.calls.now turn (task_state old) (task_state new) fault) fixed.0 (subst (λ (calls : List TaskCall). Unmade old.nodes calls turn (task_state old) (task_state new) fault) fixed.1 none))
     a.options.turns _ run.new.actor run.result (refl, refl) run.ensures.ran in

@@ -7,8 +7,8 @@ use Rattle.rp_base.specs.Calls.{next_call}
 use Rattle.rp_codec.specs.Message.{Message}
 use Rattle.rp_codec.specs.declared.packet.Party.{Party}
 use Rattle.rp_codec.specs.declared.packet.Party.TheVariants.{Task}
-use Rattle.rp_model.specs.Parts.{TaskPart}
-use Rattle.rp_model.specs.Tasks.{asks}
+use Rattle.rp_replica.specs.rp_model.specs.Parts.{TaskPart}
+use Rattle.rp_replica.specs.rp_model.specs.Tasks.{asks}
 use Rattle.rp_tasks.specs.Line.{Line}
 use Rattle.rp_boxes.specs.Parts.{OfTask}
 use Rattle.rp_boxes.specs.Seats.{SeatState}

@@ -63,7 +63,7 @@ impl<M: Machine, D: Device> Model for NodeSeat<M, D> {
         (arc_value s.board).shared.table_id s.place.table_id s.node s.place.me
         × IsNodePlace (arc_value s.board).shared.key.config
         (M.begin (arc_value s.board).shared.key.program.value) s.node s.replica
-        (part_in s.place.me.0) };
+        (part_in s.place.me.0).role };
 }
 
 impl<M: Machine, D: Device> NodeSeat<M, D> {

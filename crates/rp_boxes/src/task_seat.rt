@@ -54,7 +54,7 @@ impl<M: Machine> Model for TaskSeat<M> {
     ghost use Rattle.std.specs.Arc.{arc_value};
     ghost use Rattle.rp_boxes.specs.Parts.{part_in};
     ghost use Rattle.rp_boxes.specs.Seats.{SeatState, IsAtTable};
-    ghost use Rattle.rp_boxes.specs.TaskSeats.{IsTaskSeat};
+    ghost use Rattle.rp_boxes.specs.TaskSeats.{IsTaskPlace};
 
     ghost Value = { SeatState M.Program };
 
@@ -71,8 +71,8 @@ impl<M: Machine> Model for TaskSeat<M> {
 
     ghost invariant = { λ s. IsAtTable (arc_value s.board).shared.table_id s.place.table_id
         (7 + s.number) s.place.me
-        × IsTaskSeat s.number (arc_value s.board).shared.key.config s.config s.task
-        (part_in s.place.me.0) };
+        × IsTaskPlace s.number (arc_value s.board).shared.key.config s.config s.task
+        (part_in s.place.me.0).role };
 }
 
 impl<M: Machine> TaskSeat<M> {

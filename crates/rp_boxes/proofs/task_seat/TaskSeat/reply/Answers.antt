@@ -35,7 +35,7 @@ module _ (g : given.Over) (c : In_ok-taken g) where
   is_given : IsTaskInput (state c.self.inside).part.got c.self.inside.number event.input
   is_given =
       let right = c.self.invariant.0.own.got got.0 got.1 in
-      (got.1, same_party got.0.to (parties.Task c.self.inside.number) right.0.ranges.to (subst IsTask c.self.invariant.1.named c.self.invariant.1.place.task) right.1)
+      (got.1, same_party got.0.to (parties.Task c.self.inside.number) right.0.ranges.to (subst IsTask c.self.invariant.1.named c.self.invariant.1.task) right.1)
 
   now : c.take.new.task.part ≡ event.done.part
   now = ap (λ (k : Caller). k.part) c.in_ok-taken.ensures.part ∙ ap (λ (k : ℕ). (reply_effect k c.self.inside.task.part c.in_ok-stated.stated).part) c.self.invariant.1.named

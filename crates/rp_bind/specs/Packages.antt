@@ -3,13 +3,13 @@ use Rattle.std.specs.Prelude.{ℕ, ◌+◌, ◌-◌, Bool, true, false, if◌the
 use Rattle.std.specs.Prelude.{codes, flat_map, Option, Some, None, slice_get, String, string_bytes}
 use Rattle.std.specs.Arc.{arc_value}
 use Rattle.std.specs.List.{concat}
-use Rattle.indexmap.specs.IndexMap.{IndexMap, keys}
-use Rattle.rp_entry.specs.declared.operations.Function.{Function}
-use Rattle.rp_entry.specs.declared.operations.Function.TheVariants as functions
-use Rattle.rp_object.specs.Program.{operations_of}
-use Rattle.rp_object.specs.declared.program.ObjectDeclaration.{ObjectDeclaration}
-use Rattle.rp_deck_objects.specs.declared.names.OperationName.{OperationName}
-use Rattle.rp_deck_objects.specs.declared.names.OperationName.TheVariants as names
+use Rattle.rp_deck_declarations.specs.indexmap.specs.IndexMap.{IndexMap, keys}
+use Rattle.rp_deck_declarations.specs.rp_entry.specs.declared.operations.Function.{Function}
+use Rattle.rp_deck_declarations.specs.rp_entry.specs.declared.operations.Function.TheVariants as functions
+use Rattle.rp_deck_declarations.specs.rp_object.specs.Program.{operations_of}
+use Rattle.rp_deck_declarations.specs.rp_object.specs.declared.program.ObjectDeclaration.{ObjectDeclaration}
+use Rattle.rp_deck_declarations.specs.rp_deck_objects.specs.declared.names.OperationName.{OperationName}
+use Rattle.rp_deck_declarations.specs.rp_deck_objects.specs.declared.names.OperationName.TheVariants as names
 use Rattle.rp_deck_declarations.specs.declared.declarations.Declared.{Declared}
 use Rattle.rp_deck_declarations.specs.declared.deck_program.DeckProgram.{DeckProgram}
 use Rattle.rp_deck_declarations.specs.declared.deck_program.DeckProgram.TheVariants as programs
@@ -17,7 +17,7 @@ use Rattle.rp_bind.specs.declared.lines.Kind.{Kind}
 use Rattle.rp_bind.specs.declared.lines.Kind.TheVariants.{Value, Truth, Procedure, Entry}
 use Rattle.rp_bind.specs.declared.lines.Language.{Language}
 use Rattle.rp_bind.specs.declared.lines.Language.TheVariants.{Ada, C}
-use Rattle.rp_bind.specs.Texts.{object_head, object_end, operation_lines, task_line}
+use Rattle.rp_bind.specs.Texts.{object_head, object_end, operation_lines, task_constant}
 
 -- what is before the tasks, between them and the objects, and after the objects
 abbrev pub head : Language → List ℕ
@@ -56,7 +56,7 @@ module _ {Z : Type 0} where
   -- the tasks, numbered from 1 in declared order
   abbrev pub tasks_text : Language → List (String Z) → List ℕ
   tasks_text language tasks =
-      numbered (λ number name. task_line language (string_bytes name) number) 1 tasks
+      numbered (λ number name. task_constant language (string_bytes name) number) 1 tasks
 
   -- what is before the objects
   abbrev pub text_before_objects : Language → List (String Z) → List ℕ

@@ -11,7 +11,7 @@ use crate::board::{Known, Place, Slots};
 use crate::laws::events_keep;
 use atomic_table::Play;
 use rp_codec::Party;
-use rp_machine::Machine;
+use rp_model::rp_machine::Machine;
 use std::marker::{Brand, PhantomData};
 
 /// A fact that holds of an actor's part after its event. Each caller chooses it.

@@ -2,9 +2,10 @@
 use Rattle.std.specs.Prelude.{ℕ, zero, suc, ◌-◌, ◌==◌, ℤ, Bool, true, false, List, [], ◌∷◌, codes}
 use Rattle.std.specs.Prelude.{Option, Some, None, Result, Ok, Err, if◌then◌else◌}
 use Rattle.std.specs.Str.{bytes_eq}
-use Rattle.rp_base.specs.declared.fault.DeckReason.{DeckReason}
-use Rattle.rp_base.specs.declared.fault.DeckReason.TheVariants.{BadExpression, BadNumber}
-use Rattle.rp_base.specs.declared.fault.DeckReason.TheVariants.{UnknownName}
+use Rattle.rp_words.specs.rp_base.specs.declared.fault.DeckReason.{DeckReason}
+use Rattle.rp_words.specs.rp_base.specs.declared.fault.DeckReason.TheVariants.{BadExpression}
+use Rattle.rp_words.specs.rp_base.specs.declared.fault.DeckReason.TheVariants.{BadNumber}
+use Rattle.rp_words.specs.rp_base.specs.declared.fault.DeckReason.TheVariants.{UnknownName}
 use Rattle.rp_deck_bodies.specs.declared.expressions.CondWord.{CondWord}
 use Rattle.rp_deck_bodies.specs.declared.expressions.CondWord.TheVariants as words
 use Rattle.rp_deck_bodies.specs.declared.names.Component.{Component}
@@ -65,8 +66,8 @@ abbrev pub NodeReader : Type 0 → Type 0
 NodeReader X = ℕ → List ℕ → Result (X × ℕ × List ℕ) DeckReason
 
 -- the word of one node more
-unfoldable pub node_at : NodeReader (List ℕ)
-node_at left words = do
+unfoldable pub next_node_read : NodeReader (List ℕ)
+next_node_read left words = do
   word ← word_at words
   more ← unless BadExpression (left == 0)
   Ok (word.0, left - 1, word.1)
@@ -92,10 +93,10 @@ two_at part make left words = do
 -- at most so deep: the word of a node, and what from reads after it, each part one less deep
 unfoldable pub tree_at : {X : Type 0} → (NodeReader X → List ℕ → NodeReader X) → ℕ → NodeReader X
 tree_at from zero left words = do
-  node ← node_at left words
+  node ← next_node_read left words
   Err BadExpression
 tree_at from (suc depth) left words = do
-  node ← node_at left words
+  node ← next_node_read left words
   from (tree_at from depth) node.0 node.1 node.2
 
 -- at most 32 nodes, and no word after them

@@ -5,3 +5,4 @@ pub mod BodyViews
 pub mod Counted
 pub mod BodyLimits
 pub mod NodeReads
+pub use Rattle.rp_words.specs.indexmap

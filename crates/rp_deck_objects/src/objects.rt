@@ -4,9 +4,9 @@ ghost use Rattle.std.specs.Prelude.{◌≡◌, ◌≤◌, ◌<◌, ◌+◌, Some
 ghost use Rattle.std.specs.FinMap.{len};
 ghost use Rattle.rp_object.specs.Program.{has_operation, operations_of, DeclarationFits, KeepsProfile};
 ghost use Rattle.rp_words.specs.Ahead.{text_of};
-ghost use Rattle.indexmap.specs.IndexMap.{values};
-ghost use Rattle.rp_body.specs.Store.{is_within};
-ghost use Rattle.rp_entry.specs.Operations.{FunctionFits};
+ghost use Rattle.rp_deck_bodies.specs.indexmap.specs.IndexMap.{values};
+ghost use Rattle.rp_object.specs.rp_body.specs.Store.{is_within};
+ghost use Rattle.rp_object.specs.rp_entry.specs.Operations.{FunctionFits};
 ghost use Rattle.rp_deck_bodies.specs.Counted.{WhereCounted};
 ghost use Rattle.rp_deck_objects.specs.ObjectLimits.{AreNamed};
 ghost use Rattle.rp_deck_objects.specs.Objects.{ranged_at, function_named, most_entries, longest_at, queue_at};
@@ -14,13 +14,13 @@ ghost use Rattle.rp_words.specs.Reading.{Gives, Makes};
 ghost use Rattle.rp_words.specs.Words.{unread};
 
 use crate::names::{EntryIndex, Index, OperationName, OperationNames};
-use indexmap::IndexMap;
-use rp_base::{DeckReason, MOST_ENTRIES, MOST_OPERATIONS};
-use rp_body::{Components, MOST_OF_A_KIND, Ranged};
+use rp_deck_bodies::indexmap::IndexMap;
 use rp_deck_bodies::{
     BodyDraft, Component, ComponentNames, bool_named, is_of_expressions, read_cond, read_expr,
 };
-use rp_entry::{Entry, Function, LONGEST_QUEUE, Operations};
+use rp_object::rp_base::{DeckReason, MOST_ENTRIES, MOST_OPERATIONS};
+use rp_object::rp_body::{Components, MOST_OF_A_KIND, Ranged};
+use rp_object::rp_entry::{Entry, Function, LONGEST_QUEUE, Operations};
 use rp_object::{ObjectDeclaration, Profile};
 use rp_words::{
     LineError, TextLine, Words, insert_in_map, insert_string_in_map, is_word, map_has_name, named,

@@ -1,7 +1,7 @@
 use Rattle.std.proofs.Common.{◌≡◌, ◌∙◌, true, List, ℕ, Option, Some, None, IfSome, ap, sym}
 use Rattle.std.specs.Prelude.{option_map, All}
-use Rattle.indexmap.specs.IndexMap.{values}
-use Rattle.rp_entry.specs.declared.operations.Operations.{Operations}
+use Rattle.rp_deck_bodies.specs.indexmap.specs.IndexMap.{values}
+use Rattle.rp_object.specs.rp_entry.specs.declared.operations.Operations.{Operations}
 use Rattle.rp_object.specs.Program.{has_operation}
 use Rattle.rp_deck_objects.specs.declared.names.OperationName.{OperationName}
 use Rattle.rp_deck_objects.specs.ObjectViews.{operation_of}

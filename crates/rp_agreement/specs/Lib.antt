@@ -13,3 +13,6 @@ pub mod Noted
 pub mod Possible
 pub mod Answered
 pub mod Over
+pub use Rattle.rp_base
+pub use Rattle.rp_machine
+pub use Rattle.rp_model

@@ -1,10 +1,10 @@
 -- What the lines of a text declare.
 use Rattle.std.proofs.Common.{◌≡◌, ℕ, ◌+◌, List, Result, Ok, Err, ap, sym, arith, length, subst}
 use Rattle.std.specs.Prelude.{IfErr, IsErrAnd}
-use Rattle.rp_base.specs.declared.fault.Fault.{Fault}
-use Rattle.rp_words.specs.declared.lines.Lines.{Lines}
-use Rattle.rp_words.specs.Ahead.{left, lines_read, ahead, after_last}
-use Rattle.rp_words.specs.Lines.{lines_of, texts_from}
+use Rattle.rp_deck_declarations.specs.rp_base.specs.declared.fault.Fault.{Fault}
+use Rattle.rp_deck_declarations.specs.rp_words.specs.declared.lines.Lines.{Lines}
+use Rattle.rp_deck_declarations.specs.rp_words.specs.Ahead.{left, lines_read, ahead, after_last}
+use Rattle.rp_deck_declarations.specs.rp_words.specs.Lines.{lines_of, texts_from}
 use Rattle.rp_deck_declarations.specs.DeclaredTexts.{known}
 use Rattle.rp_deck_declarations.specs.Declaring.{declarations_of}
 use Rattle.rp_bind.specs.Binds.{declared_in}

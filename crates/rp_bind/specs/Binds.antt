@@ -1,11 +1,11 @@
 -- What a deck is bound by.
 use Rattle.std.specs.Prelude.{◌≡◌, ℕ, ◌+◌, List, [], ◌∷◌, length, option_map, Option, Some, None}
 use Rattle.std.specs.Prelude.{Result, Ok, String, string_bytes}
-use Rattle.indexmap.specs.IndexMap.{IndexMap}
-use Rattle.rp_words.specs.LineFaults.{BadLine}
-use Rattle.rp_words.specs.Lines.{LineText, lines_of, texts_from}
-use Rattle.rp_words.specs.Tables.{key_names, set_names}
-use Rattle.rp_deck_objects.specs.declared.names.OperationName.{OperationName}
+use Rattle.rp_deck_declarations.specs.indexmap.specs.IndexMap.{IndexMap}
+use Rattle.rp_deck_declarations.specs.rp_words.specs.LineFaults.{BadLine}
+use Rattle.rp_deck_declarations.specs.rp_words.specs.Lines.{LineText, lines_of, texts_from}
+use Rattle.rp_deck_declarations.specs.rp_words.specs.Tables.{key_names, set_names}
+use Rattle.rp_deck_declarations.specs.rp_deck_objects.specs.declared.names.OperationName.{OperationName}
 use Rattle.rp_deck_declarations.specs.declared.declarations.Declared.{Declared}
 use Rattle.rp_deck_declarations.specs.DeclaredTexts.{DeclaredText, known}
 use Rattle.rp_deck_declarations.specs.DeclaredViews.{declared_text, names_of}

@@ -2,3 +2,4 @@ pub mod Names
 pub mod Texts
 pub mod Packages
 pub mod Binds
+pub use Rattle.rp_deck_declarations.specs.rp_words

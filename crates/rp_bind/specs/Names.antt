@@ -3,7 +3,7 @@ use Rattle.std.specs.Prelude.{ℕ, ◌==◌, ◌||◌, ◌&&◌, Bool, false, Li
 use Rattle.std.specs.Prelude.{length, Option, Some, None, if◌then◌else◌}
 use Rattle.std.specs.List.{list_any}
 use Rattle.std.specs.Str.{str_eq_ignore_ascii_case}
-use Rattle.rp_words.specs.Words.{begins_with}
+use Rattle.rp_deck_declarations.specs.rp_words.specs.Words.{begins_with}
 use Rattle.rp_bind.specs.declared.names.BadName.{BadName}
 use Rattle.rp_bind.specs.declared.names.NameReason.{NameReason}
 use Rattle.rp_bind.specs.declared.names.NameReason.TheVariants.{Reserved, Underscore, Case}

@@ -3,13 +3,13 @@ use Rattle.std.specs.Prelude.{ℕ, ◌+◌, ◌-◌, Bool, true, false, if◌the
 use Rattle.std.specs.Prelude.{codes, flat_map, Option, Some, None, slice_get, String, string_bytes}
 use Rattle.std.specs.Arc.{arc_value}
 use Rattle.std.specs.List.{concat}
-use Rattle.indexmap.specs.IndexMap.{IndexMap, keys}
-use Rattle.rp_entry.specs.declared.operations.Function.{Function}
-use Rattle.rp_entry.specs.declared.operations.Function.TheVariants as functions
-use Rattle.rp_object.specs.Program.{operations_of}
-use Rattle.rp_object.specs.declared.program.ObjectDeclaration.{ObjectDeclaration}
-use Rattle.rp_deck_objects.specs.declared.names.OperationName.{OperationName}
-use Rattle.rp_deck_objects.specs.declared.names.OperationName.TheVariants as names
+use Rattle.rp_deck_declarations.specs.indexmap.specs.IndexMap.{IndexMap, keys}
+use Rattle.rp_deck_declarations.specs.rp_entry.specs.declared.operations.Function.{Function}
+use Rattle.rp_deck_declarations.specs.rp_entry.specs.declared.operations.Function.TheVariants as functions
+use Rattle.rp_deck_declarations.specs.rp_object.specs.Program.{operations_of}
+use Rattle.rp_deck_declarations.specs.rp_object.specs.declared.program.ObjectDeclaration.{ObjectDeclaration}
+use Rattle.rp_deck_declarations.specs.rp_deck_objects.specs.declared.names.OperationName.{OperationName}
+use Rattle.rp_deck_declarations.specs.rp_deck_objects.specs.declared.names.OperationName.TheVariants as names
 use Rattle.rp_deck_declarations.specs.declared.declarations.Declared.{Declared}
 use Rattle.rp_deck_declarations.specs.declared.deck_program.DeckProgram.{DeckProgram}
 use Rattle.rp_deck_declarations.specs.declared.deck_program.DeckProgram.TheVariants as programs

@@ -3,15 +3,15 @@
 ghost use Rattle.std.specs.Prelude.{◌≡◌, ◌+◌, ◌<◌, ◌^◌, length, option_map, IfOk, IfErr};
 ghost use Rattle.rp_bind.specs.Binds.{declared_in, first_bad_among, first_bad_of, Binds, BindsText};
 ghost use Rattle.rp_bind.specs.Names.{bad_name_text};
-ghost use Rattle.rp_words.specs.LineFaults.{IsDeckFault, Refuses};
+ghost use Rattle.rp_deck_declarations.specs.rp_words.specs.LineFaults.{IsDeckFault, Refuses};
 
 use crate::lines::Language;
 use crate::names::{BadName, first_bad};
 use crate::packages::packages_text;
-use rp_base::Fault;
+use rp_deck_declarations::rp_base::Fault;
+use rp_deck_declarations::rp_deck_objects::OperationNames;
+use rp_deck_declarations::rp_words::Lines;
 use rp_deck_declarations::{Declared, read_declarations};
-use rp_deck_objects::OperationNames;
-use rp_words::Lines;
 use std::alloc::{AllocError, Global};
 
 /// What becomes of a deck that declares what its text says.

@@ -1,14 +1,14 @@
 -- The faults of printing packages.
 use Rattle.std.proofs.Common.{◌≡◌, ℕ, Option, List, Result, Ok, Err, inl, inr, refl, sym, subst}
 use Rattle.std.specs.Prelude.{IfErr, IsErrAnd}
-use Rattle.rp_base.specs.declared.fault.Fault.{Fault}
-use Rattle.rp_base.specs.declared.fault.Fault.TheVariants.{OutOfMemory, Device, Failed, BadPacket, NotRunning, BallotsSpent, LogFull, NoSuchMessage, TaskBusy, NumbersSpent, BadDeck, BadConfig, Io}
+use Rattle.rp_script.specs.rp_base.specs.declared.fault.Fault.{Fault}
+use Rattle.rp_script.specs.rp_base.specs.declared.fault.Fault.TheVariants.{OutOfMemory, Device, Failed, BadPacket, NotRunning, BallotsSpent, LogFull, NoSuchMessage, TaskBusy, NumbersSpent, BadDeck, BadConfig, Io}
 use Rattle.rp_bind_run.specs.Prints.{FailsBinding, IsBindMeant}
 use Rattle.rp_script.specs.Given.{AreGiven}
-use Rattle.rp_output.specs.Faults.{IsRunFault}
-use Rattle.rp_output.specs.Stream.{IsWriteFault}
+use Rattle.rp_script.specs.rp_output.specs.Faults.{IsRunFault}
+use Rattle.rp_script.specs.rp_output.specs.Stream.{IsWriteFault}
 use Rattle.rp_script.specs.Faults.{IsBadDeck, IsProgramFault}
-use Rattle.rp_words.specs.LineFaults.{IsDeckFault, Refuses}
+use Rattle.rp_bind.specs.rp_words.specs.LineFaults.{IsDeckFault, Refuses}
 use Rattle.rp_bind.specs.Binds.{declared_in}
 
 -- a fault of a run says nothing of the deck, and is no bad deck

@@ -3,13 +3,13 @@ use Rattle.std.specs.Prelude.{◌≡◌, ◌⊎◌, ℕ, List, Option, Some, Non
 use Rattle.std.specs.Prelude.{String, string_bytes}
 use Rattle.std.specs.Io.KnownBytes.{Appends}
 use Rattle.std.specs.declared.alloc.Global.{Global}
-use Rattle.rp_base.specs.declared.fault.Fault.{Fault}
-use Rattle.rp_base.specs.declared.fault.Fault.TheVariants.{BadDeck}
+use Rattle.rp_script.specs.rp_base.specs.declared.fault.Fault.{Fault}
+use Rattle.rp_script.specs.rp_base.specs.declared.fault.Fault.TheVariants.{BadDeck}
 use Rattle.rp_bind.specs.Binds.{BindsText, declared_in}
 use Rattle.rp_bind.specs.declared.deck_binding.Binding.{Binding}
 use Rattle.rp_bind.specs.declared.deck_binding.Binding.TheVariants.{Packages, Refused}
 use Rattle.rp_bind.specs.declared.lines.Language.{Language}
-use Rattle.rp_output.specs.Stream.{Begins}
+use Rattle.rp_script.specs.rp_output.specs.Stream.{Begins}
 use Rattle.rp_script.specs.Faults.{IsBadDeck, IsProgramFault}
 use Rattle.rp_script.specs.Given.{AreGiven}
 

@@ -6,7 +6,7 @@ use Rattle.rp_base.proofs.Members.{has_left, has_right, has_mapped}
 use Rattle.rp_base.specs.declared.action.Action.{Action}
 use Rattle.rp_base.specs.declared.reply.Answer.{Answer}
 use Rattle.rp_codec.specs.Message.{Message}
-use Rattle.rp_machine.specs.Places.{IsPlace}
+use Rattle.rp_model.specs.rp_machine.specs.Places.{IsPlace}
 use Rattle.rp_model.specs.Effect.{Setting}
 use Rattle.rp_model.specs.Facts.{IsOrder}
 use Rattle.rp_model.specs.Parts.{NodePart}

@@ -13,8 +13,8 @@ use Rattle.rp_codec.specs.Text.{text_of}
 use Rattle.rp_codec.specs.declared.packet.Party.{Party}
 use Rattle.rp_codec.specs.declared.packet.Party.TheVariants.{Node, Task, Audit}
 use Rattle.rp_model.specs.Effect.{Setting}
-use Rattle.rp_machine.specs.declared.machine.Machine.{Ghosts}
-use Rattle.rp_replica.specs.State.{ReplicaState}
+use Rattle.rp_model.specs.rp_machine.specs.declared.machine.Machine.{Ghosts}
+use Rattle.rp_world.specs.rp_replica.specs.State.{ReplicaState}
 use Rattle.rp_boxes.specs.Looks.{IsWorldOf, HasWorld, WasSent}
 use Rattle.rp_boxes.specs.Moments.{WasFull, WasInUse, WasNotFull, WasPut, WasWord}
 use Rattle.rp_boxes.specs.Parts.{Part, View, actor_of, box_of, part_in, with_got, with_put}

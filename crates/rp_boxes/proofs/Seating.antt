@@ -5,7 +5,7 @@ use Rattle.atomic_table.specs.Seated.{TableId}
 use Rattle.rp_base.specs.Config.{IsRightConfig}
 use Rattle.rp_base.specs.declared.config.Config.{Config}
 use Rattle.rp_model.specs.Parts.{fresh_node, fresh_task}
-use Rattle.rp_replica.specs.State.{ReplicaState}
+use Rattle.rp_world.specs.rp_replica.specs.State.{ReplicaState}
 use Rattle.rp_world.specs.Nodes.{member_of, RunsAs}
 use Rattle.rp_world.proofs.Fresh.{one_more}
 use Rattle.rp_world.proofs.Represented.{represents}

@@ -17,7 +17,7 @@ use Rattle.rp_codec.specs.Message.{Message}
 use Rattle.rp_codec.specs.Text.{text_of}
 use Rattle.rp_codec.specs.declared.packet.Body.{Body}
 use Rattle.rp_codec.specs.declared.packet.Body.TheVariants as bodies
-use Rattle.rp_machine.specs.declared.machine.Machine.{Ghosts}
+use Rattle.rp_model.specs.rp_machine.specs.declared.machine.Machine.{Ghosts}
 use Rattle.rp_model.specs.Effect.{Done, goes_on_as}
 use Rattle.rp_model.specs.Parts.{TaskPart}
 use Rattle.rp_model.specs.Tasks as tasks
@@ -25,7 +25,7 @@ use Rattle.rp_model.specs.Tasks.{TaskInput, asks, next_call, may_call, calls_if,
 use Rattle.rp_agreement.specs.Inputs.{IsTaskInput, WaitsForOwn}
 use Rattle.rp_agreement.specs.Sound.{IsCall}
 use Rattle.rp_agreement.proofs.Lists.{some_same}
-use Rattle.rp_replica.specs.declared.sent.Sent.{Sent}
+use Rattle.rp_world.specs.rp_replica.specs.declared.sent.Sent.{Sent}
 use Rattle.rp_world.specs.Callers.{Caller}
 use Rattle.rp_world.specs.Going.{reply_in}
 use Rattle.rp_boxes.specs.Parts.{Part, OfTask, part_in, part_after}

@@ -13,3 +13,10 @@ pub mod OneOrder
 pub mod OrderLaws
 pub mod Moments
 pub mod Together
+pub use Rattle.atomic_table
+pub use Rattle.rp_agreement
+pub use Rattle.rp_model.specs.rp_machine
+pub use Rattle.rp_model
+pub use Rattle.rp_world.specs.rp_rules
+pub use Rattle.rp_world.specs.rp_store
+pub use Rattle.rp_world

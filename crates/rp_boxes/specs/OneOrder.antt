@@ -3,7 +3,7 @@ use Rattle.std.specs.Prelude.{◌≡◌, ℕ, ◌+◌, ◌≤◌, Some, List, []
 use Rattle.rp_base.specs.Number.{IsTask}
 use Rattle.rp_base.specs.declared.action.Action.{Action}
 use Rattle.rp_base.specs.declared.reply.Answer.{Answer}
-use Rattle.rp_machine.specs.Places.{IsPlace}
+use Rattle.rp_model.specs.rp_machine.specs.Places.{IsPlace}
 use Rattle.rp_model.specs.Effect.{Setting}
 use Rattle.rp_model.specs.Facts.{IsOrder}
 use Rattle.rp_agreement.specs.Answered.{named, calls_so_far}

@@ -3,9 +3,9 @@ use Rattle.std.specs.Prelude.{◌≡◌, ℕ, suc, ◌≤◌, Some, List, slice_
 use Rattle.rp_base.specs.declared.action.Action.{Action}
 use Rattle.rp_base.specs.declared.reply.Answer.{Answer}
 use Rattle.rp_codec.specs.Message.{Message}
-use Rattle.rp_machine.specs.Calls.{CallName}
-use Rattle.rp_machine.specs.Places.{HasReply, IsPlace}
-use Rattle.rp_machine.specs.Replay.{kept_of}
+use Rattle.rp_model.specs.rp_machine.specs.Calls.{CallName}
+use Rattle.rp_model.specs.rp_machine.specs.Places.{HasReply, IsPlace}
+use Rattle.rp_model.specs.rp_machine.specs.Replay.{kept_of}
 use Rattle.rp_model.specs.Effect.{Setting}
 use Rattle.rp_model.specs.Facts.{IsOrder}
 use Rattle.rp_model.specs.Parts.{NodePart, TaskPart}

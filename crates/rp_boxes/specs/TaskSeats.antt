@@ -10,16 +10,16 @@ use Rattle.rp_base.specs.declared.reply.Answer.{Answer}
 use Rattle.rp_base.specs.declared.reply.Reply.{Reply}
 use Rattle.rp_codec.specs.Message.{Message}
 use Rattle.rp_codec.specs.Text.{text_of}
-use Rattle.rp_machine.specs.Places.{HasReply}
-use Rattle.rp_machine.specs.Replay.{kept_of}
+use Rattle.rp_model.specs.rp_machine.specs.Places.{HasReply}
+use Rattle.rp_model.specs.rp_machine.specs.Replay.{kept_of}
 use Rattle.rp_model.specs.Effect.{Done, goes_on_as}
 use Rattle.rp_model.specs.Parts.{TaskPart}
 use Rattle.rp_model.specs.Tasks.{TaskInput, Take, asks, takes_reply, task_effect}
 use Rattle.rp_model.specs.declared.effect.Dropped.TheVariants.{No}
 use Rattle.rp_agreement.specs.Answered.{AreItsCalls, named}
 use Rattle.rp_agreement.specs.Inputs.{WaitsForOwn}
-use Rattle.rp_outbox.specs.Packets.{texts_of}
-use Rattle.rp_replica.specs.declared.sent.Sent.{Sent}
+use Rattle.rp_world.specs.rp_outbox.specs.Packets.{texts_of}
+use Rattle.rp_world.specs.rp_replica.specs.declared.sent.Sent.{Sent}
 use Rattle.rp_world.specs.Callers.{Caller}
 use Rattle.rp_boxes.specs.Parts.{Part, OfTask, task_of, part_after}
 use Rattle.rp_boxes.specs.Seats.{SeatState, IsTaskPlace}

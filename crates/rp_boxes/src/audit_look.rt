@@ -12,7 +12,7 @@ use crate::board::{Known, Place, Slots};
 use crate::look::look;
 use crate::task_seat::TaskSeat;
 use atomic_table::Join;
-use rp_machine::Machine;
+use rp_model::rp_machine::Machine;
 use std::marker::Brand;
 
 /// Joins two places: one place then knows what both knew.

@@ -11,7 +11,7 @@ use crate::actors::actor_of;
 use crate::board::{Board, Place};
 use crate::boxes::empty;
 use rp_codec::Party;
-use rp_machine::Machine;
+use rp_model::rp_machine::Machine;
 use std::alloc::Global;
 use std::marker::Model;
 use std::sync::Arc;

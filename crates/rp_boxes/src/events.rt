@@ -9,7 +9,7 @@ ghost use Rattle.rp_boxes.specs.Steps.{HasEvent};
 use crate::board::{Known, Place, Slots};
 use crate::laws::events_keep;
 use atomic_table::Play;
-use rp_machine::Machine;
+use rp_model::rp_machine::Machine;
 use std::marker::{Brand, PhantomData};
 
 /// A fact that holds of an actor's part after its event. Each caller chooses it.

@@ -42,4 +42,7 @@ pub use all_seats::{AllSeats, seats};
 pub use audit::{Added, Audit};
 pub use audit_seat::AuditSeat;
 pub use node_seat::NodeSeat;
+pub use rp_model;
+pub use rp_model::rp_machine;
+pub use rp_world::rp_store;
 pub use task_seat::TaskSeat;

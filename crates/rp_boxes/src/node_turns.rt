@@ -9,9 +9,9 @@ ghost use Rattle.rp_boxes.specs.Steps.{HasEvent};
 use crate::board::{Place, Slots};
 use crate::events::{Fact, note};
 use rp_base::NodeId;
-use rp_machine::Machine;
-use rp_replica::{Input, Replica, Sent};
-use rp_store::Device;
+use rp_model::rp_machine::Machine;
+use rp_world::rp_replica::{Input, Replica, Sent};
+use rp_world::rp_store::Device;
 
 /// Counts a turn that a replica has made. The caller chooses a fact about the replica after the
 /// turn, the input and what was sent; it then holds of the node's part.

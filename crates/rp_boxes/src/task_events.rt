@@ -11,7 +11,7 @@ use crate::board::{Place, Slots};
 use crate::events::{Fact, note};
 use rp_base::{Action, NodeId, TaskId};
 use rp_codec::Party;
-use rp_machine::Machine;
+use rp_model::rp_machine::Machine;
 use rp_world::Task;
 
 /// Counts the event in which a task asked a node for a call, if there was one. The caller chooses a

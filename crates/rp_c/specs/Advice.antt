@@ -1,7 +1,8 @@
 -- What a C caller gets when it asks what a node is to do.
 use Rattle.std.specs.Prelude.{◌≡◌, ℕ, Option, Some, None}
-use Rattle.rp_patience.specs.declared.advice.Advice.{Advice}
-use Rattle.rp_patience.specs.declared.advice.Advice.TheVariants.{Nothing, Lead, Ask}
+use Rattle.rp_requests.specs.rp_patience.specs.declared.advice.Advice.{Advice}
+use Rattle.rp_requests.specs.rp_patience.specs.declared.advice.Advice.TheVariants.{Nothing, Lead}
+use Rattle.rp_requests.specs.rp_patience.specs.declared.advice.Advice.TheVariants.{Ask}
 use Rattle.rp_c.specs.declared.advice.NodeAdvice.{NodeAdvice}
 
 -- 0 nothing, 1 to lead at this position, 2 to ask

@@ -1,11 +1,11 @@
 -- The result of running a deck.
 use Rattle.std.specs.Prelude.{◌≡◌, ◌⊎◌, ◌<◌, ◌≤◌, ℕ, Bool, Some, Err, List, [], ◌++◌, length, drop}
-use Rattle.rp_base.specs.declared.fault.Fault.TheVariants as faults
-use Rattle.rp_base.specs.declared.fault.DeckReason.{DeckReason}
-use Rattle.rp_deck.specs.Meaning.{meaning_of}
-use Rattle.rp_deck.specs.declared.deck.Mode.TheVariants.{Script}
+use Rattle.rp_script.specs.rp_base.specs.declared.fault.Fault.TheVariants as faults
+use Rattle.rp_script.specs.rp_base.specs.declared.fault.DeckReason.{DeckReason}
+use Rattle.rp_script.specs.rp_deck.specs.Meaning.{meaning_of}
+use Rattle.rp_script.specs.rp_deck.specs.declared.deck.Mode.TheVariants.{Script}
 use Rattle.rp_script.specs.Agreeing.{ScriptPrints}
-use Rattle.rp_output.specs.FaultMessage.{fault_message_of, with_line_feed}
+use Rattle.rp_script.specs.rp_output.specs.FaultMessage.{fault_message_of, with_line_feed}
 use Rattle.rp_script.specs.Given.{most_bytes}
 use Rattle.rp_c.specs.declared.status.Status.{Status}
 use Rattle.rp_c.specs.declared.status.Status.TheVariants.{Done, OutOfMemory, BadPacket, BadDeck, Io}

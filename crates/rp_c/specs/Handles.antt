@@ -1,9 +1,9 @@
 -- What a C caller gets when it opens or calls a handle.
 use Rattle.std.specs.Prelude.{◌≡◌, ◌<◌, ◌≤◌, ◌⊎◌, ℕ, Option, Some, None, Result, Ok, Err, List}
 use Rattle.std.specs.Prelude.{◌++◌, drop, length}
-use Rattle.rp_base.specs.declared.fault.Fault.TheVariants as faults
-use Rattle.rp_model.specs.declared.effect.Dropped.{Dropped}
-use Rattle.rp_model.specs.declared.effect.Dropped.TheVariants as drops
+use Rattle.rp_script.specs.rp_base.specs.declared.fault.Fault.TheVariants as faults
+use Rattle.rp_requests.specs.rp_model.specs.declared.effect.Dropped.{Dropped}
+use Rattle.rp_requests.specs.rp_model.specs.declared.effect.Dropped.TheVariants as drops
 use Rattle.rp_handles.specs.DeckNodes.{OpensNoNode}
 use Rattle.rp_handles.specs.Devices.{HasHeader, OpensDevice, OpensNoDevice, header_bytes}
 use Rattle.rp_handles.specs.Handles.{ChangesNothing, Exchange, HandleAnswers, IsNoTask}

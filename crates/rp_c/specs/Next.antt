@@ -1,8 +1,8 @@
 -- The result of a request for the next deck of a station.
 use Rattle.std.specs.Prelude.{◌≡◌, ◌≤◌, ◌<◌, ℕ, Option, Some, None, Ok, Err, List, length, Vec}
 use Rattle.std.specs.declared.alloc.Global.{Global}
-use Rattle.rp_base.specs.Fault.{code_of}
-use Rattle.rp_base.specs.declared.fault.Fault.TheVariants as faults
+use Rattle.rp_script.specs.rp_base.specs.Fault.{code_of}
+use Rattle.rp_script.specs.rp_base.specs.declared.fault.Fault.TheVariants as faults
 use Rattle.rp_handles.specs.NextDecks.{HandleGoesOn}
 use Rattle.rp_handles.specs.declared.actor.Actor.{Actor}
 use Rattle.rp_handles.specs.declared.next.NoNextDeck.TheVariants.{OutOfMemory, NotEnded, AtWork}

@@ -1,10 +1,10 @@
 -- What the calls on packets return.
 use Rattle.std.specs.Prelude.{◌≡◌, ℕ, List, length, Err}
-use Rattle.rp_base.specs.declared.fault.PacketReason.{PacketReason}
-use Rattle.rp_codec.specs.Decoding.{BeginsWithPacket, IsLongText}
-use Rattle.rp_codec.specs.Message.{Message, IsPacket}
-use Rattle.rp_codec.specs.Reading.{all_of}
-use Rattle.rp_codec.specs.Text.{IsTextBefore, IsTextOf, text_of}
+use Rattle.rp_script.specs.rp_base.specs.declared.fault.PacketReason.{PacketReason}
+use Rattle.rp_requests.specs.rp_codec.specs.Decoding.{BeginsWithPacket, IsLongText}
+use Rattle.rp_requests.specs.rp_codec.specs.Message.{Message, IsPacket}
+use Rattle.rp_requests.specs.rp_codec.specs.Reading.{all_of}
+use Rattle.rp_requests.specs.rp_codec.specs.Text.{IsTextBefore, IsTextOf, text_of}
 use Rattle.rp_c.specs.Status.{reason_code}
 use Rattle.rp_c.specs.declared.status.Status.{Status}
 use Rattle.rp_c.specs.declared.status.Status.TheVariants.{Done, OutOfMemory, BadPacket, BadDeck, Io}

@@ -1,17 +1,26 @@
 -- The numbers that a C caller gets.
 use Rattle.std.specs.Prelude.{ℕ}
-use Rattle.rp_base.specs.Fault.{code_of}
-use Rattle.rp_base.specs.declared.fault.Fault.TheVariants as faults
-use Rattle.rp_base.specs.declared.fault.DeckReason.{DeckReason}
-use Rattle.rp_base.specs.declared.fault.DeckReason.TheVariants.{NodesExpected, UnknownWord}
-use Rattle.rp_base.specs.declared.fault.DeckReason.TheVariants.{WrongNumberOfWords, BadNumber}
-use Rattle.rp_base.specs.declared.fault.DeckReason.TheVariants.{BadName, DuplicateName, UnknownName}
-use Rattle.rp_base.specs.declared.fault.DeckReason.TheVariants.{TooMany, BadExpression}
-use Rattle.rp_base.specs.declared.fault.DeckReason.TheVariants.{TaskExpected, ObjectExpected}
-use Rattle.rp_base.specs.declared.fault.DeckReason.TheVariants.{EndExpected, ScriptExpected}
-use Rattle.rp_base.specs.declared.fault.DeckReason.TheVariants.{NotInLive}
-use Rattle.rp_base.specs.declared.fault.PacketReason.{PacketReason}
-use Rattle.rp_base.specs.declared.fault.PacketReason.TheVariants.{Short, Long, Version, Kind, Field}
+use Rattle.rp_script.specs.rp_base.specs.Fault.{code_of}
+use Rattle.rp_script.specs.rp_base.specs.declared.fault.Fault.TheVariants as faults
+use Rattle.rp_script.specs.rp_base.specs.declared.fault.DeckReason.{DeckReason}
+use Rattle.rp_script.specs.rp_base.specs.declared.fault.DeckReason.TheVariants.{NodesExpected}
+use Rattle.rp_script.specs.rp_base.specs.declared.fault.DeckReason.TheVariants.{UnknownWord}
+use Rattle.rp_script.specs.rp_base.specs.declared.fault.DeckReason.TheVariants.{WrongNumberOfWords}
+use Rattle.rp_script.specs.rp_base.specs.declared.fault.DeckReason.TheVariants.{BadNumber}
+use Rattle.rp_script.specs.rp_base.specs.declared.fault.DeckReason.TheVariants.{BadName}
+use Rattle.rp_script.specs.rp_base.specs.declared.fault.DeckReason.TheVariants.{DuplicateName}
+use Rattle.rp_script.specs.rp_base.specs.declared.fault.DeckReason.TheVariants.{UnknownName}
+use Rattle.rp_script.specs.rp_base.specs.declared.fault.DeckReason.TheVariants.{TooMany}
+use Rattle.rp_script.specs.rp_base.specs.declared.fault.DeckReason.TheVariants.{BadExpression}
+use Rattle.rp_script.specs.rp_base.specs.declared.fault.DeckReason.TheVariants.{TaskExpected}
+use Rattle.rp_script.specs.rp_base.specs.declared.fault.DeckReason.TheVariants.{ObjectExpected}
+use Rattle.rp_script.specs.rp_base.specs.declared.fault.DeckReason.TheVariants.{EndExpected}
+use Rattle.rp_script.specs.rp_base.specs.declared.fault.DeckReason.TheVariants.{ScriptExpected}
+use Rattle.rp_script.specs.rp_base.specs.declared.fault.DeckReason.TheVariants.{NotInLive}
+use Rattle.rp_script.specs.rp_base.specs.declared.fault.PacketReason.{PacketReason}
+use Rattle.rp_script.specs.rp_base.specs.declared.fault.PacketReason.TheVariants.{Short, Long}
+use Rattle.rp_script.specs.rp_base.specs.declared.fault.PacketReason.TheVariants.{Version, Kind}
+use Rattle.rp_script.specs.rp_base.specs.declared.fault.PacketReason.TheVariants.{Field}
 use Rattle.rp_c.specs.declared.status.Status.{Status}
 use Rattle.rp_c.specs.declared.status.Status.TheVariants.{Done, OutOfMemory, BadPacket, BadDeck, Io}
 use Rattle.rp_c.specs.declared.status.Status.TheVariants.{ShortAnswer}

@@ -2,11 +2,11 @@
 
 ghost use Rattle.std.specs.Prelude.{◌≡◌, Option};
 ghost use Rattle.rp_handles.specs.Handles.{HandleAdvises};
-ghost use Rattle.rp_patience.specs.declared.advice.Advice.{Advice as AdviceOf};
+ghost use Rattle.rp_requests.specs.rp_patience.specs.declared.advice.Advice.{Advice as AdviceOf};
 ghost use Rattle.rp_c.specs.Advice.{WritesAdvice, advised_code, written_advice};
 
 use rp_handles::{Handle, advise};
-use rp_patience::{Advice, Patience};
+use rp_requests::rp_patience::{Advice, Patience};
 use std::alloc::Global;
 
 /// What a node is to do, in the layout that a C caller reads.

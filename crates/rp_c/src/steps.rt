@@ -3,14 +3,14 @@
 ghost use Rattle.std.specs.Prelude.{◌≡◌, ◌∷◌, Option, Result};
 ghost use Rattle.rp_handles.specs.Handles.{HandleAnswers, exchange_of};
 ghost use Rattle.rp_handles.specs.declared.actor.ActorKind.TheVariants as kinds;
-ghost use Rattle.rp_model.specs.declared.effect.Dropped.TheVariants as drops;
+ghost use Rattle.rp_requests.specs.rp_model.specs.declared.effect.Dropped.TheVariants as drops;
 ghost use Rattle.rp_requests.specs.declared.buffer.Lengths.{Lengths as LengthsOf};
 ghost use Rattle.rp_requests.specs.declared.refusal.Refusal.{Refusal as RefusalOf};
 ghost use Rattle.rp_c.specs.Handles.{WritesStep, answer_code, dropped_code};
 
 use crate::answer::code_of_answer;
 use rp_handles::{ActorKind, Handle, LastStep, call, last_step, receive};
-use rp_model::Dropped;
+use rp_requests::rp_model::Dropped;
 use rp_requests::{Lengths, Refusal};
 use std::alloc::Global;
 

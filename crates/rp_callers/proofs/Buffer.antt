@@ -1,7 +1,7 @@
 -- A buffer with room for a step.
 use Rattle.std.proofs.Common.{◌≡◌, ℕ, List, length, replicate, ◌≤◌, arith}
 use Rattle.std.proofs.lemmas.List.{length-replicate}
-use Rattle.rp_requests.specs.Nodes.{step_bytes}
+use Rattle.rp_installations.specs.rp_requests.specs.Nodes.{step_bytes}
 
 pub buffer : List ℕ
 buffer = replicate step_bytes 0

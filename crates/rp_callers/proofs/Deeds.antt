@@ -3,33 +3,33 @@ use Rattle.std.proofs.Common.{◌≡◌, ℕ, zero, suc, ◌≤◌, ℤ, Bool, t
 use Rattle.std.specs.Prelude.{unwrap_or}
 use Rattle.std.specs.List.{AllByRecursion}
 use Rattle.std.proofs.lemmas.Bool.{and_parts, eqb-true}
-use Rattle.rp_base.specs.Sets.{Has}
-use Rattle.rp_base.specs.declared.fault.Fault.{Fault}
-use Rattle.rp_codec.specs.Message.{Message, IsPacket}
-use Rattle.rp_base.specs.Calls.{next_call}
-use Rattle.rp_base.specs.declared.action.Action.{Action}
-use Rattle.rp_base.specs.declared.action.Operation.{Operation}
-use Rattle.rp_base.specs.declared.reply.Reply.{Reply}
-use Rattle.rp_base.specs.declared.reply.Reply.TheVariants.{ConstraintError}
-use Rattle.rp_codec.specs.Text.{text_of, reply_text}
-use Rattle.rp_machine.specs.TallyRule.{tally_next, tally_answers}
-use Rattle.rp_model.specs.Effect.{NodeInput}
-use Rattle.rp_model.specs.Effect as inputs
-use Rattle.rp_model.specs.Parts.{Turn, fresh_running}
-use Rattle.rp_model.specs.Says.{notes}
-use Rattle.rp_model.specs.World.{part_at}
-use Rattle.rp_outbox.specs.Packets.{texts_of}
-use Rattle.rp_pending.specs.Pending.{noted_by}
-use Rattle.rp_replica.specs.Inputs.{effect_if_given}
+use Rattle.rp_installations.specs.rp_base.specs.Sets.{Has}
+use Rattle.rp_installations.specs.rp_base.specs.declared.fault.Fault.{Fault}
+use Rattle.rp_request_texts.specs.rp_codec.specs.Message.{Message, IsPacket}
+use Rattle.rp_installations.specs.rp_base.specs.Calls.{next_call}
+use Rattle.rp_installations.specs.rp_base.specs.declared.action.Action.{Action}
+use Rattle.rp_installations.specs.rp_base.specs.declared.action.Operation.{Operation}
+use Rattle.rp_installations.specs.rp_base.specs.declared.reply.Reply.{Reply}
+use Rattle.rp_installations.specs.rp_base.specs.declared.reply.Reply.TheVariants.{ConstraintError}
+use Rattle.rp_request_texts.specs.rp_codec.specs.Text.{text_of, reply_text}
+use Rattle.rp_installations.specs.rp_machine.specs.TallyRule.{tally_next, tally_answers}
+use Rattle.rp_request_texts.specs.rp_model.specs.Effect.{NodeInput}
+use Rattle.rp_request_texts.specs.rp_model.specs.Effect as inputs
+use Rattle.rp_request_texts.specs.rp_model.specs.Parts.{Turn, fresh_running}
+use Rattle.rp_request_texts.specs.rp_model.specs.Says.{notes}
+use Rattle.rp_request_texts.specs.rp_model.specs.World.{part_at}
+use Rattle.rp_installations.specs.rp_outbox.specs.Packets.{texts_of}
+use Rattle.rp_installations.specs.rp_pending.specs.Pending.{noted_by}
+use Rattle.rp_installations.specs.rp_replica.specs.Inputs.{effect_if_given}
 use Rattle.rp_request_texts.specs.Texts.{step_text, FitsStep, task_request_text, FitsTaskRequest}
-use Rattle.rp_requests.specs.TaskRequests.{TaskAsked, MakeCall, TakePacket, task_asked_of}
-use Rattle.rp_requests.specs.Tasks.{call_packet, reply_taken}
-use Rattle.rp_tasks.specs.Calls.{Calls, no_calls, refusal_of, with_call, with_reply}
-use Rattle.rp_requests.specs.Nodes.{NodeState, after_step, step_bytes}
-use Rattle.rp_requests.specs.Requests.{Step, asked_of}
+use Rattle.rp_installations.specs.rp_requests.specs.TaskRequests.{TaskAsked, MakeCall, TakePacket, task_asked_of}
+use Rattle.rp_installations.specs.rp_requests.specs.Tasks.{call_packet, reply_taken}
+use Rattle.rp_installations.specs.rp_tasks.specs.Calls.{Calls, no_calls, refusal_of, with_call, with_reply}
+use Rattle.rp_installations.specs.rp_requests.specs.Nodes.{NodeState, after_step, step_bytes}
+use Rattle.rp_installations.specs.rp_requests.specs.Requests.{Step, asked_of}
 use Rattle.rp_installations.specs.Moves.{with_step}
 use Rattle.rp_installations.specs.Sites.{StepPackets, NodeSite, TaskSite, closed_over, unopened_task}
-use Rattle.rp_agreement.proofs.PartPlaces.{put_there}
+use Rattle.rp_installations.specs.rp_agreement.proofs.PartPlaces.{put_there}
 use Rattle.rp_callers.specs.Breaches.{Callers, MoveOr, MovesOr}
 use Rattle.rp_callers.proofs.Moving.{are_bytes, CameFrom, fresh, with_node, handed, appended_site, synced_site, opens, steps, appends, syncs, hands, closes, with_task, opens_task, calls, takes}
 

@@ -1,20 +1,20 @@
 -- Callers who keep the rules, played: a task gets its reply, and an interrupt is applied.
 use Rattle.std.proofs.Common.{◌≡◌, ℕ, ◌≤◌, pos, Bool, true, Some, None, Ok, List, [], ◌∷◌, ◌++◌, length, inl, inr, refl, arith}
 use Rattle.std.specs.List.{AllByRecursion}
-use Rattle.rp_base.specs.Action.{IsRight}
-use Rattle.rp_base.specs.declared.action.Operation.TheVariants.{Procedure}
-use Rattle.rp_codec.specs.Message.{Message, IsPacket}
-use Rattle.rp_codec.specs.Text.{number_text}
-use Rattle.rp_codec.specs.declared.packet.Body.TheVariants as bodies
-use Rattle.rp_machine.specs.TallyRule.{tally_next, tally_answers, tally_image}
-use Rattle.rp_model.specs.Effect.{NodeInput}
-use Rattle.rp_model.specs.Effect as inputs
-use Rattle.rp_model.specs.Says.{says, says_to_all, says_to_others, says_to_task}
+use Rattle.rp_installations.specs.rp_base.specs.Action.{IsRight}
+use Rattle.rp_installations.specs.rp_base.specs.declared.action.Operation.TheVariants.{Procedure}
+use Rattle.rp_request_texts.specs.rp_codec.specs.Message.{Message, IsPacket}
+use Rattle.rp_request_texts.specs.rp_codec.specs.Text.{number_text}
+use Rattle.rp_request_texts.specs.rp_codec.specs.declared.packet.Body.TheVariants as bodies
+use Rattle.rp_installations.specs.rp_machine.specs.TallyRule.{tally_next, tally_answers, tally_image}
+use Rattle.rp_request_texts.specs.rp_model.specs.Effect.{NodeInput}
+use Rattle.rp_request_texts.specs.rp_model.specs.Effect as inputs
+use Rattle.rp_request_texts.specs.rp_model.specs.Says.{says, says_to_all, says_to_others, says_to_task}
 use Rattle.rp_request_texts.specs.Texts.{step_text, FitsStep, task_request_text, FitsTaskRequest}
-use Rattle.rp_requests.specs.Nodes.{step_bytes}
-use Rattle.rp_requests.specs.Requests.{Step, asked_of}
-use Rattle.rp_requests.specs.TaskRequests.{TaskAsked, MakeCall, task_asked_of}
-use Rattle.rp_requests.specs.Tasks.{call_packet}
+use Rattle.rp_installations.specs.rp_requests.specs.Nodes.{step_bytes}
+use Rattle.rp_installations.specs.rp_requests.specs.Requests.{Step, asked_of}
+use Rattle.rp_installations.specs.rp_requests.specs.TaskRequests.{TaskAsked, MakeCall, task_asked_of}
+use Rattle.rp_installations.specs.rp_requests.specs.Tasks.{call_packet}
 use Rattle.rp_installations.specs.Moves.{Move, OpensFrom, AnswersBy, MachineMoves}
 use Rattle.rp_installations.specs.Sites.{nothing_opened}
 use Rattle.rp_callers.specs.Breaches.{Callers, MoveOr, Keeps, Breaches, MovesOr, three_node_config, one_sum}

@@ -3,34 +3,34 @@ use Rattle.std.proofs.Common.{cond, ◌≡◌, ℕ, ◌<◌, ◌≤◌, ℤ, Boo
 use Rattle.std.specs.Prelude.{nat_lt, nat_le}
 use Rattle.std.specs.List.{AllByRecursion, list_all}
 use Rattle.std.proofs.lemmas.Bool.{leb-true, ltb-true, and_parts}
-use Rattle.rp_base.specs.Sets.{Has}
-use Rattle.rp_codec.specs.Message.{Message, IsPacket}
-use Rattle.rp_base.specs.Calls.{next_call}
-use Rattle.rp_base.specs.declared.action.Action.{Action}
-use Rattle.rp_base.specs.declared.action.Operation.{Operation}
-use Rattle.rp_base.specs.declared.reply.Reply.{Reply}
-use Rattle.rp_codec.proofs.Decoded.{whole_again}
-use Rattle.rp_codec.specs.Text.{text_of, reply_text}
-use Rattle.rp_machine.specs.TallyRule.{tally_next, tally_answers, tally_image}
-use Rattle.rp_model.specs.Effect.{NodeInput}
-use Rattle.rp_model.specs.Effect as inputs
-use Rattle.rp_model.specs.Parts.{Turn, fresh_running}
-use Rattle.rp_model.specs.World.{part_at, with_part}
-use Rattle.rp_model.specs.declared.effect.Dropped.TheVariants.{No}
-use Rattle.rp_outbox.specs.Packets.{texts_of}
-use Rattle.rp_pending.specs.Pending.{noted_by}
-use Rattle.rp_replica.specs.Inputs.{effect_if_given}
+use Rattle.rp_installations.specs.rp_base.specs.Sets.{Has}
+use Rattle.rp_request_texts.specs.rp_codec.specs.Message.{Message, IsPacket}
+use Rattle.rp_installations.specs.rp_base.specs.Calls.{next_call}
+use Rattle.rp_installations.specs.rp_base.specs.declared.action.Action.{Action}
+use Rattle.rp_installations.specs.rp_base.specs.declared.action.Operation.{Operation}
+use Rattle.rp_installations.specs.rp_base.specs.declared.reply.Reply.{Reply}
+use Rattle.rp_request_texts.specs.rp_codec.proofs.Decoded.{whole_again}
+use Rattle.rp_request_texts.specs.rp_codec.specs.Text.{text_of, reply_text}
+use Rattle.rp_installations.specs.rp_machine.specs.TallyRule.{tally_next, tally_answers, tally_image}
+use Rattle.rp_request_texts.specs.rp_model.specs.Effect.{NodeInput}
+use Rattle.rp_request_texts.specs.rp_model.specs.Effect as inputs
+use Rattle.rp_request_texts.specs.rp_model.specs.Parts.{Turn, fresh_running}
+use Rattle.rp_request_texts.specs.rp_model.specs.World.{part_at, with_part}
+use Rattle.rp_request_texts.specs.rp_model.specs.declared.effect.Dropped.TheVariants.{No}
+use Rattle.rp_installations.specs.rp_outbox.specs.Packets.{texts_of}
+use Rattle.rp_installations.specs.rp_pending.specs.Pending.{noted_by}
+use Rattle.rp_installations.specs.rp_replica.specs.Inputs.{effect_if_given}
 use Rattle.rp_request_texts.specs.Texts.{step_text, FitsStep, task_request_text, FitsTaskRequest}
-use Rattle.rp_requests.specs.Buffers.{IsPutInFront}
-use Rattle.rp_requests.specs.TaskRequests.{TaskAsked, MakeCall, TakePacket, task_asked_of}
-use Rattle.rp_requests.specs.Tasks.{TaskAnswers, task_bytes, call_packet, reply_taken, once_taken, taken_text}
-use Rattle.rp_tasks.specs.Calls.{Calls, no_calls, refusal_of, with_call, with_reply}
-use Rattle.rp_requests.specs.Nodes.{NodeState, RequestAnswers, after_step, stored_by, step_bytes}
-use Rattle.rp_requests.specs.Requests.{Asked, Step, asked_of}
-use Rattle.rp_requests.specs.declared.buffer.Lengths.{Lengths}
-use Rattle.rp_requests.specs.declared.refusal.Refusal.{Refusal}
-use Rattle.rp_store.specs.Disk.{empty_disk}
-use Rattle.rp_store.proofs.Whole.{are_alone}
+use Rattle.rp_installations.specs.rp_requests.specs.Buffers.{IsPutInFront}
+use Rattle.rp_installations.specs.rp_requests.specs.TaskRequests.{TaskAsked, MakeCall, TakePacket, task_asked_of}
+use Rattle.rp_installations.specs.rp_requests.specs.Tasks.{TaskAnswers, task_bytes, call_packet, reply_taken, once_taken, taken_text}
+use Rattle.rp_installations.specs.rp_tasks.specs.Calls.{Calls, no_calls, refusal_of, with_call, with_reply}
+use Rattle.rp_installations.specs.rp_requests.specs.Nodes.{NodeState, RequestAnswers, after_step, stored_by, step_bytes}
+use Rattle.rp_installations.specs.rp_requests.specs.Requests.{Asked, Step, asked_of}
+use Rattle.rp_installations.specs.rp_requests.specs.declared.buffer.Lengths.{Lengths}
+use Rattle.rp_installations.specs.rp_requests.specs.declared.refusal.Refusal.{Refusal}
+use Rattle.rp_installations.specs.rp_store.specs.Disk.{empty_disk}
+use Rattle.rp_installations.specs.rp_store.proofs.Whole.{are_alone}
 use Rattle.rp_installations.specs.Moves.{AreBytes, IsPacketIn, WasHandedOn, node_receives_byte, AsksSite, AsksTask, IsThroughNode, task_receives_byte, answer_in, call_given, reply_given, HandsOn, noted_if, is_step_made, with_step, site_answered, OpensFrom, AnswersBy, AnsweredRequest}
 use Rattle.rp_installations.specs.Moves as moves
 use Rattle.rp_installations.specs.Sites.{StepPackets, NodeSite, TaskSite, closed_over}

@@ -1,14 +1,14 @@
 -- The packets of the plays are packets.
 use Rattle.std.proofs.Common.{ℕ, None, List, arith}
 use Rattle.std.specs.List.{AllByRecursion}
-use Rattle.rp_base.specs.Action.{IsRight}
-use Rattle.rp_base.specs.Ballot.{IsBallot}
-use Rattle.rp_base.specs.Number.{IsNode, IsTask, IsPosition}
-use Rattle.rp_base.specs.declared.action.Action.{Action}
-use Rattle.rp_base.specs.declared.action.Action.TheVariants.{Interrupt}
-use Rattle.rp_codec.specs.Message.{Message, IsPacket}
-use Rattle.rp_codec.specs.declared.packet.Body.TheVariants as bodies
-use Rattle.rp_model.specs.Says.{says, says_to_all, says_to_others}
+use Rattle.rp_installations.specs.rp_base.specs.Action.{IsRight}
+use Rattle.rp_installations.specs.rp_base.specs.Ballot.{IsBallot}
+use Rattle.rp_installations.specs.rp_base.specs.Number.{IsNode, IsTask, IsPosition}
+use Rattle.rp_installations.specs.rp_base.specs.declared.action.Action.{Action}
+use Rattle.rp_installations.specs.rp_base.specs.declared.action.Action.TheVariants.{Interrupt}
+use Rattle.rp_request_texts.specs.rp_codec.specs.Message.{Message, IsPacket}
+use Rattle.rp_request_texts.specs.rp_codec.specs.declared.packet.Body.TheVariants as bodies
+use Rattle.rp_request_texts.specs.rp_model.specs.Says.{says, says_to_all, says_to_others}
 
 pub node_1 : IsNode 1
 node_1 = (omega arith, omega arith)

@@ -2,22 +2,22 @@
 use Rattle.std.proofs.Common.{◌≡◌, ℕ, ◌≤◌, Bool, true, ◌&&◌, Some, None, Ok, List, [], ◌∷◌, ◌++◌, length, inl, inr, refl, subst, is_some, is_none, slice_get}
 use Rattle.std.specs.List.{AllByRecursion}
 use Rattle.std.proofs.lemmas.Bool.{and_parts}
-use Rattle.rp_agreement.specs.Order.{AreAlike}
-use Rattle.rp_base.specs.Sets.{Has}
-use Rattle.rp_base.specs.declared.action.Action.{Action}
-use Rattle.rp_base.specs.declared.action.Action.TheVariants.{Noop}
-use Rattle.rp_codec.specs.Message.{Message, IsPacket}
-use Rattle.rp_codec.specs.Text.{text_of, number_text}
-use Rattle.rp_codec.specs.declared.packet.Body.TheVariants as bodies
-use Rattle.rp_model.specs.Effect.{NodeInput}
-use Rattle.rp_model.specs.Effect as inputs
-use Rattle.rp_model.specs.Says.{says, says_to_all, says_to_others}
-use Rattle.rp_model.specs.World.{part_at}
-use Rattle.rp_outbox.specs.Packets.{texts_of}
+use Rattle.rp_installations.specs.rp_agreement.specs.Order.{AreAlike}
+use Rattle.rp_installations.specs.rp_base.specs.Sets.{Has}
+use Rattle.rp_installations.specs.rp_base.specs.declared.action.Action.{Action}
+use Rattle.rp_installations.specs.rp_base.specs.declared.action.Action.TheVariants.{Noop}
+use Rattle.rp_request_texts.specs.rp_codec.specs.Message.{Message, IsPacket}
+use Rattle.rp_request_texts.specs.rp_codec.specs.Text.{text_of, number_text}
+use Rattle.rp_request_texts.specs.rp_codec.specs.declared.packet.Body.TheVariants as bodies
+use Rattle.rp_request_texts.specs.rp_model.specs.Effect.{NodeInput}
+use Rattle.rp_request_texts.specs.rp_model.specs.Effect as inputs
+use Rattle.rp_request_texts.specs.rp_model.specs.Says.{says, says_to_all, says_to_others}
+use Rattle.rp_request_texts.specs.rp_model.specs.World.{part_at}
+use Rattle.rp_installations.specs.rp_outbox.specs.Packets.{texts_of}
 use Rattle.rp_request_texts.specs.Texts.{step_text, FitsStep, task_request_text, FitsTaskRequest}
-use Rattle.rp_requests.specs.TaskRequests.{TaskAsked, task_asked_of}
-use Rattle.rp_requests.specs.Nodes.{step_bytes}
-use Rattle.rp_requests.specs.Requests.{Step, asked_of}
+use Rattle.rp_installations.specs.rp_requests.specs.TaskRequests.{TaskAsked, task_asked_of}
+use Rattle.rp_installations.specs.rp_requests.specs.Nodes.{step_bytes}
+use Rattle.rp_installations.specs.rp_requests.specs.Requests.{Step, asked_of}
 use Rattle.rp_installations.specs.Outcomes.{applied_by}
 use Rattle.rp_installations.specs.Sites.{closed_over, nothing_opened}
 use Rattle.rp_callers.specs.Breaches.{Callers, MoveOr, MovesOr, TwoDiffer, HandsOnUnsynced, GetsForgedPacket, GetsOtherDevice}

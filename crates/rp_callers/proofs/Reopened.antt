@@ -1,26 +1,26 @@
 -- A task that is opened twice, played: its second call gets the reply to its first.
 use Rattle.std.proofs.Common.{◌≡◌, ℕ, ◌≤◌, pos, Bool, true, Some, Ok, List, [], ◌∷◌, length, inl, inr, refl, arith}
-use Rattle.rp_base.specs.Action.{IsRight}
-use Rattle.rp_base.specs.declared.action.Operation.TheVariants.{Procedure}
-use Rattle.rp_codec.specs.Message.{IsPacket}
-use Rattle.rp_codec.specs.Text.{number_text}
-use Rattle.rp_model.specs.Effect.{NodeInput}
-use Rattle.rp_model.specs.Effect as inputs
+use Rattle.rp_installations.specs.rp_base.specs.Action.{IsRight}
+use Rattle.rp_installations.specs.rp_base.specs.declared.action.Operation.TheVariants.{Procedure}
+use Rattle.rp_request_texts.specs.rp_codec.specs.Message.{IsPacket}
+use Rattle.rp_request_texts.specs.rp_codec.specs.Text.{number_text}
+use Rattle.rp_request_texts.specs.rp_model.specs.Effect.{NodeInput}
+use Rattle.rp_request_texts.specs.rp_model.specs.Effect as inputs
 use Rattle.rp_request_texts.specs.Texts.{step_text, FitsStep, task_request_text, FitsTaskRequest}
-use Rattle.rp_requests.specs.Nodes.{step_bytes}
-use Rattle.rp_requests.specs.Requests.{Step, asked_of}
-use Rattle.rp_requests.specs.TaskRequests.{TaskAsked, MakeCall, task_asked_of}
-use Rattle.rp_requests.specs.Tasks.{call_packet}
+use Rattle.rp_installations.specs.rp_requests.specs.Nodes.{step_bytes}
+use Rattle.rp_installations.specs.rp_requests.specs.Requests.{Step, asked_of}
+use Rattle.rp_installations.specs.rp_requests.specs.TaskRequests.{TaskAsked, MakeCall, task_asked_of}
+use Rattle.rp_installations.specs.rp_requests.specs.Tasks.{call_packet}
 use Rattle.rp_installations.specs.Sites.{nothing_opened}
 use Rattle.rp_callers.specs.Breaches.{Callers, MoveOr, Breaches}
 use Rattle.rp_callers.proofs.Deeds.{Deed, Take, Hand, MakesCall, TakeReply, site_at, node_at, task_at, plays, plays_lead}
 use Rattle.rp_callers.proofs.Packets.{node_1, task_1}
 use Rattle.std.specs.Prelude.{is_some}
-use Rattle.rp_base.specs.declared.action.Action.{Action}
-use Rattle.rp_base.specs.declared.action.Action.TheVariants.{Call}
+use Rattle.rp_installations.specs.rp_base.specs.declared.action.Action.{Action}
+use Rattle.rp_installations.specs.rp_base.specs.declared.action.Action.TheVariants.{Call}
 use Rattle.rp_installations.specs.Sites.{unopened_task}
-use Rattle.rp_model.specs.World.{part_at, with_part}
-use Rattle.rp_tasks.specs.Calls.{no_calls}
+use Rattle.rp_request_texts.specs.rp_model.specs.World.{part_at, with_part}
+use Rattle.rp_installations.specs.rp_tasks.specs.Calls.{no_calls}
 use Rattle.rp_callers.specs.Breaches.{OpensTaskAgain, TakesOldReply}
 use Rattle.rp_callers.proofs.Deeds.{Break, some_is, on}
 use Rattle.rp_callers.proofs.Kept.{answering, answering_fits, reply_packet, reply_is}

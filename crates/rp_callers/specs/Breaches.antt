@@ -1,17 +1,18 @@
 -- Callers of a tally's three nodes who break one rule, and nodes that differ.
 use Rattle.std.specs.Prelude.{◌≡◌, ℕ, ℤ, pos, Some, None, List, [], ◌∷◌, ◌++◌}
-use Rattle.rp_agreement.specs.Order.{AreAlike}
-use Rattle.rp_base.specs.Sets.{Has}
-use Rattle.rp_base.specs.declared.action.Action.TheVariants.{Call}
-use Rattle.rp_base.specs.declared.action.Operation.TheVariants.{Procedure}
-use Rattle.rp_base.specs.declared.config.Config.{Config}
-use Rattle.rp_base.specs.declared.reply.Reply.TheVariants.{Value}
-use Rattle.rp_codec.specs.Text.{reply_text, text_of}
-use Rattle.rp_machine.specs.TallyRule.{tally_next, tally_answers, tally_image}
-use Rattle.rp_model.specs.World.{part_at, with_part}
-use Rattle.rp_requests.specs.Nodes.{NodeState}
-use Rattle.rp_requests.specs.Tasks.{call_packet}
-use Rattle.rp_tasks.specs.Calls.{no_calls}
+use Rattle.rp_installations.specs.rp_agreement.specs.Order.{AreAlike}
+use Rattle.rp_installations.specs.rp_base.specs.Sets.{Has}
+use Rattle.rp_installations.specs.rp_base.specs.declared.action.Action.TheVariants.{Call}
+use Rattle.rp_installations.specs.rp_base.specs.declared.action.Operation.TheVariants.{Procedure}
+use Rattle.rp_installations.specs.rp_base.specs.declared.config.Config.{Config}
+use Rattle.rp_installations.specs.rp_base.specs.declared.reply.Reply.TheVariants.{Value}
+use Rattle.rp_request_texts.specs.rp_codec.specs.Text.{reply_text, text_of}
+use Rattle.rp_installations.specs.rp_machine.specs.TallyRule.{tally_next, tally_answers}
+use Rattle.rp_installations.specs.rp_machine.specs.TallyRule.{tally_image}
+use Rattle.rp_request_texts.specs.rp_model.specs.World.{part_at, with_part}
+use Rattle.rp_installations.specs.rp_requests.specs.Nodes.{NodeState}
+use Rattle.rp_installations.specs.rp_requests.specs.Tasks.{call_packet}
+use Rattle.rp_installations.specs.rp_tasks.specs.Calls.{no_calls}
 use Rattle.rp_installations.specs.Moves.{Move, OpensFrom, AnswersBy, IsPacketIn}
 use Rattle.rp_installations.specs.Outcomes.{IsOpenAt, IsAllSynced, applied_by}
 use Rattle.rp_installations.specs.Sites.{StepPackets, NodeSite, TaskSite, Installation}

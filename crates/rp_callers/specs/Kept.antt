@@ -1,15 +1,16 @@
 -- Callers of a tally's three nodes who keep the rules: their task gets its reply, and an interrupt
 -- that a node notes is applied.
 use Rattle.std.specs.Prelude.{◌≡◌, ℤ, pos, Some, List, [], ◌∷◌}
-use Rattle.rp_base.specs.declared.action.Action.{Action}
-use Rattle.rp_base.specs.declared.action.Action.TheVariants.{Call, Interrupt}
-use Rattle.rp_base.specs.declared.action.Operation.TheVariants.{Procedure}
-use Rattle.rp_base.specs.declared.reply.Reply.{Reply}
-use Rattle.rp_base.specs.declared.reply.Reply.TheVariants.{Value}
-use Rattle.rp_codec.specs.Text.{reply_text}
-use Rattle.rp_machine.specs.TallyRule.{tally_next, tally_answers, tally_image}
-use Rattle.rp_model.specs.World.{part_at}
-use Rattle.rp_requests.specs.Nodes.{NodeState}
+use Rattle.rp_installations.specs.rp_base.specs.declared.action.Action.{Action}
+use Rattle.rp_installations.specs.rp_base.specs.declared.action.Action.TheVariants.{Call, Interrupt}
+use Rattle.rp_installations.specs.rp_base.specs.declared.action.Operation.TheVariants.{Procedure}
+use Rattle.rp_installations.specs.rp_base.specs.declared.reply.Reply.{Reply}
+use Rattle.rp_installations.specs.rp_base.specs.declared.reply.Reply.TheVariants.{Value}
+use Rattle.rp_request_texts.specs.rp_codec.specs.Text.{reply_text}
+use Rattle.rp_installations.specs.rp_machine.specs.TallyRule.{tally_next, tally_answers}
+use Rattle.rp_installations.specs.rp_machine.specs.TallyRule.{tally_image}
+use Rattle.rp_request_texts.specs.rp_model.specs.World.{part_at}
+use Rattle.rp_installations.specs.rp_requests.specs.Nodes.{NodeState}
 use Rattle.rp_installations.specs.Moves.{IsInstallation}
 use Rattle.rp_installations.specs.Outcomes.{IsOpenAt, applied_by}
 use Rattle.rp_installations.specs.Sites.{NodeSite, TaskSite}

@@ -3,12 +3,12 @@ use Rattle.std.proofs.Common.{◌≡◌, ℕ, ◌+◌, ◌<◌, List, [], ◌∷
 use Rattle.std.specs.Prelude.{String, string_bytes}
 use Rattle.std.proofs.lemmas.List.{length-map, length-append, map_more, map_push}
 use Rattle.std.proofs.lemmas.Option.{slice_get-get_or}
-use Rattle.rp_drawing.specs.declared.drawing.Lane.{Lane}
-use Rattle.rp_history.specs.Histories.{LaneText, lane_text}
-use Rattle.rp_machine.specs.Replay.{one_to}
-use Rattle.rp_machine.proofs.Numbering.{length-one_to}
-use Rattle.rp_model.specs.World.{part_at}
-use Rattle.rp_output.specs.Trace.{or_nothing, task_name}
+use Rattle.rp_chart_run.specs.rp_drawing.specs.declared.drawing.Lane.{Lane}
+use Rattle.rp_chart_run.specs.rp_history.specs.Histories.{LaneText, lane_text}
+use Rattle.rp_script.specs.rp_machine.specs.Replay.{one_to}
+use Rattle.rp_script.specs.rp_machine.proofs.Numbering.{length-one_to}
+use Rattle.rp_script.specs.rp_model.specs.World.{part_at}
+use Rattle.rp_script.specs.rp_output.specs.Trace.{or_nothing, task_name}
 use Rattle.rp_chart.specs.Charts.{lanes_of, node_lane, task_lane}
 
 pub names_count : {Y X : Type 0} (entries : List (String Y × X)) → length (map string_bytes (map (λ (e : String Y × X). e.0) entries)) ≡ length entries

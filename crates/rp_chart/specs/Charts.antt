@@ -3,24 +3,25 @@ use Rattle.std.specs.Prelude.{◌≡◌, ◌⊎◌, ℕ, ◌==◌, false, Option
 use Rattle.std.specs.Prelude.{decimal, map}
 use Rattle.std.specs.Io.KnownBytes.{Appends}
 use Rattle.std.specs.List.{slice_split}
-use Rattle.indexmap.specs.IndexMap.{index_map_len}
+use Rattle.rp_script.specs.indexmap.specs.IndexMap.{index_map_len}
 use Rattle.rp_chart.specs.declared.chart.ChartRequest.{ChartRequest}
 use Rattle.rp_chart.specs.declared.chart.Outcome.{Outcome}
 use Rattle.rp_chart.specs.declared.chart.Outcome.TheVariants.{Drawn, TooLong}
 use Rattle.rp_chart_run.specs.ScriptHistory.{DrawnRun, script_happens}
-use Rattle.rp_deck.specs.declared.deck.Deck.{Deck}
-use Rattle.rp_deck.specs.declared.deck.Mode.TheVariants.{Script}
-use Rattle.rp_deck_declarations.specs.declared.deck_program.DeckProgram.{DeckProgram}
-use Rattle.rp_deck_declarations.specs.declared.deck_program.DeckProgram.TheVariants.{Tally, Objects}
-use Rattle.rp_drawing.specs.Words.{fitted_text}
-use Rattle.rp_history.specs.Histories.{LaneText}
-use Rattle.rp_page.specs.Pages.{IsDrawnAs}
-use Rattle.rp_history.specs.declared.stage.Stage.{Stage}
-use Rattle.rp_history.specs.declared.view.View.{View}
-use Rattle.rp_machine.specs.Replay.{one_to}
-use Rattle.rp_output.specs.Stream.{Begins}
+use Rattle.rp_script.specs.rp_deck.specs.declared.deck.Deck.{Deck}
+use Rattle.rp_script.specs.rp_deck.specs.declared.deck.Mode.TheVariants.{Script}
+use Rattle.rp_script.specs.rp_deck_declarations.specs.declared.deck_program.DeckProgram.{DeckProgram}
+use Rattle.rp_script.specs.rp_deck_declarations.specs.declared.deck_program.DeckProgram.TheVariants.{Tally}
+use Rattle.rp_script.specs.rp_deck_declarations.specs.declared.deck_program.DeckProgram.TheVariants.{Objects}
+use Rattle.rp_chart_run.specs.rp_drawing.specs.Words.{fitted_text}
+use Rattle.rp_chart_run.specs.rp_history.specs.Histories.{LaneText}
+use Rattle.rp_chart_run.specs.rp_page.specs.Pages.{IsDrawnAs}
+use Rattle.rp_chart_run.specs.rp_history.specs.declared.stage.Stage.{Stage}
+use Rattle.rp_chart_run.specs.rp_history.specs.declared.view.View.{View}
+use Rattle.rp_script.specs.rp_machine.specs.Replay.{one_to}
+use Rattle.rp_script.specs.rp_output.specs.Stream.{Begins}
 use Rattle.rp_script.specs.Given.{MeansDeck}
-use Rattle.rp_run.specs.Output.{RunSetting, names_of, run_said}
+use Rattle.rp_script.specs.rp_run.specs.Output.{RunSetting, names_of, run_said}
 use Rattle.rp_script.specs.Output.{drain_limit, tally_run, objects_run}
 
 -- the lines of a text, without their ends

@@ -1,21 +1,21 @@
 -- The chart of a cluster, and what a run reaches by what it says to a writer of which nothing is known.
 use Rattle.std.proofs.Common.{◌≡◌, ◌∙◌, ℕ, zero, suc, ◌-◌, Some, None, Result, Ok, Err, OnOk, List, [], ◌∷◌, ◌++◌, drop, length, arith, sym, ap, subst, append_assoc, append-nil}
 use Rattle.std.specs.Prelude.{slice_get}
-use Rattle.rp_base.specs.declared.action.Action.{Action}
-use Rattle.rp_base.specs.declared.fault.Fault.{Fault}
-use Rattle.rp_base.specs.declared.reply.Answer.{Answer}
-use Rattle.rp_codec.specs.Message.{Message}
+use Rattle.rp_run.specs.rp_base.specs.declared.action.Action.{Action}
+use Rattle.rp_run.specs.rp_base.specs.declared.fault.Fault.{Fault}
+use Rattle.rp_run.specs.rp_base.specs.declared.reply.Answer.{Answer}
+use Rattle.rp_run.specs.rp_codec.specs.Message.{Message}
 use Rattle.rp_history.specs.Histories.{Happening, IsDrawable, IsSketchOf}
 use Rattle.rp_history.specs.declared.chart.Chart.{Chart}
-use Rattle.rp_model.specs.Effect.{Setting}
-use Rattle.rp_model.specs.World.{World, part_at}
+use Rattle.rp_run.specs.rp_model.specs.Effect.{Setting}
+use Rattle.rp_run.specs.rp_model.specs.World.{World, part_at}
 use Rattle.rp_run.specs.Output.{Play, Said}
 use Rattle.rp_run.specs.Runs.{Follows, Says}
-use Rattle.rp_output.specs.Stream.{Writes}
+use Rattle.rp_run.specs.rp_output.specs.Stream.{Writes}
 use Rattle.rp_run.specs.declared.settled.Settled.{Settled}
-use Rattle.rp_output.proofs.Writing.{begins_nothing}
-use Rattle.rp_world.specs.Steps.{ClusterState, cluster_setting}
-use Rattle.rp_world.proofs.Answering.{same_setting}
+use Rattle.rp_run.specs.rp_output.proofs.Writing.{begins_nothing}
+use Rattle.rp_run.specs.rp_world.specs.Steps.{ClusterState, cluster_setting}
+use Rattle.rp_run.specs.rp_world.proofs.Answering.{same_setting}
 use Rattle.rp_chart_run.specs.Charts.{HasWays, IsCharted}
 
 -- the chart of a cluster after a step, by the setting before it

@@ -3,7 +3,7 @@ use Rattle.std.proofs.Common.{inl, inr, ◌≡◌, ◌∙◌, ℕ, zero, suc, �
 use Rattle.std.specs.Prelude.{filter, nat_le}
 use Rattle.std.proofs.lemmas.Bool.Decides.{nat_tests}
 use Rattle.std.proofs.str.Laws.{order}
-use Rattle.rp_machine.specs.Replay.{one_to}
+use Rattle.rp_run.specs.rp_machine.specs.Replay.{one_to}
 use Rattle.rp_run.specs.Output.{from_to}
 use Rattle.rp_run.proofs.Among.{filter-following}
 

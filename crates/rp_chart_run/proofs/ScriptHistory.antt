@@ -4,15 +4,15 @@ use Rattle.std.specs.Prelude.{◌⊎◌, ◌||◌, nat_eq, nat_le, slice_index_o
 use Rattle.std.proofs.lemmas.List.Folds.{list_any-append}
 use Rattle.std.proofs.lemmas.Bool.Decides.{nat_tests}
 use Rattle.std.proofs.lemmas.List.{drop_more, drop_all, map-append}
-use Rattle.rp_base.specs.declared.fault.Fault.{Fault}
-use Rattle.rp_base.specs.declared.fault.Fault.TheVariants.{NoSuchMessage}
-use Rattle.rp_deck.specs.declared.deck.Line.{Line}
+use Rattle.rp_run.specs.rp_base.specs.declared.fault.Fault.{Fault}
+use Rattle.rp_run.specs.rp_base.specs.declared.fault.Fault.TheVariants.{NoSuchMessage}
+use Rattle.rp_run.specs.rp_deck.specs.declared.deck.Line.{Line}
 use Rattle.rp_history.specs.Histories.{Happening}
-use Rattle.rp_model.specs.Events.{event_of}
-use Rattle.rp_model.specs.World.{World, Transition, event_effect}
-use Rattle.rp_model.specs.declared.event.Event.{Event}
-use Rattle.rp_model.specs.declared.event.Event.TheVariants.{Node as NodeStep}
-use Rattle.rp_model.specs.declared.event.Step.TheVariants.{Deliver}
+use Rattle.rp_run.specs.rp_model.specs.Events.{event_of}
+use Rattle.rp_run.specs.rp_model.specs.World.{World, Transition, event_effect}
+use Rattle.rp_run.specs.rp_model.specs.declared.event.Event.{Event}
+use Rattle.rp_run.specs.rp_model.specs.declared.event.Event.TheVariants.{Node as NodeStep}
+use Rattle.rp_run.specs.rp_model.specs.declared.event.Step.TheVariants.{Deliver}
 use Rattle.rp_run.specs.Items.{Refused}
 use Rattle.rp_run.specs.Output.{Play, Said, command_said, transition_of, event_said, from_to, is_among, least_unsettled, lost, note_said}
 use Rattle.rp_run.proofs.Among.{among_from_to}

@@ -1,8 +1,8 @@
 -- The texts at the left of a drawing: what happens.
 use Rattle.std.specs.Prelude.{ℕ, Option, Some, None, List}
-use Rattle.rp_codec.specs.Message.{Message}
-use Rattle.rp_model.specs.World.{part_at}
-use Rattle.rp_output.specs.Trace.{message_line_of, or_nothing}
+use Rattle.rp_run.specs.rp_codec.specs.Message.{Message}
+use Rattle.rp_run.specs.rp_model.specs.World.{part_at}
+use Rattle.rp_run.specs.rp_output.specs.Trace.{message_line_of, or_nothing}
 
 -- the line of this number, from 1, of the deck
 abbrev pub line_text : List (List ℕ) → ℕ → List ℕ

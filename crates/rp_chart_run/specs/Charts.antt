@@ -1,15 +1,15 @@
 -- The chart of a cluster's history (no public clause names it).
 use Rattle.std.specs.Prelude.{◌≡◌, ℕ, ◌++◌, List, Result, OnOk, length}
-use Rattle.rp_base.specs.declared.action.Action.{Action}
-use Rattle.rp_base.specs.declared.fault.Fault.{Fault}
-use Rattle.rp_base.specs.declared.reply.Answer.{Answer}
+use Rattle.rp_run.specs.rp_base.specs.declared.action.Action.{Action}
+use Rattle.rp_run.specs.rp_base.specs.declared.fault.Fault.{Fault}
+use Rattle.rp_run.specs.rp_base.specs.declared.reply.Answer.{Answer}
 use Rattle.rp_history.specs.Histories.{Happening, IsDrawable, IsSketchOf}
 use Rattle.rp_history.specs.declared.chart.Chart.{Chart}
 use Rattle.rp_run.specs.Output.{Play}
 use Rattle.rp_run.specs.Runs.{Follows}
 use Rattle.rp_run.specs.Settled.{is_settled}
 use Rattle.rp_run.specs.declared.settled.Settled.{Settled}
-use Rattle.rp_world.specs.Steps.{ClusterState, cluster_setting}
+use Rattle.rp_run.specs.rp_world.specs.Steps.{ClusterState, cluster_setting}
 use Rattle.rp_chart_run.specs.declared.walk.Walk.{Walk}
 
 -- the same messages are settled

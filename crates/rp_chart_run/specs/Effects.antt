@@ -1,24 +1,27 @@
 -- The texts at the right of a drawing: what the actor of an event did.
 use Rattle.std.specs.Prelude.{ℕ, ◌-◌, nat_lt, is_some, Option, Some, None, List, [], ◌++◌, codes}
 use Rattle.std.specs.Prelude.{decimal, if◌then◌else◌}
-use Rattle.rp_base.specs.Fault.{code_of, name_of}
-use Rattle.rp_base.specs.declared.fault.Fault.{Fault}
-use Rattle.rp_base.specs.declared.record.Rec.{Rec}
-use Rattle.rp_base.specs.declared.record.Rec.TheVariants.{Started, Promised, Voted, Learned}
-use Rattle.rp_base.specs.declared.record.Rec.TheVariants.{PromisedRange}
-use Rattle.rp_base.specs.declared.reply.Answer.{Answer}
-use Rattle.rp_codec.specs.Message.{Message}
-use Rattle.rp_codec.specs.declared.packet.Body.{Body}
-use Rattle.rp_codec.specs.declared.packet.Body.TheVariants.{Prepare, Accept, Accepted, Decided}
-use Rattle.rp_codec.specs.declared.packet.Body.TheVariants.{PrepareRange}
+use Rattle.rp_run.specs.rp_base.specs.Fault.{code_of, name_of}
+use Rattle.rp_run.specs.rp_base.specs.declared.fault.Fault.{Fault}
+use Rattle.rp_run.specs.rp_base.specs.declared.record.Rec.{Rec}
+use Rattle.rp_run.specs.rp_base.specs.declared.record.Rec.TheVariants.{Started, Promised, Voted}
+use Rattle.rp_run.specs.rp_base.specs.declared.record.Rec.TheVariants.{Learned}
+use Rattle.rp_run.specs.rp_base.specs.declared.record.Rec.TheVariants.{PromisedRange}
+use Rattle.rp_run.specs.rp_base.specs.declared.reply.Answer.{Answer}
+use Rattle.rp_run.specs.rp_codec.specs.Message.{Message}
+use Rattle.rp_run.specs.rp_codec.specs.declared.packet.Body.{Body}
+use Rattle.rp_run.specs.rp_codec.specs.declared.packet.Body.TheVariants.{Prepare, Accept, Accepted}
+use Rattle.rp_run.specs.rp_codec.specs.declared.packet.Body.TheVariants.{Decided}
+use Rattle.rp_run.specs.rp_codec.specs.declared.packet.Body.TheVariants.{PrepareRange}
 use Rattle.rp_history.specs.Histories.{delivered_by}
 use Rattle.rp_history.specs.Views.{has_written, is_unheard}
 use Rattle.rp_history.specs.declared.happened.Happened.{Happened}
 use Rattle.rp_history.specs.declared.happened.NodeState.{NodeState}
-use Rattle.rp_model.specs.declared.event.Event.{Event}
-use Rattle.rp_model.specs.declared.event.Event.TheVariants.{Submit, Again, Node, Cut, Stop, Restart}
-use Rattle.rp_output.specs.Printed.{reply_text_of}
-use Rattle.rp_output.specs.Trace.{ballot_text_of, range_text_of}
+use Rattle.rp_run.specs.rp_model.specs.declared.event.Event.{Event}
+use Rattle.rp_run.specs.rp_model.specs.declared.event.Event.TheVariants.{Submit, Again, Node, Cut}
+use Rattle.rp_run.specs.rp_model.specs.declared.event.Event.TheVariants.{Stop, Restart}
+use Rattle.rp_run.specs.rp_output.specs.Printed.{reply_text_of}
+use Rattle.rp_run.specs.rp_output.specs.Trace.{ballot_text_of, range_text_of}
 use Rattle.rp_run.specs.Output.{is_full}
 
 -- a record

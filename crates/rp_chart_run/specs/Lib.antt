@@ -3,3 +3,6 @@ pub mod Effects
 pub mod Prospects
 pub mod ScriptHistory
 pub mod Charts
+pub use Rattle.rp_history.specs.rp_drawing
+pub use Rattle.rp_history
+pub use Rattle.rp_page

@@ -1,20 +1,20 @@
 -- What happened in an event, by the world before it and its result.
 use Rattle.std.specs.Prelude.{ℕ, ◌+◌, ◌-◌, ◌^◌, min, true, false, is_some, not, Option, Some}
 use Rattle.std.specs.Prelude.{None, List, length, option_map, unwrap_or}
-use Rattle.rp_base.specs.Records.{applied_of}
-use Rattle.rp_base.specs.declared.record.Rec.{Rec}
-use Rattle.rp_codec.specs.Message.{Message}
-use Rattle.rp_codec.specs.declared.packet.Party.{Party}
-use Rattle.rp_codec.specs.declared.packet.Party.TheVariants.{Node, Task, Audit}
+use Rattle.rp_run.specs.rp_base.specs.Records.{applied_of}
+use Rattle.rp_run.specs.rp_base.specs.declared.record.Rec.{Rec}
+use Rattle.rp_run.specs.rp_codec.specs.Message.{Message}
+use Rattle.rp_run.specs.rp_codec.specs.declared.packet.Party.{Party}
+use Rattle.rp_run.specs.rp_codec.specs.declared.packet.Party.TheVariants.{Node, Task, Audit}
 use Rattle.rp_history.specs.Histories.{delivered_by}
 use Rattle.rp_history.specs.Views.{actor_of}
 use Rattle.rp_history.specs.declared.happened.Happened.{Happened}
 use Rattle.rp_history.specs.declared.happened.NodeState.{NodeState}
-use Rattle.rp_model.specs.Parts.{NodePart, Running}
-use Rattle.rp_model.specs.World.{World, Transition, part_at}
-use Rattle.rp_model.specs.declared.effect.Effect.{Effect}
-use Rattle.rp_model.specs.declared.event.Event.{Event}
-use Rattle.rp_world.specs.Nodes.{stored_length}
+use Rattle.rp_run.specs.rp_model.specs.Parts.{NodePart, Running}
+use Rattle.rp_run.specs.rp_model.specs.World.{World, Transition, part_at}
+use Rattle.rp_run.specs.rp_model.specs.declared.effect.Effect.{Effect}
+use Rattle.rp_run.specs.rp_model.specs.declared.event.Event.{Event}
+use Rattle.rp_run.specs.rp_world.specs.Nodes.{stored_length}
 
 -- how many actions a node with these records has applied, 0 if it is stopped
 abbrev pub applied_while : List Rec → Option Running → ℕ

@@ -1,39 +1,40 @@
 -- What happens in the lines of a script, in order, and what is drawn beside each moment.
 use Rattle.std.specs.Prelude.{ℕ, zero, suc, ◌+◌, ◌-◌, ◌^◌, ◌&&◌, min, not, nat_le, Bool, true}
-use Rattle.std.specs.Prelude.{Option, Some, None, Result, Ok, Err, List, [], ◌∷◌, ◌++◌, length, map, filter}
+use Rattle.std.specs.Prelude.{Option, Some, None, Result, Ok, Err, List, [], ◌∷◌, ◌++◌, length, map}
+use Rattle.std.specs.Prelude.{filter}
 use Rattle.std.specs.Prelude.{if◌then◌else◌, codes}
-use Rattle.rp_base.specs.Records.{applied_of}
-use Rattle.rp_base.specs.declared.action.Action.{Action}
-use Rattle.rp_base.specs.declared.fault.Fault.{Fault}
-use Rattle.rp_base.specs.declared.fault.Fault.TheVariants.{NoSuchMessage}
-use Rattle.rp_base.specs.declared.record.Rec.{Rec}
-use Rattle.rp_base.specs.declared.reply.Answer.{Answer}
-use Rattle.rp_codec.specs.Message.{Message}
-use Rattle.rp_codec.specs.declared.packet.Party.TheVariants as parties
-use Rattle.rp_deck.specs.declared.deck.Command.{Command}
-use Rattle.rp_deck.specs.declared.deck.Command.TheVariants.{Take, Lose, Drain, Show}
-use Rattle.rp_deck.specs.declared.deck.Line.{Line}
-use Rattle.rp_drawing.specs.Words.{fitted_text, whole_text}
-use Rattle.rp_drawing.specs.declared.sketch.Kind.TheVariants.{State}
+use Rattle.rp_run.specs.rp_base.specs.Records.{applied_of}
+use Rattle.rp_run.specs.rp_base.specs.declared.action.Action.{Action}
+use Rattle.rp_run.specs.rp_base.specs.declared.fault.Fault.{Fault}
+use Rattle.rp_run.specs.rp_base.specs.declared.fault.Fault.TheVariants.{NoSuchMessage}
+use Rattle.rp_run.specs.rp_base.specs.declared.record.Rec.{Rec}
+use Rattle.rp_run.specs.rp_base.specs.declared.reply.Answer.{Answer}
+use Rattle.rp_run.specs.rp_codec.specs.Message.{Message}
+use Rattle.rp_run.specs.rp_codec.specs.declared.packet.Party.TheVariants as parties
+use Rattle.rp_run.specs.rp_deck.specs.declared.deck.Command.{Command}
+use Rattle.rp_run.specs.rp_deck.specs.declared.deck.Command.TheVariants.{Take, Lose, Drain, Show}
+use Rattle.rp_run.specs.rp_deck.specs.declared.deck.Line.{Line}
+use Rattle.rp_history.specs.rp_drawing.specs.Words.{fitted_text, whole_text}
+use Rattle.rp_history.specs.rp_drawing.specs.declared.sketch.Kind.TheVariants.{State}
 use Rattle.rp_history.specs.Histories.{Happening, EventHappened, MessageLost, NothingHappened}
 use Rattle.rp_history.specs.Histories.{LabelText, delivered_by}
 use Rattle.rp_history.specs.Views.{is_event_drawn, lane_of, mark_of, shows_all}
 use Rattle.rp_history.specs.declared.happened.Happened.{Happened}
 use Rattle.rp_history.specs.declared.stage.Stage.{Stage}
-use Rattle.rp_machine.specs.Replay.{one_to, replay_state}
-use Rattle.rp_model.specs.Parts.{NodePart, Running}
-use Rattle.rp_model.specs.World.{World, Transition, part_at}
-use Rattle.rp_model.specs.declared.event.Event.{Event}
-use Rattle.rp_model.specs.declared.event.Event.TheVariants.{Node}
-use Rattle.rp_model.specs.declared.event.Step.TheVariants.{Deliver}
-use Rattle.rp_output.specs.Printed.{applied_line_of, stopped_line_of}
+use Rattle.rp_run.specs.rp_machine.specs.Replay.{one_to, replay_state}
+use Rattle.rp_run.specs.rp_model.specs.Parts.{NodePart, Running}
+use Rattle.rp_run.specs.rp_model.specs.World.{World, Transition, part_at}
+use Rattle.rp_run.specs.rp_model.specs.declared.event.Event.{Event}
+use Rattle.rp_run.specs.rp_model.specs.declared.event.Event.TheVariants.{Node}
+use Rattle.rp_run.specs.rp_model.specs.declared.event.Step.TheVariants.{Deliver}
+use Rattle.rp_run.specs.rp_output.specs.Printed.{applied_line_of, stopped_line_of}
 use Rattle.rp_details.specs.Details.{details_text}
 use Rattle.rp_page.specs.declared.page.Form.{Form}
 use Rattle.rp_page.specs.declared.page.Form.TheVariants.{Drawing, Page}
 use Rattle.rp_run.specs.Output.{RunSetting, Play, transition_of, event_said, command_said, from_to}
 use Rattle.rp_run.specs.Output.{is_among, least_unsettled, opening_play}
 use Rattle.rp_run.specs.Runs.{run_setting}
-use Rattle.rp_world.specs.Steps.{ClusterState}
+use Rattle.rp_run.specs.rp_world.specs.Steps.{ClusterState}
 use Rattle.rp_chart_run.specs.Causes.{cause_text, line_text, packet_text}
 use Rattle.rp_chart_run.specs.Effects.{effect_text, refusal_text}
 use Rattle.rp_chart_run.specs.Prospects.{happened_in}

@@ -4,22 +4,22 @@ ghost use Rattle.std.specs.Prelude.{◌≡◌, Some, None, IfOk, map, string_byt
 ghost use Rattle.rp_chart_run.specs.Causes.{cause_text, line_text};
 ghost use Rattle.rp_chart_run.specs.Effects.{cut_text, effect_text, record_before, record_for, record_of, record_text, refusal_text, restart_text, step_text, taken_or_written, written_text};
 ghost use Rattle.rp_chart_run.specs.ScriptHistory.{image_text};
-ghost use Rattle.rp_drawing.specs.Words.{fitted_text, whole_text};
+ghost use Rattle.rp_history.specs.rp_drawing.specs.Words.{fitted_text, whole_text};
 ghost use Rattle.rp_history.specs.Histories.{delivered_by};
 ghost use Rattle.rp_history.specs.declared.happened.Happened.{Happened};
-ghost use Rattle.rp_output.specs.Printed.{applied_line_of, node_line_of, stopped_line_of};
-ghost use Rattle.rp_output.specs.Trace.{message_line_of};
+ghost use Rattle.rp_run.specs.rp_output.specs.Printed.{applied_line_of, node_line_of, stopped_line_of};
+ghost use Rattle.rp_run.specs.rp_output.specs.Trace.{message_line_of};
 ghost use Rattle.rp_run.specs.Output.{names_of};
 
-use indexmap::IndexMap;
-use rp_base::{Answer, Fault, NodeId, Rec};
-use rp_codec::{Body, Packet};
-use rp_deck::Task;
-use rp_drawing::Words;
+use rp_history::rp_drawing::Words;
 use rp_history::{Happened, delivered_by};
-use rp_model::{Dropped, Event};
-use rp_output::{BodyText, NodeLine, NodeState, ReplyText, TraceLine};
+use rp_run::indexmap::IndexMap;
 use rp_run::party_text;
+use rp_run::rp_base::{Answer, Fault, NodeId, Rec};
+use rp_run::rp_codec::{Body, Packet};
+use rp_run::rp_deck::Task;
+use rp_run::rp_model::{Dropped, Event};
+use rp_run::rp_output::{BodyText, NodeLine, NodeState, ReplyText, TraceLine};
 use std::alloc::{AllocError, Global};
 use std::fmt;
 

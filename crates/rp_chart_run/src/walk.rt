@@ -3,8 +3,8 @@
 ghost use Rattle.std.specs.Prelude.{◌≡◌, ◌<◌, ◌≤◌, ◌^◌, false, [], ◌∷◌, length, map, option_map, All, IfOk, OnOk, string_bytes};
 ghost use Rattle.rp_chart_run.specs.Charts.{Charts, ChartsPlay, HasWays, IsSettledAlike, Reaches};
 ghost use Rattle.rp_chart_run.specs.ScriptHistory.{command_happens, drain_ended, drain_happens, drawn_run, event_happens, lose_happens, message_lost, lost_nothing, node_shown, nodes_shown, refused, script_happens, unsettled_in};
-ghost use Rattle.rp_deck.specs.Script.{FitsIn, IsEventWithin};
-ghost use Rattle.rp_drawing.specs.Ways.{IsEndingWithin};
+ghost use Rattle.rp_run.specs.rp_deck.specs.Script.{FitsIn, IsEventWithin};
+ghost use Rattle.rp_history.specs.rp_drawing.specs.Ways.{IsEndingWithin};
 ghost use Rattle.rp_history.specs.Histories.{label_text, lane_text, loss_of, lost_of};
 ghost use Rattle.rp_page.specs.Pages.{IsDrawnAs};
 ghost use Rattle.rp_run.specs.Output.{event_said, lost, drained, command_said, run_said};
@@ -14,17 +14,17 @@ ghost use Rattle.rp_run.specs.Settled.{is_settled};
 use crate::labels::{applied_words, image_words, refusal_words, stopped_words};
 use crate::prospect::{happened_after, packets_from, prospect_of};
 use crate::scene::Scene;
-use rp_base::{Fault, NodeId};
-use rp_deck::{Command, Line};
-use rp_drawing::{Label, Words};
 use rp_history::Chart;
-use rp_machine::Machine;
-use rp_model::{Event, Step, worlds_grow};
-use rp_output::is_refusal;
+use rp_history::rp_drawing::{Label, Words};
 use rp_page::draw_as;
+use rp_run::rp_base::{Fault, NodeId};
+use rp_run::rp_deck::{Command, Line};
+use rp_run::rp_machine::Machine;
+use rp_run::rp_model::{Event, Step, worlds_grow};
+use rp_run::rp_output::is_refusal;
+use rp_run::rp_store::CutDevice;
+use rp_run::rp_world::Cluster;
 use rp_run::{Settled, sent_packet, settled_by};
-use rp_store::CutDevice;
-use rp_world::Cluster;
 use std::alloc::Global;
 
 /// The drawing of the lines of a script, over a cluster of new devices, or its page; `None` if the

@@ -10,3 +10,4 @@ pub mod Decoding
 pub mod Length
 pub mod Usual
 pub mod Tails
+pub use Rattle.rp_base

@@ -13,9 +13,9 @@ use Rattle.clap.proofs.WalkLemmas.{one_text-rows}
 use Rattle.clap.specs.Words.{is_simple, is_simple_and_free, HasKind, subcommand_rows_of, subcommand_name_of}
 use Rattle.clap.specs.declared.parser.matches.ArgMatches.{ArgMatches}
 use Rattle.clap.specs.declared.parser.matches.ArgMatches.TheViews.{out-ArgMatches}
-use Rattle.rp_bind.specs.declared.lines.Language.{Language}
+use Rattle.rp_bind_run.specs.rp_bind.specs.declared.lines.Language.{Language}
 use Rattle.rp_explore_run.specs.declared.answer.ExploreRequest.{ExploreRequest}
-use Rattle.rp_history.specs.declared.view.View.{View}
+use Rattle.rp_chart.specs.rp_history.specs.declared.view.View.{View}
 use Rattle.rp_chart.specs.declared.chart.ChartRequest.{ChartRequest}
 use Rattle.rp_console.specs.CommandLine.{console, option_of, IsChartRequest, IsLanguage, IsRequest, IsView, ReadsAs}
 

@@ -1,8 +1,8 @@
 -- What is reported of a fault, with and without a hint.
 use Rattle.std.proofs.Common.{◌≡◌, ℕ, Option, Result, Ok, Err, List, [], ◌++◌, true, false, is_err, sym, append-nil}
-use Rattle.rp_base.specs.declared.fault.Fault.{Fault}
-use Rattle.rp_output.specs.Stream.{Writes}
-use Rattle.rp_output.proofs.Writing.{begins_longer, writes_after, writes_same}
+use Rattle.rp_deck_hints.specs.rp_base.specs.declared.fault.Fault.{Fault}
+use Rattle.rp_bind_run.specs.rp_output.specs.Stream.{Writes}
+use Rattle.rp_bind_run.specs.rp_output.proofs.Writing.{begins_longer, writes_after, writes_same}
 
 pub nothing_after : (a b : Option (List ℕ)) (x : List ℕ) (answer : Result Unit Fault) → Writes a b x answer → Writes a b (x ++ []) answer
 nothing_after a b x answer written = writes_same a b x (x ++ []) answer (sym (append-nil x)) written

@@ -8,12 +8,12 @@ use Rattle.clap.specs.Words.{with_rule, with_subcommand}
 use Rattle.clap.specs.Simple.{on_top}
 use Rattle.clap.specs.declared.builder.action.ArgAction.TheVariants.{SetTrue}
 use Rattle.clap.specs.declared.builder.value_parser.ValueParser.TheVariants.{Signed}
-use Rattle.rp_bind.specs.declared.lines.Language.{Language}
-use Rattle.rp_bind.specs.declared.lines.Language.TheVariants as languages
+use Rattle.rp_bind_run.specs.rp_bind.specs.declared.lines.Language.{Language}
+use Rattle.rp_bind_run.specs.rp_bind.specs.declared.lines.Language.TheVariants as languages
 use Rattle.rp_explore_run.specs.declared.answer.ExploreRequest.{ExploreRequest}
-use Rattle.rp_history.specs.declared.view.View.{View}
+use Rattle.rp_chart.specs.rp_history.specs.declared.view.View.{View}
 use Rattle.rp_chart.specs.declared.chart.ChartRequest.{ChartRequest}
-use Rattle.rp_page.specs.declared.page.Form.TheVariants.{Drawing, Page}
+use Rattle.rp_chart.specs.rp_page.specs.declared.page.Form.TheVariants.{Drawing, Page}
 use Rattle.rp_console.specs.declared.args.Args.{Args}
 use Rattle.rp_console.specs.declared.args.Args.TheVariants.{Script, Live, Chart, Explore, Bind}
 

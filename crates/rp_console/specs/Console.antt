@@ -6,11 +6,11 @@ use Rattle.clap.specs.Kinds.{IsAmong}
 use Rattle.clap.specs.Words.{Text, fault_of, subcommand_of}
 use Rattle.clap.specs.declared.error.kind.ErrorKind.{ErrorKind}
 use Rattle.clap.specs.declared.error.kind.ErrorKind.TheVariants.{OutOfMemory}
-use Rattle.rp_base.specs.declared.fault.Fault.{Fault}
-use Rattle.rp_base.specs.declared.fault.Fault.TheVariants.{BadDeck}
-use Rattle.rp_deck.specs.declared.deck.Mode.{Mode}
-use Rattle.rp_deck.specs.declared.deck.Mode.TheVariants as modes
-use Rattle.rp_bind.specs.declared.lines.Language.{Language}
+use Rattle.rp_deck_hints.specs.rp_base.specs.declared.fault.Fault.{Fault}
+use Rattle.rp_deck_hints.specs.rp_base.specs.declared.fault.Fault.TheVariants.{BadDeck}
+use Rattle.rp_deck_hints.specs.rp_deck.specs.declared.deck.Mode.{Mode}
+use Rattle.rp_deck_hints.specs.rp_deck.specs.declared.deck.Mode.TheVariants as modes
+use Rattle.rp_bind_run.specs.rp_bind.specs.declared.lines.Language.{Language}
 use Rattle.rp_bind_run.specs.Prints.{BindingBegins, FailsBinding, PrintsBinding}
 use Rattle.rp_deck_hints.specs.Hints.{IsHint, hint_text}
 use Rattle.rp_deck_hints.specs.declared.hint.Hint.{Hint}
@@ -22,22 +22,24 @@ use Rattle.rp_explore_run.specs.declared.answer.ExploreRequest.{ExploreRequest}
 use Rattle.rp_explore_run.specs.declared.answer.Verdict.{Verdict}
 use Rattle.rp_explore_run.specs.declared.answer.Verdict.TheVariants as verdicts
 use Rattle.rp_chart.specs.declared.chart.ChartRequest.{ChartRequest}
-use Rattle.rp_script.specs.Agreeing.{ScriptBegins, ScriptPrints}
-use Rattle.rp_console.specs.CommandLine.{bind_option, chart_option, console, explore_option, live_args, subcommand_word}
+use Rattle.rp_bind_run.specs.rp_script.specs.Agreeing.{ScriptBegins, ScriptPrints}
+use Rattle.rp_console.specs.CommandLine.{bind_option, chart_option, console, explore_option}
+use Rattle.rp_console.specs.CommandLine.{live_args, subcommand_word}
 use Rattle.rp_console.specs.CommandLine.{seed_of, trace_of, turns_of, IsChartRequest, IsRequest}
 use Rattle.rp_console.specs.CommandLine.{IsLanguage, ReadsAs}
-use Rattle.rp_script.specs.Figures.{figures_line_of}
-use Rattle.rp_script.specs.Given.{FailsRun}
-use Rattle.rp_script.specs.LiveRun.{LiveBegins, LivePrints}
-use Rattle.rp_output.specs.Endings.{RefusesAs, ReportsFault, status_of}
-use Rattle.rp_output.specs.FaultMessage.{fault_message_of, with_line_feed}
-use Rattle.rp_output.specs.Stream.{IsReadFault, Writes}
+use Rattle.rp_bind_run.specs.rp_script.specs.Figures.{figures_line_of}
+use Rattle.rp_bind_run.specs.rp_script.specs.Given.{FailsRun}
+use Rattle.rp_bind_run.specs.rp_script.specs.LiveRun.{LiveBegins, LivePrints}
+use Rattle.rp_bind_run.specs.rp_output.specs.Endings.{RefusesAs, ReportsFault, status_of}
+use Rattle.rp_bind_run.specs.rp_output.specs.FaultMessage.{fault_message_of, with_line_feed}
+use Rattle.rp_bind_run.specs.rp_output.specs.Stream.{IsReadFault, Writes}
 use Rattle.rp_console.specs.declared.args.Args.{Args}
 use Rattle.rp_console.specs.declared.args.Args.TheVariants.{Script, Live, Chart, Explore, Bind}
 use Rattle.rp_console.specs.declared.console.Report.{Report}
-use Rattle.rp_console.specs.declared.console.Report.TheVariants.{Nothing, Figures, TooLong, Searched}
+use Rattle.rp_console.specs.declared.console.Report.TheVariants.{Nothing, Figures, TooLong}
+use Rattle.rp_console.specs.declared.console.Report.TheVariants.{Searched}
 use Rattle.rp_console.specs.declared.console.Report.TheVariants as reports
-use Rattle.rp_output.specs.declared.ending.Ending.{Ending}
+use Rattle.rp_bind_run.specs.rp_output.specs.declared.ending.Ending.{Ending}
 
 -- the bytes that a stream has, if the contract of its type says which they are
 abbrev pub Content : Type 0

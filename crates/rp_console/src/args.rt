@@ -6,14 +6,14 @@ ghost use Rattle.clap.specs.declared.builder.command.Command.TheViews.{out-Comma
 ghost use Rattle.rp_console.specs.CommandLine.{ada_option, bind, bind_option, c_option, chart, chart_option, console, count_option, explore, explore_option, hide_self_option, html_option, live, live_args, subcommand_word, position_option, script, seed, seed_of, states, trace_of, turns, turns_of, IsChartRequest, IsLanguage, IsRequest, IsView, ReadsAs};
 
 use clap::{Arg, ArgAction, ArgMatches, Command, Error, value_parser};
-use rp_base::Position;
-use rp_bind::Language;
+use rp_bind_run::rp_bind::Language;
+use rp_bind_run::rp_output::VERSION;
+use rp_bind_run::rp_script::LiveRequest;
 use rp_chart::ChartRequest;
+use rp_chart::rp_history::View;
+use rp_chart::rp_page::Form;
+use rp_deck_hints::rp_base::Position;
 use rp_explore_run::ExploreRequest;
-use rp_history::View;
-use rp_output::VERSION;
-use rp_page::Form;
-use rp_script::LiveRequest;
 use std::alloc::{AllocError, Global};
 use std::convert::AsStr;
 

@@ -2,20 +2,20 @@
 
 ghost use Rattle.std.specs.Prelude.{◌≡◌, ◌≤◌, [], IfErr, IfOk, Ok, OnErr, length, map};
 ghost use Rattle.rp_console.specs.Console.{IsFaultOf, FollowsWords, HasBegun, IsHintOf, Prints, EndsAs, fault_report, mode_of, report_of, search_report, search_status, status_of_run};
-ghost use Rattle.rp_output.specs.Endings.{status_of};
-ghost use Rattle.rp_output.specs.FaultMessage.{with_line_feed};
-ghost use Rattle.rp_output.specs.Stream.{Writes};
-ghost use Rattle.rp_script.specs.Given.{most_bytes};
+ghost use Rattle.rp_bind_run.specs.rp_output.specs.Endings.{status_of};
+ghost use Rattle.rp_bind_run.specs.rp_output.specs.FaultMessage.{with_line_feed};
+ghost use Rattle.rp_bind_run.specs.rp_output.specs.Stream.{Writes};
+ghost use Rattle.rp_bind_run.specs.rp_script.specs.Given.{most_bytes};
 
 use crate::args::{Args, read_args};
-use rp_base::Fault;
 use rp_bind_run::bind_deck;
+use rp_bind_run::rp_output::{Ending, Streams, fail, refuse_words, report};
+use rp_bind_run::rp_script::{FiguresLine, read_whole, run_live, run_script};
 use rp_chart::{Outcome, draw_script};
-use rp_deck::Mode;
+use rp_deck_hints::rp_base::Fault;
+use rp_deck_hints::rp_deck::Mode;
 use rp_deck_hints::{Hint, hint_for};
 use rp_explore_run::{Verdict, explore_deck};
-use rp_output::{Ending, Streams, fail, refuse_words, report};
-use rp_script::{FiguresLine, read_whole, run_live, run_script};
 use std::alloc::Global;
 use std::convert::AsStr;
 use std::io::{Read, Write};

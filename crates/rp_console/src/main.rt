@@ -11,8 +11,8 @@ mod console;
 
 use args::command;
 use console::obey;
-use rp_base::Fault;
-use rp_output::{Streams, fail, given_words, refuse_unread};
+use rp_bind_run::rp_output::{Streams, fail, given_words, refuse_unread};
+use rp_deck_hints::rp_base::Fault;
 use std::io::BufWriter;
 use std::process::ExitCode;
 

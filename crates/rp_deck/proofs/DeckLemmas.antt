@@ -1,7 +1,7 @@
 -- The deck of what was declared and a script.
 use Rattle.std.proofs.Common.{◌≡◌, ℕ, ◌+◌, List, Result, Ok, Err, ap, sym, refl, ◌∙◌, arith, length}
-use Rattle.rp_base.specs.declared.fault.Fault.{Fault}
-use Rattle.rp_base.specs.declared.fault.Fault.TheVariants as faults
+use Rattle.rp_words.specs.rp_base.specs.declared.fault.Fault.{Fault}
+use Rattle.rp_words.specs.rp_base.specs.declared.fault.Fault.TheVariants as faults
 use Rattle.rp_deck.specs.declared.deck.Mode.{Mode}
 use Rattle.rp_words.specs.declared.lines.Lines.{Lines}
 use Rattle.rp_words.specs.Ahead.{left, lines_read, ahead, after_last}

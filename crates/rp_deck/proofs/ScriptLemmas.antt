@@ -9,7 +9,7 @@ use Rattle.rp_deck_declarations.specs.Declaring.{on_line}
 use Rattle.rp_words.specs.LineFaults.{BadLine}
 use Rattle.rp_deck.specs.Live.{IsTaken, IsLiveCommand}
 use Rattle.rp_words.specs.Lines.{LineText}
-use Rattle.rp_base.specs.declared.fault.DeckReason.{DeckReason}
+use Rattle.rp_words.specs.rp_base.specs.declared.fault.DeckReason.{DeckReason}
 use Rattle.rp_words.specs.Reading.{◌>>=◌}
 use Rattle.rp_deck_declarations.specs.ScriptNames.{DeclaredNames}
 use Rattle.rp_deck.specs.ScriptLines.{LineCommand, CommandText, takes, is_live, command_line, script_of}

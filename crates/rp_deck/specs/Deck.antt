@@ -1,8 +1,8 @@
 -- What a deck that was read keeps (the limits are ours).
 use Rattle.std.specs.Prelude.{◌≤◌, All, map}
-use Rattle.indexmap.specs.IndexMap.{index_map_len, values}
-use Rattle.indexmap.specs.IndexSet.{index_set_len}
-use Rattle.rp_base.specs.Config.{IsRightConfig}
+use Rattle.rp_words.specs.indexmap.specs.IndexMap.{index_map_len, values}
+use Rattle.rp_words.specs.indexmap.specs.IndexSet.{index_set_len}
+use Rattle.rp_words.specs.rp_base.specs.Config.{IsRightConfig}
 use Rattle.rp_deck.specs.declared.deck.Deck.{Deck}
 use Rattle.rp_deck_declarations.specs.Declarations.{IsNameTable, IsNameSet, HasObjects}
 use Rattle.rp_deck_declarations.specs.Programs.{DeclaresAll}

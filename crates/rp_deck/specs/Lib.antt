@@ -4,3 +4,10 @@ pub mod DeckViews
 pub mod Script
 pub mod Deck
 pub mod Live
+pub use Rattle.rp_words.specs.indexmap
+pub use Rattle.rp_words.specs.rp_base
+pub use Rattle.rp_deck_declarations
+pub use Rattle.rp_deck_declarations.specs.rp_deck_objects
+pub use Rattle.rp_model
+pub use Rattle.rp_deck_declarations.specs.rp_object
+pub use Rattle.rp_words

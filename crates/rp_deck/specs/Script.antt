@@ -1,8 +1,8 @@
 -- What a script asks for.
 use Rattle.std.specs.Prelude.{ℕ, ◌<◌, ◌≤◌, ◌^◌}
-use Rattle.indexmap.specs.IndexMap.{index_map_len}
-use Rattle.indexmap.specs.IndexSet.{index_set_len}
-use Rattle.rp_base.specs.Action.{IsRightOperation}
+use Rattle.rp_words.specs.indexmap.specs.IndexMap.{index_map_len}
+use Rattle.rp_words.specs.indexmap.specs.IndexSet.{index_set_len}
+use Rattle.rp_words.specs.rp_base.specs.Action.{IsRightOperation}
 use Rattle.rp_model.specs.Events.{IsRightEvent, event_of}
 use Rattle.rp_model.specs.declared.event.Event.{Event}
 use Rattle.rp_model.specs.declared.event.Event.TheVariants.{Submit, Again, Node, Cut, Stop, Restart}

@@ -3,10 +3,13 @@
 use Rattle.std.specs.Prelude.{ℕ, ◌+◌, ◌-◌, ◌^◌, ℤ, pos, Bool, true, false, not, List, [], ◌∷◌}
 use Rattle.std.specs.Prelude.{codes, slice_get, Option, Some, None, Result, Ok, Err, if◌then◌else◌}
 use Rattle.std.specs.Str.{bytes_eq}
-use Rattle.rp_base.specs.declared.action.Operation.{Operation}
-use Rattle.rp_base.specs.declared.action.Operation.TheVariants.{SetTimer, CancelTimer}
-use Rattle.rp_base.specs.declared.fault.DeckReason.{DeckReason}
-use Rattle.rp_base.specs.declared.fault.DeckReason.TheVariants.{UnknownWord, UnknownName, NotInLive}
+use Rattle.rp_words.specs.rp_base.specs.declared.action.Operation.{Operation}
+use Rattle.rp_words.specs.rp_base.specs.declared.action.Operation.TheVariants.{SetTimer}
+use Rattle.rp_words.specs.rp_base.specs.declared.action.Operation.TheVariants.{CancelTimer}
+use Rattle.rp_words.specs.rp_base.specs.declared.fault.DeckReason.{DeckReason}
+use Rattle.rp_words.specs.rp_base.specs.declared.fault.DeckReason.TheVariants.{UnknownWord}
+use Rattle.rp_words.specs.rp_base.specs.declared.fault.DeckReason.TheVariants.{UnknownName}
+use Rattle.rp_words.specs.rp_base.specs.declared.fault.DeckReason.TheVariants.{NotInLive}
 use Rattle.rp_model.specs.Events.{Event, Step, Submit, Again, Makes, Cut, Stop, Restart, Deliver}
 use Rattle.rp_model.specs.Events.{Lead, LeadRange, Interrupt, Tick}
 use Rattle.rp_deck.specs.declared.deck.Mode.{Mode}

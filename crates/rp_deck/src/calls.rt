@@ -2,14 +2,14 @@
 
 ghost use Rattle.std.specs.Prelude.{ℕ, ◌≡◌, ◌≤◌, map, option_map, IfOk, IfSome};
 ghost use Rattle.std.specs.List.{IsAmong};
-ghost use Rattle.indexmap.specs.IndexMap.{index_map_len, values};
-ghost use Rattle.indexmap.specs.IndexSet.{index_set_len};
-ghost use Rattle.rp_base.specs.Action.{IsRightOperation};
-ghost use Rattle.rp_base.specs.declared.action.Operation.TheVariants.{SetTimer};
+ghost use Rattle.rp_words.specs.indexmap.specs.IndexMap.{index_map_len, values};
+ghost use Rattle.rp_words.specs.indexmap.specs.IndexSet.{index_set_len};
+ghost use Rattle.rp_words.specs.rp_base.specs.Action.{IsRightOperation};
+ghost use Rattle.rp_words.specs.rp_base.specs.declared.action.Operation.TheVariants.{SetTimer};
 ghost use Rattle.rp_model.specs.Events.{event_of, step_of};
 ghost use Rattle.rp_deck_declarations.specs.Declarations.{IsComplete};
 ghost use Rattle.rp_deck.specs.Live.{IsLiveEvent, IsLiveStep};
-ghost use Rattle.rp_deck_objects.specs.ObjectViews.{operation_of};
+ghost use Rattle.rp_deck_declarations.specs.rp_deck_objects.specs.ObjectViews.{operation_of};
 ghost use Rattle.rp_deck_declarations.specs.Programs.{IsOffered};
 ghost use Rattle.rp_words.specs.Reading.{Gives};
 ghost use Rattle.rp_deck.specs.Script.{IsEventOfDeck, IsStepDeclared, IsStepWithin, IsUpTo};
@@ -19,10 +19,10 @@ ghost use Rattle.rp_words.specs.Tables.{find, key_names};
 ghost use Rattle.rp_words.specs.Words.{unread};
 
 use crate::operands::{read_node, read_task};
-use rp_base::{DeckReason, Operation};
 use rp_deck_declarations::Declared;
-use rp_deck_objects::{Index, OperationName, OperationNames};
+use rp_deck_declarations::rp_deck_objects::{Index, OperationName, OperationNames};
 use rp_model::{Event, Interrupt, Step};
+use rp_words::rp_base::{DeckReason, Operation};
 use rp_words::{Words, map_index_of, read_dotted, read_number, set_index_of};
 
 /// Reads the rest of `call TASK NODE OBJECT.OPERATION [ARG]`.

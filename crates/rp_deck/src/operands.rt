@@ -1,15 +1,15 @@
 //! Reads the words of a script's line that name nodes, tasks and positions.
 
 ghost use Rattle.std.specs.Prelude.{◌≡◌, ◌≤◌, IfOk};
-ghost use Rattle.indexmap.specs.IndexMap.{index_map_len};
+ghost use Rattle.rp_words.specs.indexmap.specs.IndexMap.{index_map_len};
 ghost use Rattle.rp_deck_declarations.specs.Declarations.{IsComplete};
 ghost use Rattle.rp_words.specs.Reading.{Gives, number_at};
 ghost use Rattle.rp_deck.specs.ScriptLines.{declared_at};
 ghost use Rattle.rp_words.specs.Tables.{key_names};
 ghost use Rattle.rp_words.specs.Words.{unread};
 
-use rp_base::{DeckReason, NodeId, Position, TaskId};
 use rp_deck_declarations::{Declared, MOST_POSITIONS};
+use rp_words::rp_base::{DeckReason, NodeId, Position, TaskId};
 use rp_words::{Words, map_index_of};
 
 /// Reads the number of a node.

@@ -1,7 +1,7 @@
 -- A tree of nodes by its first word.
 use Rattle.std.proofs.Common.{◌≡◌, ℕ, zero, suc, ◌+◌, List, Result, Ok, Err, arith, ap, ◌∙◌}
-use Rattle.rp_base.specs.declared.fault.DeckReason.{DeckReason}
-use Rattle.rp_base.specs.declared.fault.DeckReason.TheVariants.{BadExpression}
+use Rattle.rp_words.specs.rp_base.specs.declared.fault.DeckReason.{DeckReason}
+use Rattle.rp_words.specs.rp_base.specs.declared.fault.DeckReason.TheVariants.{BadExpression}
 use Rattle.rp_words.specs.Reading.{◌>>=◌}
 use Rattle.rp_deck_bodies.specs.Expressions.{NodeReader, node_at, tree_at}
 

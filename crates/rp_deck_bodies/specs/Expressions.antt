@@ -2,9 +2,10 @@
 use Rattle.std.specs.Prelude.{ℕ, zero, suc, ◌-◌, ◌==◌, ℤ, Bool, true, false, List, [], ◌∷◌, codes}
 use Rattle.std.specs.Prelude.{Option, Some, None, Result, Ok, Err, if◌then◌else◌}
 use Rattle.std.specs.Str.{bytes_eq}
-use Rattle.rp_base.specs.declared.fault.DeckReason.{DeckReason}
-use Rattle.rp_base.specs.declared.fault.DeckReason.TheVariants.{BadExpression, BadNumber}
-use Rattle.rp_base.specs.declared.fault.DeckReason.TheVariants.{UnknownName}
+use Rattle.rp_words.specs.rp_base.specs.declared.fault.DeckReason.{DeckReason}
+use Rattle.rp_words.specs.rp_base.specs.declared.fault.DeckReason.TheVariants.{BadExpression}
+use Rattle.rp_words.specs.rp_base.specs.declared.fault.DeckReason.TheVariants.{BadNumber}
+use Rattle.rp_words.specs.rp_base.specs.declared.fault.DeckReason.TheVariants.{UnknownName}
 use Rattle.rp_deck_bodies.specs.declared.expressions.CondWord.{CondWord}
 use Rattle.rp_deck_bodies.specs.declared.expressions.CondWord.TheVariants as words
 use Rattle.rp_deck_bodies.specs.declared.names.Component.{Component}

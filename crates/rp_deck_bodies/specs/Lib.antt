@@ -5,3 +5,5 @@ pub mod BodyViews
 pub mod Counted
 pub mod BodyLimits
 pub mod NodeReads
+pub use Rattle.rp_words.specs.indexmap
+pub use Rattle.rp_words

@@ -1,6 +1,6 @@
 -- What reading the nodes of an expression or of a condition did (no public clause names it).
 use Rattle.std.specs.Prelude.{◌≡◌, ℕ, IsTrue, Result}
-use Rattle.indexmap.specs.IndexMap.{values}
+use Rattle.rp_words.specs.indexmap.specs.IndexMap.{values}
 use Rattle.rp_body.specs.Check.{expr_names, cond_names}
 use Rattle.rp_body.specs.declared.expression.Expr.{Expr}
 use Rattle.rp_body.specs.declared.expression.Cond.{Cond}

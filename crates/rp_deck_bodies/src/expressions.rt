@@ -3,7 +3,7 @@
 ghost use Rattle.std.specs.Prelude.{◌≡◌, ◌≤◌, ◌<◌, ◌+◌, IsTrue, OnOk, IfOk};
 ghost use Rattle.rp_body.specs.Check.{expr_nodes, cond_nodes, expr_fits, cond_fits};
 ghost use Rattle.rp_deck_bodies.specs.Counted.{IsCounted, WhereCounted};
-ghost use Rattle.indexmap.specs.IndexMap.{values};
+ghost use Rattle.rp_words.specs.indexmap.specs.IndexMap.{values};
 ghost use Rattle.rp_deck_bodies.specs.ExpressionViews.{expr_text, cond_text};
 ghost use Rattle.rp_deck_bodies.specs.Expressions.{expression_words, component_of, int_of, bool_of, node_at, expr_from, expr_line, cond_of, cond_from, cond_line};
 ghost use Rattle.rp_words.specs.Reading.{Gives, Makes};
@@ -11,8 +11,8 @@ ghost use Rattle.rp_words.specs.Tables.{is_declared, find, key_names};
 ghost use Rattle.rp_words.specs.Words.{begins_as_number, unread};
 
 use crate::names::{Component, ComponentNames};
-use rp_base::DeckReason;
 use rp_body::{Cond, Expr, MOST_EXPRESSION_NODES};
+use rp_words::rp_base::DeckReason;
 use rp_words::{LineError, Words, named, read_name, read_number};
 use std::alloc::Global;
 

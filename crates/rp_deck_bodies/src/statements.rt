@@ -1,7 +1,7 @@
 //! Reads the bodies of operations.
 
 ghost use Rattle.std.specs.Prelude.{◌≡◌, ◌+◌, ◌∷◌, ◌++◌, ◌==◌, [], List, max, length, IsTrue, OnOk, IfOk};
-ghost use Rattle.indexmap.specs.IndexMap.{values};
+ghost use Rattle.rp_words.specs.indexmap.specs.IndexMap.{values};
 ghost use Rattle.rp_words.specs.Ahead.{text_of};
 ghost use Rattle.rp_deck_bodies.specs.Bodies.{BodyText, Empty, If, first_part, second_part, begun_body, body_word_named, may_turn, may_follow, body_word, one_more, with_else, closed, statement_line, body_line_of, body_line};
 ghost use Rattle.rp_deck_bodies.specs.ExpressionViews.{cond_text};
@@ -17,8 +17,8 @@ ghost use Rattle.rp_words.specs.Words.{unread};
 
 use crate::expressions::{bool_named, int_named, read_cond, read_expr};
 use crate::names::ComponentNames;
-use rp_base::DeckReason;
 use rp_body::{Cond, MOST_DEPTH, MOST_STATEMENTS, Stmt};
+use rp_words::rp_base::DeckReason;
 use rp_words::{LineError, TextLine, Words};
 use std::alloc::{AllocError, Global};
 use std::mem;

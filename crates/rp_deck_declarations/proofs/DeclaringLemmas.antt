@@ -11,7 +11,7 @@ use Rattle.rp_deck_objects.specs.ObjectViews.{object_text}
 use Rattle.rp_words.specs.LineFaults.{fault_at, Refuses, BadLine}
 use Rattle.rp_deck_objects.specs.Objects.{object_step, ObjectText}
 use Rattle.rp_words.specs.Reading.{◌>>=◌, Fails}
-use Rattle.rp_base.specs.declared.fault.DeckReason.{DeckReason}
+use Rattle.rp_object.specs.rp_base.specs.declared.fault.DeckReason.{DeckReason}
 use Rattle.rp_words.specs.Lines.{LineText}
 use Rattle.rp_deck_declarations.specs.Drafts.{DraftText, profile_of, last_object, script_line}
 use Rattle.rp_deck_declarations.specs.Declaring.{on_line, with_last_object, object_line_of, declaring_line, ends_declarations, missing, declarations_from}

@@ -2,18 +2,18 @@
 use Rattle.std.proofs.Common.{◌≡◌, ℕ, zero, suc, ◌+◌, ◌≤◌, List, [], ◌∷◌, ◌++◌, true, length, map, Some, arith, ap, refl, sym, subst, ◌∙◌}
 use Rattle.std.specs.Prelude.{All, is_some, slice_get, slice_set, option_map, Vec}
 use Rattle.std.specs.declared.alloc.Global.{Global}
-use Rattle.indexmap.specs.IndexMap.{values}
-use Rattle.rp_body.specs.declared.statement.Stmt.{Stmt}
-use Rattle.rp_deck_bodies.specs.BodyViews.{body_text}
+use Rattle.rp_words.specs.indexmap.specs.IndexMap.{values}
+use Rattle.rp_object.specs.rp_body.specs.declared.statement.Stmt.{Stmt}
+use Rattle.rp_deck_objects.specs.rp_deck_bodies.specs.BodyViews.{body_text}
 use Rattle.std.proofs.lemmas.List.{map-set}
 use Rattle.std.proofs.lemmas.Option.{slice_get-map}
-use Rattle.rp_entry.specs.Operations.{of_index}
+use Rattle.rp_object.specs.rp_entry.specs.Operations.{of_index}
 use Rattle.rp_object.specs.declared.program.Handler.{Handler}
 use Rattle.rp_deck_objects.specs.declared.objects.ObjectDraft.{ObjectDraft}
 use Rattle.rp_deck_declarations.specs.declared.draft.Draft.{Draft}
 use Rattle.rp_deck_declarations.specs.Declarations.{IsNameTable, procedure_counts, IsHandled, IsDraft}
 use Rattle.rp_deck_objects.specs.ObjectViews.{object_text}
-use Rattle.rp_deck_bodies.proofs.ListLemmas.{all_last, all_weaker}
+use Rattle.rp_deck_objects.specs.rp_deck_bodies.proofs.ListLemmas.{all_last, all_weaker}
 use Rattle.rp_words.proofs.TablesLemmas.{map_last}
 
 abbrev procedure_count : ObjectDraft → ℕ

@@ -4,12 +4,12 @@ use Rattle.std.specs.Prelude.{All, String, slice_get}
 use Rattle.std.specs.Arc.{arc_value}
 use Rattle.std.specs.List.{IsAmong}
 use Rattle.std.proofs.lemmas.Option.{slice_get_within}
-use Rattle.indexmap.specs.IndexMap.{IndexMap, values}
-use Rattle.rp_base.specs.declared.action.Operation.TheVariants as operations
+use Rattle.rp_words.specs.indexmap.specs.IndexMap.{IndexMap, values}
+use Rattle.rp_object.specs.rp_base.specs.declared.action.Operation.TheVariants as operations
 use Rattle.rp_object.specs.Program.{operations_of, has_operation, is_some_and, is_offered}
 use Rattle.rp_object.specs.declared.program.Declarations.{Declarations}
 use Rattle.rp_object.specs.declared.program.ObjectDeclaration.{ObjectDeclaration}
-use Rattle.rp_deck_bodies.proofs.ListLemmas.{of_among}
+use Rattle.rp_deck_objects.specs.rp_deck_bodies.proofs.ListLemmas.{of_among}
 use Rattle.rp_deck_objects.specs.ObjectViews.{operation_of}
 use Rattle.rp_deck_objects.specs.ObjectLimits.{AreNamed}
 use Rattle.rp_deck_declarations.specs.Programs.{AreAllNamed, object_count, AreNamesOf, IsOffered}

@@ -2,20 +2,20 @@
 use Rattle.std.proofs.Common.{◌≡◌, ℕ, zero, suc, ◌≤◌, List, [], ◌∷◌, true, length, map, Some, arith, ap, refl, sym, ◌∙◌}
 use Rattle.std.specs.Prelude.{All, is_some, slice_get, Vec}
 use Rattle.std.specs.declared.alloc.Global.{Global}
-use Rattle.indexmap.specs.IndexMap.{IndexMap, values, index_map_len}
-use Rattle.rp_base.specs.declared.action.Operation.TheVariants.{Procedure}
-use Rattle.rp_body.specs.declared.statement.Stmt.{Stmt}
-use Rattle.rp_entry.specs.Operations.{of_index}
+use Rattle.rp_words.specs.indexmap.specs.IndexMap.{IndexMap, values, index_map_len}
+use Rattle.rp_object.specs.rp_base.specs.declared.action.Operation.TheVariants.{Procedure}
+use Rattle.rp_object.specs.rp_body.specs.declared.statement.Stmt.{Stmt}
+use Rattle.rp_object.specs.rp_entry.specs.Operations.{of_index}
 use Rattle.rp_object.specs.Program.{operations_of, has_operation, is_some_and, IsPriority, is_handler}
 use Rattle.rp_object.specs.declared.program.Declarations.{Declarations}
 use Rattle.rp_object.specs.declared.program.Handler.{Handler}
 use Rattle.rp_object.specs.declared.program.ObjectDeclaration.{ObjectDeclaration}
 use Rattle.rp_deck_declarations.specs.declared.deck_program.Task.{Task}
 use Rattle.rp_deck_objects.specs.declared.objects.ObjectDraft.{ObjectDraft}
-use Rattle.rp_deck_bodies.specs.BodyViews.{body_text}
+use Rattle.rp_deck_objects.specs.rp_deck_bodies.specs.BodyViews.{body_text}
 use Rattle.rp_deck_declarations.specs.Declarations.{procedure_counts, IsHandled}
 use Rattle.rp_deck_objects.specs.ObjectViews.{protected_text, object_text, ProtectedText, protected_of}
-use Rattle.rp_deck_bodies.proofs.ListLemmas.{all_cons, all_tail, all_weaker}
+use Rattle.rp_deck_objects.specs.rp_deck_bodies.proofs.ListLemmas.{all_cons, all_tail, all_weaker}
 
 -- ---- lists that are mapped
 

@@ -1,15 +1,15 @@
 -- What a deck declares (the limits are ours).
 use Rattle.std.specs.Prelude.{ℕ, ◌≡◌, ◌≤◌, All, false, List, Some, unwrap_or, String, length, map}
 use Rattle.std.specs.String.{string_eq}
-use Rattle.indexmap.specs.IndexMap.{IndexMap, index_map_len, values, IsUnique}
-use Rattle.indexmap.specs.IndexSet.{IndexSet, index_set_len}
-use Rattle.indexmap.specs.IndexSet as sets
+use Rattle.rp_words.specs.indexmap.specs.IndexMap.{IndexMap, index_map_len, values, IsUnique}
+use Rattle.rp_words.specs.indexmap.specs.IndexSet.{IndexSet, index_set_len}
+use Rattle.rp_words.specs.indexmap.specs.IndexSet as sets
 use Rattle.rp_deck_declarations.specs.declared.deck_program.DeckProgram.{DeckProgram}
 use Rattle.rp_deck_declarations.specs.Programs.{object_count, DeclaresAll, AreNamesOf}
 use Rattle.rp_deck_declarations.specs.declared.declarations.Declared.{Declared}
 use Rattle.rp_deck_declarations.specs.declared.draft.Draft.{Draft}
 use Rattle.rp_deck_objects.specs.declared.objects.ObjectDraft.{ObjectDraft}
-use Rattle.rp_entry.specs.Operations.{of_index}
+use Rattle.rp_object.specs.rp_entry.specs.Operations.{of_index}
 use Rattle.rp_object.specs.declared.program.Profile.TheVariants.{Ravenscar}
 use Rattle.rp_object.specs.declared.program.Handler.{Handler}
 use Rattle.rp_deck_objects.specs.ObjectViews.{object_text}

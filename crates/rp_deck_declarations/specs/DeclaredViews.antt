@@ -1,8 +1,8 @@
 -- What is declared, as the text says it.
 use Rattle.std.specs.Prelude.{ℕ, ◌≡◌, List, [], map, replicate, unwrap_or, String}
 use Rattle.std.specs.Arc.{arc_value}
-use Rattle.indexmap.specs.IndexMap.{IndexMap, values}
-use Rattle.indexmap.specs.IndexSet.{IndexSet}
+use Rattle.rp_words.specs.indexmap.specs.IndexMap.{IndexMap, values}
+use Rattle.rp_words.specs.indexmap.specs.IndexSet.{IndexSet}
 use Rattle.rp_object.specs.declared.program.Handler.{Handler}
 use Rattle.rp_object.specs.declared.program.Profile.{Profile}
 use Rattle.rp_words.specs.Tables.{key_names, set_names}

@@ -3,9 +3,11 @@
 use Rattle.std.specs.Prelude.{ℕ, ◌-◌, ◌&&◌, Bool, not, List, [], ◌∷◌, codes, length, slice_set}
 use Rattle.std.specs.Prelude.{Option, Some, None, Result, Ok, Err, if◌then◌else◌}
 use Rattle.std.specs.Str.{bytes_eq}
-use Rattle.rp_base.specs.declared.fault.DeckReason.{DeckReason}
-use Rattle.rp_base.specs.declared.fault.DeckReason.TheVariants.{NodesExpected, UnknownWord}
-use Rattle.rp_base.specs.declared.fault.DeckReason.TheVariants.{EndExpected, ScriptExpected}
+use Rattle.rp_object.specs.rp_base.specs.declared.fault.DeckReason.{DeckReason}
+use Rattle.rp_object.specs.rp_base.specs.declared.fault.DeckReason.TheVariants.{NodesExpected}
+use Rattle.rp_object.specs.rp_base.specs.declared.fault.DeckReason.TheVariants.{UnknownWord}
+use Rattle.rp_object.specs.rp_base.specs.declared.fault.DeckReason.TheVariants.{EndExpected}
+use Rattle.rp_object.specs.rp_base.specs.declared.fault.DeckReason.TheVariants.{ScriptExpected}
 use Rattle.rp_deck_declarations.specs.declared.draft.Kind.{Kind}
 use Rattle.rp_words.specs.LineFaults.{BadLine}
 use Rattle.rp_words.specs.Lines.{LineText}

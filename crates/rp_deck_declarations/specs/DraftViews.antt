@@ -1,6 +1,6 @@
 -- What is declared so far, as the text says it.
 use Rattle.std.specs.Prelude.{ℕ, map}
-use Rattle.indexmap.specs.IndexMap.{values}
+use Rattle.rp_words.specs.indexmap.specs.IndexMap.{values}
 use Rattle.rp_deck_declarations.specs.declared.deck_program.Task.{Task}
 use Rattle.rp_deck_declarations.specs.declared.draft.Draft.{Draft}
 use Rattle.rp_deck_objects.specs.ObjectViews.{object_text}

@@ -3,12 +3,14 @@ use Rattle.std.specs.Prelude.{ℕ, zero, suc, ◌+◌, ◌-◌, ◌&&◌, ◌==�
 use Rattle.std.specs.Prelude.{◌∷◌, ◌++◌, codes, length, slice_get, Option, Some, None, is_some}
 use Rattle.std.specs.Prelude.{unwrap_or, Result, Ok, if◌then◌else◌}
 use Rattle.std.specs.Str.{bytes_eq}
-use Rattle.rp_base.specs.declared.action.Operation.{Operation}
-use Rattle.rp_base.specs.declared.action.Operation.TheVariants as operations
-use Rattle.rp_base.specs.declared.fault.DeckReason.{DeckReason}
-use Rattle.rp_base.specs.declared.fault.DeckReason.TheVariants.{NodesExpected, UnknownWord}
-use Rattle.rp_base.specs.declared.fault.DeckReason.TheVariants.{UnknownName, TaskExpected}
-use Rattle.rp_base.specs.declared.fault.DeckReason.TheVariants.{ObjectExpected}
+use Rattle.rp_object.specs.rp_base.specs.declared.action.Operation.{Operation}
+use Rattle.rp_object.specs.rp_base.specs.declared.action.Operation.TheVariants as operations
+use Rattle.rp_object.specs.rp_base.specs.declared.fault.DeckReason.{DeckReason}
+use Rattle.rp_object.specs.rp_base.specs.declared.fault.DeckReason.TheVariants.{NodesExpected}
+use Rattle.rp_object.specs.rp_base.specs.declared.fault.DeckReason.TheVariants.{UnknownWord}
+use Rattle.rp_object.specs.rp_base.specs.declared.fault.DeckReason.TheVariants.{UnknownName}
+use Rattle.rp_object.specs.rp_base.specs.declared.fault.DeckReason.TheVariants.{TaskExpected}
+use Rattle.rp_object.specs.rp_base.specs.declared.fault.DeckReason.TheVariants.{ObjectExpected}
 use Rattle.rp_object.specs.declared.program.Handler.{Handler}
 use Rattle.rp_object.specs.declared.program.Profile.{Profile as ProgramProfile}
 use Rattle.rp_object.specs.declared.program.Profile.TheVariants.{Ravenscar, Jorvik}

@@ -6,3 +6,11 @@ pub mod DraftViews
 pub mod DeclaredViews
 pub mod Declarations
 pub mod Programs
+pub use Rattle.rp_words.specs.indexmap
+pub use Rattle.rp_object.specs.rp_base
+pub use Rattle.rp_object.specs.rp_body
+pub use Rattle.rp_deck_objects.specs.rp_deck_bodies
+pub use Rattle.rp_deck_objects
+pub use Rattle.rp_object.specs.rp_entry
+pub use Rattle.rp_object
+pub use Rattle.rp_words

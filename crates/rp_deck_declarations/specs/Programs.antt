@@ -2,9 +2,9 @@
 use Rattle.std.specs.Prelude.{ℕ, ◌≡◌, true, Some, String, List, All, length, map, slice_get}
 use Rattle.std.specs.Prelude.{string_bytes}
 use Rattle.std.specs.Arc.{arc_value}
-use Rattle.indexmap.specs.IndexMap.{IndexMap, values}
-use Rattle.rp_base.specs.declared.action.Operation.{Operation}
-use Rattle.rp_base.specs.declared.action.Operation.TheVariants.{Procedure}
+use Rattle.rp_words.specs.indexmap.specs.IndexMap.{IndexMap, values}
+use Rattle.rp_object.specs.rp_base.specs.declared.action.Operation.{Operation}
+use Rattle.rp_object.specs.rp_base.specs.declared.action.Operation.TheVariants.{Procedure}
 use Rattle.rp_object.specs.Program.{operations_of, is_offered}
 use Rattle.rp_object.specs.declared.program.Handler.{Handler}
 use Rattle.rp_object.specs.declared.program.Declarations.{Declarations}

@@ -1,6 +1,6 @@
 -- What a line of a script may name.
 use Rattle.std.specs.Prelude.{ℕ, List, [], ◌∷◌, codes, length, map, replicate, if◌then◌else◌}
-use Rattle.rp_base.specs.declared.action.Operation.TheVariants.{Procedure}
+use Rattle.rp_object.specs.rp_base.specs.declared.action.Operation.TheVariants.{Procedure}
 use Rattle.rp_object.specs.declared.program.Handler.{Handler}
 use Rattle.rp_deck_declarations.specs.Drafts.{DraftText}
 use Rattle.rp_deck_objects.specs.ObjectViews.{object_operations, OperationsText}

@@ -2,7 +2,7 @@
 
 ghost use Rattle.std.specs.Prelude.{◌≤◌, IfSome};
 
-use rp_machine::TallyProgram;
+use rp_object::rp_machine::TallyProgram;
 use rp_object::{Handler, Program};
 
 /// A task that is declared.
@@ -23,7 +23,7 @@ pub enum DeckProgram {
 
 impl DeckProgram {
     ghost use Rattle.std.specs.Prelude.{◌≡◌, ◌+◌, slice_get};
-    ghost use Rattle.rp_base.specs.declared.action.Operation.TheVariants.{SetTimer};
+    ghost use Rattle.rp_object.specs.rp_base.specs.declared.action.Operation.TheVariants.{SetTimer};
     ghost use Rattle.rp_deck_declarations.specs.Programs.{object_count, IsOffered};
     ghost use Rattle.rp_deck_declarations.specs.DeclaredViews.{timer_handlers};
 

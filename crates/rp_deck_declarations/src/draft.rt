@@ -1,15 +1,15 @@
 //! What a deck declares so far, and what each further line adds to it.
 
 ghost use Rattle.std.specs.Prelude.{◌≡◌, ◌≤◌, ◌<◌, ◌∷◌, ◌++◌, [], All, true, false, length, option_map, IfSome, IfOk, IfErr, OnOk};
-ghost use Rattle.indexmap.specs.IndexMap.{index_map_len};
-ghost use Rattle.indexmap.specs.IndexSet.{index_set_len};
+ghost use Rattle.rp_words.specs.indexmap.specs.IndexMap.{index_map_len};
+ghost use Rattle.rp_words.specs.indexmap.specs.IndexSet.{index_set_len};
 ghost use Rattle.rp_words.specs.Ahead.{text_of};
 ghost use Rattle.rp_deck_declarations.specs.DraftViews.{draft_text};
 ghost use Rattle.rp_deck_declarations.specs.Drafts.{is_new, empty_draft, profile_of, last_object, is_in_body, allows, kind_of, profile_named, positions_line, profile_line, task_line, tally_name, tally_names, tally_line, object_line, procedure_of, handler_at, handled_at, interrupt_line, timer_line, declaration_line, script_line};
 ghost use Rattle.rp_deck_declarations.specs.Declaring.{object_line_of, declaring_line, ends_declarations, missing};
 ghost use Rattle.rp_words.specs.Reading.{Gives, Makes};
 ghost use Rattle.rp_words.specs.Tables.{is_declared, place_of, find, key_names, set_names};
-ghost use Rattle.rp_base.specs.declared.action.Operation.TheVariants.{Procedure};
+ghost use Rattle.rp_object.specs.rp_base.specs.declared.action.Operation.TheVariants.{Procedure};
 ghost use Rattle.rp_object.specs.Program.{has_operation};
 ghost use Rattle.rp_deck_objects.specs.ObjectViews.{object_text};
 ghost use Rattle.rp_words.specs.Words.{unread};
@@ -17,10 +17,10 @@ ghost use Rattle.rp_deck_declarations.specs.Declarations.{IsNodeCount, IsNameSet
 ghost use Rattle.rp_deck_objects.specs.ObjectLimits.{IsObject};
 
 use crate::deck_program::Task;
-use indexmap::{IndexMap, IndexSet};
-use rp_base::{DeckReason, MOST_OBJECTS, MOST_SOURCES, MOST_TASKS, Position};
 use rp_deck_objects::{Index, ObjectDraft, OperationName};
+use rp_object::rp_base::{DeckReason, MOST_OBJECTS, MOST_SOURCES, MOST_TASKS, Position};
 use rp_object::{Handler, MOST_PRIORITY, MOST_TIMERS, Profile};
+use rp_words::indexmap::{IndexMap, IndexSet};
 use rp_words::{
     LineError, TextLine, Words, insert_in_map, insert_in_set, is_word, named, read_dotted,
     take_name_new_to_map, take_name_new_to_set,

@@ -1,15 +1,15 @@
 //! Makes the program of what a deck declares.
 
 ghost use Rattle.std.specs.Prelude.{◌≡◌, ◌≤◌, ℕ, List, [], All, length, map, string_bytes, true, false, IfOk, IfErr, IfSome};
-ghost use Rattle.indexmap.specs.IndexMap.{values};
-ghost use Rattle.indexmap.specs.IndexSet.{index_set_len};
+ghost use Rattle.rp_words.specs.indexmap.specs.IndexMap.{values};
+ghost use Rattle.rp_words.specs.indexmap.specs.IndexSet.{index_set_len};
 ghost use Rattle.rp_object.specs.declared.program.Handler.{Handler};
-ghost use Rattle.rp_base.specs.declared.action.Operation.TheVariants.{Procedure};
+ghost use Rattle.rp_object.specs.rp_base.specs.declared.action.Operation.TheVariants.{Procedure};
 ghost use Rattle.rp_deck_objects.specs.ObjectViews.{operation_of, protected_text, object_text, protected_of, object_operations, own_operations};
 ghost use Rattle.rp_deck_declarations.specs.Programs.{AreAllNamed, DeclaresAll, AreNamesOf};
 ghost use Rattle.rp_object.specs.declared.program.Profile.{Profile};
 ghost use Rattle.rp_words.specs.Tables.{key_names};
-ghost use Rattle.indexmap.specs.IndexMap.{index_map_len};
+ghost use Rattle.rp_words.specs.indexmap.specs.IndexMap.{index_map_len};
 ghost use Rattle.rp_object.specs.Program.{operations_of, DeclarationFits, KeepsProfile, IsProgram};
 ghost use Rattle.rp_deck_declarations.specs.Declarations.{IsNameTable, IsHandled, procedure_counts, HasObjects, IsFinishable, IsComplete};
 ghost use Rattle.rp_deck_objects.specs.ObjectLimits.{IsObject};
@@ -22,11 +22,11 @@ ghost use Rattle.rp_deck_declarations.specs.ScriptNames.{tally_operations, decla
 use crate::deck_program::{DeckProgram, Task};
 use crate::declarations::Declared;
 use crate::draft::Draft;
-use indexmap::IndexMap;
 use rp_deck_objects::{Index, ObjectDraft, OperationName, OperationNames};
-use rp_machine::TallyProgram;
+use rp_object::rp_machine::TallyProgram;
 use rp_object::{Declarations, Handler, ObjectDeclaration, Program, TimingEvent};
 use rp_words::LineError;
+use rp_words::indexmap::IndexMap;
 use std::alloc::{AllocError, Global};
 use std::mem;
 use std::sync::Arc;

@@ -5,7 +5,7 @@ use Rattle.std.specs.List.{list_all}
 use Rattle.std.specs.Str.{IsAscii}
 use Rattle.std.proofs.lemmas.Bool.Decides.{nat_tests}
 use Rattle.std.proofs.lemmas.Str.{IsUtf8-from_ascii}
-use Rattle.rp_words.proofs.WordsLemmas.{both}
+use Rattle.rp_deck.specs.rp_words.proofs.WordsLemmas.{both}
 use Rattle.rp_deck_hints.specs.Hints.{is_graphic, is_printed}
 
 small : (b : ℕ) → IsTrue (is_graphic b) → b < 128

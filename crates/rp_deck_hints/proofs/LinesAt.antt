@@ -4,9 +4,9 @@ use Rattle.std.proofs.lemmas.Bool.Decides.{nat_tests}
 use Rattle.std.proofs.lemmas.List.{drop-drop, get_or-drop}
 use Rattle.std.proofs.lemmas.List.Sums.{prefix_len-le-length}
 use Rattle.std.proofs.Math.ListN.{drop_of_length-le}
-use Rattle.rp_words.specs.LineEnds.{line_end, without_return}
-use Rattle.rp_words.specs.Lines.{lines_of}
-use Rattle.rp_words.proofs.LinesLemmas.{split_ended, split_last}
+use Rattle.rp_deck.specs.rp_words.specs.LineEnds.{line_end, without_return}
+use Rattle.rp_deck.specs.rp_words.specs.Lines.{lines_of}
+use Rattle.rp_deck.specs.rp_words.proofs.LinesLemmas.{split_ended, split_last}
 use Rattle.rp_deck_hints.specs.Places.{after_line, after_lines, first_line}
 
 end_within : (bytes : List ℕ) → line_end bytes ≤ length bytes

@@ -4,12 +4,12 @@ use Rattle.std.proofs.Common.{◌≡◌, ℕ, ◌+◌, ◌-◌, ◌<◌, ◌≤�
 use Rattle.std.specs.List.{prefix_len}
 use Rattle.std.proofs.lemmas.Bool.Decides.{nat_tests}
 use Rattle.std.proofs.Math.Nat.{le-suc_iff}
-use Rattle.rp_base.specs.declared.fault.DeckReason.{DeckReason}
+use Rattle.rp_deck.specs.rp_base.specs.declared.fault.DeckReason.{DeckReason}
 use Rattle.rp_deck.specs.declared.deck.Mode.{Mode}
 use Rattle.rp_deck_hints.specs.Places.{after_lines, after_words, before_word, first_line, length_before, line_at, line_start, through_word}
 use Rattle.rp_deck_hints.proofs.LinesAt.{line_after}
 use Rattle.rp_deck_hints.specs.Hints.{IsAtFault, IsBadAt, IsNoneAtFault}
-use Rattle.rp_words.specs.Words.{after_word, is_at_end, is_blank, without_blanks}
+use Rattle.rp_deck.specs.rp_words.specs.Words.{after_word, is_at_end, is_blank, without_blanks}
 
 -- ---- the end of a line
 

@@ -6,14 +6,17 @@ use Rattle.std.specs.Prelude.{Option, Some, None, Err, IfSome, if◌then◌else�
 use Rattle.std.specs.List.{list_all}
 use Rattle.std.specs.Str.{chars}
 use Rattle.strsim.specs.Edits.{levenshtein_row}
-use Rattle.rp_base.specs.declared.fault.DeckReason.{DeckReason}
-use Rattle.rp_base.specs.declared.fault.DeckReason.TheVariants.{UnknownName, UnknownWord, BadNumber}
-use Rattle.rp_base.specs.declared.fault.DeckReason.TheVariants.{BadName, DuplicateName}
+use Rattle.rp_deck.specs.rp_base.specs.declared.fault.DeckReason.{DeckReason}
+use Rattle.rp_deck.specs.rp_base.specs.declared.fault.DeckReason.TheVariants.{UnknownName}
+use Rattle.rp_deck.specs.rp_base.specs.declared.fault.DeckReason.TheVariants.{UnknownWord}
+use Rattle.rp_deck.specs.rp_base.specs.declared.fault.DeckReason.TheVariants.{BadNumber}
+use Rattle.rp_deck.specs.rp_base.specs.declared.fault.DeckReason.TheVariants.{BadName}
+use Rattle.rp_deck.specs.rp_base.specs.declared.fault.DeckReason.TheVariants.{DuplicateName}
 use Rattle.rp_deck.specs.Meaning.{meaning_of}
 use Rattle.rp_deck.specs.declared.deck.Mode.{Mode}
 use Rattle.rp_deck_hints.specs.Places.{after_words, before_word, line_at, through_word, word_at}
 use Rattle.rp_deck_hints.specs.declared.hint.Hint.{Hint}
-use Rattle.rp_words.specs.Words.{is_at_end}
+use Rattle.rp_deck.specs.rp_words.specs.Words.{is_at_end}
 
 -- a bad line of this reason has a word at fault
 abbrev pub names_a_word : DeckReason → Bool

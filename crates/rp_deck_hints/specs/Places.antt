@@ -1,9 +1,9 @@
 -- The lines of a text and the words of a line, by what is after them, and a text up to a word.
 use Rattle.std.specs.Prelude.{ℕ, zero, suc, ◌+◌, ◌-◌, ◌==◌, List, [], take, drop, length}
 use Rattle.std.specs.Prelude.{slice_index_or, if◌then◌else◌}
-use Rattle.rp_words.specs.LineEnds.{line_end, without_return}
-use Rattle.rp_words.specs.Lines.{lines_of}
-use Rattle.rp_words.specs.Words.{without_blanks, first_word, after_word}
+use Rattle.rp_deck.specs.rp_words.specs.LineEnds.{line_end, without_return}
+use Rattle.rp_deck.specs.rp_words.specs.Lines.{lines_of}
+use Rattle.rp_deck.specs.rp_words.specs.Words.{without_blanks, first_word, after_word}
 
 -- the first line, without its end: a line feed, and the return right before it
 abbrev pub first_line : List ℕ → List ℕ

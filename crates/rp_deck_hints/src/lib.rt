@@ -13,3 +13,5 @@ mod hint;
 mod places;
 
 pub use hint::{Hint, hint_for};
+pub use rp_deck;
+pub use rp_deck::rp_base;

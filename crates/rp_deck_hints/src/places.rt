@@ -3,8 +3,8 @@
 ghost use Rattle.std.specs.Prelude.{◌≡◌, ◌≤◌, drop, length, not, take};
 ghost use Rattle.std.specs.List.{prefix_len};
 ghost use Rattle.rp_deck_hints.specs.Places.{after_line, after_lines, first_line};
-ghost use Rattle.rp_words.specs.LineEnds.{line_end, without_return};
-ghost use Rattle.rp_words.specs.Words.{is_blank, without_blanks};
+ghost use Rattle.rp_deck.specs.rp_words.specs.LineEnds.{line_end, without_return};
+ghost use Rattle.rp_deck.specs.rp_words.specs.Words.{is_blank, without_blanks};
 
 /// How many bytes are before the first line feed.
 fn length_of_line(bytes: &[u8]) -> usize

@@ -1,20 +1,20 @@
 -- Moves by handle are moves of nodes of protected objects.
 use Rattle.std.proofs.Common.{◌≡◌, ℕ, Result, Ok, Err, List, [], ◌∷◌, sym, ap, subst, ◌∙◌}
 use Rattle.std.specs.Arc.{arc_value}
-use Rattle.rp_base.specs.declared.config.Config.{Config}
+use Rattle.rp_deck.specs.rp_base.specs.declared.config.Config.{Config}
 use Rattle.rp_deck.specs.declared.deck.Deck.{Deck}
 use Rattle.rp_deck.specs.DeckViews.{deck_text}
 use Rattle.rp_deck.specs.Meaning.{DeckText}
 use Rattle.rp_deck_readings.specs.Readings.{IsDeckOfObjects}
 use Rattle.rp_handles.specs.DeckNodes.{MeansDeck}
-use Rattle.rp_words.specs.LineFaults.{BadLine}
+use Rattle.rp_deck.specs.rp_words.specs.LineFaults.{BadLine}
 use Rattle.rp_installations.specs.Starts.{BehaveAlike}
-use Rattle.rp_object.specs.Image.{objects_image}
-use Rattle.rp_object.specs.State.{Running, first_state}
-use Rattle.rp_object.specs.Step.{objects_next, objects_answers}
-use Rattle.rp_object.specs.declared.program.Program.{Program}
-use Rattle.rp_requests.specs.Nodes.{NodeState}
-use Rattle.rp_requests.specs.Opening.{IsOpenedNode}
+use Rattle.rp_deck.specs.rp_object.specs.Image.{objects_image}
+use Rattle.rp_deck.specs.rp_object.specs.State.{Running, first_state}
+use Rattle.rp_deck.specs.rp_object.specs.Step.{objects_next, objects_answers}
+use Rattle.rp_deck.specs.rp_object.specs.declared.program.Program.{Program}
+use Rattle.rp_installations.specs.rp_requests.specs.Nodes.{NodeState}
+use Rattle.rp_installations.specs.rp_requests.specs.Opening.{IsOpenedNode}
 use Rattle.rp_installations.specs.Moves.{OpensSite, AsksSite, NodeMove, Move, Moves, MachineMoves, OpensFrom, AnswersBy}
 use Rattle.rp_installations.specs.Moves as moves
 use Rattle.rp_installations.specs.Sites.{Installation, NodeSite}

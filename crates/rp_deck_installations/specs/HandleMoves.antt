@@ -1,10 +1,10 @@
 -- What callers do with the handles of one deck's nodes and of tasks.
 use Rattle.std.specs.Prelude.{◌≡◌, ℕ, Some, List}
 use Rattle.rp_deck.specs.declared.deck.Deck.{Deck}
-use Rattle.rp_object.specs.State.{Running}
-use Rattle.rp_object.specs.declared.program.Program.{Program}
-use Rattle.rp_deck_declarations.specs.declared.deck_program.DeckProgram.TheVariants.{Objects}
-use Rattle.rp_requests.specs.Nodes.{NodeState}
+use Rattle.rp_deck.specs.rp_object.specs.State.{Running}
+use Rattle.rp_deck.specs.rp_object.specs.declared.program.Program.{Program}
+use Rattle.rp_deck.specs.rp_deck_declarations.specs.declared.deck_program.DeckProgram.TheVariants.{Objects}
+use Rattle.rp_installations.specs.rp_requests.specs.Nodes.{NodeState}
 use Rattle.rp_handles.specs.DeckNodes.{MeansDeck}
 use Rattle.rp_handles.specs.Handles.{HandleAnswers, KeepsNode, exchange_of}
 use Rattle.rp_handles.specs.declared.actor.Actor.TheVariants.{Node}

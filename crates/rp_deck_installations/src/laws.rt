@@ -2,22 +2,22 @@
 
 ghost use Rattle.std.specs.Prelude.{ℕ, List};
 ghost use Rattle.std.specs.Arc.{arc_value};
-ghost use Rattle.rp_agreement.specs.Answered.{setting_for};
+ghost use Rattle.rp_installations.specs.rp_agreement.specs.Answered.{setting_for};
 ghost use Rattle.rp_deck.specs.declared.deck.Deck.{Deck};
-ghost use Rattle.rp_object.specs.Image.{objects_image};
-ghost use Rattle.rp_object.specs.State.{Running, first_state};
-ghost use Rattle.rp_object.specs.Step.{objects_next, objects_answers};
-ghost use Rattle.rp_object.specs.declared.program.Program.{Program};
-ghost use Rattle.rp_requests.specs.Nodes.{NodeState};
+ghost use Rattle.rp_deck.specs.rp_object.specs.Image.{objects_image};
+ghost use Rattle.rp_deck.specs.rp_object.specs.State.{Running, first_state};
+ghost use Rattle.rp_deck.specs.rp_object.specs.Step.{objects_next, objects_answers};
+ghost use Rattle.rp_deck.specs.rp_object.specs.declared.program.Program.{Program};
+ghost use Rattle.rp_installations.specs.rp_requests.specs.Nodes.{NodeState};
 ghost use Rattle.rp_installations.specs.Behind.{HasHistory};
 ghost use Rattle.rp_installations.specs.Outcomes.{AgreeAs, HasOrder, IsAllSynced, IsOpenAt};
 ghost use Rattle.rp_installations.specs.Sites.{Installation, NodeSite};
 ghost use Rattle.rp_deck_installations.specs.HandleMoves.{HandleMoves, IsDeckOf};
 ghost use Rattle.rp_deck_installations.specs.HandleMoves.{IsHandleInstallation};
 
+use rp_deck::rp_object::Objects;
 use rp_deck_readings::decks_of_one_meaning_behave_alike;
 use rp_installations::installations_are_histories;
-use rp_object::Objects;
 
 /// Whatever callers do with the handles of the nodes of a deck of protected objects and of tasks,
 /// by the rules for devices and packets, is a history of the model. So nodes by handle agree, and

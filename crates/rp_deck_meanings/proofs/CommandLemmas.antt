@@ -7,11 +7,11 @@ use Rattle.std.specs.List.{AllByRecursion}
 use Rattle.std.specs.Str.{bytes_eq}
 use Rattle.std.proofs.lemmas.Bool.{cases_Bool, cond-true, cond-false}
 use Rattle.std.proofs.lemmas.Option.{slice_get-map, get_or_from_slice_get}
-use Rattle.rp_base.specs.declared.action.Operation.{Operation}
-use Rattle.rp_object.specs.declared.program.Profile.{Profile}
-use Rattle.rp_deck_declarations.specs.ScriptNames.{DeclaredNames, declared_names}
-use Rattle.rp_deck_objects.specs.ObjectViews.{OperationsText, object_operations}
-use Rattle.rp_deck.specs.Script.{IsUpTo}
+use Rattle.rp_deck_readings.specs.rp_base.specs.declared.action.Operation.{Operation}
+use Rattle.rp_deck_readings.specs.rp_object.specs.declared.program.Profile.{Profile}
+use Rattle.rp_deck_readings.specs.rp_deck_declarations.specs.ScriptNames.{DeclaredNames, declared_names}
+use Rattle.rp_deck_text.specs.rp_deck_objects.specs.ObjectViews.{OperationsText, object_operations}
+use Rattle.rp_deck_text.specs.rp_deck.specs.Script.{IsUpTo}
 use Rattle.rp_deck_text.specs.ScriptText.{argument_words, name_numbered, operation_name_in, operations_numbered, operation_name, submit_words, AreOperations, AreDeclared, IsOneOf, HasOperation, IsTimerOf, IsSubmitOf, IsStepOf, IsCommandOf}
 use Rattle.rp_deck_text.specs.ScriptText as reader
 use Rattle.rp_deck_meanings.specs.Names.{IsAmong, place_in, number_in, is_among}

@@ -8,15 +8,15 @@ use Rattle.std.specs.Str.{bytes_eq}
 use Rattle.std.proofs.lemmas.Bool.{cases_Bool, cond-true, cond-false}
 use Rattle.std.proofs.lemmas.List.{append-nil}
 use Rattle.std.proofs.lemmas.Option.{slice_get-map}
-use Rattle.rp_object.specs.declared.program.Profile.{Profile}
-use Rattle.rp_object.specs.declared.program.Profile.TheVariants.{Ravenscar, Jorvik}
-use Rattle.rp_deck_declarations.specs.Drafts.{DraftText, profile_of, is_empty}
-use Rattle.rp_deck_declarations.specs.DeclaredTexts.{declared_of, Objects}
-use Rattle.rp_words.specs.Tables.{place_of}
-use Rattle.rp_base.specs.declared.action.Operation.TheVariants as operations
+use Rattle.rp_deck_readings.specs.rp_object.specs.declared.program.Profile.{Profile}
+use Rattle.rp_deck_readings.specs.rp_object.specs.declared.program.Profile.TheVariants.{Ravenscar, Jorvik}
+use Rattle.rp_deck_readings.specs.rp_deck_declarations.specs.Drafts.{DraftText, profile_of, is_empty}
+use Rattle.rp_deck_readings.specs.rp_deck_declarations.specs.DeclaredTexts.{declared_of, Objects}
+use Rattle.rp_deck_text.specs.rp_words.specs.Tables.{place_of}
+use Rattle.rp_deck_readings.specs.rp_base.specs.declared.action.Operation.TheVariants as operations
 use Rattle.std.proofs.lemmas.Bool.Decides.{nat_tests}
-use Rattle.rp_deck_objects.specs.Objects.{ObjectText, empty_object}
-use Rattle.rp_deck_objects.specs.ObjectViews.{ProtectedText, protected_of}
+use Rattle.rp_deck_text.specs.rp_deck_objects.specs.Objects.{ObjectText, empty_object}
+use Rattle.rp_deck_text.specs.rp_deck_objects.specs.ObjectViews.{ProtectedText, protected_of}
 use Rattle.rp_deck_text.specs.ScriptText.{are_names}
 use Rattle.rp_deck_text.specs.TallyTexts.{positions_words, task_words, AreTasks}
 use Rattle.rp_deck_text.specs.PartTexts.{ArePartsOf, IsNew}

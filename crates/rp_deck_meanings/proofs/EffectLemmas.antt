@@ -2,18 +2,18 @@
 use Rattle.std.proofs.Common.{◌≡◌, ℤ, pos, cond, List, refl, sym, ap, ◌∙◌}
 use Rattle.std.specs.Prelude.{◌+ℤ◌, ◌-ℤ◌, int_lt, int_le, ◌&&◌, ◌||◌, not, if◌then◌else◌, ℕ}
 use Rattle.std.specs.Ordering.{int_eq}
-use Rattle.rp_body.specs.declared.statement.Stmt.{Stmt}
-use Rattle.rp_body.specs.declared.statement.Outcome.TheVariants.{Out, Raised}
-use Rattle.rp_body.specs.Store.{Store, with_int, with_bool}
-use Rattle.rp_body.specs.Expressions.{fits_64}
-use Rattle.rp_body.specs.Meaning.{then_do, assigned}
-use Rattle.rp_entry.specs.declared.operations.Function.{Function}
-use Rattle.rp_entry.specs.declared.operations.Function.TheVariants as declared_functions
-use Rattle.rp_deck_bodies.specs.Bodies.{BodyText}
-use Rattle.rp_deck_bodies.specs.BodyViews.{body_text}
-use Rattle.rp_deck_bodies.specs.Expressions.{ExprText, CondText}
-use Rattle.rp_deck_bodies.specs.ExpressionViews.{expr_text, cond_text}
-use Rattle.rp_deck_objects.specs.ObjectViews.{function_text}
+use Rattle.rp_deck_text.specs.rp_body.specs.declared.statement.Stmt.{Stmt}
+use Rattle.rp_deck_text.specs.rp_body.specs.declared.statement.Outcome.TheVariants.{Out, Raised}
+use Rattle.rp_deck_text.specs.rp_body.specs.Store.{Store, with_int, with_bool}
+use Rattle.rp_deck_text.specs.rp_body.specs.Expressions.{fits_64}
+use Rattle.rp_deck_text.specs.rp_body.specs.Meaning.{then_do, assigned}
+use Rattle.rp_deck_readings.specs.rp_entry.specs.declared.operations.Function.{Function}
+use Rattle.rp_deck_readings.specs.rp_entry.specs.declared.operations.Function.TheVariants as declared_functions
+use Rattle.rp_deck_text.specs.rp_deck_bodies.specs.Bodies.{BodyText}
+use Rattle.rp_deck_text.specs.rp_deck_bodies.specs.BodyViews.{body_text}
+use Rattle.rp_deck_text.specs.rp_deck_bodies.specs.Expressions.{ExprText, CondText}
+use Rattle.rp_deck_text.specs.rp_deck_bodies.specs.ExpressionViews.{expr_text, cond_text}
+use Rattle.rp_deck_text.specs.rp_deck_objects.specs.ObjectViews.{function_text}
 use Rattle.rp_deck_readings.proofs.Bodies.{value_as, value_is, truth_as, truth_is, effect_as, body_is}
 use Rattle.rp_deck_meanings.specs.Names.{place_in}
 use Rattle.rp_deck_meanings.specs.Named.{NamedExpr, NamedCond, NamedBody, NamedResult, Value, Truth}

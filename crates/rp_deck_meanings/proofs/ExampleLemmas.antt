@@ -3,8 +3,8 @@ use Rattle.std.proofs.Common.{◌≡◌, ℕ, ◌≤◌, List, [], ◌∷◌, ar
 use Rattle.std.specs.Prelude.{pos, FitsSigned, codes}
 use Rattle.std.specs.Fmt.{digits}
 use Rattle.std.specs.Int.{w64}
-use Rattle.rp_object.specs.declared.program.Profile.TheVariants.{Jorvik}
-use Rattle.rp_deck.specs.Script.{IsUpTo}
+use Rattle.rp_deck_readings.specs.rp_object.specs.declared.program.Profile.TheVariants.{Jorvik}
+use Rattle.rp_deck_text.specs.rp_deck.specs.Script.{IsUpTo}
 use Rattle.rp_deck_meanings.specs.Named.{NamedExpr}
 use Rattle.rp_deck_meanings.specs.Named.{NamedExpr as exprs}
 use Rattle.rp_deck_meanings.specs.NamedTexts.{named_deck_text}

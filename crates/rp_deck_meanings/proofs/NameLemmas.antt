@@ -7,9 +7,9 @@ use Rattle.std.proofs.lemmas.Bool.{cases_Bool, cond-true, cond-false, lt-ltb}
 use Rattle.std.proofs.lemmas.List.Folds.{list_all-append, list_any-append}
 use Rattle.std.proofs.lemmas.Option.{get_or_from_slice_get}
 use Rattle.std.proofs.lemmas.Slice.Eq.{bytes_eq-Decides}
-use Rattle.rp_words.specs.Words.{is_name}
-use Rattle.rp_words.specs.Tables.{is_declared, place_of}
-use Rattle.rp_words.proofs.WordsLemmas.{both}
+use Rattle.rp_deck_text.specs.rp_words.specs.Words.{is_name}
+use Rattle.rp_deck_text.specs.rp_words.specs.Tables.{is_declared, place_of}
+use Rattle.rp_deck_text.specs.rp_words.proofs.WordsLemmas.{both}
 use Rattle.rp_deck_text.specs.ScriptText.{is_distinct, are_names, name_numbered}
 use Rattle.rp_deck_text.proofs.ScriptTextLemmas.{same_text, or_right, another}
 use Rattle.rp_deck_meanings.specs.Names.{is_among, IsAmong, place_in, number_in}

@@ -1,7 +1,7 @@
 -- Expressions, conditions and bodies that name components have the words of those that number them.
 use Rattle.std.proofs.Common.{◌≡◌, ℕ, ◌+◌, suc, List, [], ◌∷◌, ◌++◌, true, false, ap, refl}
 use Rattle.std.specs.Prelude.{codes}
-use Rattle.rp_deck_bodies.specs.declared.names.Component.{Component}
+use Rattle.rp_deck_text.specs.rp_deck_bodies.specs.declared.names.Component.{Component}
 use Rattle.rp_deck_text.specs.ExpressionTexts as texts
 use Rattle.rp_deck_text.specs.ExpressionTexts.{is_int, is_bool, component_name, HasOne, IsExprOf, IsCondOf}
 use Rattle.rp_deck_text.specs.BodyTexts as lines

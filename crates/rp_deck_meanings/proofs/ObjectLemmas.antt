@@ -4,14 +4,14 @@ use Rattle.std.specs.Prelude.{flat_map}
 use Rattle.std.specs.FinMap.{len, insert}
 use Rattle.std.proofs.lemmas.List.{append-nil}
 use Rattle.std.proofs.lemmas.Grind.{flat_map-append}
-use Rattle.rp_base.specs.declared.action.Operation.{Operation}
-use Rattle.rp_base.specs.declared.action.Operation.TheVariants as operations
-use Rattle.rp_body.specs.Store.{by_place}
-use Rattle.rp_body.proofs.Places.{by_place-push, len-by_place}
-use Rattle.rp_deck_bodies.specs.declared.names.Component.{Component}
-use Rattle.rp_deck_bodies.specs.declared.names.Component.TheVariants as components
-use Rattle.rp_deck_objects.specs.Objects.{ObjectText, empty_object, FunctionText, EntryText}
-use Rattle.rp_deck_bodies.specs.Bodies.{BodyText}
+use Rattle.rp_deck_readings.specs.rp_base.specs.declared.action.Operation.{Operation}
+use Rattle.rp_deck_readings.specs.rp_base.specs.declared.action.Operation.TheVariants as operations
+use Rattle.rp_deck_text.specs.rp_body.specs.Store.{by_place}
+use Rattle.rp_deck_text.specs.rp_body.proofs.Places.{by_place-push, len-by_place}
+use Rattle.rp_deck_text.specs.rp_deck_bodies.specs.declared.names.Component.{Component}
+use Rattle.rp_deck_text.specs.rp_deck_bodies.specs.declared.names.Component.TheVariants as components
+use Rattle.rp_deck_text.specs.rp_deck_objects.specs.Objects.{ObjectText, empty_object, FunctionText, EntryText}
+use Rattle.rp_deck_text.specs.rp_deck_bodies.specs.Bodies.{BodyText}
 use Rattle.rp_deck_text.specs.PartTexts.{PartText, IntPart, BoolPart, FunctionPart, ProcedurePart, EntryPart, with_part, with_parts, shut}
 use Rattle.rp_deck_meanings.specs.Names.{place_in}
 use Rattle.rp_deck_meanings.specs.Named.{NamedBool, NamedFunction, NamedProcedure, NamedEntry, NamedPart, AnInt, ABool, AFunction, AProcedure, AnEntry, NamedObject, int_of, bool_of, function_of, procedure_of, entry_of, component_of, operation_of, ints, bools, functions, procedures, entries, int_names, bool_names, entry_names, component_names, operation_names}

@@ -5,11 +5,11 @@ use Rattle.std.specs.List.{list_all}
 use Rattle.std.specs.Str.{bytes_eq}
 use Rattle.std.proofs.lemmas.Bool.{cases_Bool, cond-true, cond-false, eq-eqb}
 use Rattle.std.proofs.lemmas.Bool.Decides.{nat_tests}
-use Rattle.rp_base.specs.declared.action.Operation.{Operation}
-use Rattle.rp_base.specs.declared.action.Operation.TheVariants as operations
-use Rattle.rp_words.specs.Words.{is_name}
-use Rattle.rp_words.specs.Tables.{is_declared, find}
-use Rattle.rp_words.proofs.WordsLemmas.{both}
+use Rattle.rp_deck_readings.specs.rp_base.specs.declared.action.Operation.{Operation}
+use Rattle.rp_deck_readings.specs.rp_base.specs.declared.action.Operation.TheVariants as operations
+use Rattle.rp_deck_text.specs.rp_words.specs.Words.{is_name}
+use Rattle.rp_deck_text.specs.rp_words.specs.Tables.{is_declared, find}
+use Rattle.rp_deck_text.specs.rp_words.proofs.WordsLemmas.{both}
 use Rattle.rp_deck_text.specs.ScriptText.{is_distinct, are_names, same_operation, operation_name_in, IsOneOf}
 use Rattle.rp_deck_text.proofs.ScriptTextLemmas.{another, or_right, by_name}
 use Rattle.rp_deck_meanings.specs.Names.{is_among, IsAmong, place_in, number_in}

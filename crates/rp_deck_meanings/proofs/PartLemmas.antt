@@ -6,13 +6,13 @@ use Rattle.std.specs.Str.{bytes_eq}
 use Rattle.std.proofs.lemmas.Bool.{cases_Bool, cond-true, cond-false, eq-eqb}
 use Rattle.std.proofs.lemmas.Bool.Decides.{nat_tests}
 use Rattle.std.proofs.lemmas.Grind.{flat_map-append}
-use Rattle.rp_body.proofs.Places.{len-by_place}
-use Rattle.rp_object.specs.declared.program.Profile.{Profile}
-use Rattle.rp_object.specs.declared.program.Profile.TheVariants.{Ravenscar, Jorvik}
-use Rattle.rp_deck_bodies.specs.declared.names.Component.{Component}
-use Rattle.rp_deck_objects.specs.Objects.{ObjectText, most_entries}
-use Rattle.rp_deck_bodies.specs.Expressions.{expression_words}
-use Rattle.rp_words.specs.Tables.{is_declared}
+use Rattle.rp_deck_text.specs.rp_body.proofs.Places.{len-by_place}
+use Rattle.rp_deck_readings.specs.rp_object.specs.declared.program.Profile.{Profile}
+use Rattle.rp_deck_readings.specs.rp_object.specs.declared.program.Profile.TheVariants.{Ravenscar, Jorvik}
+use Rattle.rp_deck_text.specs.rp_deck_bodies.specs.declared.names.Component.{Component}
+use Rattle.rp_deck_text.specs.rp_deck_objects.specs.Objects.{ObjectText, most_entries}
+use Rattle.rp_deck_text.specs.rp_deck_bodies.specs.Expressions.{expression_words}
+use Rattle.rp_deck_text.specs.rp_words.specs.Tables.{is_declared}
 use Rattle.rp_deck_text.specs.ScriptText.{are_names}
 use Rattle.rp_deck_text.specs.ExpressionTexts.{is_int, is_bool, component_name, HasOne, AreComponents}
 use Rattle.rp_deck_text.specs.ExpressionTexts as texts

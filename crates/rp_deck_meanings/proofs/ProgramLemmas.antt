@@ -4,30 +4,30 @@ use Rattle.std.specs.Prelude.{slice_get, option_map, nat_le}
 use Rattle.std.specs.Arc.{arc_value}
 use Rattle.std.specs.List.{AllZip}
 use Rattle.std.proofs.lemmas.Option.{slice_get-map}
-use Rattle.indexmap.specs.IndexMap.{values}
-use Rattle.rp_body.specs.Store.{Store}
-use Rattle.rp_entry.specs.Operations.{of_index}
-use Rattle.rp_entry.specs.Protected.{Protected}
-use Rattle.rp_entry.specs.declared.operations.Entry.{Entry}
-use Rattle.rp_object.specs.Program.{operations_of, is_some_and, is_within_ceiling}
-use Rattle.rp_object.specs.State.{first_object}
-use Rattle.rp_object.specs.declared.program.Declarations.{Declarations}
-use Rattle.rp_object.specs.declared.program.Handler.{Handler}
-use Rattle.rp_object.specs.declared.program.ObjectDeclaration.{ObjectDeclaration}
-use Rattle.rp_object.specs.declared.program.Program.{Program}
-use Rattle.rp_object.specs.declared.program.TimingEvent.{TimingEvent}
-use Rattle.rp_deck.specs.DeckViews.{deck_text}
-use Rattle.rp_deck.specs.Meaning.{DeckText}
-use Rattle.rp_deck.specs.declared.deck.Deck.{Deck}
-use Rattle.rp_deck_bodies.specs.BodyViews.{body_text}
-use Rattle.rp_deck_objects.specs.ObjectViews.{ProtectedText, protected_text, function_text, entry_text}
-use Rattle.rp_deck_objects.specs.Objects.{EntryText}
-use Rattle.rp_deck_declarations.specs.DeclaredTexts.{ProgramText}
-use Rattle.rp_deck_declarations.specs.DeclaredTexts as texts
-use Rattle.rp_deck_declarations.specs.DeclaredViews.{program_text}
-use Rattle.rp_deck_declarations.specs.Programs.{Declares, DeclaresAll}
-use Rattle.rp_deck_declarations.specs.declared.deck_program.DeckProgram.{DeckProgram}
-use Rattle.rp_words.specs.Tables.{key_names}
+use Rattle.rp_deck_readings.specs.indexmap.specs.IndexMap.{values}
+use Rattle.rp_deck_text.specs.rp_body.specs.Store.{Store}
+use Rattle.rp_deck_readings.specs.rp_entry.specs.Operations.{of_index}
+use Rattle.rp_deck_readings.specs.rp_entry.specs.Protected.{Protected}
+use Rattle.rp_deck_readings.specs.rp_entry.specs.declared.operations.Entry.{Entry}
+use Rattle.rp_deck_readings.specs.rp_object.specs.Program.{operations_of, is_some_and, is_within_ceiling}
+use Rattle.rp_deck_readings.specs.rp_object.specs.State.{first_object}
+use Rattle.rp_deck_readings.specs.rp_object.specs.declared.program.Declarations.{Declarations}
+use Rattle.rp_deck_readings.specs.rp_object.specs.declared.program.Handler.{Handler}
+use Rattle.rp_deck_readings.specs.rp_object.specs.declared.program.ObjectDeclaration.{ObjectDeclaration}
+use Rattle.rp_deck_readings.specs.rp_object.specs.declared.program.Program.{Program}
+use Rattle.rp_deck_readings.specs.rp_object.specs.declared.program.TimingEvent.{TimingEvent}
+use Rattle.rp_deck_text.specs.rp_deck.specs.DeckViews.{deck_text}
+use Rattle.rp_deck_text.specs.rp_deck.specs.Meaning.{DeckText}
+use Rattle.rp_deck_text.specs.rp_deck.specs.declared.deck.Deck.{Deck}
+use Rattle.rp_deck_text.specs.rp_deck_bodies.specs.BodyViews.{body_text}
+use Rattle.rp_deck_text.specs.rp_deck_objects.specs.ObjectViews.{ProtectedText, protected_text, function_text, entry_text}
+use Rattle.rp_deck_text.specs.rp_deck_objects.specs.Objects.{EntryText}
+use Rattle.rp_deck_readings.specs.rp_deck_declarations.specs.DeclaredTexts.{ProgramText}
+use Rattle.rp_deck_readings.specs.rp_deck_declarations.specs.DeclaredTexts as texts
+use Rattle.rp_deck_readings.specs.rp_deck_declarations.specs.DeclaredViews.{program_text}
+use Rattle.rp_deck_readings.specs.rp_deck_declarations.specs.Programs.{Declares, DeclaresAll}
+use Rattle.rp_deck_readings.specs.rp_deck_declarations.specs.declared.deck_program.DeckProgram.{DeckProgram}
+use Rattle.rp_deck_text.specs.rp_words.specs.Tables.{key_names}
 use Rattle.rp_deck_readings.specs.Readings.{IsDeckOfObjects}
 use Rattle.rp_deck_meanings.specs.Named.{NamedEntry, NamedObject, NamedTask, NamedDeck, functions, procedures, entries, int_names, bool_names}
 use Rattle.rp_deck_meanings.specs.NamedTexts.{profile_of}

@@ -3,14 +3,14 @@ use Rattle.std.proofs.Common.{◌≡◌, ℕ, zero, suc, ◌+◌, List, [], ◌�
 use Rattle.std.specs.Prelude.{codes}
 use Rattle.std.specs.Fmt.{decimal}
 use Rattle.std.specs.List.{AllByRecursion}
-use Rattle.rp_object.specs.declared.program.Profile.TheVariants.{Ravenscar}
-use Rattle.rp_deck.specs.declared.deck.Mode.TheVariants.{Script}
-use Rattle.rp_deck.specs.Meaning.{meaning_of}
-use Rattle.rp_deck.specs.Script.{IsUpTo}
-use Rattle.rp_deck.specs.ScriptLines.{CommandText}
-use Rattle.rp_deck_declarations.specs.Drafts.{tally_names}
-use Rattle.rp_deck_declarations.specs.DeclaredTexts.{declared_of}
-use Rattle.rp_deck_declarations.specs.ScriptNames.{DeclaredNames, declared_names}
+use Rattle.rp_deck_readings.specs.rp_object.specs.declared.program.Profile.TheVariants.{Ravenscar}
+use Rattle.rp_deck_text.specs.rp_deck.specs.declared.deck.Mode.TheVariants.{Script}
+use Rattle.rp_deck_text.specs.rp_deck.specs.Meaning.{meaning_of}
+use Rattle.rp_deck_text.specs.rp_deck.specs.Script.{IsUpTo}
+use Rattle.rp_deck_text.specs.rp_deck.specs.ScriptLines.{CommandText}
+use Rattle.rp_deck_readings.specs.rp_deck_declarations.specs.Drafts.{tally_names}
+use Rattle.rp_deck_readings.specs.rp_deck_declarations.specs.DeclaredTexts.{declared_of}
+use Rattle.rp_deck_readings.specs.rp_deck_declarations.specs.ScriptNames.{DeclaredNames, declared_names}
 use Rattle.rp_deck_text.specs.TallyTexts.{TallyText, IsTallyText, tally_draft, tally_deck}
 use Rattle.rp_deck_text.specs.TallyTexts as texts
 use Rattle.rp_deck_text.specs.ScriptText.{AreDeclared, IsCommandOf, are_names, text_of_lines, numbered_commands}

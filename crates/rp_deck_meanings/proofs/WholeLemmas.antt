@@ -1,12 +1,12 @@
 -- The text of a right deck means what is said of it.
 use Rattle.std.proofs.Common.{◌≡◌, ◌+◌, List, ◌++◌, length, map, Ok, ap, sym, subst, ◌∙◌}
 use Rattle.std.specs.List.{AllByRecursion}
-use Rattle.rp_deck.specs.declared.deck.Mode.TheVariants.{Script}
-use Rattle.rp_deck.specs.Meaning.{meaning_of, deck_of}
-use Rattle.rp_deck.specs.ScriptLines.{CommandText}
-use Rattle.rp_deck_declarations.specs.Drafts.{DraftText}
-use Rattle.rp_deck_declarations.specs.DeclaredTexts.{DeclaredText}
-use Rattle.rp_deck_declarations.specs.ScriptNames.{declared_names}
+use Rattle.rp_deck_text.specs.rp_deck.specs.declared.deck.Mode.TheVariants.{Script}
+use Rattle.rp_deck_text.specs.rp_deck.specs.Meaning.{meaning_of, deck_of}
+use Rattle.rp_deck_text.specs.rp_deck.specs.ScriptLines.{CommandText}
+use Rattle.rp_deck_readings.specs.rp_deck_declarations.specs.Drafts.{DraftText}
+use Rattle.rp_deck_readings.specs.rp_deck_declarations.specs.DeclaredTexts.{DeclaredText}
+use Rattle.rp_deck_readings.specs.rp_deck_declarations.specs.ScriptNames.{declared_names}
 use Rattle.rp_deck_text.specs.ObjectTexts.{ObjectsText, IsObjectsText, objects_draft, declared_lines, objects_text, objects_deck}
 use Rattle.rp_deck_text.specs.ScriptText.{AreDeclared, IsCommandOf, command_words, text_of_lines, numbered_commands}
 use Rattle.rp_deck_meanings.specs.Named.{NamedDeck}

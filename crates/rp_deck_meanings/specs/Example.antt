@@ -1,7 +1,8 @@
 -- A deck with most kinds of lines, as an example.
 use Rattle.std.specs.Prelude.{ℕ, pos, false, List, [], ◌∷◌, ◌++◌, codes, Some, None}
-use Rattle.rp_object.specs.declared.program.Profile.TheVariants.{Jorvik}
-use Rattle.rp_deck_meanings.specs.Named.{NamedExpr, NamedBody, Value, Truth, NamedPart, AnInt, ABool}
+use Rattle.rp_deck_readings.specs.rp_object.specs.declared.program.Profile.TheVariants.{Jorvik}
+use Rattle.rp_deck_meanings.specs.Named.{NamedExpr, NamedBody, Value, Truth, NamedPart, AnInt}
+use Rattle.rp_deck_meanings.specs.Named.{ABool}
 use Rattle.rp_deck_meanings.specs.Named.{AFunction, AProcedure, AnEntry, NamedDeck}
 use Rattle.rp_deck_meanings.specs.Named.{NamedExpr as exprs}
 use Rattle.rp_deck_meanings.specs.Named.{NamedCond as conds}

@@ -2,7 +2,7 @@
 -- name, never a number.
 use Rattle.std.specs.Prelude.{ℕ, ℤ, Bool, List, Option, flat_map, map, []}
 use Rattle.std.specs.Prelude.{◌∷◌}
-use Rattle.rp_object.specs.declared.program.Profile.{Profile}
+use Rattle.rp_deck_readings.specs.rp_object.specs.declared.program.Profile.{Profile}
 
 -- ---- expressions, conditions and bodies
 

@@ -3,10 +3,11 @@
 use Rattle.std.specs.Prelude.{ℕ, ℤ, ◌+ℤ◌, ◌-ℤ◌, int_lt, int_le, Bool, ◌&&◌, ◌||◌, not, List}
 use Rattle.std.specs.Prelude.{if◌then◌else◌}
 use Rattle.std.specs.Ordering.{int_eq}
-use Rattle.rp_body.specs.declared.statement.Outcome.TheVariants.{Out, Raised}
-use Rattle.rp_body.specs.Store.{Store, int_value, bool_value, with_int, with_bool}
-use Rattle.rp_body.specs.Expressions.{fits_64}
-use Rattle.rp_body.specs.Meaning.{Effect, then_do, assigned}
+use Rattle.rp_deck_text.specs.rp_body.specs.declared.statement.Outcome.TheVariants.{Out, Raised}
+use Rattle.rp_deck_text.specs.rp_body.specs.Store.{Store, int_value, bool_value, with_int}
+use Rattle.rp_deck_text.specs.rp_body.specs.Store.{with_bool}
+use Rattle.rp_deck_text.specs.rp_body.specs.Expressions.{fits_64}
+use Rattle.rp_deck_text.specs.rp_body.specs.Meaning.{Effect, then_do, assigned}
 use Rattle.rp_deck_meanings.specs.Names.{place_in}
 use Rattle.rp_deck_meanings.specs.Named.{NamedExpr, NamedCond, NamedBody}
 use Rattle.rp_deck_meanings.specs.Named.{NamedExpr as exprs}

@@ -1,25 +1,25 @@
 -- What a deck means: each name is replaced by its place among the names of its kind.
 use Rattle.std.specs.Prelude.{ℕ, ◌+◌, ℤ, pos, List, [], ◌∷◌, map, length, unwrap_or, if◌then◌else◌}
 use Rattle.std.specs.Str.{bytes_eq}
-use Rattle.rp_base.specs.declared.action.Operation.{Operation}
-use Rattle.rp_base.specs.declared.action.Operation.TheVariants as operations
-use Rattle.rp_body.specs.Store.{Store, by_place}
-use Rattle.rp_body.specs.declared.components.Ranged.{Ranged}
-use Rattle.rp_object.specs.declared.program.Handler.{Handler}
-use Rattle.rp_model.specs.Events.{Event, Step}
-use Rattle.rp_model.specs.Events as events
-use Rattle.rp_deck_bodies.specs.Expressions.{ExprText, CondText}
-use Rattle.rp_deck_bodies.specs.Expressions.{ExprText as expr_texts}
-use Rattle.rp_deck_bodies.specs.Expressions.{CondText as cond_texts}
-use Rattle.rp_deck_bodies.specs.Bodies.{BodyText}
-use Rattle.rp_deck_bodies.specs.Bodies.{BodyText as body_texts}
-use Rattle.rp_deck_objects.specs.Objects.{FunctionText, EntryText}
-use Rattle.rp_deck_objects.specs.Objects.{FunctionText as function_texts}
-use Rattle.rp_deck_objects.specs.ObjectViews.{ProtectedText}
-use Rattle.rp_deck_declarations.specs.DeclaredTexts.{DeclaredText, Objects}
-use Rattle.rp_deck.specs.Meaning.{DeckText}
-use Rattle.rp_deck.specs.ScriptLines.{CommandText}
-use Rattle.rp_deck.specs.ScriptLines.{CommandText as command_texts}
+use Rattle.rp_deck_readings.specs.rp_base.specs.declared.action.Operation.{Operation}
+use Rattle.rp_deck_readings.specs.rp_base.specs.declared.action.Operation.TheVariants as operations
+use Rattle.rp_deck_text.specs.rp_body.specs.Store.{Store, by_place}
+use Rattle.rp_deck_text.specs.rp_body.specs.declared.components.Ranged.{Ranged}
+use Rattle.rp_deck_readings.specs.rp_object.specs.declared.program.Handler.{Handler}
+use Rattle.rp_deck_text.specs.rp_model.specs.Events.{Event, Step}
+use Rattle.rp_deck_text.specs.rp_model.specs.Events as events
+use Rattle.rp_deck_text.specs.rp_deck_bodies.specs.Expressions.{ExprText, CondText}
+use Rattle.rp_deck_text.specs.rp_deck_bodies.specs.Expressions.{ExprText as expr_texts}
+use Rattle.rp_deck_text.specs.rp_deck_bodies.specs.Expressions.{CondText as cond_texts}
+use Rattle.rp_deck_text.specs.rp_deck_bodies.specs.Bodies.{BodyText}
+use Rattle.rp_deck_text.specs.rp_deck_bodies.specs.Bodies.{BodyText as body_texts}
+use Rattle.rp_deck_text.specs.rp_deck_objects.specs.Objects.{FunctionText, EntryText}
+use Rattle.rp_deck_text.specs.rp_deck_objects.specs.Objects.{FunctionText as function_texts}
+use Rattle.rp_deck_text.specs.rp_deck_objects.specs.ObjectViews.{ProtectedText}
+use Rattle.rp_deck_readings.specs.rp_deck_declarations.specs.DeclaredTexts.{DeclaredText, Objects}
+use Rattle.rp_deck_text.specs.rp_deck.specs.Meaning.{DeckText}
+use Rattle.rp_deck_text.specs.rp_deck.specs.ScriptLines.{CommandText}
+use Rattle.rp_deck_text.specs.rp_deck.specs.ScriptLines.{CommandText as command_texts}
 use Rattle.rp_deck_text.specs.ScriptText.{numbered_commands}
 use Rattle.rp_deck_meanings.specs.Names.{is_among, place_in, number_in}
 use Rattle.rp_deck_meanings.specs.Named.{NamedExpr, NamedCond, NamedBody, NamedInt, NamedResult}

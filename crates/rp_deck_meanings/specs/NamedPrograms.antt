@@ -1,18 +1,19 @@
 -- The program that a deck declares, in what the rules of protected objects read of it.
 use Rattle.std.specs.Prelude.{ℕ, ◌≡◌, ◌+◌, ℤ, pos, nat_le, List, map, Some, slice_get}
 use Rattle.std.specs.List.{AllZip}
-use Rattle.rp_body.specs.Store.{Store}
-use Rattle.rp_body.specs.Expressions.{value_of, truth_of}
-use Rattle.rp_body.specs.Meaning.{body_effect}
-use Rattle.rp_body.specs.declared.statement.Stmt.{Stmt}
-use Rattle.rp_entry.specs.declared.operations.Entry.{Entry}
-use Rattle.rp_entry.specs.declared.operations.Function.{Function}
-use Rattle.rp_entry.specs.declared.operations.Function.TheVariants as declared_functions
-use Rattle.rp_object.specs.Program.{operations_of, is_within_ceiling, interrupt_handler}
-use Rattle.rp_object.specs.Program.{timer_handler}
-use Rattle.rp_object.specs.State.{first_state}
-use Rattle.rp_object.specs.declared.program.Declarations.{Declarations}
-use Rattle.rp_object.specs.declared.program.ObjectDeclaration.{ObjectDeclaration}
+use Rattle.rp_deck_text.specs.rp_body.specs.Store.{Store}
+use Rattle.rp_deck_text.specs.rp_body.specs.Expressions.{value_of, truth_of}
+use Rattle.rp_deck_text.specs.rp_body.specs.Meaning.{body_effect}
+use Rattle.rp_deck_text.specs.rp_body.specs.declared.statement.Stmt.{Stmt}
+use Rattle.rp_deck_readings.specs.rp_entry.specs.declared.operations.Entry.{Entry}
+use Rattle.rp_deck_readings.specs.rp_entry.specs.declared.operations.Function.{Function}
+use Rattle.rp_deck_readings.specs.rp_entry.specs.declared.operations.Function.TheVariants as declared_functions
+use Rattle.rp_deck_readings.specs.rp_object.specs.Program.{operations_of, is_within_ceiling}
+use Rattle.rp_deck_readings.specs.rp_object.specs.Program.{interrupt_handler}
+use Rattle.rp_deck_readings.specs.rp_object.specs.Program.{timer_handler}
+use Rattle.rp_deck_readings.specs.rp_object.specs.State.{first_state}
+use Rattle.rp_deck_readings.specs.rp_object.specs.declared.program.Declarations.{Declarations}
+use Rattle.rp_deck_readings.specs.rp_object.specs.declared.program.ObjectDeclaration.{ObjectDeclaration}
 use Rattle.rp_deck_meanings.specs.Names.{place_in}
 use Rattle.rp_deck_meanings.specs.Named.{NamedBody, NamedResult, Value, Truth, NamedFunction}
 use Rattle.rp_deck_meanings.specs.Named.{NamedEntry, NamedObject, NamedTask}

@@ -2,8 +2,9 @@
 use Rattle.std.specs.Prelude.{ℕ, true, false, Bool, List, [], ◌∷◌, ◌++◌, codes, map, flat_map}
 use Rattle.std.specs.Prelude.{unwrap_or, Option, Some, None}
 use Rattle.std.specs.Fmt.{decimal, signed_decimal}
-use Rattle.rp_object.specs.declared.program.Profile.{Profile}
-use Rattle.rp_object.specs.declared.program.Profile.TheVariants.{Ravenscar, Jorvik}
+use Rattle.rp_deck_readings.specs.rp_object.specs.declared.program.Profile.{Profile}
+use Rattle.rp_deck_readings.specs.rp_object.specs.declared.program.Profile.TheVariants.{Ravenscar}
+use Rattle.rp_deck_readings.specs.rp_object.specs.declared.program.Profile.TheVariants.{Jorvik}
 use Rattle.rp_deck_text.specs.PartTexts.{queue_words}
 use Rattle.rp_deck_text.specs.ScriptText.{argument_words, text_of_lines}
 use Rattle.rp_deck_meanings.specs.Named.{NamedExpr, NamedCond, NamedBody, NamedResult, Value, Truth}

@@ -4,17 +4,19 @@ use Rattle.std.specs.Prelude.{ℕ, ◌≡◌, ◌≤◌, ◌<◌, ◌+◌, ◌-�
 use Rattle.std.specs.Prelude.{List, [], ◌∷◌, ◌++◌, length, IfSome, not}
 use Rattle.std.specs.Int.{w64}
 use Rattle.std.specs.List.{AllByRecursion, list_all}
-use Rattle.rp_body.specs.Store.{is_within}
-use Rattle.rp_object.specs.declared.program.Profile.{Profile}
-use Rattle.rp_object.specs.declared.program.Profile.TheVariants.{Ravenscar, Jorvik}
-use Rattle.rp_deck_bodies.specs.Expressions.{expression_words}
-use Rattle.rp_deck.specs.Script.{IsUpTo, IsMessage}
+use Rattle.rp_deck_text.specs.rp_body.specs.Store.{is_within}
+use Rattle.rp_deck_readings.specs.rp_object.specs.declared.program.Profile.{Profile}
+use Rattle.rp_deck_readings.specs.rp_object.specs.declared.program.Profile.TheVariants.{Ravenscar}
+use Rattle.rp_deck_readings.specs.rp_object.specs.declared.program.Profile.TheVariants.{Jorvik}
+use Rattle.rp_deck_text.specs.rp_deck_bodies.specs.Expressions.{expression_words}
+use Rattle.rp_deck_text.specs.rp_deck.specs.Script.{IsUpTo, IsMessage}
 use Rattle.rp_deck_text.specs.ScriptText.{are_names}
 use Rattle.rp_deck_meanings.specs.Names.{is_among, IsAmong}
 use Rattle.rp_deck_meanings.specs.Named.{NamedExpr, NamedCond, NamedBody, NamedResult, Value, Truth}
 use Rattle.rp_deck_meanings.specs.Named.{NamedPart, AnInt, ABool, AFunction, AProcedure, AnEntry}
 use Rattle.rp_deck_meanings.specs.Named.{NamedObject, NamedTask, NamedHandler, NamedStep}
-use Rattle.rp_deck_meanings.specs.Named.{NamedCommand, NamedDeck, ints, bools, functions, procedures}
+use Rattle.rp_deck_meanings.specs.Named.{NamedCommand, NamedDeck, ints, bools, functions}
+use Rattle.rp_deck_meanings.specs.Named.{procedures}
 use Rattle.rp_deck_meanings.specs.Named.{entries, int_names, bool_names, procedure_names}
 use Rattle.rp_deck_meanings.specs.Named.{component_names, operation_names, task_names, object_names}
 use Rattle.rp_deck_meanings.specs.Named.{handler_names}

@@ -3,9 +3,9 @@ use Rattle.std.specs.Prelude.{ℕ, ◌≤◌, ◌+◌, List, [], ◌∷◌, ◌+
 use Rattle.std.specs.Prelude.{None, IfSome, unwrap_or}
 use Rattle.std.specs.Fmt.{decimal}
 use Rattle.std.specs.List.{AllByRecursion}
-use Rattle.rp_deck_declarations.specs.DeclaredTexts.{DeclaredText, Tally}
-use Rattle.rp_deck.specs.Meaning.{DeckText}
-use Rattle.rp_deck.specs.Script.{IsUpTo}
+use Rattle.rp_deck_readings.specs.rp_deck_declarations.specs.DeclaredTexts.{DeclaredText, Tally}
+use Rattle.rp_deck_text.specs.rp_deck.specs.Meaning.{DeckText}
+use Rattle.rp_deck_text.specs.rp_deck.specs.Script.{IsUpTo}
 use Rattle.rp_deck_text.specs.ScriptText.{text_of_lines, numbered_commands}
 use Rattle.rp_deck_meanings.specs.Named.{NamedTask, NamedObject, AProcedure, Empty, NamedDeck}
 use Rattle.rp_deck_meanings.specs.Named.{NamedCommand, task_names}

@@ -2,10 +2,10 @@
 
 ghost use Rattle.std.specs.Prelude.{◌≡◌, Ok};
 ghost use Rattle.std.specs.Arc.{arc_value};
-ghost use Rattle.rp_deck.specs.DeckViews.{deck_text};
-ghost use Rattle.rp_deck.specs.Meaning.{meaning_of};
-ghost use Rattle.rp_deck.specs.declared.deck.Deck.{Deck};
-ghost use Rattle.rp_deck.specs.declared.deck.Mode.TheVariants.{Script};
+ghost use Rattle.rp_deck_text.specs.rp_deck.specs.DeckViews.{deck_text};
+ghost use Rattle.rp_deck_text.specs.rp_deck.specs.Meaning.{meaning_of};
+ghost use Rattle.rp_deck_text.specs.rp_deck.specs.declared.deck.Deck.{Deck};
+ghost use Rattle.rp_deck_text.specs.rp_deck.specs.declared.deck.Mode.TheVariants.{Script};
 ghost use Rattle.rp_deck_meanings.specs.Example.{example, example_text};
 ghost use Rattle.rp_deck_meanings.specs.Named.{NamedDeck};
 ghost use Rattle.rp_deck_meanings.specs.NamedMeanings.{deck_meant};
@@ -14,7 +14,7 @@ ghost use Rattle.rp_deck_meanings.specs.NamedTexts.{named_deck_text};
 ghost use Rattle.rp_deck_meanings.specs.RightDecks.{IsRight};
 ghost use Rattle.rp_deck_meanings.specs.Tallies.{IsRightTally, NamedTally, tally_meant, tally_text};
 ghost use Rattle.rp_deck_readings.specs.Readings.{IsDeckOfObjects};
-ghost use Rattle.rp_object.specs.declared.program.Program.{Program};
+ghost use Rattle.rp_deck_readings.specs.rp_object.specs.declared.program.Program.{Program};
 
 use rp_deck_text::{object_decks_are_read_back, tally_decks_are_read_back};
 

@@ -2,12 +2,12 @@
 use Rattle.std.proofs.Common.{◌≡◌, ℕ, zero, suc, ◌+◌, true, List, [], ◌∷◌, ◌++◌, length, arith, refl, sym, ap, subst, ◌∙◌}
 use Rattle.std.specs.Prelude.{All, String, Vec, is_some}
 use Rattle.std.specs.declared.alloc.Global.{Global}
-use Rattle.indexmap.specs.IndexMap.{IndexMap, values}
-use Rattle.rp_body.specs.declared.statement.Stmt.{Stmt}
-use Rattle.rp_entry.specs.Operations.{of_index}
-use Rattle.rp_entry.specs.declared.operations.Entry.{Entry as DeclaredEntry}
-use Rattle.rp_entry.specs.declared.operations.Function.{Function as DeclaredFunction}
-use Rattle.rp_entry.specs.declared.operations.Operations.{Operations}
+use Rattle.rp_deck_bodies.specs.indexmap.specs.IndexMap.{IndexMap, values}
+use Rattle.rp_object.specs.rp_body.specs.declared.statement.Stmt.{Stmt}
+use Rattle.rp_object.specs.rp_entry.specs.Operations.{of_index}
+use Rattle.rp_object.specs.rp_entry.specs.declared.operations.Entry.{Entry as DeclaredEntry}
+use Rattle.rp_object.specs.rp_entry.specs.declared.operations.Function.{Function as DeclaredFunction}
+use Rattle.rp_object.specs.rp_entry.specs.declared.operations.Operations.{Operations}
 use Rattle.rp_object.specs.Program.{has_operation}
 use Rattle.rp_deck_bodies.proofs.ListLemmas.{all_weaker, all_last}
 use Rattle.rp_deck_objects.specs.declared.names.OperationName.{OperationName}

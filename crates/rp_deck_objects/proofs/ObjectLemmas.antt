@@ -6,15 +6,15 @@ use Rattle.std.specs.Int.{w64}
 use Rattle.std.specs.FinMap.{get, insert, empty, len, get-empty, len-empty}
 use Rattle.std.specs.Ordering.{nat_cmp}
 use Rattle.std.specs.declared.alloc.Global.{Global}
-use Rattle.rp_body.specs.Check.{KeepsLimits}
-use Rattle.rp_body.specs.Store.{Store, limits_of, is_within}
-use Rattle.rp_body.specs.declared.components.Limits.{Limits}
-use Rattle.rp_body.specs.declared.components.Ranged.{Ranged}
-use Rattle.rp_body.specs.declared.statement.Stmt.{Stmt}
-use Rattle.rp_entry.specs.Operations.{FunctionFits, EntryFits, OperationsFit}
-use Rattle.rp_entry.specs.declared.operations.Entry.{Entry as DeclaredEntry}
-use Rattle.rp_entry.specs.declared.operations.Function.{Function as DeclaredFunction}
-use Rattle.rp_entry.specs.declared.operations.Operations.{Operations}
+use Rattle.rp_object.specs.rp_body.specs.Check.{KeepsLimits}
+use Rattle.rp_object.specs.rp_body.specs.Store.{Store, limits_of, is_within}
+use Rattle.rp_object.specs.rp_body.specs.declared.components.Limits.{Limits}
+use Rattle.rp_object.specs.rp_body.specs.declared.components.Ranged.{Ranged}
+use Rattle.rp_object.specs.rp_body.specs.declared.statement.Stmt.{Stmt}
+use Rattle.rp_object.specs.rp_entry.specs.Operations.{FunctionFits, EntryFits, OperationsFit}
+use Rattle.rp_object.specs.rp_entry.specs.declared.operations.Entry.{Entry as DeclaredEntry}
+use Rattle.rp_object.specs.rp_entry.specs.declared.operations.Function.{Function as DeclaredFunction}
+use Rattle.rp_object.specs.rp_entry.specs.declared.operations.Operations.{Operations}
 use Rattle.rp_object.specs.Program.{KeepsProfile}
 use Rattle.rp_object.specs.declared.program.Profile.{Profile}
 use Rattle.rp_object.specs.declared.program.Profile.TheVariants.{Ravenscar, Jorvik}

@@ -2,17 +2,17 @@
 use Rattle.std.specs.Prelude.{ℕ, ◌≡◌, ◌<◌, ◌≤◌, All, true, false, List, Option, Some, None, String}
 use Rattle.std.specs.Prelude.{string_bytes, length, Result, OnOk}
 use Rattle.std.specs.FinMap.{len}
-use Rattle.indexmap.specs.IndexMap.{IndexMap, values}
-use Rattle.rp_body.specs.Ranges.{IsInRange, IsNumbered}
-use Rattle.rp_body.specs.Store.{Store, limits_of}
-use Rattle.rp_body.specs.declared.components.Limits.{Limits}
-use Rattle.rp_entry.specs.Operations.{OperationsFit}
-use Rattle.rp_entry.specs.declared.operations.Operations.{Operations}
+use Rattle.rp_deck_bodies.specs.indexmap.specs.IndexMap.{IndexMap, values}
+use Rattle.rp_object.specs.rp_body.specs.Ranges.{IsInRange, IsNumbered}
+use Rattle.rp_object.specs.rp_body.specs.Store.{Store, limits_of}
+use Rattle.rp_object.specs.rp_body.specs.declared.components.Limits.{Limits}
+use Rattle.rp_object.specs.rp_entry.specs.Operations.{OperationsFit}
+use Rattle.rp_object.specs.rp_entry.specs.declared.operations.Operations.{Operations}
 use Rattle.rp_object.specs.Program.{has_operation, IsPriority, EndsFit, KeepsProfile}
 use Rattle.rp_object.specs.declared.program.Profile.{Profile}
 use Rattle.rp_object.specs.declared.program.Profile.TheVariants.{Ravenscar, Jorvik}
-use Rattle.rp_words.specs.declared.line_error.LineError.{LineError}
-use Rattle.rp_words.specs.Tables.{is_declared, key_names}
+use Rattle.rp_deck_bodies.specs.rp_words.specs.declared.line_error.LineError.{LineError}
+use Rattle.rp_deck_bodies.specs.rp_words.specs.Tables.{is_declared, key_names}
 use Rattle.rp_deck_bodies.specs.BodyLimits.{IsBody}
 use Rattle.rp_deck_bodies.specs.Counted.{AreCounted, WhereCounted}
 use Rattle.rp_deck_bodies.specs.declared.names.Component.{Component}

@@ -1,15 +1,15 @@
 -- What an object has, as its lines say it.
 use Rattle.std.specs.Prelude.{ℕ, List, map, option_map, String, string_bytes}
-use Rattle.indexmap.specs.IndexMap.{IndexMap, values}
-use Rattle.rp_base.specs.declared.action.Operation.{Operation}
-use Rattle.rp_base.specs.declared.action.Operation.TheVariants as operations
-use Rattle.rp_body.specs.Store.{Store}
-use Rattle.rp_entry.specs.declared.operations.Entry.{Entry as DeclaredEntry}
-use Rattle.rp_entry.specs.declared.operations.Function.{Function as DeclaredFunction}
-use Rattle.rp_entry.specs.declared.operations.Function.TheVariants as functions
+use Rattle.rp_deck_bodies.specs.indexmap.specs.IndexMap.{IndexMap, values}
+use Rattle.rp_object.specs.rp_base.specs.declared.action.Operation.{Operation}
+use Rattle.rp_object.specs.rp_base.specs.declared.action.Operation.TheVariants as operations
+use Rattle.rp_object.specs.rp_body.specs.Store.{Store}
+use Rattle.rp_object.specs.rp_entry.specs.declared.operations.Entry.{Entry as DeclaredEntry}
+use Rattle.rp_object.specs.rp_entry.specs.declared.operations.Function.{Function as DeclaredFunction}
+use Rattle.rp_object.specs.rp_entry.specs.declared.operations.Function.TheVariants as functions
 use Rattle.rp_object.specs.Program.{operations_of}
 use Rattle.rp_object.specs.declared.program.ObjectDeclaration.{ObjectDeclaration}
-use Rattle.rp_words.specs.Tables.{key_names}
+use Rattle.rp_deck_bodies.specs.rp_words.specs.Tables.{key_names}
 use Rattle.rp_deck_bodies.specs.Bodies.{BodyText}
 use Rattle.rp_deck_bodies.specs.BodyViews.{body_text, body_draft_text}
 use Rattle.rp_deck_bodies.specs.ExpressionViews.{expr_text, cond_text}

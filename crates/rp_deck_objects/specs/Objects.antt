@@ -3,20 +3,22 @@ use Rattle.std.specs.Prelude.{ℕ, ◌+◌, Bool, true, false, not, List, [], �
 use Rattle.std.specs.Prelude.{Option, Some, None, Result, Ok, Err, if◌then◌else◌}
 use Rattle.std.specs.FinMap.{empty, insert, len}
 use Rattle.std.specs.Str.{bytes_eq}
-use Rattle.rp_base.specs.declared.action.Operation.{Operation}
-use Rattle.rp_base.specs.declared.action.Operation.TheVariants as operations
-use Rattle.rp_base.specs.declared.fault.DeckReason.{DeckReason}
-use Rattle.rp_base.specs.declared.fault.DeckReason.TheVariants.{BadNumber, BadName}
-use Rattle.rp_base.specs.declared.fault.DeckReason.TheVariants.{DuplicateName, UnknownWord}
-use Rattle.rp_body.specs.Store.{Store, is_within}
-use Rattle.rp_body.specs.declared.components.Ranged.{Ranged}
+use Rattle.rp_object.specs.rp_base.specs.declared.action.Operation.{Operation}
+use Rattle.rp_object.specs.rp_base.specs.declared.action.Operation.TheVariants as operations
+use Rattle.rp_object.specs.rp_base.specs.declared.fault.DeckReason.{DeckReason}
+use Rattle.rp_object.specs.rp_base.specs.declared.fault.DeckReason.TheVariants.{BadNumber, BadName}
+use Rattle.rp_object.specs.rp_base.specs.declared.fault.DeckReason.TheVariants.{DuplicateName}
+use Rattle.rp_object.specs.rp_base.specs.declared.fault.DeckReason.TheVariants.{UnknownWord}
+use Rattle.rp_object.specs.rp_body.specs.Store.{Store, is_within}
+use Rattle.rp_object.specs.rp_body.specs.declared.components.Ranged.{Ranged}
 use Rattle.rp_object.specs.declared.program.Profile.{Profile}
 use Rattle.rp_object.specs.declared.program.Profile.TheVariants.{Ravenscar, Jorvik}
-use Rattle.rp_words.specs.Lines.{LineText}
-use Rattle.rp_words.specs.Reading.{◌>>=◌, some_or, unless, room, word_at, end_at}
-use Rattle.rp_words.specs.Reading.{name_at, new_name_at, integer_at, number_at}
-use Rattle.rp_words.specs.Tables.{is_declared}
-use Rattle.rp_words.specs.Words.{truth_named, is_at_end}
+use Rattle.rp_deck_bodies.specs.rp_words.specs.Lines.{LineText}
+use Rattle.rp_deck_bodies.specs.rp_words.specs.Reading.{◌>>=◌, some_or, unless, room, word_at}
+use Rattle.rp_deck_bodies.specs.rp_words.specs.Reading.{end_at}
+use Rattle.rp_deck_bodies.specs.rp_words.specs.Reading.{name_at, new_name_at, integer_at, number_at}
+use Rattle.rp_deck_bodies.specs.rp_words.specs.Tables.{is_declared}
+use Rattle.rp_deck_bodies.specs.rp_words.specs.Words.{truth_named, is_at_end}
 use Rattle.rp_deck_bodies.specs.declared.names.Component.{Component}
 use Rattle.rp_deck_bodies.specs.declared.names.Component.TheVariants as components
 use Rattle.rp_deck_bodies.specs.Bodies.{BodyText, OpenBodyText, begun_body, body_line}

@@ -3,29 +3,29 @@ use Rattle.std.proofs.Common.{◌≡◌, ℕ, zero, suc, ◌-◌, ℤ, pos, Bool
 use Rattle.std.specs.Prelude.{option_map, nat_lt, Vec, if◌then◌else◌}
 use Rattle.std.specs.declared.alloc.Global.{Global}
 use Rattle.std.proofs.lemmas.Option.{slice_get-map}
-use Rattle.rp_base.specs.declared.reply.Reply.{Reply}
-use Rattle.rp_base.specs.declared.reply.Reply.TheVariants.{Value, Truth, ConstraintError, ProgramError, NoSuchOperation}
-use Rattle.rp_body.specs.declared.statement.Stmt.{Stmt}
-use Rattle.rp_body.specs.declared.statement.Outcome.{Outcome}
-use Rattle.rp_body.specs.Store.{Store, bool_value}
-use Rattle.rp_body.specs.Expressions.{fits_64}
-use Rattle.rp_entry.specs.declared.operations.Function.{Function}
-use Rattle.rp_entry.specs.declared.operations.Function.TheVariants as functions
-use Rattle.rp_entry.specs.declared.operations.Entry.{Entry}
-use Rattle.rp_entry.specs.declared.operations.Operations.{Operations}
-use Rattle.rp_entry.specs.declared.state.Waiting.{Waiting}
-use Rattle.rp_entry.specs.declared.state.CallOutcome.{CallOutcome}
-use Rattle.rp_entry.specs.declared.state.CallOutcome.TheVariants.{Reply as Replies, Waits}
-use Rattle.rp_entry.specs.Operations.{of_index}
-use Rattle.rp_entry.specs.Queue.{State, queue_at, all_calls}
-use Rattle.rp_entry.specs.Replies.{reply_of, function_reply}
-use Rattle.rp_entry.specs.Actions.{Request, calls_function, calls_procedure, calls_entry, event, with_caller}
-use Rattle.rp_entry.specs.Results.{Acted, Next, Serviced, replies_with, with_queue_first, next_to_serve, served, serviced_from, serviced, ran_for, function_called, procedure_called, entry_called, event_handled, acted}
+use Rattle.rp_deck.specs.rp_base.specs.declared.reply.Reply.{Reply}
+use Rattle.rp_deck.specs.rp_base.specs.declared.reply.Reply.TheVariants.{Value, Truth, ConstraintError, ProgramError, NoSuchOperation}
+use Rattle.rp_object.specs.rp_body.specs.declared.statement.Stmt.{Stmt}
+use Rattle.rp_object.specs.rp_body.specs.declared.statement.Outcome.{Outcome}
+use Rattle.rp_object.specs.rp_body.specs.Store.{Store, bool_value}
+use Rattle.rp_object.specs.rp_body.specs.Expressions.{fits_64}
+use Rattle.rp_object.specs.rp_entry.specs.declared.operations.Function.{Function}
+use Rattle.rp_object.specs.rp_entry.specs.declared.operations.Function.TheVariants as functions
+use Rattle.rp_object.specs.rp_entry.specs.declared.operations.Entry.{Entry}
+use Rattle.rp_object.specs.rp_entry.specs.declared.operations.Operations.{Operations}
+use Rattle.rp_object.specs.rp_entry.specs.declared.state.Waiting.{Waiting}
+use Rattle.rp_object.specs.rp_entry.specs.declared.state.CallOutcome.{CallOutcome}
+use Rattle.rp_object.specs.rp_entry.specs.declared.state.CallOutcome.TheVariants.{Reply as Replies, Waits}
+use Rattle.rp_object.specs.rp_entry.specs.Operations.{of_index}
+use Rattle.rp_object.specs.rp_entry.specs.Queue.{State, queue_at, all_calls}
+use Rattle.rp_object.specs.rp_entry.specs.Replies.{reply_of, function_reply}
+use Rattle.rp_object.specs.rp_entry.specs.Actions.{Request, calls_function, calls_procedure, calls_entry, event, with_caller}
+use Rattle.rp_object.specs.rp_entry.specs.Results.{Acted, Next, Serviced, replies_with, with_queue_first, next_to_serve, served, serviced_from, serviced, ran_for, function_called, procedure_called, entry_called, event_handled, acted}
 use Rattle.rp_deck_bodies.specs.Bodies.{BodyText}
 use Rattle.rp_deck_bodies.specs.BodyViews.{body_text}
-use Rattle.rp_deck_objects.specs.Objects.{FunctionText, EntryText}
-use Rattle.rp_deck_objects.specs.Objects as texts
-use Rattle.rp_deck_objects.specs.ObjectViews.{function_text, entry_text}
+use Rattle.rp_deck.specs.rp_deck_objects.specs.Objects.{FunctionText, EntryText}
+use Rattle.rp_deck.specs.rp_deck_objects.specs.Objects as texts
+use Rattle.rp_deck.specs.rp_deck_objects.specs.ObjectViews.{function_text, entry_text}
 use Rattle.rp_deck_readings.proofs.Bodies.{value_as, value_is, truth_as, truth_is, effect_as, body_is}
 
 abbrev pub procedure_text : Vec Stmt Global → BodyText

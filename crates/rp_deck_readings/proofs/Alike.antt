@@ -2,19 +2,19 @@
 use Rattle.std.proofs.Common.{◌≡◌, ℕ, ◌-◌, ℤ, pos, max, Bool, true, false, cond, Option, Some, None, List, [], ◌∷◌, ◌++◌, map, set, refl, sym, ap, subst, ◌∙◌}
 use Rattle.std.specs.Prelude.{option_map, is_some, slice_set, nat_le, nat_eq, ◌&&◌, unwrap_or, string_bytes}
 use Rattle.std.proofs.lemmas.List.{map-set}
-use Rattle.rp_base.specs.declared.action.Action.{Action}
-use Rattle.rp_base.specs.declared.action.Action.TheVariants.{Noop, Call, Interrupt, Tick}
-use Rattle.rp_base.specs.declared.action.Operation.{Operation}
-use Rattle.rp_base.specs.declared.action.Operation.TheVariants.{Function, Procedure, Entry, SetTimer, CancelTimer}
-use Rattle.rp_base.specs.declared.reply.Reply.TheVariants.{Value, Truth, ProgramError, NoSuchOperation}
-use Rattle.rp_entry.specs.declared.state.Waiting.{Waiting}
-use Rattle.rp_entry.specs.declared.state.CallOutcome.{CallOutcome}
-use Rattle.rp_entry.specs.declared.state.CallOutcome.TheVariants.{Reply}
-use Rattle.rp_entry.specs.Operations.{of_index}
-use Rattle.rp_entry.specs.Protected.{Protected}
-use Rattle.rp_entry.specs.Queue.{State}
-use Rattle.rp_entry.specs.Actions.{Request, calls_function, calls_procedure, calls_entry, event}
-use Rattle.rp_entry.specs.Results.{Acted, acted}
+use Rattle.rp_deck.specs.rp_base.specs.declared.action.Action.{Action}
+use Rattle.rp_deck.specs.rp_base.specs.declared.action.Action.TheVariants.{Noop, Call, Interrupt, Tick}
+use Rattle.rp_deck.specs.rp_base.specs.declared.action.Operation.{Operation}
+use Rattle.rp_deck.specs.rp_base.specs.declared.action.Operation.TheVariants.{Function, Procedure, Entry, SetTimer, CancelTimer}
+use Rattle.rp_deck.specs.rp_base.specs.declared.reply.Reply.TheVariants.{Value, Truth, ProgramError, NoSuchOperation}
+use Rattle.rp_object.specs.rp_entry.specs.declared.state.Waiting.{Waiting}
+use Rattle.rp_object.specs.rp_entry.specs.declared.state.CallOutcome.{CallOutcome}
+use Rattle.rp_object.specs.rp_entry.specs.declared.state.CallOutcome.TheVariants.{Reply}
+use Rattle.rp_object.specs.rp_entry.specs.Operations.{of_index}
+use Rattle.rp_object.specs.rp_entry.specs.Protected.{Protected}
+use Rattle.rp_object.specs.rp_entry.specs.Queue.{State}
+use Rattle.rp_object.specs.rp_entry.specs.Actions.{Request, calls_function, calls_procedure, calls_entry, event}
+use Rattle.rp_object.specs.rp_entry.specs.Results.{Acted, acted}
 use Rattle.rp_object.specs.declared.program.Declarations.{Declarations}
 use Rattle.rp_object.specs.declared.program.Handler.{Handler}
 use Rattle.rp_object.specs.declared.program.ObjectDeclaration.{ObjectDeclaration}
@@ -23,7 +23,7 @@ use Rattle.rp_object.specs.Program.{operations_of, has_operation, is_some_and, o
 use Rattle.rp_object.specs.State.{ProgramState, Running}
 use Rattle.rp_object.specs.Step.{Result, nothing, ends_with, with_timer, object_acts, asks, is_set, asks_within, allowed, called, handled, fires, fire, ticked, program_step, own_answer, answers_of, objects_next, objects_answers}
 use Rattle.rp_object.specs.Timers.{due_events}
-use Rattle.rp_deck_objects.specs.ObjectViews.{ProtectedText, protected_text, function_text, entry_text}
+use Rattle.rp_deck.specs.rp_deck_objects.specs.ObjectViews.{ProtectedText, protected_text, function_text, entry_text}
 use Rattle.rp_deck_readings.proofs.Acting.{Meant, meant, procedure_text, of_map, acts_alike}
 
 abbrev pub handler_of : TimingEvent → Handler

@@ -2,19 +2,19 @@
 use Rattle.std.proofs.Common.{◌≡◌, ℤ, pos, Bool, cond, List, [], ◌∷◌, map, refl, sym, ap, subst, ◌∙◌}
 use Rattle.std.specs.Prelude.{◌+ℤ◌, ◌-ℤ◌, int_lt, int_le, ◌&&◌, ◌||◌, not, if◌then◌else◌}
 use Rattle.std.specs.Ordering.{int_eq}
-use Rattle.rp_body.specs.declared.expression.Expr.{Expr}
-use Rattle.rp_body.specs.declared.expression.Expr.TheVariants as exprs
-use Rattle.rp_body.specs.declared.expression.Cond.{Cond}
-use Rattle.rp_body.specs.declared.expression.Cond.TheVariants as conds
-use Rattle.rp_body.specs.declared.statement.Stmt.{Stmt}
-use Rattle.rp_body.specs.declared.statement.Stmt.TheOpen.{Stmt-F}
-use Rattle.rp_body.specs.declared.statement.Stmt.TheFolds.{fold-roll-Stmt, ind-Stmt, map-Stmt}
-use Rattle.rp_body.specs.declared.statement.Outcome.{Outcome}
-use Rattle.rp_body.specs.declared.statement.Outcome.TheVariants.{Out, Raised}
-use Rattle.rp_body.specs.Store.{Store, int_value, bool_value, with_int, with_bool}
-use Rattle.rp_body.specs.Expressions.{value_of, truth_of, fits_64}
-use Rattle.rp_body.specs.Meaning.{Effect, then_do, assigned, effect_of_step, effect_of, effects_of, body_effect}
-use Rattle.rp_body.specs.Meaning as meaning
+use Rattle.rp_object.specs.rp_body.specs.declared.expression.Expr.{Expr}
+use Rattle.rp_object.specs.rp_body.specs.declared.expression.Expr.TheVariants as exprs
+use Rattle.rp_object.specs.rp_body.specs.declared.expression.Cond.{Cond}
+use Rattle.rp_object.specs.rp_body.specs.declared.expression.Cond.TheVariants as conds
+use Rattle.rp_object.specs.rp_body.specs.declared.statement.Stmt.{Stmt}
+use Rattle.rp_object.specs.rp_body.specs.declared.statement.Stmt.TheOpen.{Stmt-F}
+use Rattle.rp_object.specs.rp_body.specs.declared.statement.Stmt.TheFolds.{fold-roll-Stmt, ind-Stmt, map-Stmt}
+use Rattle.rp_object.specs.rp_body.specs.declared.statement.Outcome.{Outcome}
+use Rattle.rp_object.specs.rp_body.specs.declared.statement.Outcome.TheVariants.{Out, Raised}
+use Rattle.rp_object.specs.rp_body.specs.Store.{Store, int_value, bool_value, with_int, with_bool}
+use Rattle.rp_object.specs.rp_body.specs.Expressions.{value_of, truth_of, fits_64}
+use Rattle.rp_object.specs.rp_body.specs.Meaning.{Effect, then_do, assigned, effect_of_step, effect_of, effects_of, body_effect}
+use Rattle.rp_object.specs.rp_body.specs.Meaning as meaning
 use Rattle.rp_deck_bodies.specs.Bodies.{BodyText}
 use Rattle.rp_deck_bodies.specs.Bodies as bodies
 use Rattle.rp_deck_bodies.specs.BodyViews.{in_order, and_then, added_by, body_text}

@@ -3,15 +3,15 @@ use Rattle.std.proofs.Common.{◌≡◌, ℕ, suc, ℤ, Option, List, [], ◌∷
 use Rattle.std.specs.Prelude.{String, string_bytes, codes, decimal}
 use Rattle.std.specs.declared.alloc.Global.{Global}
 use Rattle.std.specs.Fmt.{signed_decimal}
-use Rattle.rp_body.specs.Store.{Store, int_value, bool_value}
-use Rattle.rp_entry.specs.declared.state.Waiting.{Waiting}
-use Rattle.rp_entry.specs.Protected.{Protected}
+use Rattle.rp_object.specs.rp_body.specs.Store.{Store, int_value, bool_value}
+use Rattle.rp_object.specs.rp_entry.specs.declared.state.Waiting.{Waiting}
+use Rattle.rp_object.specs.rp_entry.specs.Protected.{Protected}
 use Rattle.rp_object.specs.Image.{ints_text, truth_text, bools_text, queue_text, entry_text, queues_text, object_line, object_lines, time_text, timer_line, timer_lines, objects_image}
 use Rattle.rp_object.specs.State.{Running}
 use Rattle.rp_object.specs.declared.program.ObjectDeclaration.{ObjectDeclaration}
 use Rattle.rp_object.specs.declared.program.Profile.{Profile}
 use Rattle.rp_object.specs.declared.program.TimingEvent.{TimingEvent}
-use Rattle.rp_deck_objects.specs.ObjectViews.{ProtectedText, protected_text}
+use Rattle.rp_deck.specs.rp_deck_objects.specs.ObjectViews.{ProtectedText, protected_text}
 use Rattle.rp_deck_readings.proofs.Alike.{Seen, seen, timer_name, AlikeRunning}
 
 abbrev name_text : String Global → List ℕ

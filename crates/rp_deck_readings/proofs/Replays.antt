@@ -1,22 +1,22 @@
 -- The programs of two decks that mean the same start alike, and a log leads to alike states.
 use Rattle.std.proofs.Common.{◌≡◌, ℤ, Bool, true, false, cond, Option, None, List, [], ◌∷◌, ◌++◌, map, refl, sym, ap, subst, ◌∙◌}
 use Rattle.std.specs.Arc.{arc_value}
-use Rattle.indexmap.specs.IndexMap.{values}
-use Rattle.rp_base.specs.declared.action.Action.{Action}
+use Rattle.rp_deck.specs.indexmap.specs.IndexMap.{values}
+use Rattle.rp_deck.specs.rp_base.specs.declared.action.Action.{Action}
 use Rattle.rp_deck.specs.DeckViews.{deck_text}
 use Rattle.rp_deck.specs.Meaning.{DeckText}
 use Rattle.rp_deck.specs.declared.deck.Deck.{Deck}
-use Rattle.rp_deck_declarations.specs.Programs.{DeclaresAll}
-use Rattle.rp_deck_declarations.specs.DeclaredTexts.{ProgramText}
-use Rattle.rp_deck_declarations.specs.DeclaredTexts as texts
-use Rattle.rp_deck_declarations.specs.DeclaredViews.{program_text}
-use Rattle.rp_deck_declarations.specs.declared.deck_program.DeckProgram.TheVariants.{Objects}
-use Rattle.rp_deck_objects.specs.Objects.{EntryText}
-use Rattle.rp_deck_objects.specs.ObjectViews.{ProtectedText, protected_text, entry_text}
-use Rattle.rp_entry.specs.Queue.{empty_queues}
-use Rattle.rp_entry.specs.declared.operations.Entry.{Entry}
-use Rattle.rp_entry.specs.declared.state.Waiting.{Waiting}
-use Rattle.rp_machine.specs.Replay.{counts, Replayed, unmoved, replay_step, replay_from, replay_of, kept_of, replay_answers, replay_state}
+use Rattle.rp_deck.specs.rp_deck_declarations.specs.Programs.{DeclaresAll}
+use Rattle.rp_deck.specs.rp_deck_declarations.specs.DeclaredTexts.{ProgramText}
+use Rattle.rp_deck.specs.rp_deck_declarations.specs.DeclaredTexts as texts
+use Rattle.rp_deck.specs.rp_deck_declarations.specs.DeclaredViews.{program_text}
+use Rattle.rp_deck.specs.rp_deck_declarations.specs.declared.deck_program.DeckProgram.TheVariants.{Objects}
+use Rattle.rp_deck.specs.rp_deck_objects.specs.Objects.{EntryText}
+use Rattle.rp_deck.specs.rp_deck_objects.specs.ObjectViews.{ProtectedText, protected_text, entry_text}
+use Rattle.rp_object.specs.rp_entry.specs.Queue.{empty_queues}
+use Rattle.rp_object.specs.rp_entry.specs.declared.operations.Entry.{Entry}
+use Rattle.rp_object.specs.rp_entry.specs.declared.state.Waiting.{Waiting}
+use Rattle.rp_object.specs.rp_machine.specs.Replay.{counts, Replayed, unmoved, replay_step, replay_from, replay_of, kept_of, replay_answers, replay_state}
 use Rattle.rp_object.specs.Image.{objects_image}
 use Rattle.rp_object.specs.Program.{operations_of}
 use Rattle.rp_object.specs.State.{Running, first_object, unset, first_state}

@@ -3,10 +3,10 @@
 
 ghost use Rattle.std.specs.Prelude.{ℕ, ◌≡◌, List};
 ghost use Rattle.std.specs.Arc.{arc_value};
-ghost use Rattle.rp_base.specs.declared.action.Action.{Action};
+ghost use Rattle.rp_deck.specs.rp_base.specs.declared.action.Action.{Action};
 ghost use Rattle.rp_deck.specs.DeckViews.{deck_text};
 ghost use Rattle.rp_deck.specs.declared.deck.Deck.{Deck};
-ghost use Rattle.rp_machine.specs.Replay.{kept_of, replay_answers, replay_state};
+ghost use Rattle.rp_object.specs.rp_machine.specs.Replay.{kept_of, replay_answers, replay_state};
 ghost use Rattle.rp_object.specs.Image.{objects_image};
 ghost use Rattle.rp_object.specs.State.{first_state};
 ghost use Rattle.rp_object.specs.Step.{objects_next, objects_answers};

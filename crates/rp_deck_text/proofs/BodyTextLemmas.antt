@@ -4,22 +4,22 @@ use Rattle.std.specs.Prelude.{codes, slice_get, slice_set}
 use Rattle.std.proofs.lemmas.Bool.{lt-ltb}
 use Rattle.std.proofs.lemmas.Bool.Decides.{nat_tests}
 use Rattle.std.specs.List.{list_all}
-use Rattle.rp_base.specs.declared.fault.DeckReason.{DeckReason}
+use Rattle.rp_deck.specs.rp_base.specs.declared.fault.DeckReason.{DeckReason}
 use Rattle.std.specs.Str.{bytes_eq}
 use Rattle.rp_deck_declarations.specs.declared.draft.Kind.{Kind}
-use Rattle.rp_deck_bodies.specs.declared.names.Component.{Component}
-use Rattle.rp_deck_bodies.specs.declared.statements.BodyWord.{BodyWord}
-use Rattle.rp_deck_bodies.specs.declared.statements.BodyWord.TheVariants.{Statement, Else, End}
-use Rattle.rp_deck_bodies.specs.declared.statements.StatementWord.{StatementWord}
-use Rattle.rp_deck_bodies.specs.declared.statements.StatementWord.TheVariants as words
-use Rattle.rp_deck_bodies.specs.Bodies.{BodyText, Empty, Set, Put, Out, If, OpenIfText, OpenBodyText, body_word, may_follow, body_word_named, one_more, statement_line, body_line_of, body_line}
+use Rattle.rp_deck_declarations.specs.rp_deck_bodies.specs.declared.names.Component.{Component}
+use Rattle.rp_deck_declarations.specs.rp_deck_bodies.specs.declared.statements.BodyWord.{BodyWord}
+use Rattle.rp_deck_declarations.specs.rp_deck_bodies.specs.declared.statements.BodyWord.TheVariants.{Statement, Else, End}
+use Rattle.rp_deck_declarations.specs.rp_deck_bodies.specs.declared.statements.StatementWord.{StatementWord}
+use Rattle.rp_deck_declarations.specs.rp_deck_bodies.specs.declared.statements.StatementWord.TheVariants as words
+use Rattle.rp_deck_declarations.specs.rp_deck_bodies.specs.Bodies.{BodyText, Empty, Set, Put, Out, If, OpenIfText, OpenBodyText, body_word, may_follow, body_word_named, one_more, statement_line, body_line_of, body_line}
 use Rattle.rp_deck_text.specs.BodyTexts.{body_count, body_lines, IsBodyOf}
 use Rattle.rp_deck_text.specs.DraftTexts.{at_object, Declares}
 use Rattle.rp_deck_declarations.specs.Declaring.{with_last_object, ends_declarations, line_of_kind, declaring_line, declarations_from}
 use Rattle.rp_deck_declarations.specs.Drafts.{DraftText, last_object, has_body, kind_named, kind_allowed, kind_of, profile_of}
-use Rattle.rp_deck_objects.specs.Objects.{ObjectText, OpenOperationText, operation_line, object_step, with_body, completed_as}
+use Rattle.rp_deck_declarations.specs.rp_deck_objects.specs.Objects.{ObjectText, OpenOperationText, operation_line, object_step, with_body, completed_as}
 use Rattle.rp_deck_text.specs.ExpressionTexts.{is_int, is_bool, component_name, HasOne, AreComponents, expr_nodes, cond_nodes, expr_words, cond_words, IsExprOf, IsCondOf}
-use Rattle.rp_deck_bodies.specs.Expressions.{ExprText, CondText}
+use Rattle.rp_deck_declarations.specs.rp_deck_bodies.specs.Expressions.{ExprText, CondText}
 use Rattle.rp_words.specs.Lines.{LineText}
 use Rattle.rp_words.specs.Reading.{◌>>=◌}
 use Rattle.rp_deck_text.specs.ScriptText.{numbered_lines, spaced, line_of, is_distinct}

@@ -10,10 +10,10 @@ use Rattle.std.proofs.lemmas.List.{append-nil}
 use Rattle.std.proofs.lemmas.Bool.{cases_Bool, cond-true, cond-false, eqb-true}
 use Rattle.std.proofs.lemmas.Bool.Decides.{nat_tests}
 use Rattle.std.proofs.lemmas.Slice.Eq.{bytes_eq-Decides}
-use Rattle.rp_base.specs.declared.fault.DeckReason.{DeckReason}
-use Rattle.rp_deck_bodies.specs.declared.names.Component.{Component}
-use Rattle.rp_deck_bodies.specs.declared.names.Component.TheVariants as components
-use Rattle.rp_deck_bodies.specs.Expressions.{NodeReader, ExprText, Number, Arg, Out, Int, Add, Sub, CondText, Constant, Named, Less, LessOrEqual, Equal, Not, And, Or, component_of, int_of, bool_of, node_at, two_at, one_at, tree_at, tree_line, expr_from, expr_at, expr_line, cond_of, cond_from, cond_at, cond_line, cond_word_named, expression_words}
+use Rattle.rp_deck.specs.rp_base.specs.declared.fault.DeckReason.{DeckReason}
+use Rattle.rp_deck_declarations.specs.rp_deck_bodies.specs.declared.names.Component.{Component}
+use Rattle.rp_deck_declarations.specs.rp_deck_bodies.specs.declared.names.Component.TheVariants as components
+use Rattle.rp_deck_declarations.specs.rp_deck_bodies.specs.Expressions.{NodeReader, ExprText, Number, Arg, Out, Int, Add, Sub, CondText, Constant, Named, Less, LessOrEqual, Equal, Not, And, Or, component_of, int_of, bool_of, node_at, two_at, one_at, tree_at, tree_line, expr_from, expr_at, expr_line, cond_of, cond_from, cond_at, cond_line, cond_word_named, expression_words}
 use Rattle.rp_deck_text.specs.ExpressionTexts.{is_int, is_bool, component_name, expr_nodes, cond_nodes, HasOne, AreComponents, expr_words, truth_word, cond_words, IsExprOf, IsCondOf}
 use Rattle.rp_words.specs.Reading.{◌>>=◌}
 use Rattle.rp_deck_text.specs.ScriptText.{spaced, is_distinct}

@@ -3,15 +3,15 @@ use Rattle.std.proofs.Common.{◌≡◌, ℕ, suc, ◌==◌, cond, List, [], ◌
 use Rattle.std.specs.Prelude.{codes}
 use Rattle.std.specs.Fmt.{decimal}
 use Rattle.std.specs.List.{list_all, AllByRecursion}
-use Rattle.rp_object.specs.declared.program.Profile.{Profile}
-use Rattle.rp_object.specs.declared.program.Profile.TheVariants.{Ravenscar, Jorvik}
+use Rattle.rp_deck_declarations.specs.rp_object.specs.declared.program.Profile.{Profile}
+use Rattle.rp_deck_declarations.specs.rp_object.specs.declared.program.Profile.TheVariants.{Ravenscar, Jorvik}
 use Rattle.rp_deck.specs.declared.deck.Mode.TheVariants.{Script}
-use Rattle.rp_deck_bodies.specs.declared.names.Component.{Component}
-use Rattle.rp_deck_bodies.specs.Bodies.{BodyText, Empty, Set, Put, Out, If}
+use Rattle.rp_deck_declarations.specs.rp_deck_bodies.specs.declared.names.Component.{Component}
+use Rattle.rp_deck_declarations.specs.rp_deck_bodies.specs.Bodies.{BodyText, Empty, Set, Put, Out, If}
 use Rattle.rp_deck_text.specs.BodyTexts.{body_lines, IsBodyOf}
 use Rattle.rp_deck_declarations.specs.Drafts.{DraftText, profile_of}
-use Rattle.rp_deck_objects.specs.Objects.{ObjectText, Value, Truth, empty_object}
-use Rattle.rp_deck_bodies.specs.Expressions.{ExprText, Number, Arg, Out as OutExpr, Int, Add, Sub, CondText, Constant, Named, Less, LessOrEqual, Equal, Not, And, Or}
+use Rattle.rp_deck_declarations.specs.rp_deck_objects.specs.Objects.{ObjectText, Value, Truth, empty_object}
+use Rattle.rp_deck_declarations.specs.rp_deck_bodies.specs.Expressions.{ExprText, Number, Arg, Out as OutExpr, Int, Add, Sub, CondText, Constant, Named, Less, LessOrEqual, Equal, Not, And, Or}
 use Rattle.rp_deck_text.specs.ExpressionTexts.{is_int, is_bool, component_name, HasOne, AreComponents, expr_words, cond_words, IsExprOf, IsCondOf}
 use Rattle.rp_deck.specs.Meaning.{meaning_of}
 use Rattle.rp_deck_text.specs.ObjectTexts.{DeclaredObject, DeclaredHandler, with_object, object_lines, objects_lines, AreObjectsOf, with_interrupt, with_timer, AreInterruptsOf, AreTimersOf, handlers_lines, ObjectsText, profile_words, tasks_draft, objects_draft, declared_lines, IsObjectsText, objects_text, objects_deck}

@@ -2,9 +2,9 @@
 use Rattle.std.proofs.Common.{◌≡◌, ℕ, ◌+◌, ◌<◌, ◌&&◌, not, List, [], ◌∷◌, ◌++◌, Bool, true, false, cond, length, Option, Some, None, Result, Ok, arith, ap, refl, sym, ◌∙◌, append_assoc}
 use Rattle.std.specs.Prelude.{codes, IfSome}
 use Rattle.std.proofs.lemmas.List.{append-nil}
-use Rattle.rp_base.specs.declared.fault.DeckReason.{DeckReason}
-use Rattle.rp_object.specs.declared.program.Profile.{Profile}
-use Rattle.rp_object.specs.declared.program.Profile.TheVariants.{Ravenscar, Jorvik}
+use Rattle.rp_deck.specs.rp_base.specs.declared.fault.DeckReason.{DeckReason}
+use Rattle.rp_deck_declarations.specs.rp_object.specs.declared.program.Profile.{Profile}
+use Rattle.rp_deck_declarations.specs.rp_object.specs.declared.program.Profile.TheVariants.{Ravenscar, Jorvik}
 use Rattle.rp_words.specs.Lines.{LineText}
 use Rattle.rp_deck_text.specs.TallyTexts.{positions_words, task_words, AreTasks}
 use Rattle.std.specs.Fmt.{decimal}
@@ -15,7 +15,7 @@ use Rattle.rp_deck_declarations.specs.declared.draft.Kind.TheVariants as kinds
 use Rattle.rp_deck_declarations.specs.Declaring.{on_line, declarations_from, declarations_of}
 use Rattle.rp_deck_text.specs.DraftTexts.{at_object, Declares}
 use Rattle.rp_deck_declarations.specs.Drafts.{DraftText, empty_draft, profile_line, has_body, is_in_body, allows, profile_of, object_line, handler_at, handled_at, interrupt_line, timer_line}
-use Rattle.rp_deck_objects.specs.Objects.{empty_object}
+use Rattle.rp_deck_declarations.specs.rp_deck_objects.specs.Objects.{empty_object}
 use Rattle.rp_deck_text.specs.ObjectTexts.{DeclaredObject, DeclaredHandler, with_object, object_lines, IsTextOfObject, with_objects, objects_lines, AreObjectsOf, handler_of, IsHandlerOf, with_interrupt, with_timer, handler_words, with_interrupts, with_timers, AreInterruptsOf, AreTimersOf, handlers_lines, ObjectsText, profile_word, profile_words, tasks_draft, objects_draft, declared_lines, IsObjectsText}
 use Rattle.rp_deck_text.specs.PartTexts.{IsNew, shut, with_parts, parts_lines}
 use Rattle.rp_deck.specs.Script.{IsUpTo}

@@ -7,22 +7,22 @@ use Rattle.std.specs.Int.{w64}
 use Rattle.std.specs.List.{list_all}
 use Rattle.std.specs.Str.{bytes_eq}
 use Rattle.std.proofs.lemmas.Bool.{lt-ltb, eqb-true}
-use Rattle.rp_body.specs.Store.{is_within}
-use Rattle.rp_object.specs.declared.program.Profile.{Profile}
-use Rattle.rp_object.specs.declared.program.Profile.TheVariants.{Ravenscar, Jorvik}
+use Rattle.rp_deck_declarations.specs.rp_body.specs.Store.{is_within}
+use Rattle.rp_deck_declarations.specs.rp_object.specs.declared.program.Profile.{Profile}
+use Rattle.rp_deck_declarations.specs.rp_object.specs.declared.program.Profile.TheVariants.{Ravenscar, Jorvik}
 use Rattle.rp_deck_declarations.specs.declared.draft.Kind.{Kind}
-use Rattle.rp_deck_objects.specs.declared.objects.Head.{Head}
-use Rattle.rp_deck_objects.specs.declared.objects.Head.TheVariants as heads
-use Rattle.rp_deck_objects.specs.declared.objects.Part.{Part}
-use Rattle.rp_deck_objects.specs.declared.objects.Part.TheVariants as parts
-use Rattle.rp_deck_bodies.specs.Bodies.{BodyText}
+use Rattle.rp_deck_declarations.specs.rp_deck_objects.specs.declared.objects.Head.{Head}
+use Rattle.rp_deck_declarations.specs.rp_deck_objects.specs.declared.objects.Head.TheVariants as heads
+use Rattle.rp_deck_declarations.specs.rp_deck_objects.specs.declared.objects.Part.{Part}
+use Rattle.rp_deck_declarations.specs.rp_deck_objects.specs.declared.objects.Part.TheVariants as parts
+use Rattle.rp_deck_declarations.specs.rp_deck_bodies.specs.Bodies.{BodyText}
 use Rattle.rp_deck_text.specs.BodyTexts.{body_count, body_lines}
 use Rattle.rp_deck_declarations.specs.Declaring.{line_of_kind, declaring_line}
 use Rattle.rp_deck_text.specs.DraftTexts.{at_object, Declares}
 use Rattle.rp_deck_declarations.specs.Drafts.{DraftText, profile_of, is_in_body, kind_named, kind_allowed, kind_of}
-use Rattle.rp_deck_objects.specs.Objects.{ObjectText, FunctionText, Value, Truth, component_name_at, ranged_at, int_line, bool_line, function_line, procedure_line, most_entries, queue_at, longest_at, entry_line, begun_line, begun_operation, completed_as, part_named, part_line, object_step}
+use Rattle.rp_deck_declarations.specs.rp_deck_objects.specs.Objects.{ObjectText, FunctionText, Value, Truth, component_name_at, ranged_at, int_line, bool_line, function_line, procedure_line, most_entries, queue_at, longest_at, entry_line, begun_line, begun_operation, completed_as, part_named, part_line, object_step}
 use Rattle.rp_deck_text.specs.ExpressionTexts.{is_bool, component_name, AreComponents, HasOne, truth_word, expr_words, cond_words}
-use Rattle.rp_deck_bodies.specs.Expressions.{expression_words}
+use Rattle.rp_deck_declarations.specs.rp_deck_bodies.specs.Expressions.{expression_words}
 use Rattle.rp_deck_text.specs.PartTexts.{shut, PartText, IntPart, BoolPart, FunctionPart, ProcedurePart, EntryPart, with_part, function_words, queue_words, ended, part_lines, IsNew, IsLongest, IsWholeBody, IsPartOf, with_parts, parts_lines, ArePartsOf}
 use Rattle.rp_words.specs.Reading.{word_at}
 use Rattle.rp_deck.specs.Script.{IsUpTo}

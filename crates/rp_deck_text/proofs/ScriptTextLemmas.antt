@@ -8,10 +8,10 @@ use Rattle.std.specs.Str.{bytes_eq}
 use Rattle.std.proofs.lemmas.Bool.{cases_Bool, cond-true, cond-false, eqb-true, eq-eqb, lt-ltb}
 use Rattle.std.proofs.lemmas.Option.{slice_get_within, get_or_from_slice_get}
 use Rattle.std.proofs.lemmas.Slice.Eq.{bytes_eq-Decides}
-use Rattle.rp_base.specs.declared.action.Operation.{Operation}
-use Rattle.rp_base.specs.declared.action.Operation.TheVariants as operations
-use Rattle.rp_base.specs.declared.fault.DeckReason.{DeckReason}
-use Rattle.rp_model.specs.Events.{Event, Step, Submit, Again, Makes, Cut, Stop, Restart, Deliver, Lead, LeadRange, Interrupt, Tick, Report, Ask}
+use Rattle.rp_deck.specs.rp_base.specs.declared.action.Operation.{Operation}
+use Rattle.rp_deck.specs.rp_base.specs.declared.action.Operation.TheVariants as operations
+use Rattle.rp_deck.specs.rp_base.specs.declared.fault.DeckReason.{DeckReason}
+use Rattle.rp_deck.specs.rp_model.specs.Events.{Event, Step, Submit, Again, Makes, Cut, Stop, Restart, Deliver, Lead, LeadRange, Interrupt, Tick, Report, Ask}
 use Rattle.rp_deck.specs.declared.deck.Mode.TheVariants.{Script}
 use Rattle.rp_deck.specs.declared.verbs.Verb.{Verb}
 use Rattle.rp_deck.specs.declared.verbs.Verb.TheVariants as verbs
@@ -19,7 +19,7 @@ use Rattle.rp_words.specs.Words.{is_name}
 use Rattle.rp_words.specs.Tables.{is_declared, place_of, find}
 use Rattle.rp_words.specs.Reading.{made_of, number_at}
 use Rattle.rp_deck.specs.Script.{IsUpTo, IsMessage}
-use Rattle.rp_deck_objects.specs.ObjectViews.{OperationsText}
+use Rattle.rp_deck_declarations.specs.rp_deck_objects.specs.ObjectViews.{OperationsText}
 use Rattle.rp_deck_declarations.specs.ScriptNames.{DeclaredNames}
 use Rattle.rp_deck.specs.ScriptLines.{declared_at, operation_at, timer_at, message_at, argument_at, position_at, last_at, lead_at, range_at, deliver_at, interrupt_at, tick_at, step_from, call_at, arm_at, disarm_at, again_at, cut_at, lose_at, CommandText, Take, Lose, Drain, Show, verb_named, command_at, command_line}
 use Rattle.rp_deck_text.specs.ScriptText.{spaced, line_of, step_words, argument_words, submit_words, event_words, command_words, name_numbered, same_operation, operation_name_in, operation_name, operations_numbered, is_distinct, are_names, AreDeclared, IsOneOf, HasOperation, IsTimerOf, IsSubmitOf, IsStepOf, MayBeCut, IsEventOf, IsCommandOf}

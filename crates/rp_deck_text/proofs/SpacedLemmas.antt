@@ -10,8 +10,8 @@ use Rattle.std.proofs.Math.Seq.{take-append_seam}
 use Rattle.std.proofs.lemmas.Bool.{lt-ltb, leb-true, le-leb}
 use Rattle.std.proofs.lemmas.Bool.Decides.{nat_tests}
 use Rattle.std.proofs.lemmas.Fmt.{decimal_is_IsNumeral}
-use Rattle.rp_base.specs.declared.fault.DeckReason.{DeckReason}
-use Rattle.rp_base.specs.declared.fault.DeckReason.TheVariants.{WrongNumberOfWords, BadName, BadNumber}
+use Rattle.rp_deck.specs.rp_base.specs.declared.fault.DeckReason.{DeckReason}
+use Rattle.rp_deck.specs.rp_base.specs.declared.fault.DeckReason.TheVariants.{WrongNumberOfWords, BadName, BadNumber}
 use Rattle.rp_words.specs.Words.{begins_with, is_blank, is_of_name, is_name, without_blanks, is_at_end, first_word, after_word, is_digits, number_of, number_within, fits_64}
 use Rattle.rp_words.specs.Reading.{◌>>=◌, some_or, word_at, end_at, name_of, name_at, integer_at, number_at, dotted_of}
 use Rattle.rp_deck_text.specs.ScriptText.{spaced}

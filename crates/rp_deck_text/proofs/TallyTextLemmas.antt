@@ -5,7 +5,7 @@ use Rattle.std.specs.Fmt.{decimal}
 use Rattle.std.proofs.lemmas.List.{append-nil}
 use Rattle.std.proofs.lemmas.Bool.{lt-ltb}
 use Rattle.std.proofs.lemmas.Bool.Decides.{nat_tests}
-use Rattle.rp_base.specs.declared.fault.DeckReason.{DeckReason}
+use Rattle.rp_deck.specs.rp_base.specs.declared.fault.DeckReason.{DeckReason}
 use Rattle.rp_deck.specs.declared.deck.Mode.TheVariants.{Script}
 use Rattle.rp_deck_declarations.specs.declared.draft.Kind.{Kind}
 use Rattle.rp_deck_declarations.specs.declared.draft.Kind.TheVariants as kinds

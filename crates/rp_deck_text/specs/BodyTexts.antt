@@ -1,7 +1,8 @@
 -- The lines of a body: one way to write each, which reading gives back.
 use Rattle.std.specs.Prelude.{ℕ, ◌<◌, ◌≤◌, ◌+◌, suc, List, [], ◌∷◌, ◌++◌, codes}
-use Rattle.rp_deck_bodies.specs.declared.names.Component.{Component}
-use Rattle.rp_deck_bodies.specs.Bodies.{BodyText, Empty, Set, Put, Out, If}
+use Rattle.rp_deck_declarations.specs.rp_deck_bodies.specs.declared.names.Component.{Component}
+use Rattle.rp_deck_declarations.specs.rp_deck_bodies.specs.Bodies.{BodyText, Empty, Set, Put, Out}
+use Rattle.rp_deck_declarations.specs.rp_deck_bodies.specs.Bodies.{If}
 use Rattle.rp_deck_text.specs.ExpressionTexts.{is_int, is_bool, component_name, HasOne, expr_nodes}
 use Rattle.rp_deck_text.specs.ExpressionTexts.{cond_nodes, expr_words, cond_words, IsExprOf}
 use Rattle.rp_deck_text.specs.ExpressionTexts.{IsCondOf}

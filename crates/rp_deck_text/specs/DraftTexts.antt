@@ -2,7 +2,7 @@
 use Rattle.std.specs.Prelude.{ℕ, ◌≡◌, List, [], ◌∷◌, ◌++◌}
 use Rattle.rp_deck_declarations.specs.Declaring.{declarations_from}
 use Rattle.rp_deck_declarations.specs.Drafts.{DraftText}
-use Rattle.rp_deck_objects.specs.Objects.{ObjectText}
+use Rattle.rp_deck_declarations.specs.rp_deck_objects.specs.Objects.{ObjectText}
 use Rattle.rp_words.specs.Lines.{LineText}
 use Rattle.rp_deck_text.specs.ScriptText.{numbered_lines}
 

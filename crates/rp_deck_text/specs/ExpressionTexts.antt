@@ -4,11 +4,14 @@ use Rattle.std.specs.Prelude.{[], ◌∷◌, ◌++◌, codes, length, ◌⊎◌,
 use Rattle.std.specs.Fmt.{signed_decimal}
 use Rattle.std.specs.Int.{w64}
 use Rattle.std.specs.List.{list_all}
-use Rattle.rp_deck_bodies.specs.declared.names.Component.{Component}
-use Rattle.rp_deck_bodies.specs.declared.names.Component.TheVariants as components
-use Rattle.rp_deck_bodies.specs.Expressions.{ExprText, Number, Arg, Out, Int, Add, Sub, CondText}
-use Rattle.rp_deck_bodies.specs.Expressions.{Constant, Named, Less, LessOrEqual, Equal, Not, And}
-use Rattle.rp_deck_bodies.specs.Expressions.{Or, expression_words}
+use Rattle.rp_deck_declarations.specs.rp_deck_bodies.specs.declared.names.Component.{Component}
+use Rattle.rp_deck_declarations.specs.rp_deck_bodies.specs.declared.names.Component.TheVariants as components
+use Rattle.rp_deck_declarations.specs.rp_deck_bodies.specs.Expressions.{ExprText, Number, Arg, Out}
+use Rattle.rp_deck_declarations.specs.rp_deck_bodies.specs.Expressions.{Int, Add, Sub, CondText}
+use Rattle.rp_deck_declarations.specs.rp_deck_bodies.specs.Expressions.{Constant, Named, Less}
+use Rattle.rp_deck_declarations.specs.rp_deck_bodies.specs.Expressions.{LessOrEqual, Equal, Not}
+use Rattle.rp_deck_declarations.specs.rp_deck_bodies.specs.Expressions.{And}
+use Rattle.rp_deck_declarations.specs.rp_deck_bodies.specs.Expressions.{Or, expression_words}
 use Rattle.rp_deck_text.specs.ScriptText.{are_names}
 use Rattle.rp_words.specs.Tables.{is_declared}
 

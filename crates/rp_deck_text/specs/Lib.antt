@@ -5,3 +5,9 @@ pub mod ObjectTexts
 pub mod DraftTexts
 pub mod TallyTexts
 pub mod ScriptText
+pub use Rattle.rp_deck_declarations.specs.rp_body
+pub use Rattle.rp_deck
+pub use Rattle.rp_deck_declarations.specs.rp_deck_bodies
+pub use Rattle.rp_deck_declarations.specs.rp_deck_objects
+pub use Rattle.rp_deck.specs.rp_model
+pub use Rattle.rp_words

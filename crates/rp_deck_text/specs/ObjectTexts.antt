@@ -2,12 +2,13 @@
 use Rattle.std.specs.Prelude.{ℕ, ◌≡◌, ◌<◌, ◌≤◌, ◌+◌, false, List, [], ◌∷◌, ◌++◌, codes, length, map}
 use Rattle.std.specs.Prelude.{slice_get, Option, Some, None, IfSome}
 use Rattle.std.specs.Fmt.{decimal}
-use Rattle.rp_base.specs.declared.action.Operation.TheVariants.{Procedure}
-use Rattle.rp_object.specs.declared.program.Handler.{Handler}
-use Rattle.rp_object.specs.declared.program.Profile.{Profile}
-use Rattle.rp_object.specs.declared.program.Profile.TheVariants.{Ravenscar, Jorvik}
+use Rattle.rp_deck.specs.rp_base.specs.declared.action.Operation.TheVariants.{Procedure}
+use Rattle.rp_deck_declarations.specs.rp_object.specs.declared.program.Handler.{Handler}
+use Rattle.rp_deck_declarations.specs.rp_object.specs.declared.program.Profile.{Profile}
+use Rattle.rp_deck_declarations.specs.rp_object.specs.declared.program.Profile.TheVariants.{Ravenscar}
+use Rattle.rp_deck_declarations.specs.rp_object.specs.declared.program.Profile.TheVariants.{Jorvik}
 use Rattle.rp_deck_declarations.specs.Drafts.{DraftText, empty_draft, is_empty, profile_of}
-use Rattle.rp_deck_objects.specs.Objects.{ObjectText, empty_object}
+use Rattle.rp_deck_declarations.specs.rp_deck_objects.specs.Objects.{ObjectText, empty_object}
 use Rattle.rp_deck.specs.Meaning.{DeckText, deck_of}
 use Rattle.rp_deck_text.specs.PartTexts.{PartText, IsNew, shut, with_parts, parts_lines, ArePartsOf}
 use Rattle.rp_deck.specs.Script.{IsUpTo}

@@ -4,18 +4,21 @@ use Rattle.std.specs.Prelude.{◌∷◌, ◌++◌, ◌==◌, codes, length, None
 use Rattle.std.specs.FinMap.{len}
 use Rattle.std.specs.Fmt.{decimal, signed_decimal}
 use Rattle.std.specs.Int.{w64}
-use Rattle.rp_body.specs.Store.{is_within}
-use Rattle.rp_object.specs.declared.program.Profile.{Profile}
-use Rattle.rp_object.specs.declared.program.Profile.TheVariants.{Ravenscar, Jorvik}
-use Rattle.rp_deck_objects.specs.declared.objects.Head.TheVariants as heads
-use Rattle.rp_deck_bodies.specs.Bodies.{BodyText}
+use Rattle.rp_deck_declarations.specs.rp_body.specs.Store.{is_within}
+use Rattle.rp_deck_declarations.specs.rp_object.specs.declared.program.Profile.{Profile}
+use Rattle.rp_deck_declarations.specs.rp_object.specs.declared.program.Profile.TheVariants.{Ravenscar}
+use Rattle.rp_deck_declarations.specs.rp_object.specs.declared.program.Profile.TheVariants.{Jorvik}
+use Rattle.rp_deck_declarations.specs.rp_deck_objects.specs.declared.objects.Head.TheVariants as heads
+use Rattle.rp_deck_declarations.specs.rp_deck_bodies.specs.Bodies.{BodyText}
 use Rattle.rp_deck_text.specs.BodyTexts.{body_count, body_lines, IsBodyOf}
-use Rattle.rp_deck_objects.specs.Objects.{with_int, with_bool, with_function, ObjectText}
-use Rattle.rp_deck_objects.specs.Objects.{FunctionText, Value, Truth, most_entries, completed_as}
+use Rattle.rp_deck_declarations.specs.rp_deck_objects.specs.Objects.{with_int, with_bool}
+use Rattle.rp_deck_declarations.specs.rp_deck_objects.specs.Objects.{with_function, ObjectText}
+use Rattle.rp_deck_declarations.specs.rp_deck_objects.specs.Objects.{FunctionText, Value, Truth}
+use Rattle.rp_deck_declarations.specs.rp_deck_objects.specs.Objects.{most_entries, completed_as}
 use Rattle.rp_deck_text.specs.ExpressionTexts.{is_bool, component_name, HasOne, AreComponents}
 use Rattle.rp_deck_text.specs.ExpressionTexts.{expr_nodes, cond_nodes, expr_words, cond_words}
 use Rattle.rp_deck_text.specs.ExpressionTexts.{IsExprOf, IsCondOf, truth_word}
-use Rattle.rp_deck_bodies.specs.Expressions.{expression_words}
+use Rattle.rp_deck_declarations.specs.rp_deck_bodies.specs.Expressions.{expression_words}
 use Rattle.rp_deck.specs.Script.{IsUpTo}
 use Rattle.rp_words.specs.Tables.{is_declared}
 use Rattle.rp_words.specs.Words.{is_name}

@@ -6,14 +6,15 @@ use Rattle.std.specs.Prelude.{IfSome}
 use Rattle.std.specs.Fmt.{decimal, signed_decimal}
 use Rattle.std.specs.Int.{w64}
 use Rattle.std.specs.List.{list_all}
-use Rattle.rp_base.specs.declared.action.Operation.{Operation}
-use Rattle.rp_base.specs.declared.action.Operation.TheVariants as operations
-use Rattle.rp_object.specs.declared.program.Handler.{Handler}
-use Rattle.rp_model.specs.Events.{Event, Step, Submit, Again, Makes, Cut, Stop, Restart, Deliver}
-use Rattle.rp_model.specs.Events.{Lead, LeadRange, Interrupt, Tick, Report, Ask}
+use Rattle.rp_deck.specs.rp_base.specs.declared.action.Operation.{Operation}
+use Rattle.rp_deck.specs.rp_base.specs.declared.action.Operation.TheVariants as operations
+use Rattle.rp_deck_declarations.specs.rp_object.specs.declared.program.Handler.{Handler}
+use Rattle.rp_deck.specs.rp_model.specs.Events.{Event, Step, Submit, Again, Makes, Cut, Stop}
+use Rattle.rp_deck.specs.rp_model.specs.Events.{Restart, Deliver}
+use Rattle.rp_deck.specs.rp_model.specs.Events.{Lead, LeadRange, Interrupt, Tick, Report, Ask}
 use Rattle.rp_words.specs.Lines.{LineText}
 use Rattle.rp_deck.specs.Script.{IsUpTo, IsMessage}
-use Rattle.rp_deck_objects.specs.ObjectViews.{OperationsText}
+use Rattle.rp_deck_declarations.specs.rp_deck_objects.specs.ObjectViews.{OperationsText}
 use Rattle.rp_deck_declarations.specs.ScriptNames.{DeclaredNames}
 use Rattle.rp_deck.specs.ScriptLines.{LineCommand, CommandText, Take, Lose, Drain, Show}
 use Rattle.rp_words.specs.Tables.{is_declared}

@@ -5,10 +5,10 @@ ghost use Rattle.std.specs.List.{AllByRecursion};
 ghost use Rattle.rp_deck_declarations.specs.Declaring.{declarations_of};
 ghost use Rattle.rp_deck_text.specs.DraftTexts.{at_object, Declares};
 ghost use Rattle.rp_deck_declarations.specs.Drafts.{DraftText, is_in_body, profile_of};
-ghost use Rattle.rp_deck_objects.specs.Objects.{ObjectText};
+ghost use Rattle.rp_deck_declarations.specs.rp_deck_objects.specs.Objects.{ObjectText};
 ghost use Rattle.rp_deck_text.specs.ObjectTexts.{DeclaredObject, DeclaredHandler, AreObjectsOf, objects_lines, with_objects, AreInterruptsOf, with_interrupts, AreTimersOf, with_timers, handlers_lines, ObjectsText, IsObjectsText, declared_lines, objects_draft, objects_text, objects_deck};
 ghost use Rattle.rp_deck_text.specs.PartTexts.{PartText, ArePartsOf, parts_lines, with_parts, shut};
-ghost use Rattle.rp_deck_bodies.specs.Expressions.{ExprText, CondText, expr_line, cond_line};
+ghost use Rattle.rp_deck_declarations.specs.rp_deck_bodies.specs.Expressions.{ExprText, CondText, expr_line, cond_line};
 ghost use Rattle.rp_deck_text.specs.ExpressionTexts.{AreComponents, IsExprOf, IsCondOf, expr_nodes, cond_nodes, expr_words, cond_words};
 ghost use Rattle.rp_words.specs.Lines.{LineText, lines_of, texts_from};
 ghost use Rattle.rp_deck.specs.Meaning.{meaning_of};
@@ -16,7 +16,7 @@ ghost use Rattle.rp_deck_text.specs.TallyTexts.{TallyText, IsTallyText, tally_dr
 ghost use Rattle.rp_deck.specs.ScriptLines.{CommandText, command_line, script_of};
 ghost use Rattle.rp_deck_declarations.specs.ScriptNames.{DeclaredNames, declared_names};
 ghost use Rattle.rp_deck_text.specs.ScriptText.{numbered_lines, spaced, AreDeclared, IsCommandOf, line_of, command_words, script_text, numbered_commands};
-ghost use Rattle.rp_deck_bodies.specs.declared.names.Component.{Component};
+ghost use Rattle.rp_deck_declarations.specs.rp_deck_bodies.specs.declared.names.Component.{Component};
 ghost use Rattle.rp_deck.specs.declared.deck.Mode.TheVariants.{Script};
 
 /// Each command that a script may hold has a line, and reading it gives the command back. So no two

@@ -5,23 +5,23 @@ use Rattle.std.specs.declared.alloc.Global.{Global}
 use Rattle.std.specs.List.{range_with_len}
 use Rattle.std.specs.Prelude.{flat_map, slice_get, Vec}
 use Rattle.std.proofs.lemmas.List.{drop_all, flat_map_more}
-use Rattle.rp_base.specs.Ranges.{Range}
-use Rattle.rp_base.specs.Records.{applied_of}
-use Rattle.rp_base.specs.declared.config.Config.{Config}
-use Rattle.rp_base.specs.declared.fault.Fault.{Fault}
-use Rattle.rp_base.specs.declared.fault.Fault.TheVariants.{NotRunning}
-use Rattle.rp_base.specs.declared.record.Rec.{Rec}
-use Rattle.rp_codec.specs.Message.{Message}
-use Rattle.rp_codec.specs.declared.packet.Party.TheVariants as parties
-use Rattle.rp_machine.specs.Replay.{one_to, replay_state}
-use Rattle.rp_model.specs.Parts.{NodePart, Running}
-use Rattle.rp_model.specs.World.{World, part_at}
-use Rattle.rp_server.specs.State.{ServerState}
+use Rattle.rp_world.specs.rp_base.specs.Ranges.{Range}
+use Rattle.rp_world.specs.rp_base.specs.Records.{applied_of}
+use Rattle.rp_world.specs.rp_base.specs.declared.config.Config.{Config}
+use Rattle.rp_world.specs.rp_base.specs.declared.fault.Fault.{Fault}
+use Rattle.rp_world.specs.rp_base.specs.declared.fault.Fault.TheVariants.{NotRunning}
+use Rattle.rp_world.specs.rp_base.specs.declared.record.Rec.{Rec}
+use Rattle.rp_world.specs.rp_codec.specs.Message.{Message}
+use Rattle.rp_world.specs.rp_codec.specs.declared.packet.Party.TheVariants as parties
+use Rattle.rp_world.specs.rp_machine.specs.Replay.{one_to, replay_state}
+use Rattle.rp_world.specs.rp_model.specs.Parts.{NodePart, Running}
+use Rattle.rp_world.specs.rp_model.specs.World.{World, part_at}
+use Rattle.rp_world.specs.rp_server.specs.State.{ServerState}
 use Rattle.rp_world.specs.Nodes.{stored_length}
 use Rattle.rp_world.specs.Steps.{IsQueryAnswer, IsQueryAnswerUnlessMemory, IsRunningQueryAnswer, IsRunningServerOf, IsServerOf, IsStored}
-use Rattle.rp_output.specs.FaultMessage.{with_line_feed}
-use Rattle.rp_output.specs.Printed.{applied_line_of, stopped_line_of}
-use Rattle.rp_output.specs.Trace.{party_text_of}
+use Rattle.rp_run.specs.rp_output.specs.FaultMessage.{with_line_feed}
+use Rattle.rp_run.specs.rp_output.specs.Printed.{applied_line_of, stopped_line_of}
+use Rattle.rp_run.specs.rp_output.specs.Trace.{party_text_of}
 use Rattle.rp_run.specs.Output.{RunSetting, part_text, state_text}
 use Rattle.rp_details.specs.Details.{bound_line, device_lines, found_lines, known_lines, node_lines, nodes_lines, packets_lines, pending_line, running_lines, task_lines, tasks_lines, window_lines}
 

@@ -2,21 +2,21 @@
 -- with its fields, and then the state of each node and of each task.
 use Rattle.std.specs.Prelude.{ℕ, suc, ◌-◌, min, nat_eq, Option, Some, None, List, [], ◌∷◌, ◌++◌}
 use Rattle.std.specs.Prelude.{codes, decimal, drop, flat_map, length, slice_get, if◌then◌else◌}
-use Rattle.rp_base.specs.Ranges.{positions_of}
-use Rattle.rp_base.specs.Records.{bound_at, last_vote_at}
-use Rattle.rp_base.specs.declared.action.Action.{Action}
-use Rattle.rp_base.specs.declared.action.Action.TheVariants.{Call}
-use Rattle.rp_base.specs.declared.record.Rec.{Rec}
-use Rattle.rp_base.specs.declared.reply.Answer.{Answer}
-use Rattle.rp_codec.specs.Message.{Message}
-use Rattle.rp_codec.specs.declared.packet.Party.TheVariants as parties
-use Rattle.rp_machine.specs.Replay.{one_to}
-use Rattle.rp_model.specs.Learner.{window_of}
-use Rattle.rp_model.specs.Parts.{NodePart, Running, TaskPart}
-use Rattle.rp_model.specs.World.{World, part_at}
-use Rattle.rp_output.specs.FaultMessage.{with_line_feed}
-use Rattle.rp_output.specs.Printed.{reply_text_of}
-use Rattle.rp_output.specs.Trace.{message_line_of, party_text_of}
+use Rattle.rp_world.specs.rp_base.specs.Ranges.{positions_of}
+use Rattle.rp_world.specs.rp_base.specs.Records.{bound_at, last_vote_at}
+use Rattle.rp_world.specs.rp_base.specs.declared.action.Action.{Action}
+use Rattle.rp_world.specs.rp_base.specs.declared.action.Action.TheVariants.{Call}
+use Rattle.rp_world.specs.rp_base.specs.declared.record.Rec.{Rec}
+use Rattle.rp_world.specs.rp_base.specs.declared.reply.Answer.{Answer}
+use Rattle.rp_world.specs.rp_codec.specs.Message.{Message}
+use Rattle.rp_world.specs.rp_codec.specs.declared.packet.Party.TheVariants as parties
+use Rattle.rp_world.specs.rp_machine.specs.Replay.{one_to}
+use Rattle.rp_world.specs.rp_model.specs.Learner.{window_of}
+use Rattle.rp_world.specs.rp_model.specs.Parts.{NodePart, Running, TaskPart}
+use Rattle.rp_world.specs.rp_model.specs.World.{World, part_at}
+use Rattle.rp_run.specs.rp_output.specs.FaultMessage.{with_line_feed}
+use Rattle.rp_run.specs.rp_output.specs.Printed.{reply_text_of}
+use Rattle.rp_run.specs.rp_output.specs.Trace.{message_line_of, party_text_of}
 use Rattle.rp_run.specs.Output.{RunSetting, part_text}
 use Rattle.rp_world.specs.Nodes.{stored_length}
 use Rattle.rp_details.specs.Fields.{action_words, asked_words, bound_words, fields_words}

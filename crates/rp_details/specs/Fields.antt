@@ -1,18 +1,22 @@
 -- The fields of a packet, in words.
 use Rattle.std.specs.Fmt.{signed_decimal}
 use Rattle.std.specs.Prelude.{ℕ, ℤ, ◌+◌, ◌-◌, Option, Some, None, List, ◌++◌, codes, decimal}
-use Rattle.rp_base.specs.Ranges.{Range}
-use Rattle.rp_base.specs.declared.action.Action.{Action}
-use Rattle.rp_base.specs.declared.action.Action.TheVariants as actions
-use Rattle.rp_base.specs.declared.action.Operation.{Operation}
-use Rattle.rp_base.specs.declared.action.Operation.TheVariants.{Function, Procedure, Entry, SetTimer}
-use Rattle.rp_base.specs.declared.action.Operation.TheVariants.{CancelTimer}
-use Rattle.rp_base.specs.declared.record.Vote.{Vote}
-use Rattle.rp_codec.specs.declared.packet.Body.{Body}
-use Rattle.rp_codec.specs.declared.packet.Body.TheVariants.{Call, Prepare, Promise, Accept}
-use Rattle.rp_codec.specs.declared.packet.Body.TheVariants.{Accepted, Decided, Ask, Nack, Reply}
-use Rattle.rp_codec.specs.declared.packet.Body.TheVariants.{Report, PrepareRange, PromiseRange}
-use Rattle.rp_output.specs.Printed.{reply_text_of}
+use Rattle.rp_world.specs.rp_base.specs.Ranges.{Range}
+use Rattle.rp_world.specs.rp_base.specs.declared.action.Action.{Action}
+use Rattle.rp_world.specs.rp_base.specs.declared.action.Action.TheVariants as actions
+use Rattle.rp_world.specs.rp_base.specs.declared.action.Operation.{Operation}
+use Rattle.rp_world.specs.rp_base.specs.declared.action.Operation.TheVariants.{Function, Procedure}
+use Rattle.rp_world.specs.rp_base.specs.declared.action.Operation.TheVariants.{Entry, SetTimer}
+use Rattle.rp_world.specs.rp_base.specs.declared.action.Operation.TheVariants.{CancelTimer}
+use Rattle.rp_world.specs.rp_base.specs.declared.record.Vote.{Vote}
+use Rattle.rp_world.specs.rp_codec.specs.declared.packet.Body.{Body}
+use Rattle.rp_world.specs.rp_codec.specs.declared.packet.Body.TheVariants.{Call, Prepare, Promise}
+use Rattle.rp_world.specs.rp_codec.specs.declared.packet.Body.TheVariants.{Accept}
+use Rattle.rp_world.specs.rp_codec.specs.declared.packet.Body.TheVariants.{Accepted, Decided, Ask}
+use Rattle.rp_world.specs.rp_codec.specs.declared.packet.Body.TheVariants.{Nack, Reply}
+use Rattle.rp_world.specs.rp_codec.specs.declared.packet.Body.TheVariants.{Report, PrepareRange}
+use Rattle.rp_world.specs.rp_codec.specs.declared.packet.Body.TheVariants.{PromiseRange}
+use Rattle.rp_run.specs.rp_output.specs.Printed.{reply_text_of}
 
 -- an operation of an object, by its kind and its index from 1
 abbrev pub operation_words : Operation → List ℕ

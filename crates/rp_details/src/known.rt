@@ -2,17 +2,17 @@
 
 ghost use Rattle.std.specs.Prelude.{◌≡◌, ◌++◌, OnOk, flat_map};
 ghost use Rattle.rp_details.specs.Details.{bound_line, known_lines, pending_line, window_lines};
-ghost use Rattle.rp_model.specs.World.{part_at};
-ghost use Rattle.rp_output.specs.FaultMessage.{with_line_feed};
+ghost use Rattle.rp_world.specs.rp_model.specs.World.{part_at};
+ghost use Rattle.rp_run.specs.rp_output.specs.FaultMessage.{with_line_feed};
 
 use crate::fields::{ActionWords, BoundWords};
 use crate::lines::add_line;
-use rp_base::{Action, NodeId, Position};
-use rp_machine::Machine;
-use rp_model::RightAction;
-use rp_server::Server;
-use rp_store::CutDevice;
 use rp_world::Cluster;
+use rp_world::rp_base::{Action, NodeId, Position};
+use rp_world::rp_machine::Machine;
+use rp_world::rp_model::RightAction;
+use rp_world::rp_server::Server;
+use rp_world::rp_store::CutDevice;
 use std::alloc::{AllocError, Global};
 
 /// Adds what a node knows, if it runs.

@@ -1,7 +1,7 @@
 //! One line more of a text.
 
 ghost use Rattle.std.specs.Prelude.{◌≡◌, ◌++◌, OnOk};
-ghost use Rattle.rp_output.specs.FaultMessage.{with_line_feed};
+ghost use Rattle.rp_run.specs.rp_output.specs.FaultMessage.{with_line_feed};
 
 use std::alloc::AllocError;
 

@@ -2,20 +2,20 @@
 
 ghost use Rattle.std.specs.Prelude.{◌≡◌, ◌++◌, OnOk};
 ghost use Rattle.rp_details.specs.Details.{device_lines, node_lines, nodes_lines};
-ghost use Rattle.rp_model.specs.World.{part_at};
-ghost use Rattle.rp_output.specs.Printed.{node_line_of};
-ghost use Rattle.rp_output.specs.FaultMessage.{with_line_feed};
+ghost use Rattle.rp_world.specs.rp_model.specs.World.{part_at};
+ghost use Rattle.rp_run.specs.rp_output.specs.Printed.{node_line_of};
+ghost use Rattle.rp_run.specs.rp_output.specs.FaultMessage.{with_line_feed};
 ghost use Rattle.rp_run.specs.Output.{part_text};
 ghost use Rattle.rp_run.specs.Runs.{run_setting};
 
 use crate::known::add_known;
 use crate::lines::add_line;
-use rp_base::{Fault, NodeId};
-use rp_machine::Machine;
-use rp_output::{NodeLine, NodeState};
 use rp_run::RunOptions;
-use rp_store::CutDevice;
+use rp_run::rp_output::{NodeLine, NodeState};
 use rp_world::Cluster;
+use rp_world::rp_base::{Fault, NodeId};
+use rp_world::rp_machine::Machine;
+use rp_world::rp_store::CutDevice;
 use std::alloc::{AllocError, Global};
 
 /// Adds every node's state.

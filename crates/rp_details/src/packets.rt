@@ -2,21 +2,21 @@
 
 ghost use Rattle.std.specs.Prelude.{◌≡◌, ◌-◌, ◌≤◌, ◌++◌, OnOk, drop};
 ghost use Rattle.rp_details.specs.Details.{delivered_lines, found_lines, packet_lines, packets_lines};
-ghost use Rattle.rp_model.specs.World.{part_at};
-ghost use Rattle.rp_output.specs.FaultMessage.{with_line_feed};
+ghost use Rattle.rp_world.specs.rp_model.specs.World.{part_at};
+ghost use Rattle.rp_run.specs.rp_output.specs.FaultMessage.{with_line_feed};
 ghost use Rattle.rp_run.specs.Output.{names_of};
 
 use crate::fields::FieldsWords;
 use crate::lines::add_line;
-use indexmap::IndexMap;
-use rp_base::Fault;
-use rp_codec::Packet;
-use rp_deck::Task;
-use rp_machine::Machine;
-use rp_output::{BodyText, TraceLine};
+use rp_run::indexmap::IndexMap;
+use rp_run::rp_deck::Task;
+use rp_run::rp_output::{BodyText, TraceLine};
 use rp_run::{party_text, sent_packet};
-use rp_store::CutDevice;
 use rp_world::Cluster;
+use rp_world::rp_base::Fault;
+use rp_world::rp_codec::Packet;
+use rp_world::rp_machine::Machine;
+use rp_world::rp_store::CutDevice;
 use std::alloc::{AllocError, Global};
 
 /// Adds the packet that is delivered, if one is.

@@ -1,24 +1,24 @@
 //! The state of each task.
 
 ghost use Rattle.std.specs.Prelude.{◌≡◌, ◌-◌, ◌++◌, Some, IfOk, OnOk, length, min, slice_get, string_bytes};
-ghost use Rattle.rp_codec.specs.declared.packet.Party.TheVariants as parties;
+ghost use Rattle.rp_world.specs.rp_codec.specs.declared.packet.Party.TheVariants as parties;
 ghost use Rattle.rp_details.specs.Details.{last_reply_words, task_lines, tasks_lines, waiting_words};
-ghost use Rattle.rp_model.specs.World.{part_at};
-ghost use Rattle.rp_output.specs.FaultMessage.{with_line_feed};
-ghost use Rattle.rp_output.specs.Trace.{party_text_of};
+ghost use Rattle.rp_world.specs.rp_model.specs.World.{part_at};
+ghost use Rattle.rp_run.specs.rp_output.specs.FaultMessage.{with_line_feed};
+ghost use Rattle.rp_run.specs.rp_output.specs.Trace.{party_text_of};
 ghost use Rattle.rp_run.specs.Output.{names_of};
 
 use crate::fields::AskedWords;
 use crate::lines::add_line;
-use indexmap::IndexMap;
-use rp_base::{Action, Answer, TaskId};
-use rp_codec::Party;
-use rp_deck::Task;
-use rp_machine::Machine;
-use rp_output::ReplyText;
+use rp_run::indexmap::IndexMap;
 use rp_run::party_text;
-use rp_store::CutDevice;
+use rp_run::rp_deck::Task;
+use rp_run::rp_output::ReplyText;
 use rp_world::Cluster;
+use rp_world::rp_base::{Action, Answer, TaskId};
+use rp_world::rp_codec::Party;
+use rp_world::rp_machine::Machine;
+use rp_world::rp_store::CutDevice;
 use std::alloc::{AllocError, Global};
 
 /// Adds the state of the first n tasks, 8 at most.

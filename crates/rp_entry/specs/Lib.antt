@@ -6,3 +6,4 @@ pub mod Actions
 pub mod Results
 pub mod Accounting
 pub mod Protected
+pub use Rattle.rp_body

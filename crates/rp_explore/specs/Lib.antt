@@ -5,3 +5,5 @@ pub mod Explored
 pub mod Searched
 pub mod Findings
 pub mod Broken
+pub use Rattle.rp_base
+pub use Rattle.rp_orders

@@ -1,5 +1,6 @@
 -- What a search has found so far.
-use Rattle.std.specs.Prelude.{◌≡◌, ◌⊎◌, ◌<◌, ◌≤◌, ◌+◌, ◌↔◌, ◌-◌, ℕ, Bool, false, Option, None, List, []}
+use Rattle.std.specs.Prelude.{◌≡◌, ◌⊎◌, ◌<◌, ◌≤◌, ◌+◌, ◌↔◌, ◌-◌, ℕ, Bool, false, Option, None, List}
+use Rattle.std.specs.Prelude.{[]}
 use Rattle.std.specs.Prelude.{◌∷◌, ◌++◌, length, slice_index_or, MatchOption, MatchBool, IsTrue}
 use Rattle.std.specs.Prelude.{map, take, if◌then◌else◌}
 use Rattle.rp_base.specs.Number.{IsTask}

@@ -1,7 +1,7 @@
 -- The actions of a plan are right.
 use Rattle.std.proofs.Common.{◌≡◌, ◌≤◌, ℕ, List, [], ◌∷◌, ◌++◌, ◌⊎◌, inl, inr, subst, sym, arith}
 use Rattle.std.specs.Prelude.{All, slice_index_or}
-use Rattle.indexmap.specs.IndexSet.{index_set_len}
+use Rattle.rp_words.specs.indexmap.specs.IndexSet.{index_set_len}
 use Rattle.rp_base.specs.Action.{IsRight}
 use Rattle.rp_base.specs.Sets.{Has}
 use Rattle.rp_base.specs.declared.action.Action.{Action}
@@ -13,7 +13,7 @@ use Rattle.rp_deck.specs.declared.deck.Command.TheVariants.{Take, Lose, Drain, S
 use Rattle.rp_deck.specs.declared.deck.Deck.{Deck}
 use Rattle.rp_explore_deck.specs.PlannedActions.{AsksRight, actions_of}
 use Rattle.rp_explore_deck.specs.declared.actions.PlannedAction.{PlannedAction}
-use Rattle.rp_model.specs.declared.event.Event.TheVariants.{Submit, Again, Node, Cut, Stop, Restart}
+use Rattle.rp_deck.specs.rp_model.specs.declared.event.Event.TheVariants.{Submit, Again, Node, Cut, Stop, Restart}
 use Rattle.rp_orders.specs.Orders.{AreRight}
 
 has_last : (planned : List PlannedAction) (p : PlannedAction) (a : Action) → Has a (actions_of (planned ++ p ∷ [])) → Has a (actions_of planned) ⊎ (a ≡ p.action)

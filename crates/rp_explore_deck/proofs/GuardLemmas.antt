@@ -17,8 +17,8 @@ use Rattle.rp_explore_deck.specs.GuardLines.{calls_above, guard_of, guards_of}
 use Rattle.rp_explore_deck.specs.PlannedActions.{is_call_of, calls_among, actions_of, action_asked, with_planned, with_line, planned_after, HasCall}
 use Rattle.rp_explore_deck.specs.declared.actions.PlannedAction.{PlannedAction}
 use Rattle.rp_explore_deck.specs.declared.guard_lines.GuardLine.{GuardLine}
-use Rattle.rp_machine.specs.Replay.{number_for}
-use Rattle.rp_model.specs.Events.{Submit, Makes, Interrupt, Tick}
+use Rattle.rp_orders.specs.rp_machine.specs.Replay.{number_for}
+use Rattle.rp_deck.specs.rp_model.specs.Events.{Submit, Makes, Interrupt, Tick}
 use Rattle.rp_orders.specs.declared.guard.Guard.{Guard}
 use Rattle.rp_words.specs.LineFaults.{BadLine}
 use Rattle.rp_words.specs.Reading.{◌>>=◌, unless}

@@ -1,5 +1,6 @@
 -- The actions that the script of a deck asks for.
-use Rattle.std.specs.Prelude.{◌≡◌, ℕ, ◌+◌, Bool, false, nat_eq, List, [], ◌∷◌, ◌++◌, length, filter, map}
+use Rattle.std.specs.Prelude.{◌≡◌, ℕ, ◌+◌, Bool, false, nat_eq, List, [], ◌∷◌, ◌++◌, length, filter}
+use Rattle.std.specs.Prelude.{map}
 use Rattle.std.specs.Prelude.{Option, Some, None, if◌then◌else◌}
 use Rattle.std.specs.List.{list_any}
 use Rattle.rp_base.specs.Action.{IsIndex, IsRightOperation, same_action}
@@ -8,8 +9,8 @@ use Rattle.rp_base.specs.declared.action.Action.{Action}
 use Rattle.rp_base.specs.declared.action.Action.TheVariants as actions
 use Rattle.rp_deck.specs.ScriptLines.{LineCommand, CommandText, Take}
 use Rattle.rp_explore_deck.specs.declared.actions.PlannedAction.{PlannedAction}
-use Rattle.rp_machine.specs.Replay.{number_for}
-use Rattle.rp_model.specs.Events.{Submit, Makes, Interrupt, Tick}
+use Rattle.rp_orders.specs.rp_machine.specs.Replay.{number_for}
+use Rattle.rp_deck.specs.rp_model.specs.Events.{Submit, Makes, Interrupt, Tick}
 
 -- the action is a call of the task
 abbrev pub is_call_of : ℕ → Action → Bool

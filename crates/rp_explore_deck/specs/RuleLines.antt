@@ -9,13 +9,14 @@ use Rattle.rp_base.specs.declared.fault.DeckReason.TheVariants.{UnknownWord, Unk
 use Rattle.rp_deck.specs.ScriptLines.{declared_at}
 use Rattle.rp_deck_declarations.specs.DeclaredTexts.{ProgramText, Objects}
 use Rattle.rp_deck_declarations.specs.ScriptNames.{DeclaredNames}
-use Rattle.rp_deck_objects.specs.Objects.{FunctionText, Value, Truth as IsTruth}
-use Rattle.rp_entry.specs.Operations.{of_index}
+use Rattle.rp_deck_declarations.specs.rp_deck_objects.specs.Objects.{FunctionText, Value}
+use Rattle.rp_deck_declarations.specs.rp_deck_objects.specs.Objects.{Truth as IsTruth}
+use Rattle.rp_deck_declarations.specs.rp_entry.specs.Operations.{of_index}
 use Rattle.rp_explore_deck.specs.AddedLines.{rule_named}
 use Rattle.rp_explore_deck.specs.declared.rules.RuleKind.{RuleKind}
 use Rattle.rp_explore_deck.specs.declared.rules.RuleKind.TheVariants as kinds
 use Rattle.rp_explore_deck.specs.declared.rules.Truth.{Truth}
-use Rattle.rp_object.specs.Program.{is_some_and}
+use Rattle.rp_deck_declarations.specs.rp_object.specs.Program.{is_some_and}
 use Rattle.rp_words.specs.Lines.{LineText}
 use Rattle.rp_words.specs.Reading.{◌>>=◌, some_or, unless, word_at, end_at, dotted_of}
 use Rattle.rp_words.specs.Tables.{place_of, find}

@@ -1,30 +1,30 @@
 //! Reads the rules of a deck: what has to hold in each state that its actions lead to.
 
 ghost use Rattle.std.specs.Prelude.{◌≡◌, ◌+◌, ◌^◌, ◌<◌, [], length, map, option_map, IfOk, IfErr};
-ghost use Rattle.indexmap.specs.IndexMap.{values};
+ghost use Rattle.rp_words.specs.indexmap.specs.IndexMap.{values};
 ghost use Rattle.rp_base.specs.Action.{IsIndex, IsRightOperation};
 ghost use Rattle.rp_deck.specs.Meaning.{texts_of};
 ghost use Rattle.rp_deck.specs.ScriptLines.{declared_at};
 ghost use Rattle.rp_deck_declarations.specs.Declarations.{IsComplete};
 ghost use Rattle.rp_deck_declarations.specs.DeclaredViews.{names_of, program_text};
-ghost use Rattle.rp_deck_objects.specs.ObjectViews.{function_text, operation_of};
-ghost use Rattle.rp_entry.specs.Operations.{of_index};
+ghost use Rattle.rp_deck_declarations.specs.rp_deck_objects.specs.ObjectViews.{function_text, operation_of};
+ghost use Rattle.rp_deck_declarations.specs.rp_entry.specs.Operations.{of_index};
 ghost use Rattle.rp_explore_deck.specs.AddedLines.{rule_named, read_lines};
 ghost use Rattle.rp_explore_deck.specs.RuleLines.{is_truth, has_truth, truth_of, truth_at, truths_at, most_truths, is_free, free_at, truths_from, rule_line};
 ghost use Rattle.rp_explore_deck.specs.RuleViews.{rule_text, placed_rule_text};
-ghost use Rattle.rp_object.specs.Program.{is_some_and};
+ghost use Rattle.rp_deck_declarations.specs.rp_object.specs.Program.{is_some_and};
 ghost use Rattle.rp_words.specs.Ahead.{text_of};
 ghost use Rattle.rp_words.specs.LineFaults.{IsDeckFault, Reads};
 ghost use Rattle.rp_words.specs.Reading.{Gives, Makes};
 ghost use Rattle.rp_words.specs.Tables.{find, key_names};
 ghost use Rattle.rp_words.specs.Words.{unread};
 
-use indexmap::IndexSet;
 use rp_base::{DeckReason, Fault, Operation, TaskId};
 use rp_deck::DeckProgram;
 use rp_deck_declarations::Declared;
-use rp_deck_objects::{OperationName, OperationNames};
-use rp_entry::{Function, of_index};
+use rp_deck_declarations::rp_deck_objects::{OperationName, OperationNames};
+use rp_deck_declarations::rp_entry::{Function, of_index};
+use rp_words::indexmap::IndexSet;
 use rp_words::{
     LineError, Lines, TextLine, Words, is_word, map_index_of, named, read_dotted, set_index_of,
 };

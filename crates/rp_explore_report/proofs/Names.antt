@@ -3,7 +3,7 @@ use Rattle.std.proofs.Common.{◌≡◌, ℕ, zero, suc, ◌-◌, ◌≤◌, Opt
 use Rattle.std.specs.Prelude.{slice_get, String, string_bytes}
 use Rattle.std.specs.Option.{option_map}
 use Rattle.std.proofs.lemmas.Option.{slice_get-map}
-use Rattle.rp_model.specs.World.{part_at}
+use Rattle.rp_output.specs.rp_model.specs.World.{part_at}
 
 module _ {Y X : Type 0} (entries : List (String Y × X)) where
   name_of_entry : (place : ℕ) → slice_get (map string_bytes (map (λ (e : String Y × X). e.0) entries)) place ≡ option_map string_bytes (option_map (λ (e : String Y × X). e.0) (slice_get entries place))

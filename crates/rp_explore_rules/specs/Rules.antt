@@ -1,11 +1,11 @@
 -- What the functions of a rule say of a state.
 use Rattle.std.specs.Prelude.{ℕ, Bool, false, IsTrue, List}
 use Rattle.std.specs.List.{list_all}
-use Rattle.rp_base.specs.declared.action.Operation.{Operation}
-use Rattle.rp_base.specs.declared.action.Operation.TheVariants.{Function}
+use Rattle.rp_explore.specs.rp_base.specs.declared.action.Operation.{Operation}
+use Rattle.rp_explore.specs.rp_base.specs.declared.action.Operation.TheVariants.{Function}
 use Rattle.rp_explore_deck.specs.declared.rules.Truth.{Truth}
-use Rattle.rp_object.specs.State.{Running}
-use Rattle.rp_object.specs.Truths.{is_true}
+use Rattle.rp_explore_deck.specs.rp_object.specs.State.{Running}
+use Rattle.rp_explore_deck.specs.rp_object.specs.Truths.{is_true}
 
 -- the operation of an object is a function that is true in the state
 abbrev pub is_true_at : Running → ℕ → Operation → Bool

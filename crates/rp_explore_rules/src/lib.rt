@@ -7,3 +7,4 @@
 mod demands;
 
 pub use demands::{AreNotAllTrue, AreTrue};
+pub use rp_explore_deck;

@@ -1,11 +1,11 @@
 -- The faults of a search over a deck.
 use Rattle.std.proofs.Common.{◌≡◌, ℕ, Option, List, Result, Ok, Err, inr, sym, subst}
 use Rattle.std.specs.Prelude.{IfErr, IsErrAnd}
-use Rattle.rp_base.specs.declared.fault.Fault.{Fault}
-use Rattle.rp_base.specs.declared.fault.Fault.TheVariants.{OutOfMemory, Device, Failed, BadPacket, NotRunning, BallotsSpent, LogFull, NoSuchMessage, TaskBusy, NumbersSpent, BadDeck, BadConfig, Io}
+use Rattle.rp_script.specs.rp_base.specs.declared.fault.Fault.{Fault}
+use Rattle.rp_script.specs.rp_base.specs.declared.fault.Fault.TheVariants.{OutOfMemory, Device, Failed, BadPacket, NotRunning, BallotsSpent, LogFull, NoSuchMessage, TaskBusy, NumbersSpent, BadDeck, BadConfig, Io}
 use Rattle.rp_explore_run.specs.Explores.{FailsExplore, IsPlanMeant}
-use Rattle.rp_output.specs.Faults.{IsRunFault}
-use Rattle.rp_output.specs.Stream.{IsWriteFault}
+use Rattle.rp_script.specs.rp_output.specs.Faults.{IsRunFault}
+use Rattle.rp_script.specs.rp_output.specs.Stream.{IsWriteFault}
 use Rattle.rp_script.specs.Faults.{IsBadDeck}
 
 -- a fault of a run says nothing of the deck, and is no bad deck

@@ -2,10 +2,10 @@
 use Rattle.std.proofs.Common.{◌≡◌, ℕ, ◌+◌, ◌<◌, List, [], ◌∷◌, ◌++◌, get_or, length, max, take, arith, sym, ap, ◌∙◌}
 use Rattle.std.proofs.lemmas.List.{take_more}
 use Rattle.std.proofs.lemmas.List.Elements.{filter_map-append}
-use Rattle.rp_base.specs.Number.{greatest}
-use Rattle.rp_base.specs.declared.action.Action.{Action}
-use Rattle.rp_machine.specs.Asked.{last_number}
-use Rattle.rp_machine.specs.Replay.{number_for, numbers_of}
+use Rattle.rp_script.specs.rp_base.specs.Number.{greatest}
+use Rattle.rp_script.specs.rp_base.specs.declared.action.Action.{Action}
+use Rattle.rp_script.specs.rp_machine.specs.Asked.{last_number}
+use Rattle.rp_script.specs.rp_machine.specs.Replay.{number_for, numbers_of}
 
 greatest_append : (xs ys : List ℕ) → greatest (xs ++ ys) ≡ max (greatest xs) (greatest ys)
 greatest_append [] ys = omega arith

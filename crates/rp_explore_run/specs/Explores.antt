@@ -5,23 +5,24 @@ use Rattle.std.specs.Prelude.{IsTrue, MatchOption, ◌↔◌}
 use Rattle.std.specs.Arc.{arc_value}
 use Rattle.std.specs.Io.KnownBytes.{Appends}
 use Rattle.std.specs.List.{AllZip}
-use Rattle.rp_base.specs.Number.{IsTask}
-use Rattle.rp_base.specs.Sets.{Has, IsSet}
-use Rattle.rp_base.specs.declared.action.Action.{Action}
-use Rattle.rp_base.specs.declared.fault.Fault.{Fault}
-use Rattle.rp_base.specs.declared.fault.Fault.TheVariants.{BadDeck}
-use Rattle.rp_base.specs.declared.reply.Answer.{Answer}
-use Rattle.rp_deck.specs.Deck.{IsRightDeck}
-use Rattle.rp_deck.specs.declared.deck.Line.{Line}
-use Rattle.rp_deck_declarations.specs.declared.deck_program.DeckProgram.{DeckProgram}
-use Rattle.rp_deck_declarations.specs.declared.deck_program.DeckProgram.TheVariants.{Tally, Objects}
+use Rattle.rp_script.specs.rp_base.specs.Number.{IsTask}
+use Rattle.rp_script.specs.rp_base.specs.Sets.{Has, IsSet}
+use Rattle.rp_script.specs.rp_base.specs.declared.action.Action.{Action}
+use Rattle.rp_script.specs.rp_base.specs.declared.fault.Fault.{Fault}
+use Rattle.rp_script.specs.rp_base.specs.declared.fault.Fault.TheVariants.{BadDeck}
+use Rattle.rp_script.specs.rp_base.specs.declared.reply.Answer.{Answer}
+use Rattle.rp_script.specs.rp_deck.specs.Deck.{IsRightDeck}
+use Rattle.rp_script.specs.rp_deck.specs.declared.deck.Line.{Line}
+use Rattle.rp_script.specs.rp_deck_declarations.specs.declared.deck_program.DeckProgram.{DeckProgram}
+use Rattle.rp_script.specs.rp_deck_declarations.specs.declared.deck_program.DeckProgram.TheVariants.{Tally}
+use Rattle.rp_script.specs.rp_deck_declarations.specs.declared.deck_program.DeckProgram.TheVariants.{Objects}
 use Rattle.rp_explore.specs.Explored.{Exploration, IsFirstGiver, IsFirstStuck, IsNeverStuck}
 use Rattle.rp_explore.specs.Explored.{greatest_length}
 use Rattle.rp_explore.specs.Listed.{AreDistinct, order_at}
 use Rattle.rp_explore.specs.declared.giver.Giver.{Giver}
-use Rattle.rp_explore_deck.specs.Plans.{plan_of, plan_text}
-use Rattle.rp_explore_deck.specs.declared.plan.Plan.{Plan}
-use Rattle.rp_explore_deck.specs.declared.rules.Rule.{Rule}
+use Rattle.rp_explore_rules.specs.rp_explore_deck.specs.Plans.{plan_of, plan_text}
+use Rattle.rp_explore_rules.specs.rp_explore_deck.specs.declared.plan.Plan.{Plan}
+use Rattle.rp_explore_rules.specs.rp_explore_deck.specs.declared.rules.Rule.{Rule}
 use Rattle.rp_explore_run.specs.Answers.{ExploredDeck, IsAnswer}
 use Rattle.rp_explore_run.specs.Judging.{IsJudged, keeps, no_truths}
 use Rattle.rp_explore_run.specs.declared.answer.ExploreRequest.{ExploreRequest}
@@ -29,15 +30,15 @@ use Rattle.rp_explore_run.specs.declared.answer.Printed.{Printed}
 use Rattle.rp_explore_run.specs.declared.answer.Verdict.{Verdict}
 use Rattle.rp_explore_run.specs.declared.explore.Asked.{Asked}
 use Rattle.rp_explore_run.specs.declared.findings.Judged.{Judged}
-use Rattle.rp_machine.specs.TallyRule.{tally_answers, tally_image, tally_next}
-use Rattle.rp_object.specs.Image.{objects_image}
-use Rattle.rp_object.specs.State.{first_state}
-use Rattle.rp_object.specs.Step.{objects_answers, objects_next}
+use Rattle.rp_script.specs.rp_machine.specs.TallyRule.{tally_answers, tally_image, tally_next}
+use Rattle.rp_script.specs.rp_object.specs.Image.{objects_image}
+use Rattle.rp_script.specs.rp_object.specs.State.{first_state}
+use Rattle.rp_script.specs.rp_object.specs.Step.{objects_answers, objects_next}
 use Rattle.rp_order_deck.specs.Wanted.{text_lines}
-use Rattle.rp_orders.specs.Orders.{AreClosed, IsFinal, IsGiven}
-use Rattle.rp_orders.specs.declared.guard.Guard.{Guard}
-use Rattle.rp_output.specs.Stream.{Begins}
-use Rattle.rp_run.specs.Output.{names_of}
+use Rattle.rp_explore.specs.rp_orders.specs.Orders.{AreClosed, IsFinal, IsGiven}
+use Rattle.rp_explore.specs.rp_orders.specs.declared.guard.Guard.{Guard}
+use Rattle.rp_script.specs.rp_output.specs.Stream.{Begins}
+use Rattle.rp_script.specs.rp_run.specs.Output.{names_of}
 use Rattle.rp_script.specs.Faults.{IsBadDeck, IsProgramFault}
 use Rattle.rp_script.specs.Given.{AreGiven}
 

@@ -1,7 +1,7 @@
 -- What a search and its rules have to report.
 use Rattle.std.specs.Prelude.{◌≡◌, ℕ, ◌-◌, Option, Some, None, List, [], ◌∷◌, ◌++◌, flat_map}
 use Rattle.std.specs.Prelude.{length, map, slice_index_or}
-use Rattle.rp_base.specs.declared.reply.Answer.{Answer}
+use Rattle.rp_script.specs.rp_base.specs.declared.reply.Answer.{Answer}
 use Rattle.rp_explore.specs.Explored.{Exploration}
 use Rattle.rp_explore.specs.Listed.{order_at}
 use Rattle.rp_explore.specs.declared.giver.Giver.{Giver}
@@ -10,8 +10,8 @@ use Rattle.rp_explore_report.specs.declared.lines.Outcome.TheVariants.{Reply, Wa
 use Rattle.rp_explore_report.specs.declared.report.Report.{Report}
 use Rattle.rp_explore_run.specs.declared.findings.Found.{Found}
 use Rattle.rp_explore_run.specs.declared.findings.Judged.{Judged}
-use Rattle.rp_machine.specs.Asked.{last_number}
-use Rattle.rp_machine.specs.Replay.{one_to}
+use Rattle.rp_script.specs.rp_machine.specs.Asked.{last_number}
+use Rattle.rp_script.specs.rp_machine.specs.Replay.{one_to}
 
 -- the outcome after the order at this place
 abbrev pub found_at : Outcome → ℕ → Found

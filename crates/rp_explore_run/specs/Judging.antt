@@ -1,16 +1,19 @@
 -- Whether the states that a search found keep the rules of a deck.
 use Rattle.std.specs.Prelude.{◌≡◌, ◌-◌, ℕ, Option, None, Bool, true, false, List}
 use Rattle.std.specs.Prelude.{slice_index_or, MatchOption}
-use Rattle.rp_base.specs.declared.action.Action.{Action}
-use Rattle.rp_base.specs.declared.reply.Answer.{Answer}
+use Rattle.rp_script.specs.rp_base.specs.declared.action.Action.{Action}
+use Rattle.rp_script.specs.rp_base.specs.declared.reply.Answer.{Answer}
 use Rattle.rp_explore.specs.Explored.{Exploration}
 use Rattle.rp_explore.specs.Broken.{IsFirstBroken, IsNeverBroken, state_at}
-use Rattle.rp_explore_deck.specs.declared.rules.PlacedRule.{PlacedRule}
-use Rattle.rp_explore_deck.specs.declared.rules.Rule.{Rule}
-use Rattle.rp_explore_deck.specs.declared.rules.Rule.TheVariants.{Never, Always, Finally, Free}
+use Rattle.rp_explore_rules.specs.rp_explore_deck.specs.declared.rules.PlacedRule.{PlacedRule}
+use Rattle.rp_explore_rules.specs.rp_explore_deck.specs.declared.rules.Rule.{Rule}
+use Rattle.rp_explore_rules.specs.rp_explore_deck.specs.declared.rules.Rule.TheVariants.{Never}
+use Rattle.rp_explore_rules.specs.rp_explore_deck.specs.declared.rules.Rule.TheVariants.{Always}
+use Rattle.rp_explore_rules.specs.rp_explore_deck.specs.declared.rules.Rule.TheVariants.{Finally}
+use Rattle.rp_explore_rules.specs.rp_explore_deck.specs.declared.rules.Rule.TheVariants.{Free}
 use Rattle.rp_explore_rules.specs.Rules.{AreNotAllTrueIn, AreTrueIn}
 use Rattle.rp_explore_run.specs.declared.findings.Judged.{Judged}
-use Rattle.rp_object.specs.State.{Running}
+use Rattle.rp_script.specs.rp_object.specs.State.{Running}
 
 -- the state keeps the rule; that a task is free is not asked of a state alone
 abbrev pub keeps : Rule → Running → Type 0

@@ -3,16 +3,16 @@
 ghost use Rattle.std.specs.Prelude.{◌≡◌, IfOk};
 ghost use Rattle.std.specs.List.{AllZip};
 ghost use Rattle.std.specs.Arc.{arc_value};
-ghost use Rattle.rp_object.specs.State.{first_state};
-ghost use Rattle.rp_object.specs.Step.{objects_answers, objects_next};
+ghost use Rattle.rp_script.specs.rp_object.specs.State.{first_state};
+ghost use Rattle.rp_script.specs.rp_object.specs.Step.{objects_answers, objects_next};
 ghost use Rattle.rp_explore_run.specs.Judging.{IsJudged, IsJudgedBy, free_broken_by, keeps, no_truths};
 
 use crate::findings::Judged;
 use rp_explore::{Explored, first_broken};
-use rp_explore_deck::{PlacedRule, Rule};
+use rp_explore_rules::rp_explore_deck::{PlacedRule, Rule};
 use rp_explore_rules::{AreNotAllTrue, AreTrue};
-use rp_machine::Machine;
-use rp_object::{Objects, Program};
+use rp_script::rp_machine::Machine;
+use rp_script::rp_object::{Objects, Program};
 use std::alloc::{AllocError, Global};
 
 /// Judges the rules of a deck of protected objects.

@@ -1,14 +1,14 @@
 -- What a handle keeps after it is opened, and the answer to a call by it.
 use Rattle.std.specs.Prelude.{◌≡◌, ◌==◌, if◌then◌else◌, ℕ, Option, Some, None, Result, List}
 use Rattle.std.specs.Prelude.{length}
-use Rattle.rp_base.specs.declared.fault.Fault.TheVariants as faults
-use Rattle.rp_base.specs.Number.{IsTask}
-use Rattle.rp_object.specs.State.{Running}
-use Rattle.rp_object.specs.Step.{objects_next, objects_answers}
-use Rattle.rp_object.specs.Image.{objects_image}
-use Rattle.rp_patience.specs.Advice.{advice_after, patience_after}
-use Rattle.rp_patience.specs.declared.advice.Advice.{Advice}
-use Rattle.rp_patience.specs.declared.patience.Patience.{Patience}
+use Rattle.rp_requests.specs.rp_base.specs.declared.fault.Fault.TheVariants as faults
+use Rattle.rp_requests.specs.rp_base.specs.Number.{IsTask}
+use Rattle.rp_next_deck.specs.rp_object.specs.State.{Running}
+use Rattle.rp_next_deck.specs.rp_object.specs.Step.{objects_next, objects_answers}
+use Rattle.rp_next_deck.specs.rp_object.specs.Image.{objects_image}
+use Rattle.rp_requests.specs.rp_patience.specs.Advice.{advice_after, patience_after}
+use Rattle.rp_requests.specs.rp_patience.specs.declared.advice.Advice.{Advice}
+use Rattle.rp_requests.specs.rp_patience.specs.declared.patience.Patience.{Patience}
 use Rattle.rp_requests.specs.Advising.{situation_of}
 use Rattle.rp_requests.specs.Buffers.{with_front}
 use Rattle.rp_requests.specs.declared.buffer.Lengths.{Lengths}
@@ -18,7 +18,7 @@ use Rattle.rp_requests.specs.Nodes.{RequestAnswers, NodeState}
 use Rattle.rp_requests.specs.Requests.{asked_of}
 use Rattle.rp_requests.specs.TaskRequests.{task_asked_of}
 use Rattle.rp_requests.specs.Tasks.{TaskAnswers}
-use Rattle.rp_tasks.specs.Calls.{Calls, no_calls, task_after}
+use Rattle.rp_requests.specs.rp_tasks.specs.Calls.{Calls, no_calls, task_after}
 use Rattle.rp_handles.specs.DeckNodes.{OpensNode}
 use Rattle.rp_handles.specs.declared.actor.Actor.{Actor}
 use Rattle.rp_handles.specs.declared.actor.Actor.TheVariants.{Node, Task}

@@ -1,7 +1,7 @@
 //! Opens, calls and closes an actor by its handle.
 
 ghost use Rattle.std.specs.Prelude.{◌≡◌, ◌<◌, ◌+◌, ◌^◌, ◌∷◌, drop, length, Some, None, IfOk, IfErr, OnOk, OnErr};
-ghost use Rattle.rp_base.specs.declared.fault.Fault.TheVariants as faults;
+ghost use Rattle.rp_requests.specs.rp_base.specs.declared.fault.Fault.TheVariants as faults;
 ghost use Rattle.rp_requests.specs.Tails.{tail_of};
 ghost use Rattle.rp_requests.specs.declared.refusal.Refusal.TheVariants as refusals;
 ghost use Rattle.rp_handles.specs.DeckNodes.{OpensNoNode};
@@ -10,8 +10,8 @@ ghost use Rattle.rp_handles.specs.Handles.{HandleAdvises, HandleAnswers, HandleS
 use crate::actor::{Actor, ActorKind, LastStep};
 use crate::deck_nodes::node_of_deck;
 use crate::handle::{Handle, closed, into_box, of};
-use rp_base::Fault;
-use rp_patience::{Advice, Patience};
+use rp_requests::rp_base::Fault;
+use rp_requests::rp_patience::{Advice, Patience};
 use rp_requests::{Lengths, Refusal, Tail, Task};
 use std::alloc::Global;
 use std::mem::replace;

@@ -2,8 +2,8 @@
 use Rattle.std.proofs.Common.{◌≡◌, ◌∙◌, ℕ, zero, suc, ◌+◌, ◌≤◌, ◌^◌, Bool, true, false, Option, Some, None, Result, Ok, Err, OnOk, List, [], ◌∷◌, ◌++◌, length, map, drop, arith, refl, sym, ap, subst}
 use Rattle.std.proofs.lemmas.List.{map-append, length-map, length-drop}
 use Rattle.std.proofs.lemmas.Option.{slice_get_within}
-use Rattle.rp_base.specs.declared.fault.Fault.{Fault}
-use Rattle.rp_codec.specs.Message.{Message}
+use Rattle.rp_model.specs.rp_base.specs.declared.fault.Fault.{Fault}
+use Rattle.rp_model.specs.rp_codec.specs.Message.{Message}
 use Rattle.rp_drawing.specs.Ways.{AddsMoment, AreDown, AreWays, IsEndingWithin, row_of}
 use Rattle.rp_drawing.specs.declared.sketch.Ending.{Ending}
 use Rattle.rp_drawing.specs.declared.sketch.Label.{Label}

@@ -3,9 +3,9 @@
 use Rattle.std.specs.Prelude.{◌≡◌, ℕ, suc, ◌+◌, ◌^◌, ◌≤◌, ◌&&◌, Bool, Option, Some, None, List}
 use Rattle.std.specs.Prelude.{[], ◌∷◌, length, map, drop, if◌then◌else◌, not, nat_lt, true, false}
 use Rattle.std.specs.Prelude.{string_bytes}
-use Rattle.rp_codec.specs.Message.{Message}
-use Rattle.rp_codec.specs.declared.packet.Party.{Party}
-use Rattle.rp_codec.specs.declared.packet.Party.TheVariants.{Node, Task, Audit}
+use Rattle.rp_model.specs.rp_codec.specs.Message.{Message}
+use Rattle.rp_model.specs.rp_codec.specs.declared.packet.Party.{Party}
+use Rattle.rp_model.specs.rp_codec.specs.declared.packet.Party.TheVariants.{Node, Task, Audit}
 use Rattle.rp_drawing.specs.Drawings.{IsDrawnBy, page_text}
 use Rattle.rp_drawing.specs.Ways.{AddsMoment, AreDown, AreWays}
 use Rattle.rp_drawing.specs.declared.drawing.Lane.{Lane}

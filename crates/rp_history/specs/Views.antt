@@ -3,15 +3,18 @@
 use Rattle.std.specs.Prelude.{ℕ, ◌+◌, ◌-◌, ◌%◌, Bool, true, false, ◌&&◌, ◌||◌, nat_eq}
 use Rattle.std.specs.Prelude.{nat_le, nat_lt, if◌then◌else◌, is_some, Option, Some, None, Vec}
 use Rattle.std.specs.declared.alloc.Global.{Global}
-use Rattle.rp_base.specs.Ballot.{owner_of, round_of}
-use Rattle.rp_base.specs.Ranges.{is_covered}
-use Rattle.rp_codec.specs.Message.{Message}
-use Rattle.rp_codec.specs.declared.packet.Body.{Body}
-use Rattle.rp_codec.specs.declared.packet.Body.TheVariants.{Call, Prepare, Promise, Accept}
-use Rattle.rp_codec.specs.declared.packet.Body.TheVariants.{Accepted, Decided, Ask, Nack, Reply}
-use Rattle.rp_codec.specs.declared.packet.Body.TheVariants.{Report, PrepareRange, PromiseRange}
-use Rattle.rp_codec.specs.declared.packet.Party.{Party}
-use Rattle.rp_codec.specs.declared.packet.Party.TheVariants.{Node, Task, Audit}
+use Rattle.rp_model.specs.rp_base.specs.Ballot.{owner_of, round_of}
+use Rattle.rp_model.specs.rp_base.specs.Ranges.{is_covered}
+use Rattle.rp_model.specs.rp_codec.specs.Message.{Message}
+use Rattle.rp_model.specs.rp_codec.specs.declared.packet.Body.{Body}
+use Rattle.rp_model.specs.rp_codec.specs.declared.packet.Body.TheVariants.{Call, Prepare, Promise}
+use Rattle.rp_model.specs.rp_codec.specs.declared.packet.Body.TheVariants.{Accept}
+use Rattle.rp_model.specs.rp_codec.specs.declared.packet.Body.TheVariants.{Accepted, Decided, Ask}
+use Rattle.rp_model.specs.rp_codec.specs.declared.packet.Body.TheVariants.{Nack, Reply}
+use Rattle.rp_model.specs.rp_codec.specs.declared.packet.Body.TheVariants.{Report, PrepareRange}
+use Rattle.rp_model.specs.rp_codec.specs.declared.packet.Body.TheVariants.{PromiseRange}
+use Rattle.rp_model.specs.rp_codec.specs.declared.packet.Party.{Party}
+use Rattle.rp_model.specs.rp_codec.specs.declared.packet.Party.TheVariants.{Node, Task, Audit}
 use Rattle.rp_drawing.specs.declared.sketch.Kind.{Kind}
 use Rattle.rp_drawing.specs.declared.sketch.Kind.TheVariants as kinds
 use Rattle.rp_drawing.specs.declared.sketch.Label.{Label}

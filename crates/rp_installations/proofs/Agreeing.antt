@@ -4,7 +4,7 @@ use Rattle.std.specs.Prelude.{unwrap_or, is_some}
 use Rattle.std.proofs.lemmas.Bool.{cases_eq}
 use Rattle.std.proofs.lemmas.List.{append-nil}
 use Rattle.rp_base.specs.Records.{applied_of}
-use Rattle.rp_machine.specs.Replay.{replay_state}
+use Rattle.rp_model.specs.rp_machine.specs.Replay.{replay_state}
 use Rattle.rp_model.specs.Effect.{Setting}
 use Rattle.rp_model.specs.Events.{Event}
 use Rattle.rp_model.specs.Parts.{NodePart}
@@ -13,7 +13,7 @@ use Rattle.rp_agreement.specs.History.{IsHistory, AreMoments}
 use Rattle.rp_agreement.specs.Order.{AreAlike}
 use Rattle.rp_agreement.specs.Ranges.{IsRangedWorld}
 use Rattle.rp_world.specs.Agreeing.{Agree}
-use Rattle.rp_replica.specs.State.{part_of}
+use Rattle.rp_world.specs.rp_replica.specs.State.{part_of}
 use Rattle.rp_requests.specs.Nodes.{NodeState, image_of}
 use Rattle.rp_pending.specs.Pending.{AreSteps, after_steps, bytes_of}
 use Rattle.rp_pending.proofs.Stepping.{made}

@@ -7,9 +7,9 @@ use Rattle.rp_base.specs.Config.{IsRightConfig}
 use Rattle.rp_base.specs.Number.{IsTask}
 use Rattle.rp_base.specs.Sets.{Has}
 use Rattle.rp_base.proofs.Members.{has_split}
-use Rattle.rp_codec.specs.Message.{Message}
-use Rattle.rp_codec.specs.Text.{text_of}
-use Rattle.rp_store.proofs.Whole.{are_alone}
+use Rattle.rp_model.specs.rp_codec.specs.Message.{Message}
+use Rattle.rp_model.specs.rp_codec.specs.Text.{text_of}
+use Rattle.rp_world.specs.rp_store.proofs.Whole.{are_alone}
 use Rattle.rp_model.specs.Effect.{Setting}
 use Rattle.rp_model.specs.Events.{Event}
 use Rattle.rp_model.specs.Parts.{NodePart, TaskPart, fresh_node, fresh_task}

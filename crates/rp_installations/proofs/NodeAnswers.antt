@@ -6,8 +6,8 @@ use Rattle.rp_base.specs.declared.fault.Fault.{Fault}
 use Rattle.rp_base.specs.declared.reply.Answer.{Answer}
 use Rattle.rp_model.specs.Effect.{Setting, NodeInput, running_effect, node_effect, turn_done, turn_done_if}
 use Rattle.rp_model.specs.Parts.{Turn}
-use Rattle.rp_replica.specs.Inputs.{effect_if_given}
-use Rattle.rp_replica.specs.State.{part_of}
+use Rattle.rp_world.specs.rp_replica.specs.Inputs.{effect_if_given}
+use Rattle.rp_world.specs.rp_replica.specs.State.{part_of}
 use Rattle.rp_requests.specs.Nodes.{NodeState, RequestAnswers, StepPut, after_step}
 use Rattle.rp_requests.specs.Buffers.{IsPutInFront}
 use Rattle.rp_requests.specs.Requests.{Asked, Step, Applied, Image, LastAnswer, Left, Pending, Counted}

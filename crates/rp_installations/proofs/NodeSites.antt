@@ -5,10 +5,10 @@ use Rattle.std.proofs.lemmas.List.{append-nil, append_cancel_left}
 use Rattle.rp_base.specs.Sets.{Has}
 use Rattle.rp_base.proofs.Members.{has_split, has_left, has_right}
 use Rattle.rp_base.specs.declared.record.Rec.{Rec}
-use Rattle.rp_codec.specs.Message.{Message, IsPacket}
-use Rattle.rp_codec.specs.Text.{text_of}
-use Rattle.rp_store.specs.Records.{AreTextsOf, AreRecordsOf}
-use Rattle.rp_store.proofs.Whole.{same_reading, alone}
+use Rattle.rp_model.specs.rp_codec.specs.Message.{Message, IsPacket}
+use Rattle.rp_model.specs.rp_codec.specs.Text.{text_of}
+use Rattle.rp_world.specs.rp_store.specs.Records.{AreTextsOf, AreRecordsOf}
+use Rattle.rp_world.specs.rp_store.proofs.Whole.{same_reading, alone}
 use Rattle.rp_model.specs.Effect.{Setting, NodeInput, stops_while, stop_part, restart_part, goes_on_as, turn_done, node_effect}
 use Rattle.rp_model.specs.Events.{Event, Stop, Restart}
 use Rattle.rp_model.specs.Parts.{NodePart, Running, Turn, fresh_running, is_in_log, records_in_log}
@@ -18,8 +18,8 @@ use Rattle.rp_agreement.specs.Order.{AllSent}
 use Rattle.rp_agreement.specs.Ranges.{IsRangedWorld}
 use Rattle.rp_agreement.proofs.LogKeeping.{history_in_log}
 use Rattle.rp_agreement.proofs.PartPlaces.{part_has}
-use Rattle.rp_outbox.specs.Packets.{texts_of}
-use Rattle.rp_replica.specs.State.{ReplicaState, part_of}
+use Rattle.rp_world.specs.rp_outbox.specs.Packets.{texts_of}
+use Rattle.rp_world.specs.rp_replica.specs.State.{ReplicaState, part_of}
 use Rattle.rp_requests.specs.Nodes.{NodeState, after_step}
 use Rattle.rp_pending.specs.Pending.{noted_by, noted_in, PendingStep, MayCome, AreSteps, after_steps, bytes_of, bytes_written}
 use Rattle.rp_base.specs.declared.action.Action.{Action}

@@ -8,7 +8,7 @@ use Rattle.rp_base.specs.declared.config.Config.{Config}
 use Rattle.rp_base.specs.declared.action.Action.{Action}
 use Rattle.rp_base.specs.declared.reply.Answer.{Answer}
 use Rattle.rp_model.specs.World.{part_at, with_part}
-use Rattle.rp_replica.specs.State.{ReplicaState}
+use Rattle.rp_world.specs.rp_replica.specs.State.{ReplicaState}
 use Rattle.rp_requests.specs.Nodes.{NodeState}
 use Rattle.rp_requests.specs.Requests.{Asked, asked_of}
 use Rattle.rp_installations.specs.Moves.{Move, NodeMove, OpensSite, AsksSite, OpensFrom, AnswersBy, MachineMoves, noted_if, is_step_made, with_step, site_answered}

@@ -11,7 +11,7 @@ use Rattle.rp_agreement.proofs.Lists.{has_get}
 use Rattle.rp_agreement.specs.Noted.{IsNoted}
 use Rattle.rp_model.specs.Facts.{IsDecided}
 use Rattle.rp_model.specs.Events as happenings
-use Rattle.rp_codec.specs.Text.{reply_text}
+use Rattle.rp_model.specs.rp_codec.specs.Text.{reply_text}
 use Rattle.rp_model.specs.Effect.{Setting}
 use Rattle.rp_model.specs.Events.{Event, Makes}
 use Rattle.rp_model.specs.Parts.{NodePart, TaskPart}
@@ -20,7 +20,7 @@ use Rattle.rp_agreement.specs.History.{IsHistory}
 use Rattle.rp_agreement.specs.Ranges.{IsRangedWorld}
 use Rattle.rp_agreement.proofs.PartPlaces.{part_below}
 use Rattle.rp_world.specs.Agreeing.{IsOrdered}
-use Rattle.rp_replica.specs.State.{part_of}
+use Rattle.rp_world.specs.rp_replica.specs.State.{part_of}
 use Rattle.rp_requests.specs.Nodes.{NodeState}
 use Rattle.rp_pending.specs.Pending.{AreSteps, after_steps}
 use Rattle.rp_pending.proofs.Stepping.{made}

@@ -6,12 +6,12 @@ use Rattle.std.proofs.lemmas.Bool.{cond-true}
 use Rattle.std.proofs.lemmas.List.{append-nil}
 use Rattle.rp_base.specs.Sets.{Has}
 use Rattle.rp_base.specs.declared.record.Rec.{Rec}
-use Rattle.rp_codec.specs.Message.{Message, IsPacket}
-use Rattle.rp_codec.proofs.Decoded.{same_packet}
+use Rattle.rp_model.specs.rp_codec.specs.Message.{Message, IsPacket}
+use Rattle.rp_model.specs.rp_codec.proofs.Decoded.{same_packet}
 use Rattle.rp_model.specs.Effect.{Setting, node_effect, turn_done}
 use Rattle.rp_model.specs.Parts.{NodePart}
 use Rattle.rp_agreement.specs.Order.{AllSent}
-use Rattle.rp_outbox.specs.Packets.{texts_of}
+use Rattle.rp_world.specs.rp_outbox.specs.Packets.{texts_of}
 use Rattle.rp_pending.specs.Pending.{PendingStep, MayCome, AreSteps, after_steps, bytes_of, bytes_written}
 use Rattle.rp_installations.specs.Sites.{StepPackets}
 use Rattle.rp_installations.specs.Behind.{AreTextsSent, end_after, packets_of}

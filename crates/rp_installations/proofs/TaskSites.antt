@@ -19,12 +19,12 @@ use Rattle.rp_base.specs.declared.fault.Fault.TheVariants.{TaskBusy, NumbersSpen
 use Rattle.rp_base.specs.declared.reply.Answer.{Answer}
 use Rattle.rp_base.specs.declared.reply.Reply.{Reply}
 use Rattle.rp_base.specs.declared.reply.Reply.TheVariants as replies
-use Rattle.rp_codec.specs.Message.{Message}
-use Rattle.rp_codec.specs.Text.{text_of, reply_text}
-use Rattle.rp_codec.specs.declared.packet.Body.{Body}
-use Rattle.rp_codec.specs.declared.packet.Body.TheVariants as bodies
-use Rattle.rp_codec.specs.declared.packet.Party.{Party}
-use Rattle.rp_codec.specs.declared.packet.Party.TheVariants as parties
+use Rattle.rp_model.specs.rp_codec.specs.Message.{Message}
+use Rattle.rp_model.specs.rp_codec.specs.Text.{text_of, reply_text}
+use Rattle.rp_model.specs.rp_codec.specs.declared.packet.Body.{Body}
+use Rattle.rp_model.specs.rp_codec.specs.declared.packet.Body.TheVariants as bodies
+use Rattle.rp_model.specs.rp_codec.specs.declared.packet.Party.{Party}
+use Rattle.rp_model.specs.rp_codec.specs.declared.packet.Party.TheVariants as parties
 use Rattle.rp_model.specs.Effect.{Setting, Done, goes_on_as}
 use Rattle.rp_model.specs.Events.{Event, Submit, Again, Makes, Deliver, IsRightEvent, IsOperation}
 use Rattle.rp_model.specs.Parts.{TaskPart}
@@ -42,7 +42,7 @@ use Rattle.rp_requests.specs.TaskRequests.{TaskAsked, MakeCall, SendAgain, TakeP
 use Rattle.rp_requests.specs.Tasks.{TaskAnswers, TaskDoes, CallPut, call_packet, again_text, is_task, outstanding_reply, reply_taken, once_taken, taken_text}
 use Rattle.rp_requests.specs.declared.buffer.Lengths.{Lengths}
 use Rattle.rp_requests.specs.declared.refusal.Refusal.{Refusal}
-use Rattle.rp_tasks.specs.Calls.{Calls, no_calls, refusal_of, with_reply}
+use Rattle.rp_requests.specs.rp_tasks.specs.Calls.{Calls, no_calls, refusal_of, with_reply}
 use Rattle.rp_pending.specs.Making.{NoteOnly, notes_of}
 use Rattle.rp_installations.specs.Sites.{TaskSite}
 use Rattle.rp_installations.specs.Moves.{AnsweredRequest, IsThroughNode, answer_in, call_given, reply_given, OpensTask, AsksTask}

@@ -3,22 +3,22 @@
 use Rattle.std.specs.Prelude.{◌≡◌, ℕ, ◌+◌, Some, None, List, [], ◌∷◌, ◌++◌, length, map}
 use Rattle.rp_base.specs.Sets.{Has}
 use Rattle.rp_base.specs.declared.action.Action.{Action}
-use Rattle.rp_codec.specs.Message.{Message}
-use Rattle.rp_codec.specs.Text.{text_of, reply_text}
-use Rattle.rp_store.specs.Records.{AreTextsOf, AreRecordsOf}
+use Rattle.rp_model.specs.rp_codec.specs.Message.{Message}
+use Rattle.rp_model.specs.rp_codec.specs.Text.{text_of, reply_text}
+use Rattle.rp_world.specs.rp_store.specs.Records.{AreTextsOf, AreRecordsOf}
 use Rattle.rp_model.specs.Effect.{Setting}
 use Rattle.rp_model.specs.Parts.{NodePart, TaskPart, fresh_task}
 use Rattle.rp_model.specs.World.{World, part_at}
 use Rattle.rp_agreement.specs.Answered.{calls_so_far}
 use Rattle.rp_agreement.specs.History.{IsHistory}
 use Rattle.rp_model.specs.Events.{Event}
-use Rattle.rp_outbox.specs.Packets.{texts_of}
+use Rattle.rp_world.specs.rp_outbox.specs.Packets.{texts_of}
 use Rattle.rp_pending.specs.Making.{AreAmong, notes_of}
 use Rattle.rp_pending.specs.Pending.{PendingStep, AreSteps, after_steps, bytes_of, bytes_written}
 use Rattle.rp_pending.specs.Pending.{noted_in}
-use Rattle.rp_replica.specs.State.{part_of}
+use Rattle.rp_world.specs.rp_replica.specs.State.{part_of}
 use Rattle.rp_requests.specs.Nodes.{NodeState}
-use Rattle.rp_tasks.specs.Calls.{Calls}
+use Rattle.rp_requests.specs.rp_tasks.specs.Calls.{Calls}
 use Rattle.rp_installations.specs.Sites.{StepPackets, NodeSite, TaskSite, Installation, closed_over}
 use Rattle.rp_installations.specs.Moves.{all_given}
 use Rattle.rp_installations.specs.Starts.{AnswerAlike}

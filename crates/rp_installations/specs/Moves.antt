@@ -9,10 +9,10 @@ use Rattle.rp_base.specs.Sets.{Has}
 use Rattle.rp_base.specs.declared.action.Action.{Action}
 use Rattle.rp_base.specs.declared.config.Config.{Config}
 use Rattle.rp_base.specs.declared.reply.Answer.{Answer}
-use Rattle.rp_codec.specs.Message.{Message, IsPacket}
-use Rattle.rp_codec.specs.Text.{text_of}
+use Rattle.rp_model.specs.rp_codec.specs.Message.{Message, IsPacket}
+use Rattle.rp_model.specs.rp_codec.specs.Text.{text_of}
 use Rattle.rp_model.specs.World.{part_at, with_part}
-use Rattle.rp_outbox.specs.Packets.{texts_of}
+use Rattle.rp_world.specs.rp_outbox.specs.Packets.{texts_of}
 use Rattle.rp_pending.specs.Pending.{noted_by}
 use Rattle.rp_requests.specs.Nodes.{NodeState, RequestAnswers}
 use Rattle.rp_requests.specs.Opening.{IsOpenedNode}
@@ -23,7 +23,7 @@ use Rattle.rp_requests.specs.Tasks.{TaskAnswers}
 use Rattle.rp_requests.specs.declared.buffer.Lengths.{Lengths}
 use Rattle.rp_requests.specs.declared.refusal.Refusal.{Refusal}
 use Rattle.rp_requests.specs.declared.refusal.Refusal.TheVariants.{LongAnswer}
-use Rattle.rp_tasks.specs.Calls.{Calls, no_calls}
+use Rattle.rp_requests.specs.rp_tasks.specs.Calls.{Calls, no_calls}
 use Rattle.rp_installations.specs.Starts.{BehaveAlike}
 use Rattle.rp_installations.specs.Sites.{StepPackets, NodeSite, TaskSite, Installation, closed_over}
 use Rattle.rp_installations.specs.Sites.{nothing_opened}

@@ -5,8 +5,8 @@ use Rattle.rp_base.specs.Sets.{Has}
 use Rattle.rp_base.specs.declared.action.Action.{Action}
 use Rattle.rp_base.specs.declared.action.Action.TheVariants.{Noop, Call, Interrupt, Tick}
 use Rattle.rp_base.specs.declared.reply.Answer.{Answer}
-use Rattle.rp_codec.specs.Text.{reply_text}
-use Rattle.rp_machine.specs.Places.{HasReply}
+use Rattle.rp_model.specs.rp_codec.specs.Text.{reply_text}
+use Rattle.rp_model.specs.rp_machine.specs.Places.{HasReply}
 use Rattle.rp_model.specs.Effect.{Setting}
 use Rattle.rp_model.specs.Events.{Event}
 use Rattle.rp_model.specs.Parts.{TaskPart}
@@ -14,7 +14,7 @@ use Rattle.rp_model.specs.World.{World, part_at}
 use Rattle.rp_agreement.specs.Answered.{named}
 use Rattle.rp_agreement.specs.History.{IsHistory}
 use Rattle.rp_agreement.specs.Order.{IsPrefix, AreAlike}
-use Rattle.rp_replica.specs.State.{part_of}
+use Rattle.rp_world.specs.rp_replica.specs.State.{part_of}
 use Rattle.rp_requests.specs.Nodes.{NodeState, image_of}
 use Rattle.rp_requests.specs.declared.buffer.Lengths.{Lengths}
 use Rattle.rp_world.specs.Agreeing.{IsOrdered}

@@ -2,7 +2,7 @@
 use Rattle.std.specs.Prelude.{ℕ, Option, None, List, [], replicate}
 use Rattle.rp_base.specs.declared.action.Action.{Action}
 use Rattle.rp_requests.specs.Nodes.{NodeState}
-use Rattle.rp_tasks.specs.Calls.{Calls}
+use Rattle.rp_requests.specs.rp_tasks.specs.Calls.{Calls}
 
 -- The packets of a step's answer, joined, and how many bytes the device has once it holds all that
 -- the node's steps gave for it, up to this step.

@@ -2,7 +2,7 @@
 use Rattle.std.specs.Prelude.{◌≡◌, ℕ, List}
 use Rattle.rp_base.specs.declared.action.Action.{Action}
 use Rattle.rp_base.specs.declared.reply.Answer.{Answer}
-use Rattle.rp_machine.specs.Replay.{kept_of, replay_answers, replay_state}
+use Rattle.rp_model.specs.rp_machine.specs.Replay.{kept_of, replay_answers, replay_state}
 
 module _ {S : Type 0} (next : S → Action → S) (answers : S → Action → List Answer) where
   -- From either start the same actions of each log count, and the same answers are given.

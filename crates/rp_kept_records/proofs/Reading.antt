@@ -1,6 +1,6 @@
 -- What is read of contents that a stop left.
 use Rattle.std.proofs.Common.{◌≡◌, ℕ, suc, ◌+◌, List, [], ◌∷◌, ◌++◌, length, take, refl, sym, ap, subst, ◌∙◌, arith}
-use Rattle.rp_base.specs.declared.record.Rec.{Rec}
+use Rattle.rp_store.specs.rp_base.specs.declared.record.Rec.{Rec}
 use Rattle.rp_store.specs.Disk.{Disk}
 use Rattle.rp_store.specs.Opening.{IsOpened}
 use Rattle.rp_store.specs.Records.{AreRecordsOf}

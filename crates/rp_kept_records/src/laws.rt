@@ -1,8 +1,8 @@
 //! A record that was put is read again, and one that was torn is whole or gone.
 
 ghost use Rattle.std.specs.Prelude.{◌≡◌, ℕ, ◌<◌, ◌≤◌, List, [], ◌∷◌, ◌++◌, length};
-ghost use Rattle.rp_base.specs.declared.record.Rec.{Rec};
-ghost use Rattle.rp_codec.specs.Record.{record_text, IsRecord};
+ghost use Rattle.rp_store.specs.rp_base.specs.declared.record.Rec.{Rec};
+ghost use Rattle.rp_store.specs.rp_codec.specs.Record.{record_text, IsRecord};
 ghost use Rattle.rp_store.specs.Disk.{Disk, stopped};
 ghost use Rattle.rp_store.specs.Opening.{IsOpened};
 ghost use Rattle.rp_store.specs.Records.{AreRecordsOf};

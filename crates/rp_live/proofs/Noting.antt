@@ -3,8 +3,8 @@ use Rattle.std.proofs.Common.{◌≡◌, ℕ, zero, suc, ◌-◌, ◌<◌, Optio
 use Rattle.std.specs.List.{AllZip}
 use Rattle.rp_base.specs.declared.action.Action.{Action}
 use Rattle.rp_base.specs.declared.reply.Answer.{Answer}
-use Rattle.rp_model.specs.declared.event.Event.{Event}
-use Rattle.rp_rules.specs.declared.input.Input.{Input}
+use Rattle.rp_boxes.specs.rp_model.specs.declared.event.Event.{Event}
+use Rattle.rp_boxes.specs.rp_rules.specs.declared.input.Input.{Input}
 use Rattle.rp_boxes.specs.Seats.{SeatState}
 use Rattle.rp_threads.proofs.Places.{zip_on}
 use Rattle.rp_threads.proofs.Steps.{event_same}

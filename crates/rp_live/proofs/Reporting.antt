@@ -7,12 +7,12 @@ use Rattle.rp_base.specs.declared.reply.Answer.{Answer}
 use Rattle.rp_base.specs.Records.{applied_of}
 use Rattle.rp_base.specs.Sets.{Has}
 use Rattle.rp_base.proofs.Members.{has_right}
-use Rattle.rp_codec.specs.Message.{Message, IsPacket}
-use Rattle.rp_codec.specs.Text.{text_of}
-use Rattle.rp_codec.specs.declared.packet.Party.TheVariants.{Node}
-use Rattle.rp_model.specs.Plans.{report_of}
-use Rattle.rp_model.specs.World.{with_part}
-use Rattle.rp_replica.specs.declared.sent.Sent.{Sent}
+use Rattle.rp_threads.specs.rp_codec.specs.Message.{Message, IsPacket}
+use Rattle.rp_threads.specs.rp_codec.specs.Text.{text_of}
+use Rattle.rp_threads.specs.rp_codec.specs.declared.packet.Party.TheVariants.{Node}
+use Rattle.rp_boxes.specs.rp_model.specs.Plans.{report_of}
+use Rattle.rp_boxes.specs.rp_model.specs.World.{with_part}
+use Rattle.rp_threads.specs.rp_replica.specs.declared.sent.Sent.{Sent}
 use Rattle.rp_boxes.specs.Audits.{Audited, IsAdded, known_of, report, with_reported}
 use Rattle.rp_boxes.specs.declared.audit.Added.{Added}
 use Rattle.rp_boxes.specs.Parts.{Part}

@@ -6,11 +6,11 @@ use Rattle.rp_base.specs.declared.fault.Fault.{Fault}
 use Rattle.rp_base.specs.declared.fault.Fault.TheVariants.{OutOfMemory}
 use Rattle.rp_base.specs.declared.reply.Answer.{Answer}
 use Rattle.rp_boxes.specs.Seats.{SeatState, IsReason, IsCutTurn, IsNoTurn, setting_at}
-use Rattle.rp_model.specs.Effect.{Setting, NodeInput, Interrupt, Tick, Report, effect_while}
-use Rattle.rp_model.specs.Parts.{NodePart, Running}
-use Rattle.rp_rules.specs.Inputs.{given_by}
-use Rattle.rp_rules.specs.declared.input.Input.{Input}
-use Rattle.rp_rules.specs.declared.input.Input.TheVariants as inputs
+use Rattle.rp_boxes.specs.rp_model.specs.Effect.{Setting, NodeInput, Interrupt, Tick, Report, effect_while}
+use Rattle.rp_boxes.specs.rp_model.specs.Parts.{NodePart, Running}
+use Rattle.rp_boxes.specs.rp_rules.specs.Inputs.{given_by}
+use Rattle.rp_boxes.specs.rp_rules.specs.declared.input.Input.{Input}
+use Rattle.rp_boxes.specs.rp_rules.specs.declared.input.Input.TheVariants as inputs
 use Rattle.rp_threads.specs.Turns.{IsStopBy}
 use Rattle.rp_threads.proofs.Running.{same_node}
 use Rattle.rp_threads.specs.Rounds.{Runs}

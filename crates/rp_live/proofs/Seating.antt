@@ -7,10 +7,10 @@ use Rattle.std.specs.Prelude.{All, IfErr, IfSome, IsErrOf, IsOkUnless, slice_ind
 use Rattle.rp_base.specs.Sets.{Has}
 use Rattle.rp_base.specs.declared.fault.Fault.{Fault}
 use Rattle.rp_base.specs.declared.fault.Fault.TheVariants.{BadConfig, Device, OutOfMemory}
-use Rattle.rp_store.specs.Disk.{disk_of}
-use Rattle.atomic_table.specs.Seated.{TableId}
+use Rattle.rp_boxes.specs.rp_store.specs.Disk.{disk_of}
+use Rattle.rp_boxes.specs.atomic_table.specs.Seated.{TableId}
 use Rattle.rp_base.specs.declared.config.Config.{Config}
-use Rattle.rp_model.specs.Parts.{fresh_node, fresh_task}
+use Rattle.rp_boxes.specs.rp_model.specs.Parts.{fresh_node, fresh_task}
 use Rattle.rp_boxes.specs.FirstSeats.{AreFirstSeats, CanFail, IsResourceFault, first_seat}
 use Rattle.rp_boxes.specs.Parts.{OfNode, OfTask, OfAudit, first_role, fresh_part}
 use Rattle.rp_boxes.specs.Seats.{SeatState}

@@ -8,14 +8,14 @@ use Rattle.rp_base.proofs.Members.{has_mapped}
 use Rattle.rp_base.specs.declared.action.Action.{Action}
 use Rattle.rp_base.specs.declared.config.Config.{Config}
 use Rattle.rp_base.specs.declared.reply.Answer.{Answer}
-use Rattle.rp_codec.specs.declared.packet.Party.TheVariants.{Node, Task}
-use Rattle.rp_machine.specs.Places.{IsPlace}
-use Rattle.rp_machine.specs.Replay.{kept_of}
-use Rattle.rp_model.specs.declared.event.Event.{Event}
-use Rattle.rp_agreement.specs.Answered.{named}
-use Rattle.rp_store.specs.Disk.{Memory}
-use Rattle.rp_tasks.specs.Line.{Line}
-use Rattle.atomic_table.specs.Seated.{TableId}
+use Rattle.rp_threads.specs.rp_codec.specs.declared.packet.Party.TheVariants.{Node, Task}
+use Rattle.rp_boxes.specs.rp_machine.specs.Places.{IsPlace}
+use Rattle.rp_boxes.specs.rp_machine.specs.Replay.{kept_of}
+use Rattle.rp_boxes.specs.rp_model.specs.declared.event.Event.{Event}
+use Rattle.rp_boxes.specs.rp_agreement.specs.Answered.{named}
+use Rattle.rp_boxes.specs.rp_store.specs.Disk.{Memory}
+use Rattle.rp_threads.specs.rp_tasks.specs.Line.{Line}
+use Rattle.rp_boxes.specs.atomic_table.specs.Seated.{TableId}
 use Rattle.rp_boxes.specs.FirstSeats.{first_seat}
 use Rattle.rp_boxes.specs.Seats.{SeatSetup, SeatState}
 use Rattle.rp_boxes.specs.Together.{IsTaskOf}

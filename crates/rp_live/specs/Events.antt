@@ -1,11 +1,13 @@
 -- What may happen to a program whose nodes and tasks run in threads.
 use Rattle.std.specs.Prelude.{ℕ, ◌≤◌, nat_eq, Option, Some, None, List, filter_map}
 use Rattle.std.specs.Prelude.{if◌then◌else◌}
-use Rattle.rp_model.specs.declared.event.Event.{Event}
-use Rattle.rp_model.specs.declared.event.Event.TheVariants.{Submit, Again, Node, Cut, Stop, Restart}
-use Rattle.rp_model.specs.declared.event.Step.{Step}
-use Rattle.rp_model.specs.declared.event.Step.TheVariants.{Deliver, Lead, LeadRange, Interrupt}
-use Rattle.rp_model.specs.declared.event.Step.TheVariants.{Tick, Report, Ask}
+use Rattle.rp_boxes.specs.rp_model.specs.declared.event.Event.{Event}
+use Rattle.rp_boxes.specs.rp_model.specs.declared.event.Event.TheVariants.{Submit, Again, Node, Cut}
+use Rattle.rp_boxes.specs.rp_model.specs.declared.event.Event.TheVariants.{Stop, Restart}
+use Rattle.rp_boxes.specs.rp_model.specs.declared.event.Step.{Step}
+use Rattle.rp_boxes.specs.rp_model.specs.declared.event.Step.TheVariants.{Deliver, Lead, LeadRange}
+use Rattle.rp_boxes.specs.rp_model.specs.declared.event.Step.TheVariants.{Interrupt}
+use Rattle.rp_boxes.specs.rp_model.specs.declared.event.Step.TheVariants.{Tick, Report, Ask}
 use Rattle.rp_threads.specs.declared.tasks.TaskCall.{TaskCall}
 
 -- one of n nodes notes an interrupt or a tick

@@ -1,9 +1,9 @@
 -- The link of a party in a run.
 use Rattle.std.specs.Prelude.{ℕ, List, ◌∷◌, ◌++◌, replicate}
 use Rattle.std.specs.Int.{w32, to_be_bytes}
-use Rattle.rp_codec.specs.Text.{party_number}
-use Rattle.rp_codec.specs.declared.packet.Party.{Party}
-use Rattle.rp_tasks.specs.Line.{Line, line_of}
+use Rattle.rp_threads.specs.rp_codec.specs.Text.{party_number}
+use Rattle.rp_threads.specs.rp_codec.specs.declared.packet.Party.{Party}
+use Rattle.rp_threads.specs.rp_tasks.specs.Line.{Line, line_of}
 
 -- the seed of a link: that of the whole run in four bytes, the highest first, the number by which a
 -- packet names the party, and zeros

@@ -6,12 +6,12 @@ use Rattle.rp_base.specs.Sets.{Has}
 use Rattle.rp_base.specs.declared.action.Action.{Action}
 use Rattle.rp_base.specs.declared.config.Config.{Config}
 use Rattle.rp_base.specs.declared.reply.Answer.{Answer}
-use Rattle.rp_codec.specs.declared.packet.Party.TheVariants.{Node, Task}
-use Rattle.rp_machine.specs.Places.{IsPlace}
-use Rattle.rp_machine.specs.Replay.{kept_of}
-use Rattle.rp_model.specs.declared.event.Event.{Event}
-use Rattle.rp_store.specs.Disk.{Memory}
-use Rattle.rp_agreement.specs.Answered.{named}
+use Rattle.rp_threads.specs.rp_codec.specs.declared.packet.Party.TheVariants.{Node, Task}
+use Rattle.rp_boxes.specs.rp_machine.specs.Places.{IsPlace}
+use Rattle.rp_boxes.specs.rp_machine.specs.Replay.{kept_of}
+use Rattle.rp_boxes.specs.rp_model.specs.declared.event.Event.{Event}
+use Rattle.rp_boxes.specs.rp_store.specs.Disk.{Memory}
+use Rattle.rp_boxes.specs.rp_agreement.specs.Answered.{named}
 use Rattle.rp_boxes.specs.Audits.{Audited, known_of}
 use Rattle.rp_boxes.specs.FirstSeats.{AreSeats}
 use Rattle.rp_boxes.specs.Parts.{task_of}

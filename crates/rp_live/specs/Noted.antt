@@ -2,13 +2,15 @@
 use Rattle.std.specs.Prelude.{◌≡◌, ℕ, zero, suc, ◌-◌, Option, Some, None, List, set, slice_get}
 use Rattle.rp_base.specs.declared.action.Action.{Action}
 use Rattle.rp_base.specs.declared.reply.Answer.{Answer}
-use Rattle.rp_model.specs.declared.event.Event.{Event}
-use Rattle.rp_model.specs.declared.event.Event.TheVariants.{Submit, Again, Node, Cut, Stop, Restart}
-use Rattle.rp_model.specs.declared.event.Step.{Step}
-use Rattle.rp_model.specs.declared.event.Step.TheVariants.{Deliver, Lead, LeadRange, Interrupt}
-use Rattle.rp_model.specs.declared.event.Step.TheVariants.{Tick, Report, Ask}
-use Rattle.rp_rules.specs.declared.input.Input.{Input}
-use Rattle.rp_rules.specs.declared.input.Input.TheVariants as inputs
+use Rattle.rp_boxes.specs.rp_model.specs.declared.event.Event.{Event}
+use Rattle.rp_boxes.specs.rp_model.specs.declared.event.Event.TheVariants.{Submit, Again, Node, Cut}
+use Rattle.rp_boxes.specs.rp_model.specs.declared.event.Event.TheVariants.{Stop, Restart}
+use Rattle.rp_boxes.specs.rp_model.specs.declared.event.Step.{Step}
+use Rattle.rp_boxes.specs.rp_model.specs.declared.event.Step.TheVariants.{Deliver, Lead, LeadRange}
+use Rattle.rp_boxes.specs.rp_model.specs.declared.event.Step.TheVariants.{Interrupt}
+use Rattle.rp_boxes.specs.rp_model.specs.declared.event.Step.TheVariants.{Tick, Report, Ask}
+use Rattle.rp_boxes.specs.rp_rules.specs.declared.input.Input.{Input}
+use Rattle.rp_boxes.specs.rp_rules.specs.declared.input.Input.TheVariants as inputs
 use Rattle.rp_boxes.specs.Seats.{SeatState}
 use Rattle.rp_threads.specs.Turns.{IsEventBy}
 use Rattle.rp_threads.specs.declared.turns.PacketCounts.{PacketCounts}

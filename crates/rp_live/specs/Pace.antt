@@ -1,7 +1,7 @@
 -- Which turns of a run a node takes; it skips the others.
 use Rattle.std.specs.Prelude.{ℕ, Bool, not, Option}
 use Rattle.rp_base.specs.declared.fault.Fault.{Fault}
-use Rattle.rp_codec.specs.declared.packet.Party.{Party}
+use Rattle.rp_threads.specs.rp_codec.specs.declared.packet.Party.{Party}
 use Rattle.rp_threads.specs.Loops.{is_to_lead}
 
 -- in all but those in which it is to lead: it leads only by its patience

@@ -5,13 +5,14 @@ use Rattle.std.specs.Prelude.{slice_get}
 use Rattle.rp_base.specs.Action.{IsIndex, IsCount}
 use Rattle.rp_base.specs.declared.action.Action.{Action}
 use Rattle.rp_base.specs.declared.reply.Answer.{Answer}
-use Rattle.rp_codec.specs.declared.packet.Party.TheVariants.{Node}
+use Rattle.rp_threads.specs.rp_codec.specs.declared.packet.Party.TheVariants.{Node}
 use Rattle.rp_boxes.specs.Audits.{known_of}
 use Rattle.rp_boxes.specs.Seats.{SeatState, HasApplied, IsReport}
-use Rattle.rp_rules.specs.declared.input.Input.{Input}
-use Rattle.rp_rules.specs.declared.input.Input.TheVariants.{Receive, Lead, LeadRange, Interrupt}
-use Rattle.rp_rules.specs.declared.input.Input.TheVariants.{Tick, Report, Ask}
-use Rattle.rp_replica.specs.declared.sent.Sent.{Sent}
+use Rattle.rp_boxes.specs.rp_rules.specs.declared.input.Input.{Input}
+use Rattle.rp_boxes.specs.rp_rules.specs.declared.input.Input.TheVariants.{Receive, Lead, LeadRange}
+use Rattle.rp_boxes.specs.rp_rules.specs.declared.input.Input.TheVariants.{Interrupt}
+use Rattle.rp_boxes.specs.rp_rules.specs.declared.input.Input.TheVariants.{Tick, Report, Ask}
+use Rattle.rp_threads.specs.rp_replica.specs.declared.sent.Sent.{Sent}
 use Rattle.rp_threads.specs.Rounds.{IsNodeFault, Runs}
 use Rattle.rp_threads.specs.Turns.{IsOfferedToBox}
 use Rattle.rp_threads.specs.declared.loops.NodeEnd.{NodeEnd}

@@ -4,7 +4,7 @@ ghost use Rattle.std.specs.Prelude.{◌≡◌, filter_map, IfOk};
 ghost use Rattle.rp_live.specs.Events.{call_by};
 
 use rp_base::TaskId;
-use rp_model::Event;
+use rp_boxes::rp_model::Event;
 use rp_threads::TaskCall;
 use std::alloc::{AllocError, Global};
 

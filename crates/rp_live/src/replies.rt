@@ -7,7 +7,7 @@ ghost use Rattle.rp_live.specs.LiveOutcome.{replies_at};
 use crate::ends::task_ended;
 use rp_base::{Answer, Fault};
 use rp_boxes::TaskSeat;
-use rp_machine::Machine;
+use rp_boxes::rp_machine::Machine;
 use rp_threads::TaskEnd;
 use std::alloc::Global;
 

@@ -4,7 +4,7 @@ ghost use Rattle.std.specs.Prelude.{◌≡◌, ℕ, ◌↔◌, ◌+◌, ◌<◌,
 ghost use Rattle.std.specs.List.{AllZip};
 ghost use Rattle.rp_boxes.specs.Audits.{known_of};
 ghost use Rattle.rp_boxes.specs.Seats.{HasApplied, IsReport, IsSentText};
-ghost use Rattle.rp_codec.specs.declared.packet.Party.TheVariants.{Node};
+ghost use Rattle.rp_threads.specs.rp_codec.specs.declared.packet.Party.TheVariants.{Node};
 ghost use Rattle.rp_threads.specs.Turns.{IsOfferedToBox};
 ghost use Rattle.rp_live.specs.Ends.{HadNoFault};
 ghost use Rattle.rp_live.specs.LiveOutcome.{KnowsAll};
@@ -13,12 +13,12 @@ ghost use Rattle.rp_threads.specs.Rounds.{Runs};
 
 use crate::ends::node_ended;
 use rp_base::{Fault, NodeId, Position};
+use rp_boxes::rp_machine::Machine;
+use rp_boxes::rp_store::InfallibleDevice;
 use rp_boxes::{Audit, NodeSeat};
-use rp_codec::{Party, one_text};
-use rp_machine::Machine;
-use rp_replica::Sent;
-use rp_store::InfallibleDevice;
 use rp_threads::NodeEnd;
+use rp_threads::rp_codec::{Party, one_text};
+use rp_threads::rp_replica::Sent;
 use std::alloc::Global;
 
 /// The node makes a report of the actions that it has applied, from a position on.

@@ -3,18 +3,18 @@
 ghost use Rattle.std.specs.Prelude.{◌≡◌, ℕ, List, map, filter_map, All, IfOk, IsOkUnless};
 ghost use Rattle.rp_base.specs.Config.{IsRightConfig};
 ghost use Rattle.rp_boxes.specs.FirstSeats.{AreSeats};
-ghost use Rattle.rp_codec.specs.declared.packet.Party.TheVariants as parties;
+ghost use Rattle.rp_threads.specs.rp_codec.specs.declared.packet.Party.TheVariants as parties;
 ghost use Rattle.rp_live.specs.Events.{call_by};
 ghost use Rattle.rp_live.specs.Lines.{party_line};
 
 use crate::calls::calls_of;
 use crate::lines::line_for;
 use rp_base::{Config, Fault};
+use rp_boxes::rp_machine::Machine;
+use rp_boxes::rp_model::Event;
+use rp_boxes::rp_store::{Device, MemDevice};
 use rp_boxes::{AllSeats, NodeSeat, TaskSeat, seats};
-use rp_codec::Party;
-use rp_machine::Machine;
-use rp_model::Event;
-use rp_store::{Device, MemDevice};
+use rp_threads::rp_codec::Party;
 use rp_threads::{NodeStart, TaskStart};
 use std::alloc::Global;
 

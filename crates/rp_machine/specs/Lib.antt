@@ -4,3 +4,4 @@ pub mod TallyRule
 pub mod Asked
 pub mod Places
 pub mod Numbered
+pub use Rattle.rp_base

@@ -6,9 +6,9 @@ use Rattle.rp_base.specs.Sets.{Has}
 use Rattle.rp_base.specs.declared.action.Action.{Action}
 use Rattle.rp_base.specs.declared.action.Action.TheVariants.{Noop, Call, Interrupt, Tick}
 use Rattle.rp_base.specs.declared.reply.Answer.{Answer}
-use Rattle.rp_machine.specs.Calls.{CallName, calls_made, call_of}
-use Rattle.rp_machine.specs.Replay.{number_for, one_to, is_for, is_answered, occurrence_for, occurrences_of}
-use Rattle.rp_machine.proofs.Calling.{has_left, has_right, has_cons_option}
+use Rattle.rp_object.specs.rp_machine.specs.Calls.{CallName, calls_made, call_of}
+use Rattle.rp_object.specs.rp_machine.specs.Replay.{number_for, one_to, is_for, is_answered, occurrence_for, occurrences_of}
+use Rattle.rp_object.specs.rp_machine.proofs.Calling.{has_left, has_right, has_cons_option}
 
 -- the call of this task and number
 abbrev pub call_named : ℕ → ℕ → CallName

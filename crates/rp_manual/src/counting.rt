@@ -7,8 +7,8 @@ ghost use Rattle.rp_base.specs.declared.action.Action.{Action};
 ghost use Rattle.rp_base.specs.declared.action.Action.TheVariants.{Noop, Call, Interrupt, Tick};
 ghost use Rattle.rp_base.specs.declared.action.Operation.{Operation};
 ghost use Rattle.rp_base.specs.declared.reply.Answer.{Answer};
-ghost use Rattle.rp_machine.specs.Calls.{CallName, calls_made, call_of};
-ghost use Rattle.rp_machine.specs.Replay.{counts, numbers_of, one_to};
+ghost use Rattle.rp_object.specs.rp_machine.specs.Calls.{CallName, calls_made, call_of};
+ghost use Rattle.rp_object.specs.rp_machine.specs.Replay.{counts, numbers_of, one_to};
 
 /// A call counts only if it did not count before, and each earlier call of its task counted and was
 /// answered; so none counts twice, before its turn, or while its task waits. After the calls 1 to n

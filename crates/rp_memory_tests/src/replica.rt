@@ -1,13 +1,13 @@
 ghost use Rattle.std.specs.Prelude.{◌≡◌, true};
-ghost use Rattle.rp_rules.specs.Inputs.{IsRightInput};
+ghost use Rattle.rp_world.specs.rp_rules.specs.Inputs.{IsRightInput};
 
 use crate::compare::{expect_at, expect_eq, expect_text};
 use crate::failing::{Call, FailingDevice};
 use crate::learner::node_of;
-use rp_base::{Config, Fault, Position};
-use rp_machine::{Machine, Tally, TallyProgram};
-use rp_replica::*;
-use rp_store::{CutDevice, Device, MemDevice};
+use rp_world::rp_base::{Config, Fault, Position};
+use rp_world::rp_machine::{Machine, Tally, TallyProgram};
+use rp_world::rp_replica::*;
+use rp_world::rp_store::{CutDevice, Device, MemDevice};
 use std::alloc::Global;
 use std::process::Abort;
 use std::test::Fail;

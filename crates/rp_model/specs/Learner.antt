@@ -1,6 +1,7 @@
 -- What a node decides as a learner, and what learning an action does. Lamport, "Paxos Made Simple", section
 -- 2.3; the replies are ours.
-use Rattle.std.specs.Prelude.{ℕ, suc, ◌-◌, min, Bool, false, not, ◌&&◌, nat_eq, nat_lt, Option, Some}
+use Rattle.std.specs.Prelude.{ℕ, suc, ◌-◌, min, Bool, false, not, ◌&&◌, nat_eq, nat_lt, Option}
+use Rattle.std.specs.Prelude.{Some}
 use Rattle.std.specs.Prelude.{None, Result, Ok, Err, List, [], ◌∷◌, ◌++◌, length, drop, map, filter}
 use Rattle.std.specs.Prelude.{if◌then◌else◌}
 use Rattle.std.specs.List.{list_any}

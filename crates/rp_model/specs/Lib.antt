@@ -17,3 +17,6 @@ pub mod Answers
 pub mod Facts
 pub mod Growing
 pub mod Forgetting
+pub use Rattle.rp_base
+pub use Rattle.rp_codec
+pub use Rattle.rp_machine

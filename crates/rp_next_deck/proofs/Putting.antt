@@ -2,9 +2,9 @@
 use Rattle.std.proofs.Common.{◌≡◌, ℕ, zero, suc, true, Ok, List, [], ◌∷◌, ◌++◌, inl, inr, refl, ap, sym, subst, ◌∙◌, append-nil, append_assoc, arith}
 use Rattle.std.specs.Prelude.{false, codes}
 use Rattle.std.specs.Str.{bytes_eq}
-use Rattle.rp_words.specs.Lines.{LineText}
-use Rattle.rp_words.specs.Reading.{word_at}
-use Rattle.rp_words.specs.Words.{is_at_end}
+use Rattle.rp_deck.specs.rp_words.specs.Lines.{LineText}
+use Rattle.rp_deck.specs.rp_words.specs.Reading.{word_at}
+use Rattle.rp_deck.specs.rp_words.specs.Words.{is_at_end}
 use Rattle.rp_next_deck.specs.NextLines.{AreFirstWords, AreNextLines, IsNextLine}
 
 -- no word is left

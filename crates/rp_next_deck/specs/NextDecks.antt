@@ -1,19 +1,19 @@
 -- The deck with which a station goes on over new devices.
 use Rattle.std.specs.Prelude.{◌≡◌, ℕ, codes, Ok, List, [], ◌∷◌, ◌++◌}
 use Rattle.std.specs.Arc.{arc_value}
-use Rattle.rp_base.specs.declared.action.Action.TheVariants.{Tick}
-use Rattle.rp_base.specs.declared.config.Config.{Config}
-use Rattle.rp_object.specs.Image.{objects_image}
-use Rattle.rp_object.specs.State.{first_state}
-use Rattle.rp_object.specs.Step.{objects_next}
-use Rattle.rp_object.specs.declared.program.Declarations.{Declarations}
-use Rattle.rp_object.specs.declared.program.Program.{Program}
+use Rattle.rp_deck.specs.rp_base.specs.declared.action.Action.TheVariants.{Tick}
+use Rattle.rp_deck.specs.rp_base.specs.declared.config.Config.{Config}
+use Rattle.rp_deck.specs.rp_object.specs.Image.{objects_image}
+use Rattle.rp_deck.specs.rp_object.specs.State.{first_state}
+use Rattle.rp_deck.specs.rp_object.specs.Step.{objects_next}
+use Rattle.rp_deck.specs.rp_object.specs.declared.program.Declarations.{Declarations}
+use Rattle.rp_deck.specs.rp_object.specs.declared.program.Program.{Program}
 use Rattle.rp_deck.specs.Deck.{IsRightDeck}
 use Rattle.rp_deck.specs.DeckViews.{deck_text}
 use Rattle.rp_deck.specs.Meaning.{meaning_of, texts_of}
 use Rattle.rp_deck.specs.declared.deck.Deck.{Deck}
 use Rattle.rp_deck.specs.declared.deck.Mode.TheVariants.{Script}
-use Rattle.rp_deck_declarations.specs.declared.deck_program.DeckProgram.TheVariants.{Objects}
+use Rattle.rp_deck.specs.rp_deck_declarations.specs.declared.deck_program.DeckProgram.TheVariants.{Objects}
 use Rattle.rp_next_deck.specs.NextLines.{AreNextLines}
 
 -- what a program shows once its clock, which starts at 0, has this time

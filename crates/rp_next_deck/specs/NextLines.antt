@@ -1,11 +1,12 @@
 -- The lines of the next deck: those of a deck up to `script`, each component with another first
 -- value, without comments, and with one space between words.
-use Rattle.std.specs.Prelude.{◌≡◌, ◌⊎◌, ℕ, zero, suc, true, false, codes, Option, Some, None, Ok, List}
+use Rattle.std.specs.Prelude.{◌≡◌, ◌⊎◌, ℕ, zero, suc, true, false, codes, Option, Some, None, Ok}
+use Rattle.std.specs.Prelude.{List}
 use Rattle.std.specs.Prelude.{[], ◌∷◌, ◌++◌, if◌then◌else◌}
 use Rattle.std.specs.Str.{bytes_eq}
-use Rattle.rp_words.specs.Lines.{LineText}
-use Rattle.rp_words.specs.Reading.{word_at}
-use Rattle.rp_words.specs.Words.{is_at_end}
+use Rattle.rp_deck.specs.rp_words.specs.Lines.{LineText}
+use Rattle.rp_deck.specs.rp_words.specs.Reading.{word_at}
+use Rattle.rp_deck.specs.rp_words.specs.Words.{is_at_end}
 
 -- the first n words of these bytes, or all if there are no more, each after a space
 abbrev pub AreFirstWords : ℕ → List ℕ → List ℕ → Type 0

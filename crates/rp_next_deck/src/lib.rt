@@ -11,3 +11,5 @@ mod lines;
 mod shown;
 
 pub use decks::next_deck;
+pub use rp_deck;
+pub use rp_deck::rp_object;

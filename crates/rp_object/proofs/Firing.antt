@@ -11,7 +11,7 @@ use Rattle.rp_base.specs.Sets.{Has}
 use Rattle.rp_base.proofs.Members.{has_mapped}
 use Rattle.rp_base.specs.declared.reply.Answer.{Answer}
 use Rattle.rp_base.specs.declared.action.Operation.TheVariants.{Procedure}
-use Rattle.rp_body.specs.declared.statement.Stmt.{Stmt}
+use Rattle.rp_entry.specs.rp_body.specs.declared.statement.Stmt.{Stmt}
 use Rattle.rp_entry.specs.declared.operations.Operations.{Operations}
 use Rattle.rp_entry.specs.declared.state.CallOutcome.{CallOutcome}
 use Rattle.rp_entry.specs.Operations.{of_index}

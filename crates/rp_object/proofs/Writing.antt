@@ -5,7 +5,7 @@ use Rattle.std.specs.List.{AllZip}
 use Rattle.std.proofs.lemmas.List.{take_more, flat_map_more}
 use Rattle.std.proofs.lemmas.Option.{slice_get_within, get_or_from_slice_get}
 use Rattle.std.specs.Fmt.{signed_decimal}
-use Rattle.rp_body.specs.Store.{Store, int_value, bool_value}
+use Rattle.rp_entry.specs.rp_body.specs.Store.{Store, int_value, bool_value}
 use Rattle.rp_entry.specs.Protected.{Protected}
 use Rattle.rp_object.specs.declared.program.ObjectDeclaration.{ObjectDeclaration}
 use Rattle.rp_object.specs.declared.program.TimingEvent.{TimingEvent}

@@ -3,7 +3,7 @@ use Rattle.std.specs.Prelude.{ℕ, suc, ℤ, Bool, true, false, Option, Some, No
 use Rattle.std.specs.Prelude.{String, string_bytes, codes, decimal, flat_map}
 use Rattle.std.specs.declared.alloc.Global.{Global}
 use Rattle.std.specs.Fmt.{signed_decimal}
-use Rattle.rp_body.specs.Store.{Store, int_value, bool_value}
+use Rattle.rp_entry.specs.rp_body.specs.Store.{Store, int_value, bool_value}
 use Rattle.rp_entry.specs.declared.state.Waiting.{Waiting}
 use Rattle.rp_entry.specs.Protected.{Protected}
 use Rattle.rp_object.specs.declared.program.ObjectDeclaration.{ObjectDeclaration}

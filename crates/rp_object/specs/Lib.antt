@@ -8,3 +8,7 @@ pub mod Step
 pub mod Ticks
 pub mod Image
 pub mod Reached
+pub use Rattle.rp_base
+pub use Rattle.rp_entry.specs.rp_body
+pub use Rattle.rp_entry
+pub use Rattle.rp_machine

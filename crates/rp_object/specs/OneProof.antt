@@ -1,6 +1,6 @@
 -- That declarations are right has one proof at most, so a program is its declarations and no more.
 use Rattle.std.proofs.Props.{props}
-use Rattle.rp_body.specs.declared.components.Limits.{Limits}
+use Rattle.rp_entry.specs.rp_body.specs.declared.components.Limits.{Limits}
 use Rattle.rp_entry.specs.declared.operations.Function.{Function}
 use Rattle.rp_entry.specs.declared.operations.Function.TheVariants.{Value, Truth}
 use Rattle.rp_entry.specs.Operations.{FunctionFits}

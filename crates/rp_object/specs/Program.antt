@@ -8,8 +8,8 @@ use Rattle.std.specs.Arc.{arc_value}
 use Rattle.rp_base.specs.declared.action.Operation.{Operation}
 use Rattle.rp_base.specs.declared.action.Operation.TheVariants.{Function, Procedure, Entry}
 use Rattle.rp_base.specs.declared.action.Operation.TheVariants.{SetTimer, CancelTimer}
-use Rattle.rp_body.specs.Store.{Store, limits_of}
-use Rattle.rp_body.specs.Ranges.{IsInRange, IsNumbered}
+use Rattle.rp_entry.specs.rp_body.specs.Store.{Store, limits_of}
+use Rattle.rp_entry.specs.rp_body.specs.Ranges.{IsInRange, IsNumbered}
 use Rattle.rp_entry.specs.declared.operations.Operations.{Operations}
 use Rattle.rp_entry.specs.Operations.{of_index, OperationsFit}
 use Rattle.rp_object.specs.declared.program.Handler.{Handler}

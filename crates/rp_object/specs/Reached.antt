@@ -6,7 +6,7 @@ use Rattle.std.specs.List.{All, AllZip}
 use Rattle.rp_base.specs.Number.{IsTask}
 use Rattle.rp_base.specs.Action.{IsCount}
 use Rattle.rp_base.specs.Sets.{Has, IsSet}
-use Rattle.rp_body.specs.Ranges.{HasRangesOf, HasBoolsOf, IsInRange}
+use Rattle.rp_entry.specs.rp_body.specs.Ranges.{HasRangesOf, HasBoolsOf, IsInRange}
 use Rattle.rp_entry.specs.declared.state.Waiting.{Waiting}
 use Rattle.rp_entry.specs.Queue.{IsServiced, all_calls}
 use Rattle.rp_entry.specs.Protected.{Protected, IsShort}

@@ -1,14 +1,14 @@
 //! The text that shows the state of a program.
 
 ghost use Rattle.std.specs.Prelude.{◌≡◌, ◌≤◌, ◌++◌, IfOk, length, string_bytes};
-ghost use Rattle.rp_body.specs.Store.{int_value, bool_value};
+ghost use Rattle.rp_entry.specs.rp_body.specs.Store.{int_value, bool_value};
 ghost use Rattle.rp_object.specs.Image.{ints_text, truth_text, bools_text, call_text, queue_text, entry_text, queues_text, object_line, object_lines, time_text, timer_line, timer_lines};
 ghost use Rattle.std.specs.List.{All, AllZip};
 ghost use Rattle.rp_object.specs.Program.{DeclarationFits};
 ghost use Rattle.rp_object.specs.InMemory.{IsMade};
 
 use crate::program::{ObjectDeclaration, Profile, TimingEvent};
-use rp_body::Components;
+use rp_entry::rp_body::Components;
 use rp_entry::{Object, Queue, Waiting};
 use std::alloc::AllocError;
 

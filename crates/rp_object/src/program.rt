@@ -5,10 +5,10 @@ ghost use Rattle.std.specs.Arc.{arc_value};
 ghost use Rattle.std.specs.List.{All};
 ghost use Rattle.rp_object.specs.Program.{has_operation, object_has, is_offered, is_declared, is_within_ceiling, is_handler, IsPriority, EndsFit, DeclarationFits, KeepsProfile, operations_of, IsProgram};
 ghost use Rattle.rp_object.specs.OneProof.{one_proof};
-ghost use Rattle.rp_body.specs.Ranges.{IsInRange};
+ghost use Rattle.rp_entry.specs.rp_body.specs.Ranges.{IsInRange};
 
 use rp_base::{MOST_OBJECTS, MOST_OPERATIONS, MOST_SOURCES, MOST_TASKS, Operation, TaskId};
-use rp_body::{Components, MOST_OF_A_KIND};
+use rp_entry::rp_body::{Components, MOST_OF_A_KIND};
 use rp_entry::{Entry, Operations, of_index};
 use std::alloc::{AllocError, Global};
 use std::sync::Arc;

@@ -2,9 +2,9 @@
 use Rattle.std.specs.Prelude.{ℕ, suc, nat_eq, Option, Some, None, List, [], ◌∷◌, ◌++◌, codes}
 use Rattle.std.specs.Prelude.{decimal, find, flat_map, take, if◌then◌else◌}
 use Rattle.std.specs.List.{list_any}
-use Rattle.rp_base.specs.Action.{same_action}
-use Rattle.rp_base.specs.declared.action.Action.{Action}
-use Rattle.rp_model.specs.World.{part_at}
+use Rattle.rp_output.specs.rp_base.specs.Action.{same_action}
+use Rattle.rp_output.specs.rp_base.specs.declared.action.Action.{Action}
+use Rattle.rp_output.specs.rp_model.specs.World.{part_at}
 use Rattle.rp_output.specs.FaultMessage.{with_line_feed}
 use Rattle.rp_output.specs.Trace.{or_nothing}
 use Rattle.rp_explore_deck.specs.declared.actions.PlannedAction.{PlannedAction}

@@ -3,11 +3,11 @@
 ghost use Rattle.std.specs.Prelude.{◌≡◌, ◌++◌, IfOk, map, nat_eq, option_map, take};
 ghost use Rattle.rp_order_deck.specs.OrderDecks.{action_text, head_from, head_line, lead_text, line_at, order_deck_text, planned_for};
 ghost use Rattle.std.specs.List.{list_any};
-ghost use Rattle.rp_base.specs.Action.{same_action};
+ghost use Rattle.rp_output.specs.rp_base.specs.Action.{same_action};
 ghost use Rattle.rp_output.specs.FaultMessage.{with_line_feed};
 
-use rp_base::{Action, NodeId};
 use rp_explore_deck::PlannedAction;
+use rp_output::rp_base::{Action, NodeId};
 use std::alloc::{AllocError, Global};
 
 /// A deck, from which a script is made.

@@ -3,12 +3,12 @@ use Rattle.std.proofs.Common.{◌≡◌, ◌≢◌, ℕ, ◌≤◌, max, Bool, t
 use Rattle.std.specs.List.{list_any, list_all, cons_option}
 use Rattle.std.specs.Cmp.Lexicographic.{pointwise}
 use Rattle.std.proofs.lemmas.List.Elements.{filter_map-append}
-use Rattle.rp_base.specs.Number.{greatest, IsTask}
-use Rattle.rp_base.specs.Sets.{Has}
-use Rattle.rp_base.specs.Action.{IsRight}
-use Rattle.rp_base.specs.declared.action.Action.{Action}
-use Rattle.rp_base.specs.declared.action.Action.TheVariants.{Noop, Call, Interrupt, Tick}
-use Rattle.rp_base.specs.declared.reply.Answer.{Answer}
+use Rattle.rp_machine.specs.rp_base.specs.Number.{greatest, IsTask}
+use Rattle.rp_machine.specs.rp_base.specs.Sets.{Has}
+use Rattle.rp_machine.specs.rp_base.specs.Action.{IsRight}
+use Rattle.rp_machine.specs.rp_base.specs.declared.action.Action.{Action}
+use Rattle.rp_machine.specs.rp_base.specs.declared.action.Action.TheVariants.{Noop, Call, Interrupt, Tick}
+use Rattle.rp_machine.specs.rp_base.specs.declared.reply.Answer.{Answer}
 use Rattle.rp_machine.specs.Asked.{last_number}
 use Rattle.rp_machine.specs.Calls.{CallName, calls_made, call_of, MayApply, AccountsFor}
 use Rattle.rp_machine.specs.Replay.{number_for, numbers_of, occurrence_for, occurrences_of, one_to, is_for, is_answered, all_answered, is_next_number, counts, Replayed, unmoved, replay_step, replay_from, replay_of}

@@ -3,12 +3,12 @@ use Rattle.std.proofs.Common.{◌≡◌, ℕ, zero, suc, ◌+◌, ◌≤◌, ℤ
 use Rattle.std.specs.Option.{option_map, option_or}
 use Rattle.std.proofs.lemmas.Bool.{cases_lt, ne_eqb}
 use Rattle.std.proofs.lemmas.List.Folds.{find-append}
-use Rattle.rp_base.specs.Sets.{Has}
-use Rattle.rp_base.specs.declared.action.Action.{Action}
-use Rattle.rp_base.specs.declared.action.Operation.{Operation}
-use Rattle.rp_base.specs.declared.action.Action.TheVariants.{Call}
-use Rattle.rp_base.specs.declared.reply.Answer.{Answer}
-use Rattle.rp_base.specs.declared.reply.Reply.{Reply}
+use Rattle.rp_machine.specs.rp_base.specs.Sets.{Has}
+use Rattle.rp_machine.specs.rp_base.specs.declared.action.Action.{Action}
+use Rattle.rp_machine.specs.rp_base.specs.declared.action.Operation.{Operation}
+use Rattle.rp_machine.specs.rp_base.specs.declared.action.Action.TheVariants.{Call}
+use Rattle.rp_machine.specs.rp_base.specs.declared.reply.Answer.{Answer}
+use Rattle.rp_machine.specs.rp_base.specs.declared.reply.Reply.{Reply}
 use Rattle.rp_machine.specs.Asked.{last_number, waits, answer_to, kept_reply}
 use Rattle.rp_machine.specs.Calls.{CallName, calls_made, call_of}
 use Rattle.rp_machine.specs.Replay.{is_for, counts}

@@ -1,12 +1,14 @@
 -- Which calls a task makes, by the replies that it got.
-use Rattle.std.specs.Prelude.{ℕ, ◌+◌, Bool, true, false, not, ◌&&◌, ◌||◌, nat_eq, Option, Some, None, List}
+use Rattle.std.specs.Prelude.{ℕ, ◌+◌, Bool, true, false, not, ◌&&◌, ◌||◌, nat_eq, Option, Some}
+use Rattle.std.specs.Prelude.{None, List}
 use Rattle.std.specs.Prelude.{if◌then◌else◌}
 use Rattle.std.specs.List.{list_all}
-use Rattle.rp_base.specs.declared.action.Action.{Action}
-use Rattle.rp_base.specs.declared.action.Action.TheVariants.{Noop, Call, Interrupt, Tick}
-use Rattle.rp_base.specs.declared.reply.Answer.{Answer}
-use Rattle.rp_base.specs.declared.reply.Reply.{Reply}
-use Rattle.rp_base.specs.contracts.reply.ReplyPartialEq.TheImpl.{eq-value}
+use Rattle.rp_machine.specs.rp_base.specs.declared.action.Action.{Action}
+use Rattle.rp_machine.specs.rp_base.specs.declared.action.Action.TheVariants.{Noop, Call, Interrupt}
+use Rattle.rp_machine.specs.rp_base.specs.declared.action.Action.TheVariants.{Tick}
+use Rattle.rp_machine.specs.rp_base.specs.declared.reply.Answer.{Answer}
+use Rattle.rp_machine.specs.rp_base.specs.declared.reply.Reply.{Reply}
+use Rattle.rp_machine.specs.rp_base.specs.contracts.reply.ReplyPartialEq.TheImpl.{eq-value}
 use Rattle.rp_machine.specs.Asked.{last_number, kept_reply}
 use Rattle.rp_orders.specs.declared.guard.Guard.{Guard}
 

@@ -1,10 +1,10 @@
 -- The orders in which the actions of a program may be decided, and the states that they lead to.
 use Rattle.std.specs.Prelude.{◌≡◌, ℕ, IsTrue, List, [], ◌∷◌, ◌++◌}
-use Rattle.rp_base.specs.Action.{IsRight, IsIndex}
-use Rattle.rp_base.specs.Number.{IsTask}
-use Rattle.rp_base.specs.Sets.{Has}
-use Rattle.rp_base.specs.declared.action.Action.{Action}
-use Rattle.rp_base.specs.declared.reply.Answer.{Answer}
+use Rattle.rp_machine.specs.rp_base.specs.Action.{IsRight, IsIndex}
+use Rattle.rp_machine.specs.rp_base.specs.Number.{IsTask}
+use Rattle.rp_machine.specs.rp_base.specs.Sets.{Has}
+use Rattle.rp_machine.specs.rp_base.specs.declared.action.Action.{Action}
+use Rattle.rp_machine.specs.rp_base.specs.declared.reply.Answer.{Answer}
 use Rattle.rp_machine.specs.Asked.{last_number, last_occurrence, waits}
 use Rattle.rp_machine.specs.Places.{counts_after}
 use Rattle.rp_machine.specs.Replay.{Replayed, replay_of, kept_of, replay_answers, answers_after}

@@ -1,10 +1,10 @@
 //! What a closed list of orders says of every order.
 
 ghost use Rattle.std.specs.Prelude.{ℕ, ◌↔◌, List};
-ghost use Rattle.rp_base.specs.Number.{IsTask};
-ghost use Rattle.rp_base.specs.Sets.{Has};
-ghost use Rattle.rp_base.specs.declared.action.Action.{Action};
-ghost use Rattle.rp_base.specs.declared.reply.Answer.{Answer};
+ghost use Rattle.rp_machine.specs.rp_base.specs.Number.{IsTask};
+ghost use Rattle.rp_machine.specs.rp_base.specs.Sets.{Has};
+ghost use Rattle.rp_machine.specs.rp_base.specs.declared.action.Action.{Action};
+ghost use Rattle.rp_machine.specs.rp_base.specs.declared.reply.Answer.{Answer};
 ghost use Rattle.rp_orders.specs.Orders.{AreAmong, AreRight, AreClosed, IsOrderOf, IsReached, IsGiven, IsGuarded, IsStuck, CanBeGiven};
 ghost use Rattle.rp_orders.specs.declared.guard.Guard.{Guard};
 

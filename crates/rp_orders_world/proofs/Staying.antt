@@ -2,27 +2,27 @@
 use Rattle.std.proofs.Common.{◌≡◌, ◌≢◌, ℕ, zero, suc, ◌+◌, ◌<◌, ◌≤◌, ℤ, Bool, true, false, not, nat_eq, ◌⊎◌, Option, Some, None, is_none, is_some, unwrap_or, List, [], ◌∷◌, ◌++◌, length, find, if◌then◌else◌, refl, sym, ap, subst, ◌∙◌, inl, inr, arith, append_assoc, eqb-true}
 use Rattle.std.specs.Option.{option_map}
 use Rattle.std.specs.Prelude.{slice_get}
-use Rattle.rp_base.specs.Sets.{Has}
-use Rattle.rp_base.specs.declared.action.Action.{Action}
-use Rattle.rp_base.specs.declared.action.Action.TheVariants.{Noop, Call, Interrupt, Tick}
-use Rattle.rp_base.specs.declared.action.Operation.{Operation}
-use Rattle.rp_base.specs.declared.reply.Answer.{Answer}
-use Rattle.rp_base.specs.declared.reply.Reply.{Reply}
-use Rattle.rp_machine.specs.Asked.{last_number, waits, answer_to, kept_reply}
-use Rattle.rp_machine.specs.Calls.{CallName, call_of}
-use Rattle.rp_machine.specs.Places.{IsPlace, IsAnswerOf, HasReply, counts_after}
-use Rattle.rp_machine.specs.Replay.{counts, is_for, Replayed, GoesOn, unmoved, replay_step, replay_from, replay_of, kept_of, replay_answers}
-use Rattle.rp_machine.proofs.Asking.{call_counts}
-use Rattle.rp_machine.proofs.Numbering.{counted as counted_all}
-use Rattle.rp_machine.proofs.Replaying.{replay_from-append, goes_on_from}
-use Rattle.rp_machine.proofs.Calling.{has_left, has_right, has_either, both_true}
-use Rattle.rp_model.specs.Events.{Event}
-use Rattle.rp_model.specs.Facts.{IsDecided, IsOrder}
-use Rattle.rp_model.specs.Parts.{TaskPart}
-use Rattle.rp_model.specs.World.{World, part_at}
-use Rattle.rp_agreement.specs.Asked.{IsAsked}
-use Rattle.rp_agreement.specs.Noted.{IsNoted}
-use Rattle.rp_agreement.specs.Answered.{named, calls_so_far}
+use Rattle.rp_world.specs.rp_base.specs.Sets.{Has}
+use Rattle.rp_world.specs.rp_base.specs.declared.action.Action.{Action}
+use Rattle.rp_world.specs.rp_base.specs.declared.action.Action.TheVariants.{Noop, Call, Interrupt, Tick}
+use Rattle.rp_world.specs.rp_base.specs.declared.action.Operation.{Operation}
+use Rattle.rp_world.specs.rp_base.specs.declared.reply.Answer.{Answer}
+use Rattle.rp_world.specs.rp_base.specs.declared.reply.Reply.{Reply}
+use Rattle.rp_world.specs.rp_machine.specs.Asked.{last_number, waits, answer_to, kept_reply}
+use Rattle.rp_world.specs.rp_machine.specs.Calls.{CallName, call_of}
+use Rattle.rp_world.specs.rp_machine.specs.Places.{IsPlace, IsAnswerOf, HasReply, counts_after}
+use Rattle.rp_world.specs.rp_machine.specs.Replay.{counts, is_for, Replayed, GoesOn, unmoved, replay_step, replay_from, replay_of, kept_of, replay_answers}
+use Rattle.rp_world.specs.rp_machine.proofs.Asking.{call_counts}
+use Rattle.rp_world.specs.rp_machine.proofs.Numbering.{counted as counted_all}
+use Rattle.rp_world.specs.rp_machine.proofs.Replaying.{replay_from-append, goes_on_from}
+use Rattle.rp_world.specs.rp_machine.proofs.Calling.{has_left, has_right, has_either, both_true}
+use Rattle.rp_world.specs.rp_model.specs.Events.{Event}
+use Rattle.rp_world.specs.rp_model.specs.Facts.{IsDecided, IsOrder}
+use Rattle.rp_world.specs.rp_model.specs.Parts.{TaskPart}
+use Rattle.rp_world.specs.rp_model.specs.World.{World, part_at}
+use Rattle.rp_world.specs.rp_agreement.specs.Asked.{IsAsked}
+use Rattle.rp_world.specs.rp_agreement.specs.Noted.{IsNoted}
+use Rattle.rp_world.specs.rp_agreement.specs.Answered.{named, calls_so_far}
 use Rattle.rp_orders.specs.Guards.{all_hold, last_reply}
 use Rattle.rp_orders.specs.Orders.{IsOrderOf, MayFollow}
 use Rattle.rp_orders.specs.declared.guard.Guard.{Guard}

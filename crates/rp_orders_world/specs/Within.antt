@@ -1,17 +1,17 @@
 -- Histories of a cluster in which nothing happens to its program but what may happen.
 use Rattle.std.specs.Prelude.{◌≡◌, ℕ, zero, suc, ℤ, IsTrue, Option, Some, None, List, slice_get}
 use Rattle.std.specs.Option.{option_map}
-use Rattle.rp_base.specs.Sets.{Has}
-use Rattle.rp_base.specs.declared.action.Action.{Action}
-use Rattle.rp_base.specs.declared.action.Action.TheVariants.{Call, Interrupt, Tick}
-use Rattle.rp_base.specs.declared.action.Operation.{Operation}
-use Rattle.rp_base.specs.declared.reply.Answer.{Answer}
-use Rattle.rp_base.specs.declared.reply.Reply.{Reply}
-use Rattle.rp_model.specs.Events as events
-use Rattle.rp_model.specs.Events.{Event, Makes}
-use Rattle.rp_model.specs.Parts.{TaskPart}
-use Rattle.rp_model.specs.World.{World, part_at}
-use Rattle.rp_agreement.specs.Asked.{Asks}
+use Rattle.rp_world.specs.rp_base.specs.Sets.{Has}
+use Rattle.rp_world.specs.rp_base.specs.declared.action.Action.{Action}
+use Rattle.rp_world.specs.rp_base.specs.declared.action.Action.TheVariants.{Call, Interrupt, Tick}
+use Rattle.rp_world.specs.rp_base.specs.declared.action.Operation.{Operation}
+use Rattle.rp_world.specs.rp_base.specs.declared.reply.Answer.{Answer}
+use Rattle.rp_world.specs.rp_base.specs.declared.reply.Reply.{Reply}
+use Rattle.rp_world.specs.rp_model.specs.Events as events
+use Rattle.rp_world.specs.rp_model.specs.Events.{Event, Makes}
+use Rattle.rp_world.specs.rp_model.specs.Parts.{TaskPart}
+use Rattle.rp_world.specs.rp_model.specs.World.{World, part_at}
+use Rattle.rp_world.specs.rp_agreement.specs.Asked.{Asks}
 use Rattle.rp_orders.specs.Guards.{all_hold}
 use Rattle.rp_orders.specs.declared.guard.Guard.{Guard}
 

@@ -1,25 +1,25 @@
 //! Histories of a cluster stay within a closed list of orders.
 
 ghost use Rattle.std.specs.Prelude.{ℕ, ◌≡◌, Some, List};
-ghost use Rattle.rp_base.specs.Number.{IsTask};
-ghost use Rattle.rp_base.specs.Records.{applied_of};
-ghost use Rattle.rp_base.specs.Sets.{Has};
-ghost use Rattle.rp_base.specs.declared.action.Action.{Action};
-ghost use Rattle.rp_base.specs.declared.config.Config.{Config};
-ghost use Rattle.rp_base.specs.declared.reply.Answer.{Answer};
-ghost use Rattle.rp_model.specs.Events.{Event};
-ghost use Rattle.rp_model.specs.Parts.{NodePart, TaskPart};
-ghost use Rattle.rp_model.specs.World.{World, part_at};
-ghost use Rattle.rp_agreement.specs.Answered.{setting_for};
-ghost use Rattle.rp_agreement.specs.History.{IsHistory};
+ghost use Rattle.rp_world.specs.rp_base.specs.Number.{IsTask};
+ghost use Rattle.rp_world.specs.rp_base.specs.Records.{applied_of};
+ghost use Rattle.rp_world.specs.rp_base.specs.Sets.{Has};
+ghost use Rattle.rp_world.specs.rp_base.specs.declared.action.Action.{Action};
+ghost use Rattle.rp_world.specs.rp_base.specs.declared.config.Config.{Config};
+ghost use Rattle.rp_world.specs.rp_base.specs.declared.reply.Answer.{Answer};
+ghost use Rattle.rp_world.specs.rp_model.specs.Events.{Event};
+ghost use Rattle.rp_world.specs.rp_model.specs.Parts.{NodePart, TaskPart};
+ghost use Rattle.rp_world.specs.rp_model.specs.World.{World, part_at};
+ghost use Rattle.rp_world.specs.rp_agreement.specs.Answered.{setting_for};
+ghost use Rattle.rp_world.specs.rp_agreement.specs.History.{IsHistory};
 ghost use Rattle.rp_orders.specs.Orders.{AreRight, AreClosed, IsReached, IsGiven, IsStuck};
 ghost use Rattle.rp_orders.specs.declared.guard.Guard.{Guard};
 ghost use Rattle.rp_orders_world.specs.Within.{IsWithin};
 
-use rp_agreement::{histories_are_sound, only_asked_actions_are_decided};
-use rp_machine::{Machine, a_call_has_one_answer, replay_goes_on};
 use rp_orders::closed_orders_lead_to_all;
 use rp_world::histories_are_ordered;
+use rp_world::rp_agreement::{histories_are_sound, only_asked_actions_are_decided};
+use rp_world::rp_machine::{Machine, a_call_has_one_answer, replay_goes_on};
 
 /// Some orders are closed under some right actions, and a history of a cluster asks for and notes
 /// only these, and a task asks for a call only where its guards hold of the reply to its call

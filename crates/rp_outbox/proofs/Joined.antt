@@ -4,12 +4,12 @@ use Rattle.std.specs.List.{AllByRecursion}
 use Rattle.std.specs.Prelude.{slice_get, slice_set, option_copied}
 use Rattle.std.proofs.lemmas.List.{append_assoc, append-nil, length-append, length-take-le, take-append-drop, set-append_right}
 use Rattle.std.proofs.Math.Seq.{drop-append_seam, drop-nil, take-append_seam}
-use Rattle.rp_codec.specs.Message.{Message, IsPacket}
-use Rattle.rp_codec.specs.Reading.{Read, packet_at}
-use Rattle.rp_codec.specs.Text.{text_of}
-use Rattle.rp_codec.specs.declared.version.Version.TheVariants.{V2}
-use Rattle.rp_codec.proofs.VersionLaws.{has_text}
-use Rattle.rp_codec.proofs.PacketLaws.{packet_again}
+use Rattle.rp_model.specs.rp_codec.specs.Message.{Message, IsPacket}
+use Rattle.rp_model.specs.rp_codec.specs.Reading.{Read, packet_at}
+use Rattle.rp_model.specs.rp_codec.specs.Text.{text_of}
+use Rattle.rp_model.specs.rp_codec.specs.declared.version.Version.TheVariants.{V2}
+use Rattle.rp_model.specs.rp_codec.proofs.VersionLaws.{has_text}
+use Rattle.rp_model.specs.rp_codec.proofs.PacketLaws.{packet_again}
 use Rattle.rp_outbox.specs.Packets.{with_rest, packets_in, AreTexts, IsRun, IsTextOf, ends_of, texts_of}
 
 -- what was joined is read again

@@ -1,12 +1,12 @@
 -- Packets of the usual kinds are packets.
 use Rattle.std.proofs.Common.{ℕ}
-use Rattle.rp_base.specs.Action.{IsRight}
-use Rattle.rp_base.specs.Number.{IsNode, IsPosition}
-use Rattle.rp_base.specs.declared.action.Action.{Action}
-use Rattle.rp_codec.specs.Message.{IsPacket}
-use Rattle.rp_codec.specs.declared.packet.Body.TheVariants as bodies
-use Rattle.rp_codec.specs.declared.usual_texts.Header.{Header}
-use Rattle.rp_codec.specs.Usual.{IsHeader, prepare_at, promise_at, accept_at, accepted_at}
+use Rattle.rp_model.specs.rp_base.specs.Action.{IsRight}
+use Rattle.rp_model.specs.rp_base.specs.Number.{IsNode, IsPosition}
+use Rattle.rp_model.specs.rp_base.specs.declared.action.Action.{Action}
+use Rattle.rp_model.specs.rp_codec.specs.Message.{IsPacket}
+use Rattle.rp_model.specs.rp_codec.specs.declared.packet.Body.TheVariants as bodies
+use Rattle.rp_model.specs.rp_codec.specs.declared.usual_texts.Header.{Header}
+use Rattle.rp_model.specs.rp_codec.specs.Usual.{IsHeader, prepare_at, promise_at, accept_at, accepted_at}
 use Rattle.rp_model.specs.Says.{says}
 
 module _ (header : Header) (is : IsHeader header) where

@@ -3,13 +3,13 @@ use Rattle.std.proofs.Common.{◌≡◌, ℕ, suc, ◌+◌, Bool, true, false, n
 use Rattle.std.specs.Prelude.{filter, slice_set}
 use Rattle.std.proofs.lemmas.List.{map-append}
 use Rattle.std.proofs.lemmas.List.Elements.{filter-append}
-use Rattle.rp_base.specs.Number.{IsNode}
-use Rattle.rp_codec.specs.Message.{Message, IsPacket, MaySay}
-use Rattle.rp_codec.specs.Text.{text_of}
-use Rattle.rp_codec.specs.declared.packet.Body.{Body}
-use Rattle.rp_codec.specs.declared.packet.Body.TheVariants as bodies
-use Rattle.rp_codec.specs.declared.packet.Party.TheVariants.{Node}
-use Rattle.rp_machine.specs.Replay.{one_to}
+use Rattle.rp_model.specs.rp_base.specs.Number.{IsNode}
+use Rattle.rp_model.specs.rp_codec.specs.Message.{Message, IsPacket, MaySay}
+use Rattle.rp_model.specs.rp_codec.specs.Text.{text_of}
+use Rattle.rp_model.specs.rp_codec.specs.declared.packet.Body.{Body}
+use Rattle.rp_model.specs.rp_codec.specs.declared.packet.Body.TheVariants as bodies
+use Rattle.rp_model.specs.rp_codec.specs.declared.packet.Party.TheVariants.{Node}
+use Rattle.rp_model.specs.rp_machine.specs.Replay.{one_to}
 use Rattle.rp_model.specs.Says.{says, says_to_all, says_to_others}
 
 -- ---- packets to several nodes

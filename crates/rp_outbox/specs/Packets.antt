@@ -2,9 +2,9 @@
 -- each ends.
 use Rattle.std.specs.Prelude.{◌≡◌, ℕ, zero, suc, ◌+◌, Ok, Err, List, [], ◌∷◌, ◌++◌, length}
 use Rattle.std.specs.List.{AllByRecursion}
-use Rattle.rp_codec.specs.Message.{Message, IsPacket}
-use Rattle.rp_codec.specs.Reading.{Read, packet_at}
-use Rattle.rp_codec.specs.Text.{text_of}
+use Rattle.rp_model.specs.rp_codec.specs.Message.{Message, IsPacket}
+use Rattle.rp_model.specs.rp_codec.specs.Reading.{Read, packet_at}
+use Rattle.rp_model.specs.rp_codec.specs.Text.{text_of}
 
 -- the texts of the packets, joined in order
 abbrev pub texts_of : List Message → List ℕ

@@ -1,20 +1,20 @@
 //! The packets that are sent, in one run of bytes.
 
 ghost use Rattle.std.specs.Prelude.{◌≡◌, ◌+◌, ◌*◌, ◌^◌, ◌≤◌, ◌<◌, ◌++◌, ◌∷◌, [], ℕ, length, max, take, slice_get, slice_set, Some, option_copied, option_map, OnOk, OnErr, IfSome};
-ghost use Rattle.rp_base.specs.Action.{IsCount, IsRight};
-ghost use Rattle.rp_codec.specs.Decoding.{IsLongBody};
-ghost use Rattle.rp_codec.specs.Message.{Message, IsPacket, IsVoteBelow, MaySay};
-ghost use Rattle.rp_codec.specs.Tails.{decision_text};
-ghost use Rattle.rp_codec.specs.Text.{text_of, vote_text};
-ghost use Rattle.rp_codec.specs.Usual.{IsHeader};
-ghost use Rattle.rp_codec.specs.declared.packet.Party.TheVariants.{Node};
-ghost use Rattle.rp_codec.specs.declared.packet.Body.{Body};
-ghost use Rattle.rp_codec.specs.declared.packet.Body.TheVariants.{Prepare, Promise, Accept, Accepted, Decided, Reply as Answered};
+ghost use Rattle.rp_model.specs.rp_base.specs.Action.{IsCount, IsRight};
+ghost use Rattle.rp_model.specs.rp_codec.specs.Decoding.{IsLongBody};
+ghost use Rattle.rp_model.specs.rp_codec.specs.Message.{Message, IsPacket, IsVoteBelow, MaySay};
+ghost use Rattle.rp_model.specs.rp_codec.specs.Tails.{decision_text};
+ghost use Rattle.rp_model.specs.rp_codec.specs.Text.{text_of, vote_text};
+ghost use Rattle.rp_model.specs.rp_codec.specs.Usual.{IsHeader};
+ghost use Rattle.rp_model.specs.rp_codec.specs.declared.packet.Party.TheVariants.{Node};
+ghost use Rattle.rp_model.specs.rp_codec.specs.declared.packet.Body.{Body};
+ghost use Rattle.rp_model.specs.rp_codec.specs.declared.packet.Body.TheVariants.{Prepare, Promise, Accept, Accepted, Decided, Reply as Answered};
 ghost use Rattle.rp_model.specs.Says.{says, says_to_all, says_to_others, says_to_task};
 ghost use Rattle.rp_outbox.specs.Packets.{IsTextOf, IsRun, packets_in, ends_of, texts_of, longest_text};
 
-use rp_base::{Action, Answer, NodeId, Reply, Vote};
-use rp_codec::{
+use rp_model::rp_base::{Action, Answer, NodeId, Reply, Vote};
+use rp_model::rp_codec::{
     Body, DecisionTail, Header, LONGEST_TEXT, Packet, Party, RECEIVER, SentDecision, SentReply,
     VoteTail, accept_text, accepted_by, accepted_text, decided_by, decided_text, encode_onto,
     is_call, prepare_text, promise_text, text_of_packet, value_reply_text,

@@ -2,7 +2,7 @@
 use Rattle.std.proofs.Common.{◌≡◌, ℕ, Option, Some, None, Result, Ok, Err, List, [], ◌++◌, take, drop, take-append-drop, IsErr, refl, sym, ap, ◌∙◌, append_assoc, append-nil, subst}
 use Rattle.std.specs.Io.KnownBytes.{Appends, Keeps}
 use Rattle.std.proofs.KnownBytes.{Appends-nil, Appends-trans}
-use Rattle.rp_base.specs.declared.fault.Fault.{Fault}
+use Rattle.rp_model.specs.rp_base.specs.declared.fault.Fault.{Fault}
 use Rattle.rp_output.specs.Stream.{WroteBefore, Begins, Writes}
 
 -- nothing is written yet

@@ -2,8 +2,8 @@
 use Rattle.std.specs.Prelude.{◌≡◌, ◌≢◌, ◌⊎◌, ℕ, Option, Result, Ok, Err, List}
 use Rattle.clap.specs.declared.error.kind.ErrorKind.{ErrorKind}
 use Rattle.clap.specs.declared.error.kind.ErrorKind.TheVariants as kinds
-use Rattle.rp_base.specs.declared.fault.Fault.{Fault}
-use Rattle.rp_base.specs.declared.fault.Fault.TheVariants as faults
+use Rattle.rp_model.specs.rp_base.specs.declared.fault.Fault.{Fault}
+use Rattle.rp_model.specs.rp_base.specs.declared.fault.Fault.TheVariants as faults
 use Rattle.rp_output.specs.FaultMessage.{fault_message_of, with_line_feed}
 use Rattle.rp_output.specs.Stream.{Writes}
 use Rattle.rp_output.specs.declared.ending.Ending.{Ending}

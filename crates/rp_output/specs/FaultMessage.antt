@@ -1,16 +1,23 @@
 -- The line that is printed for a fault.
 use Rattle.std.specs.Prelude.{ℕ, List, ◌∷◌, [], ◌++◌, codes, decimal}
-use Rattle.rp_base.specs.Fault.{code_of, name_of}
-use Rattle.rp_base.specs.declared.fault.Fault.{Fault}
-use Rattle.rp_base.specs.declared.fault.Fault.TheVariants.{BadDeck}
-use Rattle.rp_base.specs.declared.fault.DeckReason.{DeckReason}
-use Rattle.rp_base.specs.declared.fault.DeckReason.TheVariants.{NodesExpected, UnknownWord}
-use Rattle.rp_base.specs.declared.fault.DeckReason.TheVariants.{WrongNumberOfWords, BadNumber}
-use Rattle.rp_base.specs.declared.fault.DeckReason.TheVariants.{BadName, DuplicateName, UnknownName}
-use Rattle.rp_base.specs.declared.fault.DeckReason.TheVariants.{TooMany, BadExpression}
-use Rattle.rp_base.specs.declared.fault.DeckReason.TheVariants.{TaskExpected, ObjectExpected}
-use Rattle.rp_base.specs.declared.fault.DeckReason.TheVariants.{EndExpected, ScriptExpected}
-use Rattle.rp_base.specs.declared.fault.DeckReason.TheVariants.{NotInLive}
+use Rattle.rp_model.specs.rp_base.specs.Fault.{code_of, name_of}
+use Rattle.rp_model.specs.rp_base.specs.declared.fault.Fault.{Fault}
+use Rattle.rp_model.specs.rp_base.specs.declared.fault.Fault.TheVariants.{BadDeck}
+use Rattle.rp_model.specs.rp_base.specs.declared.fault.DeckReason.{DeckReason}
+use Rattle.rp_model.specs.rp_base.specs.declared.fault.DeckReason.TheVariants.{NodesExpected}
+use Rattle.rp_model.specs.rp_base.specs.declared.fault.DeckReason.TheVariants.{UnknownWord}
+use Rattle.rp_model.specs.rp_base.specs.declared.fault.DeckReason.TheVariants.{WrongNumberOfWords}
+use Rattle.rp_model.specs.rp_base.specs.declared.fault.DeckReason.TheVariants.{BadNumber}
+use Rattle.rp_model.specs.rp_base.specs.declared.fault.DeckReason.TheVariants.{BadName}
+use Rattle.rp_model.specs.rp_base.specs.declared.fault.DeckReason.TheVariants.{DuplicateName}
+use Rattle.rp_model.specs.rp_base.specs.declared.fault.DeckReason.TheVariants.{UnknownName}
+use Rattle.rp_model.specs.rp_base.specs.declared.fault.DeckReason.TheVariants.{TooMany}
+use Rattle.rp_model.specs.rp_base.specs.declared.fault.DeckReason.TheVariants.{BadExpression}
+use Rattle.rp_model.specs.rp_base.specs.declared.fault.DeckReason.TheVariants.{TaskExpected}
+use Rattle.rp_model.specs.rp_base.specs.declared.fault.DeckReason.TheVariants.{ObjectExpected}
+use Rattle.rp_model.specs.rp_base.specs.declared.fault.DeckReason.TheVariants.{EndExpected}
+use Rattle.rp_model.specs.rp_base.specs.declared.fault.DeckReason.TheVariants.{ScriptExpected}
+use Rattle.rp_model.specs.rp_base.specs.declared.fault.DeckReason.TheVariants.{NotInLive}
 
 -- the words for a reason
 abbrev pub reason_text_of : DeckReason → List ℕ

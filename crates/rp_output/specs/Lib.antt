@@ -6,3 +6,6 @@ pub mod Faults
 pub mod Stream
 pub mod Endings
 pub mod ShortLine
+pub use Rattle.rp_model.specs.rp_base
+pub use Rattle.rp_model.specs.rp_codec
+pub use Rattle.rp_model

@@ -1,13 +1,15 @@
 -- The lines that a run prints, without their ends.
 use Rattle.std.specs.Prelude.{ℕ, List, ◌++◌, codes, decimal, true, false}
 use Rattle.std.specs.Fmt.{signed_decimal}
-use Rattle.rp_base.specs.Fault.{code_of, name_of}
-use Rattle.rp_base.specs.declared.fault.Fault.{Fault}
-use Rattle.rp_base.specs.declared.reply.Reply.{Reply}
+use Rattle.rp_model.specs.rp_base.specs.Fault.{code_of, name_of}
+use Rattle.rp_model.specs.rp_base.specs.declared.fault.Fault.{Fault}
+use Rattle.rp_model.specs.rp_base.specs.declared.reply.Reply.{Reply}
 use Rattle.rp_output.specs.declared.printed.NodeState.{NodeState}
 use Rattle.rp_output.specs.declared.printed.NodeState.TheVariants as states
-use Rattle.rp_base.specs.declared.reply.Reply.TheVariants.{Value, Truth, ConstraintError}
-use Rattle.rp_base.specs.declared.reply.Reply.TheVariants.{ProgramError, NoSuchOperation}
+use Rattle.rp_model.specs.rp_base.specs.declared.reply.Reply.TheVariants.{Value, Truth}
+use Rattle.rp_model.specs.rp_base.specs.declared.reply.Reply.TheVariants.{ConstraintError}
+use Rattle.rp_model.specs.rp_base.specs.declared.reply.Reply.TheVariants.{ProgramError}
+use Rattle.rp_model.specs.rp_base.specs.declared.reply.Reply.TheVariants.{NoSuchOperation}
 
 -- the words for a reply
 abbrev pub reply_text_of : Reply → List ℕ

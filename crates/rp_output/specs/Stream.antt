@@ -1,8 +1,8 @@
 -- What is written, and the faults of reading and writing.
 use Rattle.std.specs.Prelude.{◌≡◌, ℕ, Option, Result, Ok, Err, List, ◌++◌}
 use Rattle.std.specs.Io.KnownBytes.{Appends}
-use Rattle.rp_base.specs.declared.fault.Fault.{Fault}
-use Rattle.rp_base.specs.declared.fault.Fault.TheVariants.{OutOfMemory, Io}
+use Rattle.rp_model.specs.rp_base.specs.declared.fault.Fault.{Fault}
+use Rattle.rp_model.specs.rp_base.specs.declared.fault.Fault.TheVariants.{OutOfMemory, Io}
 
 -- a write failed
 abbrev pub IsWriteFault : Fault → Type 0

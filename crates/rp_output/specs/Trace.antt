@@ -1,15 +1,18 @@
 -- The line of a trace for a packet, without its end.
 use Rattle.std.specs.Prelude.{ℕ, Option, Some, None, List, [], ◌++◌, codes, decimal}
-use Rattle.rp_base.specs.declared.action.Action.{Action}
-use Rattle.rp_base.specs.declared.action.Action.TheVariants as actions
-use Rattle.rp_base.specs.Ranges.{Range}
-use Rattle.rp_codec.specs.Message.{Message}
-use Rattle.rp_codec.specs.declared.packet.Body.{Body}
-use Rattle.rp_codec.specs.declared.packet.Body.TheVariants.{Call, Prepare, Promise, Accept}
-use Rattle.rp_codec.specs.declared.packet.Body.TheVariants.{Accepted, Decided, Ask, Nack, Reply}
-use Rattle.rp_codec.specs.declared.packet.Body.TheVariants.{Report, PrepareRange, PromiseRange}
-use Rattle.rp_codec.specs.declared.packet.Party.{Party}
-use Rattle.rp_codec.specs.declared.packet.Party.TheVariants.{Node, Task, Audit}
+use Rattle.rp_model.specs.rp_base.specs.declared.action.Action.{Action}
+use Rattle.rp_model.specs.rp_base.specs.declared.action.Action.TheVariants as actions
+use Rattle.rp_model.specs.rp_base.specs.Ranges.{Range}
+use Rattle.rp_model.specs.rp_codec.specs.Message.{Message}
+use Rattle.rp_model.specs.rp_codec.specs.declared.packet.Body.{Body}
+use Rattle.rp_model.specs.rp_codec.specs.declared.packet.Body.TheVariants.{Call, Prepare, Promise}
+use Rattle.rp_model.specs.rp_codec.specs.declared.packet.Body.TheVariants.{Accept}
+use Rattle.rp_model.specs.rp_codec.specs.declared.packet.Body.TheVariants.{Accepted, Decided, Ask}
+use Rattle.rp_model.specs.rp_codec.specs.declared.packet.Body.TheVariants.{Nack, Reply}
+use Rattle.rp_model.specs.rp_codec.specs.declared.packet.Body.TheVariants.{Report, PrepareRange}
+use Rattle.rp_model.specs.rp_codec.specs.declared.packet.Body.TheVariants.{PromiseRange}
+use Rattle.rp_model.specs.rp_codec.specs.declared.packet.Party.{Party}
+use Rattle.rp_model.specs.rp_codec.specs.declared.packet.Party.TheVariants.{Node, Task, Audit}
 use Rattle.rp_model.specs.World.{part_at}
 
 abbrev pub or_nothing : Option (List ℕ) → List ℕ

@@ -1,12 +1,12 @@
 //! The line that is printed for a fault.
 
 ghost use Rattle.std.specs.Prelude.{◌≡◌, ◌≤◌, ◌↔◌, IfErr, IsTrue, Some};
-ghost use Rattle.rp_base.specs.Fault.{code_of};
+ghost use Rattle.rp_model.specs.rp_base.specs.Fault.{code_of};
 ghost use Rattle.rp_output.specs.FaultMessage.{reason_text_of, fault_message_of, with_line_feed};
 ghost use Rattle.rp_output.specs.Stream.{IsWriteFault, Writes};
 
 use crate::stream::report;
-use rp_base::{DeckReason, Fault};
+use rp_model::rp_base::{DeckReason, Fault};
 use std::fmt;
 use std::io::Write;
 

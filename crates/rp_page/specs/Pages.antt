@@ -2,18 +2,18 @@
 use Rattle.std.specs.Prelude.{◌≡◌, ℕ, ◌+◌, ◌&&◌, ◌||◌, nat_eq, nat_le, if◌then◌else◌, false}
 use Rattle.std.specs.Prelude.{Option, Some, None, List, [], ◌∷◌, ◌++◌, codes, decimal, flat_map}
 use Rattle.std.specs.Prelude.{length, map, slice_get, string_bytes}
-use Rattle.rp_drawing.specs.Drawings.{page_text}
-use Rattle.rp_drawing.specs.Pages.{line_y}
-use Rattle.rp_drawing.specs.Stops.{within_page}
-use Rattle.rp_drawing.specs.declared.drawing.Lane.{Lane}
-use Rattle.rp_drawing.specs.declared.sketch.Mark.{Mark}
-use Rattle.rp_drawing.specs.declared.sketch.Row.{Row}
-use Rattle.rp_drawing.specs.declared.sketch.Sketch.{Sketch}
+use Rattle.rp_history.specs.rp_drawing.specs.Drawings.{page_text}
+use Rattle.rp_history.specs.rp_drawing.specs.Pages.{line_y}
+use Rattle.rp_history.specs.rp_drawing.specs.Stops.{within_page}
+use Rattle.rp_history.specs.rp_drawing.specs.declared.drawing.Lane.{Lane}
+use Rattle.rp_history.specs.rp_drawing.specs.declared.sketch.Mark.{Mark}
+use Rattle.rp_history.specs.rp_drawing.specs.declared.sketch.Row.{Row}
+use Rattle.rp_history.specs.rp_drawing.specs.declared.sketch.Sketch.{Sketch}
 use Rattle.rp_history.specs.Histories.{Happening, IsDrawnIfShort, IsSketchOf, IsTooLongFor}
 use Rattle.rp_history.specs.Histories.{LaneText, is_too_long, lane_text}
 use Rattle.rp_history.specs.declared.stage.Stage.{Stage}
-use Rattle.rp_model.specs.Effect.{Setting}
-use Rattle.rp_model.specs.World.{World}
+use Rattle.rp_history.specs.rp_model.specs.Effect.{Setting}
+use Rattle.rp_history.specs.rp_model.specs.World.{World}
 use Rattle.rp_page.specs.Frame.{before_drawing, after_drawing, after_sections}
 use Rattle.rp_page.specs.declared.page.Form.{Form}
 use Rattle.rp_page.specs.declared.page.Form.TheVariants.{Drawing, Page}

@@ -2,16 +2,16 @@
 
 ghost use Rattle.std.specs.Prelude.{◌≡◌, ◌≤◌, List, length, map, option_map, IfErr, IfOk, string_bytes};
 ghost use Rattle.rp_history.specs.Histories.{Happening, IsDrawable, IsSketchOf, lane_text};
-ghost use Rattle.rp_model.specs.Effect.{Setting};
-ghost use Rattle.rp_model.specs.World.{World};
+ghost use Rattle.rp_history.specs.rp_model.specs.Effect.{Setting};
+ghost use Rattle.rp_history.specs.rp_model.specs.World.{World};
 ghost use Rattle.rp_page.specs.Pages.{IsDrawnAs, IsPageIfShort};
 
 use crate::frame::{after_drawing, after_sections, before_drawing};
 use crate::section::add_sections;
-use rp_base::Fault;
-use rp_drawing::{Lane, draw};
 use rp_history::Chart;
-use rp_machine::Machine;
+use rp_history::rp_base::Fault;
+use rp_history::rp_drawing::{Lane, draw};
+use rp_history::rp_machine::Machine;
 use std::alloc::Global;
 
 /// What is made of a run.

@@ -3,23 +3,23 @@ use Rattle.std.proofs.Common.{◌≡◌, ℕ, zero, suc, Bool, true, false, Opti
 use Rattle.std.specs.Prelude.{slice_get, slice_set, unwrap_or}
 use Rattle.std.proofs.lemmas.Bool.{cases_Bool, eqb-true}
 use Rattle.std.proofs.lemmas.List.{append-nil}
-use Rattle.rp_base.specs.Number.{IsNode}
-use Rattle.rp_base.specs.Sets.{Has}
-use Rattle.rp_base.proofs.Members.{has_split, has_left, has_right}
-use Rattle.rp_codec.specs.Message.{Message}
-use Rattle.rp_codec.specs.declared.packet.Party.{Party}
-use Rattle.rp_codec.specs.declared.packet.Party.TheVariants as parties
-use Rattle.rp_model.specs.Effect as nodes
-use Rattle.rp_model.specs.Effect.{Setting, Done, NodeInput, node_effect, effect_while, running_effect, turn_done, turn_done_if}
-use Rattle.rp_model.specs.Events.{Event, Step, Deliver, Lead, LeadRange, Interrupt, Tick, Report, Ask, Makes, IsRightEvent, IsRightStep}
-use Rattle.rp_model.specs.Parts.{NodePart, Running, Turn}
-use Rattle.rp_model.specs.Receiving.{is_node, is_for_node, receives}
-use Rattle.rp_model.specs.Node.{running_node}
-use Rattle.rp_model.specs.Plans.{turn_of}
-use Rattle.rp_model.specs.declared.effect.Dropped.TheVariants.{Foreign}
-use Rattle.rp_model.specs.declared.plan.Plan.{Plan}
-use Rattle.rp_model.specs.declared.plan.Plan.TheVariants as plans
-use Rattle.rp_model.specs.World.{World, Transition, part_at, opening_world, event_effect, node_done, node_done_if, delivers, NodeTakes, commanded, reaches_node, reaches_number, reaches, chosen, chosen_effect}
+use Rattle.rp_store.specs.rp_base.specs.Number.{IsNode}
+use Rattle.rp_store.specs.rp_base.specs.Sets.{Has}
+use Rattle.rp_store.specs.rp_base.proofs.Members.{has_split, has_left, has_right}
+use Rattle.rp_store.specs.rp_codec.specs.Message.{Message}
+use Rattle.rp_store.specs.rp_codec.specs.declared.packet.Party.{Party}
+use Rattle.rp_store.specs.rp_codec.specs.declared.packet.Party.TheVariants as parties
+use Rattle.rp_agreement.specs.rp_model.specs.Effect as nodes
+use Rattle.rp_agreement.specs.rp_model.specs.Effect.{Setting, Done, NodeInput, node_effect, effect_while, running_effect, turn_done, turn_done_if}
+use Rattle.rp_agreement.specs.rp_model.specs.Events.{Event, Step, Deliver, Lead, LeadRange, Interrupt, Tick, Report, Ask, Makes, IsRightEvent, IsRightStep}
+use Rattle.rp_agreement.specs.rp_model.specs.Parts.{NodePart, Running, Turn}
+use Rattle.rp_agreement.specs.rp_model.specs.Receiving.{is_node, is_for_node, receives}
+use Rattle.rp_agreement.specs.rp_model.specs.Node.{running_node}
+use Rattle.rp_agreement.specs.rp_model.specs.Plans.{turn_of}
+use Rattle.rp_agreement.specs.rp_model.specs.declared.effect.Dropped.TheVariants.{Foreign}
+use Rattle.rp_agreement.specs.rp_model.specs.declared.plan.Plan.{Plan}
+use Rattle.rp_agreement.specs.rp_model.specs.declared.plan.Plan.TheVariants as plans
+use Rattle.rp_agreement.specs.rp_model.specs.World.{World, Transition, part_at, opening_world, event_effect, node_done, node_done_if, delivers, NodeTakes, commanded, reaches_node, reaches_number, reaches, chosen, chosen_effect}
 use Rattle.rp_agreement.specs.History.{IsHistory}
 use Rattle.rp_agreement.specs.Order.{AllSent}
 use Rattle.rp_agreement.proofs.Lists.{has_get}
@@ -28,7 +28,7 @@ use Rattle.rp_agreement.proofs.Playing.{happen_on}
 use Rattle.rp_agreement.specs.Ranges.{IsRangedWorld}
 use Rattle.rp_pending.specs.Pending.{PendingStep, MayCome, AreSteps, after_steps, noted_by, noted_in}
 use Rattle.rp_pending.specs.Making.{notes_of, AreAmong, GoesOnTo, Made}
-use Rattle.rp_base.specs.declared.action.Action.{Action}
+use Rattle.rp_store.specs.rp_base.specs.declared.action.Action.{Action}
 
 -- ---- what others send
 

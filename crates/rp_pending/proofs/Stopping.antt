@@ -4,27 +4,27 @@ use Rattle.std.specs.Prelude.{◌^◌}
 use Rattle.std.specs.List.{AllByRecursion}
 use Rattle.std.proofs.lemmas.Bool.{cases_Bool, cases_lt, lt-leb}
 use Rattle.std.proofs.lemmas.List.{append-nil}
-use Rattle.rp_base.specs.Sets.{Has}
-use Rattle.rp_base.proofs.Members.{has_left, has_right}
-use Rattle.rp_base.specs.declared.action.Action.{Action}
-use Rattle.rp_base.specs.declared.action.Action.TheVariants as actions
-use Rattle.rp_base.specs.declared.record.Rec.{Rec}
-use Rattle.rp_base.specs.declared.record.Rec.TheVariants.{Started, Promised, Voted, Learned, PromisedRange}
-use Rattle.rp_codec.specs.Message.{Message}
-use Rattle.rp_codec.specs.Record.{record_text, IsRecord}
-use Rattle.rp_codec.specs.declared.version.Version.TheVariants.{V2}
-use Rattle.rp_codec.specs.declared.packet.Party.{Party}
-use Rattle.rp_codec.proofs.RecordLaws.{has_latest}
-use Rattle.rp_codec.proofs.VersionLaws.{call_long}
-use Rattle.rp_codec.specs.Text.{action_text_at, number_text}
+use Rattle.rp_store.specs.rp_base.specs.Sets.{Has}
+use Rattle.rp_store.specs.rp_base.proofs.Members.{has_left, has_right}
+use Rattle.rp_store.specs.rp_base.specs.declared.action.Action.{Action}
+use Rattle.rp_store.specs.rp_base.specs.declared.action.Action.TheVariants as actions
+use Rattle.rp_store.specs.rp_base.specs.declared.record.Rec.{Rec}
+use Rattle.rp_store.specs.rp_base.specs.declared.record.Rec.TheVariants.{Started, Promised, Voted, Learned, PromisedRange}
+use Rattle.rp_store.specs.rp_codec.specs.Message.{Message}
+use Rattle.rp_store.specs.rp_codec.specs.Record.{record_text, IsRecord}
+use Rattle.rp_store.specs.rp_codec.specs.declared.version.Version.TheVariants.{V2}
+use Rattle.rp_store.specs.rp_codec.specs.declared.packet.Party.{Party}
+use Rattle.rp_store.specs.rp_codec.proofs.RecordLaws.{has_latest}
+use Rattle.rp_store.specs.rp_codec.proofs.VersionLaws.{call_long}
+use Rattle.rp_store.specs.rp_codec.specs.Text.{action_text_at, number_text}
 use Rattle.rp_store.specs.Records.{AreTextsOf, AreRecordsOf}
 use Rattle.rp_store.proofs.Whole.{texts_end, are_alone, before_put}
-use Rattle.rp_model.specs.Effect as nodes
-use Rattle.rp_model.specs.Effect.{Setting, Done, NodeInput, effect_while, node_effect, cut_effect, cut_if, cut_part, goes_on_as, turn_done}
-use Rattle.rp_model.specs.Events.{Event, Cut}
-use Rattle.rp_model.specs.Parts.{NodePart, Running, Turn, with_record}
-use Rattle.rp_model.specs.Receiving.{is_node}
-use Rattle.rp_model.specs.World.{World, part_at, event_effect, node_done, node_done_if, chosen_cut}
+use Rattle.rp_agreement.specs.rp_model.specs.Effect as nodes
+use Rattle.rp_agreement.specs.rp_model.specs.Effect.{Setting, Done, NodeInput, effect_while, node_effect, cut_effect, cut_if, cut_part, goes_on_as, turn_done}
+use Rattle.rp_agreement.specs.rp_model.specs.Events.{Event, Cut}
+use Rattle.rp_agreement.specs.rp_model.specs.Parts.{NodePart, Running, Turn, with_record}
+use Rattle.rp_agreement.specs.rp_model.specs.Receiving.{is_node}
+use Rattle.rp_agreement.specs.rp_model.specs.World.{World, part_at, event_effect, node_done, node_done_if, chosen_cut}
 use Rattle.rp_agreement.specs.History.{IsHistory}
 use Rattle.rp_agreement.specs.Ranges.{IsRangedWorld}
 use Rattle.rp_agreement.proofs.Lists.{has_get}

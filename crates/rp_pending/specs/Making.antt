@@ -1,15 +1,15 @@
 -- Pending steps that become events of a history.
 use Rattle.std.specs.Prelude.{◌≡◌, ◌≢◌, ℕ, Some, List, [], ◌∷◌, ◌++◌, length}
-use Rattle.rp_base.specs.Sets.{Has}
-use Rattle.rp_base.specs.declared.action.Action.{Action}
-use Rattle.rp_base.specs.declared.action.Action.TheVariants.{Interrupt, Tick}
-use Rattle.rp_codec.specs.Message.{Message}
+use Rattle.rp_store.specs.rp_base.specs.Sets.{Has}
+use Rattle.rp_store.specs.rp_base.specs.declared.action.Action.{Action}
+use Rattle.rp_store.specs.rp_base.specs.declared.action.Action.TheVariants.{Interrupt, Tick}
+use Rattle.rp_store.specs.rp_codec.specs.Message.{Message}
 use Rattle.rp_store.specs.Records.{AreRecordsOf}
-use Rattle.rp_model.specs.Effect.{Setting}
-use Rattle.rp_model.specs.Events.{Event, Makes}
-use Rattle.rp_model.specs.Events as events
-use Rattle.rp_model.specs.Parts.{NodePart}
-use Rattle.rp_model.specs.World.{World, part_at}
+use Rattle.rp_agreement.specs.rp_model.specs.Effect.{Setting}
+use Rattle.rp_agreement.specs.rp_model.specs.Events.{Event, Makes}
+use Rattle.rp_agreement.specs.rp_model.specs.Events as events
+use Rattle.rp_agreement.specs.rp_model.specs.Parts.{NodePart}
+use Rattle.rp_agreement.specs.rp_model.specs.World.{World, part_at}
 use Rattle.rp_agreement.specs.History.{IsHistory}
 use Rattle.rp_agreement.specs.Order.{AllSent}
 use Rattle.rp_pending.specs.Pending.{PendingStep, AreSteps, after_steps, noted_in}

@@ -1,17 +1,18 @@
 -- Steps of a node that it made and that a world does not have yet.
 use Rattle.std.specs.Prelude.{◌≡◌, ℕ, ◌<◌, ◌^◌, Option, Some, None, Ok, List, [], ◌∷◌, ◌++◌}
 use Rattle.std.specs.Prelude.{IfSome}
-use Rattle.rp_base.specs.Action.{IsIndex, IsCount}
-use Rattle.rp_base.specs.Number.{IsNode, IsPosition}
-use Rattle.rp_base.specs.Sets.{Has}
-use Rattle.rp_base.specs.declared.action.Action.{Action}
-use Rattle.rp_base.specs.declared.action.Action.TheVariants as actions
-use Rattle.rp_base.specs.declared.record.Rec.{Rec}
-use Rattle.rp_codec.specs.Message.{Message}
-use Rattle.rp_codec.specs.Record.{record_text}
-use Rattle.rp_model.specs.Effect.{Setting, NodeInput, Receive, Lead, LeadRange, Interrupt, Tick}
-use Rattle.rp_model.specs.Effect.{Report, Ask, node_effect, turn_done}
-use Rattle.rp_model.specs.Parts.{NodePart, Turn}
+use Rattle.rp_store.specs.rp_base.specs.Action.{IsIndex, IsCount}
+use Rattle.rp_store.specs.rp_base.specs.Number.{IsNode, IsPosition}
+use Rattle.rp_store.specs.rp_base.specs.Sets.{Has}
+use Rattle.rp_store.specs.rp_base.specs.declared.action.Action.{Action}
+use Rattle.rp_store.specs.rp_base.specs.declared.action.Action.TheVariants as actions
+use Rattle.rp_store.specs.rp_base.specs.declared.record.Rec.{Rec}
+use Rattle.rp_store.specs.rp_codec.specs.Message.{Message}
+use Rattle.rp_store.specs.rp_codec.specs.Record.{record_text}
+use Rattle.rp_agreement.specs.rp_model.specs.Effect.{Setting, NodeInput, Receive, Lead, LeadRange}
+use Rattle.rp_agreement.specs.rp_model.specs.Effect.{Interrupt, Tick}
+use Rattle.rp_agreement.specs.rp_model.specs.Effect.{Report, Ask, node_effect, turn_done}
+use Rattle.rp_agreement.specs.rp_model.specs.Parts.{NodePart, Turn}
 
 -- A step: its input and its turn.
 pub record PendingStep : Type 0 where

@@ -1,12 +1,12 @@
 //! Pending steps become events of a history.
 
 ghost use Rattle.std.specs.Prelude.{◌≡◌, ℕ, Some, List, ◌++◌};
-ghost use Rattle.rp_base.specs.declared.config.Config.{Config};
-ghost use Rattle.rp_codec.specs.Message.{Message};
-ghost use Rattle.rp_model.specs.Effect.{Setting};
-ghost use Rattle.rp_model.specs.Events.{Event};
-ghost use Rattle.rp_model.specs.Parts.{NodePart};
-ghost use Rattle.rp_model.specs.World.{World, part_at};
+ghost use Rattle.rp_store.specs.rp_base.specs.declared.config.Config.{Config};
+ghost use Rattle.rp_store.specs.rp_codec.specs.Message.{Message};
+ghost use Rattle.rp_agreement.specs.rp_model.specs.Effect.{Setting};
+ghost use Rattle.rp_agreement.specs.rp_model.specs.Events.{Event};
+ghost use Rattle.rp_agreement.specs.rp_model.specs.Parts.{NodePart};
+ghost use Rattle.rp_agreement.specs.rp_model.specs.World.{World, part_at};
 ghost use Rattle.rp_agreement.specs.Answered.{setting_for};
 ghost use Rattle.rp_agreement.specs.History.{IsHistory};
 ghost use Rattle.rp_agreement.specs.Order.{AllSent};
@@ -15,8 +15,8 @@ ghost use Rattle.rp_store.specs.Records.{AreTextsOf};
 ghost use Rattle.rp_pending.specs.Making.{Made, Stopped};
 ghost use Rattle.rp_pending.specs.Pending.{PendingStep, AreSteps, bytes_of};
 
+use rp_agreement::rp_machine::{Machine, replies_fit};
 use rp_agreement::the_opening_is_sound;
-use rp_machine::{Machine, replies_fit};
 
 /// In every history each number is within its range.
 pub fn histories_keep_ranges<M: Machine>()

@@ -11,9 +11,9 @@ use Rattle.rp_base.specs.declared.action.Operation.{Operation}
 use Rattle.rp_base.specs.declared.record.Rec.{Rec}
 use Rattle.rp_base.specs.declared.record.Rec.TheVariants.{Learned}
 use Rattle.rp_base.specs.declared.reply.Answer.{Answer}
-use Rattle.rp_codec.specs.Message.{Message}
-use Rattle.rp_codec.specs.declared.packet.Body.TheVariants as bodies
-use Rattle.rp_machine.specs.Replay.{replay_answers}
+use Rattle.rp_model.specs.rp_codec.specs.Message.{Message}
+use Rattle.rp_model.specs.rp_codec.specs.declared.packet.Body.TheVariants as bodies
+use Rattle.rp_model.specs.rp_machine.specs.Replay.{replay_answers}
 use Rattle.rp_model.specs.Effect.{Setting, NodeInput, plan_of, running_effect}
 use Rattle.rp_model.specs.Learner.{asks_for, missing_position}
 use Rattle.rp_model.specs.Node.{RunningNode, running_node, nodes_of}

@@ -7,7 +7,7 @@ use Rattle.std.proofs.lemmas.Bool.{and_parts, leb-true}
 use Rattle.rp_base.specs.Majority.{majority_of}
 use Rattle.rp_base.specs.Number.{IsNode, IsTask, in_range}
 use Rattle.rp_base.specs.declared.action.Operation.TheVariants.{Procedure}
-use Rattle.rp_machine.specs.Replay.{one_to}
+use Rattle.rp_model.specs.rp_machine.specs.Replay.{one_to}
 use Rattle.rp_model.specs.Events.{Event, Submit, Makes, Stop, Deliver, Lead}
 use Rattle.rp_possible.proofs.Playing.{AllRight, right_on, deliveries, right_deliveries}
 

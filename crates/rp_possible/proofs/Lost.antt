@@ -7,7 +7,7 @@ use Rattle.rp_base.specs.declared.action.Action.TheVariants.{Call}
 use Rattle.rp_base.specs.declared.action.Operation.TheVariants.{Procedure}
 use Rattle.rp_base.specs.declared.reply.Answer.{Answer}
 use Rattle.rp_base.specs.declared.reply.Reply.{Reply}
-use Rattle.rp_machine.specs.Replay.{one_to}
+use Rattle.rp_model.specs.rp_machine.specs.Replay.{one_to}
 use Rattle.rp_model.specs.Events.{Event, Submit, Again, Makes, Deliver}
 use Rattle.rp_model.specs.World.{World, opening_world}
 use Rattle.rp_possible.specs.Possible.{IsAskedAgain, answer_of, prompt_nodes, is_plain, is_not_delivery}

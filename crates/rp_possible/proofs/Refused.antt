@@ -11,7 +11,7 @@ use Rattle.rp_base.specs.declared.fault.Fault.{Fault}
 use Rattle.rp_base.specs.declared.record.Rec.{Rec}
 use Rattle.rp_base.specs.declared.record.Rec.TheVariants.{Started}
 use Rattle.rp_base.specs.declared.record.Vote.{Vote}
-use Rattle.rp_codec.specs.declared.packet.Body.TheVariants.{Nack, Promise}
+use Rattle.rp_model.specs.rp_codec.specs.declared.packet.Body.TheVariants.{Nack, Promise}
 use Rattle.rp_model.specs.Effect.{Setting, Receive, Lead, running_effect}
 use Rattle.rp_model.specs.Leader.{on_promise, on_promise_to, starts_above}
 use Rattle.rp_model.specs.Node.{running_node}

@@ -10,7 +10,7 @@ use Rattle.rp_base.specs.declared.action.Action.TheVariants.{Call}
 use Rattle.rp_base.specs.declared.action.Operation.TheVariants.{Procedure}
 use Rattle.rp_base.specs.declared.reply.Answer.{Answer}
 use Rattle.rp_base.specs.declared.reply.Reply.{Reply}
-use Rattle.rp_machine.specs.Replay.{one_to}
+use Rattle.rp_model.specs.rp_machine.specs.Replay.{one_to}
 use Rattle.rp_model.specs.Events.{Event, Stop}
 use Rattle.rp_model.specs.World.{World, opening_world}
 use Rattle.rp_possible.specs.Possible.{AreReplied, answer_of, prompt_nodes, is_plain, is_led_by}

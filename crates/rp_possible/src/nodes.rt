@@ -13,16 +13,16 @@ ghost use Rattle.rp_base.specs.declared.record.Rec.{Rec};
 ghost use Rattle.rp_base.specs.declared.record.Rec.TheVariants.{Started, Learned};
 ghost use Rattle.rp_base.specs.declared.record.Vote.{Vote};
 ghost use Rattle.rp_base.specs.declared.reply.Answer.{Answer};
-ghost use Rattle.rp_codec.specs.Message.{Message};
-ghost use Rattle.rp_codec.specs.declared.packet.Body.{Body};
-ghost use Rattle.rp_codec.specs.declared.packet.Body.TheVariants.{Nack, Prepare, Promise, Reply};
-ghost use Rattle.rp_codec.specs.declared.packet.Party.TheVariants.{Node, Task};
-ghost use Rattle.rp_machine.specs.Replay.{replay_answers};
+ghost use Rattle.rp_model.specs.rp_codec.specs.Message.{Message};
+ghost use Rattle.rp_model.specs.rp_codec.specs.declared.packet.Body.{Body};
+ghost use Rattle.rp_model.specs.rp_codec.specs.declared.packet.Body.TheVariants.{Nack, Prepare, Promise, Reply};
+ghost use Rattle.rp_model.specs.rp_codec.specs.declared.packet.Party.TheVariants.{Node, Task};
+ghost use Rattle.rp_model.specs.rp_machine.specs.Replay.{replay_answers};
 ghost use Rattle.rp_model.specs.Effect.{Setting, NodeInput, Receive, Lead, running_effect};
 ghost use Rattle.rp_model.specs.Parts.{Running, Turn};
 ghost use Rattle.rp_model.specs.Says.{says, says_to_all};
 
-use rp_machine::Machine;
+use rp_model::rp_machine::Machine;
 
 /// What goes to all nodes goes to each of them, and to nobody else; so does the question for
 /// promises of a node that leads.

@@ -7,15 +7,15 @@ ghost use Rattle.rp_base.specs.declared.action.Action.{Action};
 ghost use Rattle.rp_base.specs.declared.action.Action.TheVariants.{Call};
 ghost use Rattle.rp_base.specs.declared.action.Operation.{Operation};
 ghost use Rattle.rp_base.specs.declared.reply.Reply.{Reply as Returned};
-ghost use Rattle.rp_codec.specs.declared.packet.Body.TheVariants as bodies;
-ghost use Rattle.rp_codec.specs.declared.packet.Party.TheVariants.{Node, Task};
+ghost use Rattle.rp_model.specs.rp_codec.specs.declared.packet.Body.TheVariants as bodies;
+ghost use Rattle.rp_model.specs.rp_codec.specs.declared.packet.Party.TheVariants.{Node, Task};
 ghost use Rattle.rp_model.specs.Effect.{Setting};
 ghost use Rattle.rp_model.specs.Events.{Submit, Again, Makes, Deliver};
 ghost use Rattle.rp_model.specs.Parts.{TaskPart};
 ghost use Rattle.rp_model.specs.World.{World, Transition, event_effect, part_at};
 ghost use Rattle.rp_possible.specs.Possible.{answer_of};
 
-use rp_machine::Machine;
+use rp_model::rp_machine::Machine;
 
 /// A task that waits for no call makes its next one, unless it made 2^32 - 1: it asks the node, and
 /// waits for the reply.

@@ -5,15 +5,15 @@ use Rattle.std.specs.Fmt.{decimal, signed_decimal}
 use Rattle.std.specs.Str.Parse.{AllDigits}
 use Rattle.std.proofs.lemmas.Bool.Decides.{nat_tests}
 use Rattle.std.proofs.lemmas.Str.Parse.{digit_from_value}
-use Rattle.rp_base.specs.declared.fault.Fault.{Fault}
-use Rattle.rp_base.specs.declared.fault.Fault.TheVariants.{OutOfMemory, Device, Failed, BadPacket, NotRunning, BallotsSpent, LogFull, NoSuchMessage, TaskBusy, NumbersSpent, BadDeck, BadConfig, Io}
-use Rattle.rp_base.specs.declared.reply.Reply.{Reply}
-use Rattle.rp_base.specs.declared.reply.Reply.TheVariants as answers
-use Rattle.rp_base.specs.Right.{IsReply}
-use Rattle.rp_codec.specs.declared.packet.Body.{Body}
-use Rattle.rp_codec.specs.declared.packet.Body.TheVariants as bodies
-use Rattle.rp_output.specs.Printed.{reply_text_of, reply_line_of, refused_line_of, opened_line_of, applied_line_of}
-use Rattle.rp_output.specs.Trace.{trace_line_of, body_text_of, call_number}
+use Rattle.rp_run.specs.rp_base.specs.declared.fault.Fault.{Fault}
+use Rattle.rp_run.specs.rp_base.specs.declared.fault.Fault.TheVariants.{OutOfMemory, Device, Failed, BadPacket, NotRunning, BallotsSpent, LogFull, NoSuchMessage, TaskBusy, NumbersSpent, BadDeck, BadConfig, Io}
+use Rattle.rp_run.specs.rp_base.specs.declared.reply.Reply.{Reply}
+use Rattle.rp_run.specs.rp_base.specs.declared.reply.Reply.TheVariants as answers
+use Rattle.rp_run.specs.rp_base.specs.Right.{IsReply}
+use Rattle.rp_run.specs.rp_codec.specs.declared.packet.Body.{Body}
+use Rattle.rp_run.specs.rp_codec.specs.declared.packet.Body.TheVariants as bodies
+use Rattle.rp_run.specs.rp_output.specs.Printed.{reply_text_of, reply_line_of, refused_line_of, opened_line_of, applied_line_of}
+use Rattle.rp_run.specs.rp_output.specs.Trace.{trace_line_of, body_text_of, call_number}
 use Rattle.rp_printed_texts.specs.Packets.{stated_of, AreNumbers, call_stated}
 use Rattle.rp_printed_texts.proofs.WordsRead.{numeral}
 use Rattle.rp_printed_texts.proofs.LinesRead.{replies, opened, running, full, applied_back, stopped, refused, limit}

@@ -1,10 +1,12 @@
 -- Reading the text of an item of a run, line by line: what its first line says, and what is after it.
 use Rattle.std.specs.Prelude.{◌≡◌, ◌≢◌, ◌<◌, ◌^◌, ◌==◌, ℕ, Some, List, [], ◌∷◌, codes}
 use Rattle.std.specs.Prelude.{if◌then◌else◌}
-use Rattle.rp_base.specs.declared.fault.Fault.{Fault}
-use Rattle.rp_base.specs.declared.fault.Fault.TheVariants.{NotRunning, BallotsSpent, LogFull}
-use Rattle.rp_base.specs.declared.fault.Fault.TheVariants.{NoSuchMessage, TaskBusy, NumbersSpent}
-use Rattle.rp_base.specs.Right.{IsReply}
+use Rattle.rp_run.specs.rp_base.specs.declared.fault.Fault.{Fault}
+use Rattle.rp_run.specs.rp_base.specs.declared.fault.Fault.TheVariants.{NotRunning, BallotsSpent}
+use Rattle.rp_run.specs.rp_base.specs.declared.fault.Fault.TheVariants.{LogFull}
+use Rattle.rp_run.specs.rp_base.specs.declared.fault.Fault.TheVariants.{NoSuchMessage, TaskBusy}
+use Rattle.rp_run.specs.rp_base.specs.declared.fault.Fault.TheVariants.{NumbersSpent}
+use Rattle.rp_run.specs.rp_base.specs.Right.{IsReply}
 use Rattle.rp_printed_texts.specs.Reading.{LineRead, ReplyTaken, NodeOpened, NodeRunning, NodeFull}
 use Rattle.rp_printed_texts.specs.Reading.{NodeApplied, NodeStopped, StepRefused, DrainEnded}
 use Rattle.rp_printed_texts.specs.Reading.{read_line, HasNoSpace}

@@ -4,9 +4,9 @@ use Rattle.std.specs.Prelude.{codes}
 use Rattle.std.specs.Option.{option_map}
 use Rattle.std.specs.Fmt.{decimal, signed_decimal}
 use Rattle.std.specs.Str.Parse.{digits_value}
-use Rattle.rp_base.specs.Right.{IsReply}
-use Rattle.rp_base.specs.declared.reply.Reply.{Reply}
-use Rattle.rp_base.specs.declared.reply.Reply.TheVariants.{Value, Truth, ConstraintError, ProgramError, NoSuchOperation}
+use Rattle.rp_output.specs.rp_base.specs.Right.{IsReply}
+use Rattle.rp_output.specs.rp_base.specs.declared.reply.Reply.{Reply}
+use Rattle.rp_output.specs.rp_base.specs.declared.reply.Reply.TheVariants.{Value, Truth, ConstraintError, ProgramError, NoSuchOperation}
 use Rattle.rp_output.specs.Printed.{reply_text_of, reply_line_of, opened_line_of, running_line_of, full_line_of, applied_line_of, stopped_line_of, limit_line_of}
 use Rattle.rp_printed_texts.specs.Reading.{ReplyTaken, NodeOpened, NodeRunning, NodeFull, NodeApplied, NodeStopped, StepRefused, DrainEnded, words_in, printed_reply, taken_in, state_in, step_in, before_colon, read_line, HasNoSpace}
 use Rattle.rp_printed_texts.proofs.WordsRead.{word_first, word_last, number_solid, value_back, numeral, colon_solid, digits_before, signed_back, signed_solid}

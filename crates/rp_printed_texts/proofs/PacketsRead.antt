@@ -3,10 +3,10 @@ use Rattle.std.proofs.Common.{◌≡◌, ◌<◌, ◌^◌, ℕ, cond, List, [], 
 use Rattle.std.specs.Prelude.{codes}
 use Rattle.std.specs.Fmt.{decimal}
 use Rattle.std.specs.Str.Parse.{digits_value}
-use Rattle.rp_base.specs.declared.action.Action.{Action}
-use Rattle.rp_base.specs.declared.action.Action.TheVariants as actions
-use Rattle.rp_codec.specs.declared.packet.Body.{Body}
-use Rattle.rp_codec.specs.declared.packet.Body.TheVariants.{Call, Prepare, Promise, Accept, Accepted, Decided, Ask, Nack, Reply, Report, PrepareRange, PromiseRange}
+use Rattle.rp_output.specs.rp_base.specs.declared.action.Action.{Action}
+use Rattle.rp_output.specs.rp_base.specs.declared.action.Action.TheVariants as actions
+use Rattle.rp_output.specs.rp_codec.specs.declared.packet.Body.{Body}
+use Rattle.rp_output.specs.rp_codec.specs.declared.packet.Body.TheVariants.{Call, Prepare, Promise, Accept, Accepted, Decided, Ask, Nack, Reply, Report, PrepareRange, PromiseRange}
 use Rattle.rp_output.specs.Trace.{call_number, body_text_of, trace_line_of}
 use Rattle.rp_printed_texts.specs.Reading.{words_in, HasNoSpace}
 use Rattle.rp_printed_texts.specs.Packets.{PacketRead, before_mark, after_mark, packet_in, read_packet, call_stated, stated_of, AreNumbers, IsPartyName}

@@ -3,12 +3,15 @@
 use Rattle.std.specs.Prelude.{◌≢◌, ◌<◌, ◌^◌, ◌==◌, ℕ, Option, Some, None, List, [], ◌∷◌, codes, map}
 use Rattle.std.specs.Prelude.{if◌then◌else◌}
 use Rattle.std.specs.Str.Parse.{digits_value}
-use Rattle.rp_base.specs.declared.action.Action.{Action}
-use Rattle.rp_base.specs.declared.action.Action.TheVariants as actions
-use Rattle.rp_codec.specs.declared.packet.Body.{Body}
-use Rattle.rp_codec.specs.declared.packet.Body.TheVariants.{Call, Prepare, Promise, Accept}
-use Rattle.rp_codec.specs.declared.packet.Body.TheVariants.{Accepted, Decided, Ask, Nack, Reply}
-use Rattle.rp_codec.specs.declared.packet.Body.TheVariants.{Report, PrepareRange, PromiseRange}
+use Rattle.rp_output.specs.rp_base.specs.declared.action.Action.{Action}
+use Rattle.rp_output.specs.rp_base.specs.declared.action.Action.TheVariants as actions
+use Rattle.rp_output.specs.rp_codec.specs.declared.packet.Body.{Body}
+use Rattle.rp_output.specs.rp_codec.specs.declared.packet.Body.TheVariants.{Call, Prepare, Promise}
+use Rattle.rp_output.specs.rp_codec.specs.declared.packet.Body.TheVariants.{Accept}
+use Rattle.rp_output.specs.rp_codec.specs.declared.packet.Body.TheVariants.{Accepted, Decided, Ask}
+use Rattle.rp_output.specs.rp_codec.specs.declared.packet.Body.TheVariants.{Nack, Reply}
+use Rattle.rp_output.specs.rp_codec.specs.declared.packet.Body.TheVariants.{Report, PrepareRange}
+use Rattle.rp_output.specs.rp_codec.specs.declared.packet.Body.TheVariants.{PromiseRange}
 use Rattle.rp_printed_texts.specs.Reading.{words_in}
 
 -- the number of the packet, its sender and its receiver as they are named, its kind, and the numbers

@@ -5,9 +5,11 @@ use Rattle.std.specs.Prelude.{Option, Some, None, List, [], ◌∷◌, codes, if
 use Rattle.std.specs.Cmp.Lexicographic.{pointwise}
 use Rattle.std.specs.Option.{option_map}
 use Rattle.std.specs.Str.Parse.{digits_value}
-use Rattle.rp_base.specs.declared.reply.Reply.{Reply}
-use Rattle.rp_base.specs.declared.reply.Reply.TheVariants.{Value, Truth, ConstraintError}
-use Rattle.rp_base.specs.declared.reply.Reply.TheVariants.{ProgramError, NoSuchOperation}
+use Rattle.rp_output.specs.rp_base.specs.declared.reply.Reply.{Reply}
+use Rattle.rp_output.specs.rp_base.specs.declared.reply.Reply.TheVariants.{Value, Truth}
+use Rattle.rp_output.specs.rp_base.specs.declared.reply.Reply.TheVariants.{ConstraintError}
+use Rattle.rp_output.specs.rp_base.specs.declared.reply.Reply.TheVariants.{ProgramError}
+use Rattle.rp_output.specs.rp_base.specs.declared.reply.Reply.TheVariants.{NoSuchOperation}
 
 -- What a line says: a task, by its name, takes the reply to its call of this number; a node runs
 -- again, with the numbers of records found and of bytes truncated; it was running already; it has

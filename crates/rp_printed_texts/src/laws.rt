@@ -1,11 +1,11 @@
 //! Printed lines are read as what they were printed for.
 
 ghost use Rattle.std.specs.Prelude.{◌≡◌, ◌<◌, ◌^◌, ℕ, List, Some, codes};
-ghost use Rattle.rp_base.specs.declared.fault.Fault.{Fault};
-ghost use Rattle.rp_base.specs.declared.fault.Fault.TheVariants.{NotRunning, BallotsSpent, LogFull, NoSuchMessage, TaskBusy, NumbersSpent};
-ghost use Rattle.rp_base.specs.declared.reply.Reply.{Reply};
-ghost use Rattle.rp_base.specs.Right.{IsReply};
-ghost use Rattle.rp_codec.specs.declared.packet.Body.{Body};
+ghost use Rattle.rp_output.specs.rp_base.specs.declared.fault.Fault.{Fault};
+ghost use Rattle.rp_output.specs.rp_base.specs.declared.fault.Fault.TheVariants.{NotRunning, BallotsSpent, LogFull, NoSuchMessage, TaskBusy, NumbersSpent};
+ghost use Rattle.rp_output.specs.rp_base.specs.declared.reply.Reply.{Reply};
+ghost use Rattle.rp_output.specs.rp_base.specs.Right.{IsReply};
+ghost use Rattle.rp_output.specs.rp_codec.specs.declared.packet.Body.{Body};
 ghost use Rattle.rp_output.specs.Trace.{trace_line_of};
 ghost use Rattle.rp_printed_texts.specs.Packets.{read_packet, stated_of, AreNumbers, IsPartyName};
 ghost use Rattle.rp_output.specs.Printed.{reply_line_of, opened_line_of, running_line_of, full_line_of, applied_line_of, stopped_line_of, refused_line_of, limit_line_of, agreed_line};

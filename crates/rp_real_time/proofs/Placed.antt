@@ -1,9 +1,9 @@
 -- Places in a list of actions and in a longer one.
 use Rattle.std.proofs.Common.{◌≡◌, ◌≤◌, ◌+◌, ℕ, suc, List, [], ◌∷◌, ◌++◌, length, refl, ap, ◌∙◌, arith, length-append}
-use Rattle.rp_base.specs.declared.action.Action.{Action}
-use Rattle.rp_base.specs.declared.reply.Answer.{Answer}
-use Rattle.rp_machine.specs.Calls.{CallName}
-use Rattle.rp_machine.specs.Places.{IsPlace}
+use Rattle.rp_agreement.specs.rp_base.specs.declared.action.Action.{Action}
+use Rattle.rp_agreement.specs.rp_base.specs.declared.reply.Answer.{Answer}
+use Rattle.rp_agreement.specs.rp_machine.specs.Calls.{CallName}
+use Rattle.rp_agreement.specs.rp_machine.specs.Places.{IsPlace}
 
 append_back : {A : Type 0} (xs ys zs : List A) → (xs ++ ys) ++ zs ≡ xs ++ (ys ++ zs)
 append_back [] ys zs = refl

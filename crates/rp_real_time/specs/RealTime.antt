@@ -1,11 +1,11 @@
 -- What the order of all actions says of the order of time (linearizability: Herlihy and Wing).
 use Rattle.std.specs.Prelude.{◌≡◌, ◌<◌, ℕ, suc, Some, List, slice_get}
-use Rattle.rp_base.specs.declared.action.Action.{Action}
-use Rattle.rp_base.specs.declared.reply.Answer.{Answer}
-use Rattle.rp_machine.specs.Places.{IsPlace}
-use Rattle.rp_model.specs.Facts.{IsOrder}
-use Rattle.rp_model.specs.Parts.{TaskPart}
-use Rattle.rp_model.specs.World.{World, part_at}
+use Rattle.rp_agreement.specs.rp_base.specs.declared.action.Action.{Action}
+use Rattle.rp_agreement.specs.rp_base.specs.declared.reply.Answer.{Answer}
+use Rattle.rp_agreement.specs.rp_machine.specs.Places.{IsPlace}
+use Rattle.rp_agreement.specs.rp_model.specs.Facts.{IsOrder}
+use Rattle.rp_agreement.specs.rp_model.specs.Parts.{TaskPart}
+use Rattle.rp_agreement.specs.rp_model.specs.World.{World, part_at}
 use Rattle.rp_agreement.specs.Answered.{named, calls_so_far}
 
 -- now this task has the reply to its kth call, counted from 0

@@ -5,10 +5,10 @@ use Rattle.rp_base.specs.declared.record.Rec.TheVariants as records
 use Rattle.rp_base.specs.declared.reply.Answer.{Answer}
 use Rattle.rp_base.specs.Records.{applied_of}
 use Rattle.rp_codec.specs.Message.{Message}
-use Rattle.rp_machine.specs.Replay.{replay_answers}
+use Rattle.rp_model.specs.rp_machine.specs.Replay.{replay_answers}
 use Rattle.rp_model.specs.Pending.{replies_to}
 use Rattle.rp_model.specs.Learner.{learns}
-use Rattle.rp_server.specs.Applying.{learns_alone}
+use Rattle.rp_rules.specs.rp_server.specs.Applying.{learns_alone}
 use Rattle.rp_replica.specs.State.{ReplicaState, after_turn, server_of}
 use Rattle.rp_replica.specs.Committing.{Commits}
 

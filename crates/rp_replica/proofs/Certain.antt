@@ -16,7 +16,7 @@ use Rattle.rp_codec.specs.Message.{Message, IsPacket}
 use Rattle.rp_codec.specs.Reading.{all_of}
 use Rattle.rp_codec.specs.Text.{text_of}
 use Rattle.rp_codec.proofs.Decoded.{whole_read, whole_again}
-use Rattle.rp_machine.specs.Asked.{last_occurrence}
+use Rattle.rp_model.specs.rp_machine.specs.Asked.{last_occurrence}
 use Rattle.rp_model.specs.Parts.{Turn}
 use Rattle.rp_model.specs.Arrivals.{adds_pending, on_interrupt}
 use Rattle.rp_model.specs.Node.{RunningNode, kept_by}

@@ -18,7 +18,7 @@ use Rattle.rp_model.specs.Parts.{Running}
 use Rattle.rp_model.specs.Effect.{cut_part, stop_part}
 use Rattle.rp_model.specs.Parts.{is_in_log}
 use Rattle.rp_replica.specs.Invariant.{IsOnDisk}
-use Rattle.rp_server.specs.State.{ServerState}
+use Rattle.rp_rules.specs.rp_server.specs.State.{ServerState}
 use Rattle.rp_replica.specs.State.{ReplicaState, part_of, replica_of}
 use Rattle.rp_replica.specs.Kept.{HoldsPart, HoldsOnly, HoldsItsRecords, HoldsCut}
 use Rattle.rp_replica.specs.Turning.{Stops}

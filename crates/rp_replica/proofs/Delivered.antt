@@ -20,9 +20,9 @@ use Rattle.rp_codec.specs.Text.{text_of}
 use Rattle.rp_codec.proofs.Decoded.{whole_again}
 use Rattle.rp_codec.specs.declared.packet.Body.{Body}
 use Rattle.rp_codec.specs.declared.usual_texts.Header.{Header}
-use Rattle.rp_learner.specs.declared.learner.VoteStatus.{VoteStatus}
+use Rattle.rp_rules.specs.rp_learner.specs.declared.learner.VoteStatus.{VoteStatus}
 use Rattle.std.proofs.lemmas.List.{map-append}
-use Rattle.rp_machine.specs.Replay.{one_to}
+use Rattle.rp_model.specs.rp_machine.specs.Replay.{one_to}
 use Rattle.rp_model.specs.Acceptor.{answer_to, accept_plan, on_accept, on_prepare, prepare_plan}
 use Rattle.rp_model.specs.Effect.{NodeInput}
 use Rattle.rp_model.specs.Leader.{on_promise}
@@ -36,13 +36,13 @@ use Rattle.rp_model.specs.declared.effect.Dropped.TheVariants.{No}
 use Rattle.rp_model.specs.declared.plan.CountedPromise.{CountedPromise}
 use Rattle.rp_model.specs.declared.plan.Plan.{Plan}
 use Rattle.rp_model.specs.declared.plan.Plan.TheVariants as plans
-use Rattle.rp_proposer.specs.Proposing.{progress_in}
-use Rattle.rp_proposer.specs.declared.proposal.Progress.{Progress}
+use Rattle.rp_rules.specs.rp_proposer.specs.Proposing.{progress_in}
+use Rattle.rp_rules.specs.rp_proposer.specs.declared.proposal.Progress.{Progress}
 use Rattle.rp_rules.specs.Inputs.{running_server, packet_given}
 use Rattle.rp_rules.proofs.Accepted.{accepted_plan, status_plan}
-use Rattle.rp_server.specs.State.{ServerState}
-use Rattle.rp_server.specs.Status.{status_of}
-use Rattle.rp_server.proofs.Promising.{plan_is, promise_plan}
+use Rattle.rp_rules.specs.rp_server.specs.State.{ServerState}
+use Rattle.rp_rules.specs.rp_server.specs.Status.{status_of}
+use Rattle.rp_rules.specs.rp_server.proofs.Promising.{plan_is, promise_plan}
 use Rattle.rp_rules.specs.Plans.{turn_of_plan, IsPlanOf, TakesNoMemory}
 use Rattle.rp_replica.specs.Committing.{Commits}
 use Rattle.rp_replica.specs.Inputs.{replica_effect, effect_if_given}

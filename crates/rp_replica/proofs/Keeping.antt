@@ -10,8 +10,8 @@ use Rattle.rp_base.specs.WriteFaults.{fault_of}
 use Rattle.rp_base.specs.declared.record.Rec.{Rec}
 use Rattle.rp_codec.specs.Record.{record_text, IsRecord}
 use Rattle.rp_model.specs.Parts.{Turn, is_in_log, records_in_log, with_record}
-use Rattle.rp_server.specs.Invariant.{AllInLog}
-use Rattle.rp_server.specs.State.{ServerState, server_after}
+use Rattle.rp_rules.specs.rp_server.specs.Invariant.{AllInLog}
+use Rattle.rp_rules.specs.rp_server.specs.State.{ServerState, server_after}
 use Rattle.rp_store.specs.Disk.{Disk, appended, synced, AppendFailed}
 use Rattle.rp_store.specs.Stored.{Stored, IsUnchanged, IsPut, IsNotPut}
 use Rattle.rp_store.proofs.Whole.{one_more}

@@ -9,7 +9,7 @@ use Rattle.rp_model.specs.Node.{RunningNode}
 use Rattle.rp_model.specs.declared.plan.Plan.{Plan}
 use Rattle.rp_rules.specs.Inputs.{Refuses, running_server, plan_if_given, effect_if_given}
 use Rattle.rp_rules.specs.Plans.{turn_of_plan}
-use Rattle.rp_server.specs.State.{ServerState}
+use Rattle.rp_rules.specs.rp_server.specs.State.{ServerState}
 
 refuses_if : {S : Type 0} (long : Type 0) (node : RunningNode S) (found : Result Plan Fault) (fault : Fault) → Refuses long found fault → Refuses long (turn_if node found) fault
 refuses_if long node (Ok plan) fault is = is

@@ -11,7 +11,7 @@ use Rattle.rp_model.specs.Parts.{NodePart}
 use Rattle.rp_model.specs.Parts.{Turn}
 use Rattle.rp_model.specs.Effect.{Setting}
 use Rattle.rp_model.specs.Parts.{with_record}
-use Rattle.rp_server.specs.State.{ServerState}
+use Rattle.rp_rules.specs.rp_server.specs.State.{ServerState}
 
 -- Its node, the configuration and the start of the machine; the records that count and what it
 -- knows while it runs; what its device holds, and whether that has failed since it was opened.

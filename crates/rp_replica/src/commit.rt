@@ -2,7 +2,7 @@
 //! packets are given out.
 
 ghost use Rattle.std.specs.Prelude.{◌≡◌, ◌++◌, ◌∷◌, ◌<◌, [], Some, None, length, OnOk, OnErr, IfErr, IfOk, IfSome, IfNone, IsOk, IsOkUnless, true, false};
-ghost use Rattle.rp_acceptor.specs.First.{IsFirstPromise, IsFirstVote};
+ghost use Rattle.rp_rules.specs.rp_acceptor.specs.First.{IsFirstPromise, IsFirstVote};
 ghost use Rattle.rp_base.specs.Action.{IsCount, IsRight};
 ghost use Rattle.rp_base.specs.Right.{IsRightRecord};
 ghost use Rattle.rp_base.specs.declared.fault.WriteFault.TheVariants as faults;
@@ -22,7 +22,7 @@ ghost use Rattle.rp_replica.specs.State.{after_turn, server_of};
 ghost use Rattle.rp_model.specs.declared.plan.Plan.TheVariants as plans;
 ghost use Rattle.rp_model.specs.Plans.{written_by};
 ghost use Rattle.rp_rules.specs.Plans.{turn_of_plan, MayCommit, OnlySends, TakesNoMemory};
-ghost use Rattle.rp_server.specs.Invariant.{IsAnswer, vote_record};
+ghost use Rattle.rp_rules.specs.rp_server.specs.Invariant.{IsAnswer, vote_record};
 ghost use Rattle.rp_replica.specs.Turning.{Stops};
 
 use crate::replica::Replica;
@@ -30,7 +30,7 @@ use rp_base::{
     Action, Answer, Ballot, NodeId, PlacedVote, Position, Rec, Reply, TaskId, Vote, WriteFault,
 };
 use rp_codec::{Body, Header, VoteTail, voted_by};
-use rp_machine::Machine;
+use rp_model::rp_machine::Machine;
 use rp_model::{Plan, RightAction};
 use rp_outbox::Outbox;
 use rp_store::Device;

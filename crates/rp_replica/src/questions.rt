@@ -2,17 +2,17 @@
 
 ghost use Rattle.std.specs.Prelude.{◌≡◌, ◌≤◌, length};
 ghost use Rattle.rp_base.specs.Records.{applied_of};
-ghost use Rattle.rp_machine.specs.Asked.{last_number};
-ghost use Rattle.rp_machine.specs.Replay.{kept_of};
+ghost use Rattle.rp_model.specs.rp_machine.specs.Asked.{last_number};
+ghost use Rattle.rp_model.specs.rp_machine.specs.Replay.{kept_of};
 ghost use Rattle.rp_model.specs.Learner.{missing_position};
 ghost use Rattle.rp_model.specs.Pending.{most_pending};
 ghost use Rattle.rp_replica.specs.State.{server_of};
-ghost use Rattle.rp_server.specs.Free.{free_items, has_uncounted};
+ghost use Rattle.rp_rules.specs.rp_server.specs.Free.{free_items, has_uncounted};
 
 use crate::replica::Replica;
 use rp_base::{NodeId, Position, TaskId};
-use rp_machine::Machine;
-use rp_server::Server;
+use rp_model::rp_machine::Machine;
+use rp_rules::rp_server::Server;
 use rp_store::Device;
 
 impl<M: Machine, D: Device> Replica<M, D> {

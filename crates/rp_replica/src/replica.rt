@@ -3,14 +3,14 @@
 ghost use Rattle.std.specs.Prelude.{◌≡◌, length, nat_lt, false, IfOk, IsOkUnless};
 ghost use Rattle.rp_base.specs.declared.fault.Fault.TheVariants as faults;
 ghost use Rattle.rp_base.specs.Records.{applied_of};
-ghost use Rattle.rp_machine.specs.Replay.{replay_state};
+ghost use Rattle.rp_model.specs.rp_machine.specs.Replay.{replay_state};
 ghost use Rattle.rp_model.specs.Effect.{stop_part};
 ghost use Rattle.rp_replica.specs.Kept.{HoldsPart, HoldsItsRecords, HoldsOnly};
 ghost use Rattle.rp_replica.specs.State.{part_of};
 
 use rp_base::Fault;
-use rp_machine::Machine;
-use rp_server::Server;
+use rp_model::rp_machine::Machine;
+use rp_rules::rp_server::Server;
 use rp_store::{Device, Store};
 use std::alloc::Global;
 use std::marker::Model;

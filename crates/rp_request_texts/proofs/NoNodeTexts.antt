@@ -4,7 +4,7 @@ use Rattle.std.specs.Prelude.{nat_le, ◌==◌}
 use Rattle.std.specs.Int.{w32, from_be_bytes}
 use Rattle.std.proofs.lemmas.Bool.{ne_eqb}
 use Rattle.std.proofs.lemmas.Bool.Decides.{nat_tests}
-use Rattle.rp_model.specs.Effect as inputs
+use Rattle.rp_requests.specs.rp_model.specs.Effect as inputs
 use Rattle.rp_requests.specs.Requests.{Asked, Applied, Image, LastAnswer, Left, Pending, Counted, given, question_asked, asked_by, asked_of}
 
 -- a number that is 0 or above a bound is not from 1 to it

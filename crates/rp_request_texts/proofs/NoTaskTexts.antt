@@ -3,7 +3,7 @@ use Rattle.std.proofs.Common.{◌≡◌, ◌≢◌, ◌⊎◌, inl, inr, ◌<◌
 use Rattle.std.specs.Prelude.{◌==◌}
 use Rattle.std.specs.Int.{w64, from_be_bytes, cast_signed}
 use Rattle.std.proofs.lemmas.Bool.{ne_eqb}
-use Rattle.rp_base.specs.declared.action.Operation.{Operation}
+use Rattle.rp_requests.specs.rp_base.specs.declared.action.Operation.{Operation}
 use Rattle.rp_requests.specs.TaskRequests.{TaskAsked, operation_at, is_party, arg_at, call_if, task_asked_by, task_asked_of}
 use Rattle.rp_request_texts.proofs.NoNodeTexts.{outside}
 

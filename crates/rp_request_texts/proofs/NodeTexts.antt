@@ -4,18 +4,18 @@ use Rattle.std.specs.Prelude.{nat_le, nat_lt}
 use Rattle.std.specs.Int.{w16, w32, to_be_bytes, from_be_bytes}
 use Rattle.std.proofs.lemmas.Bool.Decides.{nat_tests}
 use Rattle.std.proofs.lemmas.Nat.{from_be_bytes-to_be_bytes_2, from_be_bytes-to_be_bytes_4}
-use Rattle.rp_base.specs.Number.{IsNode, IsPosition, in_range, IsTask}
-use Rattle.rp_base.specs.Action.{IsIndex, IsCount}
-use Rattle.rp_base.specs.Ranges.{Range, IsRange, range_of}
-use Rattle.rp_base.specs.declared.fault.Fault.{Fault}
-use Rattle.rp_base.specs.declared.fault.Fault.TheVariants.{BadPacket, BadConfig, LogFull}
-use Rattle.rp_base.specs.declared.fault.PacketReason.{PacketReason}
-use Rattle.rp_codec.specs.Message.{Message}
-use Rattle.rp_codec.specs.Reading.{all_of}
-use Rattle.rp_codec.proofs.Decoded.{whole_again}
-use Rattle.rp_model.specs.Effect.{NodeInput}
-use Rattle.rp_model.specs.Effect as inputs
-use Rattle.rp_rules.specs.Inputs.{packet_given}
+use Rattle.rp_requests.specs.rp_base.specs.Number.{IsNode, IsPosition, in_range, IsTask}
+use Rattle.rp_requests.specs.rp_base.specs.Action.{IsIndex, IsCount}
+use Rattle.rp_requests.specs.rp_base.specs.Ranges.{Range, IsRange, range_of}
+use Rattle.rp_requests.specs.rp_base.specs.declared.fault.Fault.{Fault}
+use Rattle.rp_requests.specs.rp_base.specs.declared.fault.Fault.TheVariants.{BadPacket, BadConfig, LogFull}
+use Rattle.rp_requests.specs.rp_base.specs.declared.fault.PacketReason.{PacketReason}
+use Rattle.rp_requests.specs.rp_codec.specs.Message.{Message}
+use Rattle.rp_requests.specs.rp_codec.specs.Reading.{all_of}
+use Rattle.rp_requests.specs.rp_codec.proofs.Decoded.{whole_again}
+use Rattle.rp_requests.specs.rp_model.specs.Effect.{NodeInput}
+use Rattle.rp_requests.specs.rp_model.specs.Effect as inputs
+use Rattle.rp_requests.specs.rp_rules.specs.Inputs.{packet_given}
 use Rattle.rp_requests.specs.Requests.{Asked, Step, Applied, Image, LastAnswer, Left, given, lead_at, interrupt_at, tick_asked, report_from, range_if, range_from, ask_to, asked_by, asked_of, Pending, Counted}
 use Rattle.rp_request_texts.specs.Texts.{step_text, FitsStep, applied_text, image_text, last_answer_text, left_text, pending_text, counted_text}
 

@@ -5,9 +5,9 @@ use Rattle.std.specs.Int.{to_be_bytes, cast_signed, cast_unsigned}
 use Rattle.std.proofs.lemmas.Bool.Decides.{nat_tests}
 use Rattle.std.proofs.lemmas.Int.{ints, to_z-of_z}
 use Rattle.std.proofs.lemmas.Nat.{from_be_bytes-to_be_bytes_8}
-use Rattle.rp_base.specs.Action.{IsRightOperation, is_right_operation}
-use Rattle.rp_base.specs.declared.action.Operation.{Operation}
-use Rattle.rp_base.specs.declared.action.Operation.TheVariants.{Function, Procedure, Entry, SetTimer, CancelTimer}
+use Rattle.rp_requests.specs.rp_base.specs.Action.{IsRightOperation, is_right_operation}
+use Rattle.rp_requests.specs.rp_base.specs.declared.action.Operation.{Operation}
+use Rattle.rp_requests.specs.rp_base.specs.declared.action.Operation.TheVariants.{Function, Procedure, Entry, SetTimer, CancelTimer}
 use Rattle.rp_requests.specs.TaskRequests.{TaskAsked, MakeCall, SendAgain, TakePacket, is_party, arg_at, call_with, call_if, task_asked_by, task_asked_of}
 use Rattle.rp_request_texts.specs.Texts.{task_request_text, FitsTaskRequest}
 

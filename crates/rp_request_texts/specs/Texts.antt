@@ -2,16 +2,18 @@
 -- the kind, and then the operands, numbers in big-endian order.
 use Rattle.std.specs.Prelude.{◌<◌, ◌^◌, ℕ, Some, None, List, [], ◌∷◌, ◌++◌, FitsSigned}
 use Rattle.std.specs.Int.{w16, w32, w64, to_be_bytes, cast_unsigned}
-use Rattle.rp_base.specs.Number.{IsNode, IsPosition}
-use Rattle.rp_base.specs.Action.{IsIndex, IsCount, IsRightOperation}
-use Rattle.rp_base.specs.Ranges.{IsRange}
-use Rattle.rp_base.specs.declared.action.Operation.{Operation}
-use Rattle.rp_base.specs.declared.action.Operation.TheVariants.{Function, Procedure, Entry}
-use Rattle.rp_base.specs.declared.action.Operation.TheVariants.{SetTimer, CancelTimer}
-use Rattle.rp_codec.specs.Message.{IsPacket}
-use Rattle.rp_codec.specs.Text.{text_of}
-use Rattle.rp_model.specs.Effect.{NodeInput}
-use Rattle.rp_model.specs.Effect as inputs
+use Rattle.rp_requests.specs.rp_base.specs.Number.{IsNode, IsPosition}
+use Rattle.rp_requests.specs.rp_base.specs.Action.{IsIndex, IsCount, IsRightOperation}
+use Rattle.rp_requests.specs.rp_base.specs.Ranges.{IsRange}
+use Rattle.rp_requests.specs.rp_base.specs.declared.action.Operation.{Operation}
+use Rattle.rp_requests.specs.rp_base.specs.declared.action.Operation.TheVariants.{Function}
+use Rattle.rp_requests.specs.rp_base.specs.declared.action.Operation.TheVariants.{Procedure, Entry}
+use Rattle.rp_requests.specs.rp_base.specs.declared.action.Operation.TheVariants.{SetTimer}
+use Rattle.rp_requests.specs.rp_base.specs.declared.action.Operation.TheVariants.{CancelTimer}
+use Rattle.rp_requests.specs.rp_codec.specs.Message.{IsPacket}
+use Rattle.rp_requests.specs.rp_codec.specs.Text.{text_of}
+use Rattle.rp_requests.specs.rp_model.specs.Effect.{NodeInput}
+use Rattle.rp_requests.specs.rp_model.specs.Effect as inputs
 use Rattle.rp_requests.specs.TaskRequests.{TaskAsked, MakeCall, SendAgain, TakePacket}
 
 -- RP_NODE_RECEIVE 1, RP_NODE_LEAD 2, RP_NODE_INTERRUPT 3, RP_NODE_TICK 4, RP_NODE_REPORT 5,

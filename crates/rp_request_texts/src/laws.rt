@@ -1,11 +1,11 @@
 //! Texts of requests are read as these requests.
 
 ghost use Rattle.std.specs.Prelude.{◌≡◌, ◌∷◌, Some, Err, ℕ, List, Ok};
-ghost use Rattle.rp_base.specs.Number.{IsTask};
-ghost use Rattle.rp_base.specs.declared.fault.Fault.TheVariants.{BadPacket};
-ghost use Rattle.rp_base.specs.declared.fault.PacketReason.{PacketReason};
-ghost use Rattle.rp_codec.specs.Reading.{all_of};
-ghost use Rattle.rp_model.specs.Effect.{NodeInput};
+ghost use Rattle.rp_requests.specs.rp_base.specs.Number.{IsTask};
+ghost use Rattle.rp_requests.specs.rp_base.specs.declared.fault.Fault.TheVariants.{BadPacket};
+ghost use Rattle.rp_requests.specs.rp_base.specs.declared.fault.PacketReason.{PacketReason};
+ghost use Rattle.rp_requests.specs.rp_codec.specs.Reading.{all_of};
+ghost use Rattle.rp_requests.specs.rp_model.specs.Effect.{NodeInput};
 ghost use Rattle.rp_requests.specs.Requests.{Step, Applied, Image, LastAnswer, Left, Pending, Counted, asked_of};
 ghost use Rattle.rp_requests.specs.TaskRequests.{TaskAsked, task_asked_of};
 ghost use Rattle.rp_request_texts.specs.Texts.{step_text, FitsStep, applied_text, image_text, last_answer_text, left_text, pending_text, counted_text, task_request_text, FitsTaskRequest};

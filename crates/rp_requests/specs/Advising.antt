@@ -3,9 +3,9 @@ use Rattle.std.specs.Prelude.{is_some, List, length}
 use Rattle.rp_base.specs.Records.{applied_of}
 use Rattle.rp_base.specs.declared.action.Action.{Action}
 use Rattle.rp_base.specs.declared.reply.Answer.{Answer}
-use Rattle.rp_model.specs.Learner.{missing_position}
+use Rattle.rp_replica.specs.rp_model.specs.Learner.{missing_position}
 use Rattle.rp_patience.specs.declared.advice.Situation.{Situation}
-use Rattle.rp_server.specs.Free.{has_uncounted}
+use Rattle.rp_replica.specs.rp_server.specs.Free.{has_uncounted}
 use Rattle.rp_requests.specs.Nodes.{NodeState, counted_at}
 
 -- its number; how many actions it has applied, of how many positions; whether a position is missing

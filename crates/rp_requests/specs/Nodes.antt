@@ -10,18 +10,18 @@ use Rattle.rp_base.specs.declared.fault.Fault.{Fault}
 use Rattle.rp_base.specs.declared.fault.Fault.TheVariants as faults
 use Rattle.rp_base.specs.declared.record.Rec.{Rec}
 use Rattle.rp_base.specs.declared.reply.Answer.{Answer}
-use Rattle.rp_codec.specs.Record.{record_text}
-use Rattle.rp_machine.specs.Asked.{last_number}
-use Rattle.rp_machine.specs.Replay.{kept_of, replay_state}
-use Rattle.rp_model.specs.Parts.{Turn}
-use Rattle.rp_model.specs.Effect.{NodeInput}
-use Rattle.rp_model.specs.Effect as inputs
-use Rattle.rp_model.specs.declared.effect.Dropped.{Dropped}
+use Rattle.rp_replica.specs.rp_codec.specs.Record.{record_text}
+use Rattle.rp_replica.specs.rp_machine.specs.Asked.{last_number}
+use Rattle.rp_replica.specs.rp_machine.specs.Replay.{kept_of, replay_state}
+use Rattle.rp_replica.specs.rp_model.specs.Parts.{Turn}
+use Rattle.rp_replica.specs.rp_model.specs.Effect.{NodeInput}
+use Rattle.rp_replica.specs.rp_model.specs.Effect as inputs
+use Rattle.rp_replica.specs.rp_model.specs.declared.effect.Dropped.{Dropped}
 use Rattle.rp_replica.specs.Inputs.{effect_if_given}
-use Rattle.rp_outbox.specs.Packets.{ends_of, texts_of}
+use Rattle.rp_replica.specs.rp_outbox.specs.Packets.{ends_of, texts_of}
 use Rattle.rp_replica.specs.State.{ReplicaState, after_turn}
 use Rattle.rp_replica.specs.Turning.{StopsIf}
-use Rattle.rp_server.specs.Free.{free_items}
+use Rattle.rp_replica.specs.rp_server.specs.Free.{free_items}
 use Rattle.rp_requests.specs.declared.buffer.Lengths.{Lengths}
 use Rattle.rp_requests.specs.declared.refusal.Refusal.{Refusal}
 use Rattle.rp_requests.specs.declared.refusal.Refusal.TheVariants as refusals

@@ -1,8 +1,8 @@
 -- The result of opening a node (ours).
 use Rattle.std.specs.Prelude.{◌≡◌, ℕ, List, [], length}
 use Rattle.rp_base.specs.declared.config.Config.{Config}
-use Rattle.rp_model.specs.declared.effect.Dropped.TheVariants.{No}
-use Rattle.rp_store.specs.Disk.{Disk}
+use Rattle.rp_replica.specs.rp_model.specs.declared.effect.Dropped.TheVariants.{No}
+use Rattle.rp_replica.specs.rp_store.specs.Disk.{Disk}
 use Rattle.rp_replica.specs.Opening.{Opens}
 use Rattle.rp_requests.specs.Nodes.{NodeState}
 

@@ -29,5 +29,8 @@ pub use buffer::Lengths;
 pub use node::{Node, STEP_BYTES};
 pub use opening::Opened;
 pub use refusal::Refusal;
+pub use rp_base;
+pub use rp_patience;
+pub use rp_replica::{rp_codec, rp_model};
 pub use tail::Tail;
 pub use task::{TASK_BYTES, Task};

@@ -3,8 +3,8 @@
 ghost use Rattle.std.specs.Prelude.{◌≡◌, [], ◌∷◌, length, Some, IfErr, OnErr, OnOk};
 ghost use Rattle.rp_replica.specs.Inputs.{input_effect};
 ghost use Rattle.rp_replica.specs.Turning.{StopsIf};
-ghost use Rattle.rp_rules.specs.Inputs.{IsRightInput, given_by};
-ghost use Rattle.rp_model.specs.declared.effect.Dropped.TheVariants.{No};
+ghost use Rattle.rp_replica.specs.rp_rules.specs.Inputs.{IsRightInput, given_by};
+ghost use Rattle.rp_replica.specs.rp_model.specs.declared.effect.Dropped.TheVariants.{No};
 ghost use Rattle.rp_requests.specs.Buffers.{Puts, PutsOr, with_front};
 ghost use Rattle.rp_requests.specs.Nodes.{RequestAnswers, ImageAnswers, StepAnswers, StepMade, image_of, is_at_end, positions_left, step_refusal};
 ghost use Rattle.rp_requests.specs.Requests.{IsRightRequest, asked, asked_of};
@@ -13,11 +13,11 @@ use crate::buffer::{Lengths, put, put_front, put_parts};
 use crate::refusal::Refusal;
 use crate::request::{Request, request_of};
 use rp_base::{Config, Fault};
-use rp_machine::Machine;
-use rp_model::Dropped;
-use rp_outbox::Outbox;
+use rp_replica::rp_machine::Machine;
+use rp_replica::rp_model::Dropped;
+use rp_replica::rp_outbox::Outbox;
+use rp_replica::rp_store::MemDevice;
 use rp_replica::{Input, Replica};
-use rp_store::MemDevice;
 use std::alloc::Global;
 use std::marker::Model;
 use std::mem::swap;
@@ -46,7 +46,7 @@ pub struct Node<M: Machine> {
 
 impl<M: Machine> Model for Node<M> {
     ghost use Rattle.std.specs.Prelude.{◌≡◌, ◌≤◌, drop, length};
-    ghost use Rattle.rp_outbox.specs.Packets.{ends_of, texts_of};
+    ghost use Rattle.rp_replica.specs.rp_outbox.specs.Packets.{ends_of, texts_of};
     ghost use Rattle.rp_requests.specs.Nodes.{NodeState};
 
     ghost Value = { NodeState M };

@@ -3,7 +3,7 @@
 ghost use Rattle.std.specs.Prelude.{◌≡◌, ◌≤◌, drop, length, IfOk, IfErr};
 ghost use Rattle.rp_base.specs.Config.{IsRightConfig};
 ghost use Rattle.rp_base.specs.declared.fault.Fault.TheVariants as faults;
-ghost use Rattle.rp_store.specs.Disk.{disk_of};
+ghost use Rattle.rp_replica.specs.rp_store.specs.Disk.{disk_of};
 ghost use Rattle.rp_requests.specs.Opening.{IsOpenedNode};
 ghost use Rattle.rp_requests.specs.Tails.{tail_of};
 ghost use Rattle.rp_requests.specs.declared.refusal.Refusal.TheVariants as refusals;
@@ -12,9 +12,9 @@ use crate::node::Node;
 use crate::refusal::Refusal;
 use crate::tail::{Tail, tail_of};
 use rp_base::{Config, Fault, NodeId};
-use rp_machine::Machine;
 use rp_replica::Replica;
-use rp_store::{Device, MemDevice};
+use rp_replica::rp_machine::Machine;
+use rp_replica::rp_store::{Device, MemDevice};
 use std::alloc::Global;
 
 /// The result of opening a node.

@@ -2,7 +2,7 @@
 
 ghost use Rattle.std.specs.Prelude.{◌≡◌, []};
 ghost use Rattle.std.specs.Int.{w32, to_be_bytes};
-ghost use Rattle.rp_machine.specs.Asked.{last_number};
+ghost use Rattle.rp_replica.specs.rp_machine.specs.Asked.{last_number};
 ghost use Rattle.rp_patience.specs.Advice.{advice_after, patience_after};
 ghost use Rattle.rp_requests.specs.Advising.{situation_of};
 ghost use Rattle.rp_requests.specs.Buffers.{PutsOr};
@@ -12,8 +12,8 @@ use crate::buffer::{Lengths, put};
 use crate::node::Node;
 use crate::refusal::Refusal;
 use rp_base::TaskId;
-use rp_machine::Machine;
 use rp_patience::{Advice, Patience, Situation};
+use rp_replica::rp_machine::Machine;
 
 impl<M: Machine> Node<M> {
     /// How many pending items are free.

@@ -4,8 +4,8 @@ use Rattle.rp_base.specs.declared.action.Action.{Action}
 use Rattle.rp_base.specs.declared.record.Vote.{Vote}
 use Rattle.rp_base.specs.Promises.{makes_majority}
 use Rattle.rp_base.specs.Records.{learned_at}
-use Rattle.rp_learner.specs.declared.learner.VoteStatus.{VoteStatus}
-use Rattle.rp_learner.specs.declared.learner.VoteStatus.TheVariants.{Counting, Learned, Known, Beyond}
+use Rattle.rp_server.specs.rp_learner.specs.declared.learner.VoteStatus.{VoteStatus}
+use Rattle.rp_server.specs.rp_learner.specs.declared.learner.VoteStatus.TheVariants.{Counting, Learned, Known, Beyond}
 use Rattle.rp_model.specs.Leader.{is_beyond}
 use Rattle.rp_model.specs.Learner.{on_vote, on_accepted}
 use Rattle.rp_model.specs.Node.{RunningNode, nodes_of}

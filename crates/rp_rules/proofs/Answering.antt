@@ -15,8 +15,8 @@ use Rattle.rp_base.specs.Right.{IsRightRecord}
 use Rattle.rp_base.specs.Records.{bound_at, last_vote_at}
 use Rattle.rp_base.specs.Voting.{prepare_answer, vote_answer, accept_answer}
 use Rattle.rp_base.proofs.MoreRecords.{last_below, last_right}
-use Rattle.rp_codec.specs.Message.{IsVoteBelow}
-use Rattle.rp_codec.specs.Record.{IsRecord}
+use Rattle.rp_model.specs.rp_codec.specs.Message.{IsVoteBelow}
+use Rattle.rp_model.specs.rp_codec.specs.Record.{IsRecord}
 
 -- ---- a promise
 

@@ -6,10 +6,10 @@ use Rattle.rp_base.specs.declared.reply.Answer.{Answer}
 use Rattle.rp_base.specs.declared.fault.Fault.{Fault}
 use Rattle.rp_base.specs.declared.fault.Fault.TheVariants.{OutOfMemory}
 use Rattle.rp_base.specs.declared.fault.PacketReason.{PacketReason}
-use Rattle.rp_codec.specs.Message.{Message}
-use Rattle.rp_codec.specs.Decoding.{IsDecoded, IsLongBody, IsLongText}
-use Rattle.rp_codec.specs.Reading.{all_of}
-use Rattle.rp_codec.proofs.Decoded.{whole_read}
+use Rattle.rp_model.specs.rp_codec.specs.Message.{Message}
+use Rattle.rp_model.specs.rp_codec.specs.Decoding.{IsDecoded, IsLongBody, IsLongText}
+use Rattle.rp_model.specs.rp_codec.specs.Reading.{all_of}
+use Rattle.rp_model.specs.rp_codec.proofs.Decoded.{whole_read}
 use Rattle.rp_server.specs.State.{ServerState}
 use Rattle.rp_rules.specs.Inputs.{Refuses, packet_given, plan_if_given}
 

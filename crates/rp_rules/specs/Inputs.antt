@@ -7,9 +7,9 @@ use Rattle.rp_base.specs.declared.reply.Answer.{Answer}
 use Rattle.rp_base.specs.declared.fault.Fault.{Fault}
 use Rattle.rp_base.specs.declared.fault.Fault.TheVariants.{BadPacket, OutOfMemory}
 use Rattle.rp_base.specs.declared.fault.PacketReason.{PacketReason}
-use Rattle.rp_codec.specs.Decoding.{IsLongText}
-use Rattle.rp_codec.specs.Message.{Message}
-use Rattle.rp_codec.specs.Reading.{all_of}
+use Rattle.rp_model.specs.rp_codec.specs.Decoding.{IsLongText}
+use Rattle.rp_model.specs.rp_codec.specs.Message.{Message}
+use Rattle.rp_model.specs.rp_codec.specs.Reading.{all_of}
 use Rattle.rp_model.specs.Parts.{Turn}
 use Rattle.rp_model.specs.Effect.{NodeInput, Setting, plan_of, running_effect}
 use Rattle.rp_model.specs.Node.{RunningNode, running_node}

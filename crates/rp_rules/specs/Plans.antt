@@ -12,13 +12,13 @@ use Rattle.rp_base.specs.Ranges.{Range, end_of}
 use Rattle.rp_base.specs.declared.action.Action.{Action}
 use Rattle.rp_base.specs.declared.reply.Answer.{Answer}
 use Rattle.rp_base.specs.declared.record.Vote.{Vote as CastVote}
-use Rattle.rp_codec.specs.Message.{IsVoteBelow}
-use Rattle.rp_learner.specs.declared.learner.VoteStatus.TheVariants.{Counting}
+use Rattle.rp_model.specs.rp_codec.specs.Message.{IsVoteBelow}
+use Rattle.rp_server.specs.rp_learner.specs.declared.learner.VoteStatus.TheVariants.{Counting}
 use Rattle.rp_model.specs.Parts.{Running}
 use Rattle.rp_model.specs.Parts.{Turn}
 use Rattle.rp_model.specs.Leader.{starts_above}
 use Rattle.rp_model.specs.Pending.{most_pending}
-use Rattle.rp_codec.specs.Reading.{all_of}
+use Rattle.rp_model.specs.rp_codec.specs.Reading.{all_of}
 use Rattle.rp_model.specs.Plans.{turn_of as turn_by}
 use Rattle.rp_rules.specs.Inputs.{running_server, packet_given, plan_if_given}
 use Rattle.rp_model.specs.declared.plan.CountedPromise.{CountedPromise}

@@ -3,9 +3,9 @@
 ghost use Rattle.std.specs.Prelude.{◌≡◌, nat_eq, true, IfErr, OnOk};
 ghost use Rattle.rp_base.specs.declared.fault.Fault.TheVariants as faults;
 ghost use Rattle.rp_base.specs.Ballot.{owner_of};
-ghost use Rattle.rp_codec.specs.Decoding.{IsLongBody};
-ghost use Rattle.rp_codec.specs.Message.{IsNodeParty, IsPacket};
-ghost use Rattle.rp_codec.specs.declared.packet.Party.TheVariants.{Node};
+ghost use Rattle.rp_model.specs.rp_codec.specs.Decoding.{IsLongBody};
+ghost use Rattle.rp_model.specs.rp_codec.specs.Message.{IsNodeParty, IsPacket};
+ghost use Rattle.rp_model.specs.rp_codec.specs.declared.packet.Party.TheVariants.{Node};
 ghost use Rattle.rp_model.specs.Receiving.{is_for_node, is_allowed, is_range_within, is_node, is_no_node_above, sender_number, on_body, receives};
 ghost use Rattle.rp_rules.specs.Inputs.{running_server};
 ghost use Rattle.rp_rules.specs.Plans.{MayCommit};
@@ -15,8 +15,8 @@ use crate::arrivals::on_call;
 use crate::leader::on_promise;
 use crate::learner::{on_accepted, on_ask, on_decided};
 use rp_base::{Ballot, Config, Fault, NodeId, PositionRange};
-use rp_codec::{Body, Header, Packet, Party};
-use rp_machine::Machine;
+use rp_model::rp_codec::{Body, Header, Packet, Party};
+use rp_model::rp_machine::Machine;
 use rp_model::{CountedPromise, CountedRange, Dropped, Plan};
 use rp_server::Server;
 

@@ -7,12 +7,12 @@ ghost use Rattle.rp_base.specs.Ranges.{IsRange, positions_of};
 ghost use Rattle.rp_model.specs.Effect as inputs;
 ghost use Rattle.rp_model.specs.Effect.{plan_of};
 ghost use Rattle.rp_model.specs.Leader.{is_out_of_reach, unlearned_in};
-ghost use Rattle.rp_proposer.specs.Proposing.{unskipped};
+ghost use Rattle.rp_server.specs.rp_proposer.specs.Proposing.{unskipped};
 ghost use Rattle.rp_rules.specs.Inputs.{running_server};
 ghost use Rattle.rp_rules.specs.Plans.{MayCommit};
 
 use rp_base::{Fault, PositionRange};
-use rp_machine::Machine;
+use rp_model::rp_machine::Machine;
 use rp_model::{Dropped, Plan};
 use rp_server::Server;
 

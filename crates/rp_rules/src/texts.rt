@@ -5,12 +5,12 @@
 ghost use Rattle.std.specs.Prelude.{◌≡◌, ◌≤◌, ◌&&◌, not, nat_lt, Ok, IfErr, IfSome, OnOk};
 ghost use Rattle.rp_base.specs.Action.{IsRight};
 ghost use Rattle.rp_base.specs.Number.{IsPosition};
-ghost use Rattle.rp_codec.specs.Decoding.{IsDecoded, IsLongText};
-ghost use Rattle.rp_codec.specs.Reading.{all_of};
-ghost use Rattle.rp_codec.specs.Usual.{accept_at, accepted_at, decided_of};
-ghost use Rattle.rp_codec.specs.declared.packet.Body.TheVariants.{Prepare};
-ghost use Rattle.rp_codec.specs.declared.packet.Party.TheVariants.{Node};
-ghost use Rattle.rp_learner.specs.Status.{vote_for};
+ghost use Rattle.rp_model.specs.rp_codec.specs.Decoding.{IsDecoded, IsLongText};
+ghost use Rattle.rp_model.specs.rp_codec.specs.Reading.{all_of};
+ghost use Rattle.rp_model.specs.rp_codec.specs.Usual.{accept_at, accepted_at, decided_of};
+ghost use Rattle.rp_model.specs.rp_codec.specs.declared.packet.Body.TheVariants.{Prepare};
+ghost use Rattle.rp_model.specs.rp_codec.specs.declared.packet.Party.TheVariants.{Node};
+ghost use Rattle.rp_server.specs.rp_learner.specs.Status.{vote_for};
 ghost use Rattle.rp_model.specs.Acceptor.{on_accept, on_prepare};
 ghost use Rattle.rp_model.specs.Arrivals.{on_call};
 ghost use Rattle.rp_model.specs.Leader.{on_promise};
@@ -26,11 +26,11 @@ use crate::leader::on_promise;
 use crate::learner::{on_accepted, on_decided};
 use crate::packets::on_packet;
 use rp_base::{Action, Fault, NodeId, Position};
-use rp_codec::{
+use rp_model::rp_codec::{
     Header, Kind, SentDecision, decode, usual_accept, usual_accepted, usual_call, usual_decided,
     usual_prepare, usual_promise,
 };
-use rp_machine::Machine;
+use rp_model::rp_machine::Machine;
 use rp_model::{CountedPromise, Plan};
 use rp_server::Server;
 use std::alloc::Global;

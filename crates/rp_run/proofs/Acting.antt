@@ -15,11 +15,11 @@ use Rattle.rp_base.specs.declared.fault.Fault.TheVariants.{NumbersSpent, BadConf
 use Rattle.rp_base.specs.declared.reply.Answer.{Answer}
 use Rattle.rp_base.specs.declared.reply.Reply.{Reply}
 use Rattle.rp_base.proofs.Members.{has_left, has_right}
-use Rattle.rp_codec.specs.Message.{Message}
-use Rattle.rp_codec.specs.declared.packet.Body.{Body}
-use Rattle.rp_codec.specs.declared.packet.Body.TheVariants as bodies
-use Rattle.rp_codec.specs.declared.packet.Party.{Party}
-use Rattle.rp_codec.specs.declared.packet.Party.TheVariants.{Node, Task, Audit}
+use Rattle.rp_model.specs.rp_codec.specs.Message.{Message}
+use Rattle.rp_model.specs.rp_codec.specs.declared.packet.Body.{Body}
+use Rattle.rp_model.specs.rp_codec.specs.declared.packet.Body.TheVariants as bodies
+use Rattle.rp_model.specs.rp_codec.specs.declared.packet.Party.{Party}
+use Rattle.rp_model.specs.rp_codec.specs.declared.packet.Party.TheVariants.{Node, Task, Audit}
 use Rattle.rp_model.specs.Effect as nodes
 use Rattle.rp_model.specs.Effect.{Setting, Done, NodeInput, turn_done_if, running_effect, effect_while, node_effect, cut_if, cut_effect, stops_while, restart_while, goes_on_as, stop_part}
 use Rattle.rp_model.specs.Events.{event_of, step_of}
@@ -30,7 +30,7 @@ use Rattle.rp_model.proofs.Choosing.{any_given, gives_any, by_chosen}
 use Rattle.rp_model.specs.declared.event.Event.{Event}
 use Rattle.rp_model.specs.declared.event.Event.TheVariants as events
 use Rattle.rp_model.specs.declared.event.Step.{Step}
-use Rattle.rp_agreement.specs.Answered.{calls_so_far}
+use Rattle.rp_world.specs.rp_agreement.specs.Answered.{calls_so_far}
 use Rattle.rp_run.specs.Agreeing.{call_for}
 use Rattle.rp_run.specs.Items.{Item, Called, Asked}
 use Rattle.rp_run.specs.Output.{called_by}

@@ -15,8 +15,8 @@ use Rattle.rp_model.specs.World.{World, Transition, opening_world, event_effect}
 use Rattle.rp_model.specs.declared.event.Event.{Event as TakenEvent}
 use Rattle.rp_model.specs.declared.event.Event.TheVariants.{Node}
 use Rattle.rp_model.specs.declared.event.Step.TheVariants as TakenStep
-use Rattle.rp_agreement.specs.History.{IsHistory, AreMoments}
-use Rattle.rp_agreement.specs.Noted.{IsNoted}
+use Rattle.rp_world.specs.rp_agreement.specs.History.{IsHistory, AreMoments}
+use Rattle.rp_world.specs.rp_agreement.specs.Noted.{IsNoted}
 use Rattle.rp_run.specs.Agreeing.{world_after, IsAskedIn, IsNotedIn}
 use Rattle.rp_run.specs.Output.{RunSetting, Play, Said, least_unsettled, transition_of, effect_said, event_said, drain_from, command_said, script_said, opening_play}
 use Rattle.rp_deck.specs.Script.{KeepsRanges}

@@ -4,7 +4,7 @@ use Rattle.std.specs.Prelude.{find}
 use Rattle.std.specs.Option.{option_or}
 use Rattle.std.proofs.lemmas.List.Folds.{find-append}
 use Rattle.std.proofs.str.Laws.{order}
-use Rattle.rp_machine.specs.Replay.{one_to}
+use Rattle.rp_model.specs.rp_machine.specs.Replay.{one_to}
 use Rattle.rp_run.specs.Output.{Play, is_among, least_unsettled}
 use Rattle.rp_run.specs.Runs.{Follows}
 use Rattle.rp_run.specs.Settled.{is_settled}

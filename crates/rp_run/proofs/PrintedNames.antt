@@ -8,7 +8,7 @@ use Rattle.std.proofs.lemmas.Option.{slice_get-map}
 use Rattle.rp_base.specs.Records.{applied_of}
 use Rattle.rp_base.specs.declared.fault.Fault.{Fault}
 use Rattle.rp_base.specs.declared.record.Rec.{Rec}
-use Rattle.rp_machine.specs.Replay.{one_to, replay_state}
+use Rattle.rp_model.specs.rp_machine.specs.Replay.{one_to, replay_state}
 use Rattle.rp_model.specs.Parts.{NodePart, Running}
 use Rattle.rp_world.specs.Steps.{IsQueryAnswer, IsRunningQueryAnswer, IsQueryAnswerUnlessMemory}
 use Rattle.rp_output.specs.Printed.{applied_line_of, stopped_line_of}

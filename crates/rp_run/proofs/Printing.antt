@@ -13,18 +13,18 @@ use Rattle.rp_base.specs.declared.action.Action.TheVariants as actions
 use Rattle.rp_base.specs.declared.fault.Fault.{Fault}
 use Rattle.rp_base.specs.declared.reply.Answer.{Answer}
 use Rattle.rp_base.proofs.Members.{has_left, has_right, mapped_has, passes, set_more}
-use Rattle.rp_codec.specs.Message.{Message}
-use Rattle.rp_machine.specs.Calls.{CallName, calls_of, call_of}
-use Rattle.rp_machine.specs.Places.{IsPlace, HasReply}
-use Rattle.rp_machine.specs.Replay.{number_for, one_to, Replayed, unmoved, replay_of, replay_state, kept_of, replay_from}
-use Rattle.rp_machine.proofs.Calling.{one_to_bound}
-use Rattle.rp_machine.proofs.Placing.{one_of_image}
-use Rattle.rp_machine.proofs.Replaying.{replay_from-append, goes_on_from}
+use Rattle.rp_model.specs.rp_codec.specs.Message.{Message}
+use Rattle.rp_model.specs.rp_machine.specs.Calls.{CallName, calls_of, call_of}
+use Rattle.rp_model.specs.rp_machine.specs.Places.{IsPlace, HasReply}
+use Rattle.rp_model.specs.rp_machine.specs.Replay.{number_for, one_to, Replayed, unmoved, replay_of, replay_state, kept_of, replay_from}
+use Rattle.rp_model.specs.rp_machine.proofs.Calling.{one_to_bound}
+use Rattle.rp_model.specs.rp_machine.proofs.Placing.{one_of_image}
+use Rattle.rp_model.specs.rp_machine.proofs.Replaying.{replay_from-append, goes_on_from}
 use Rattle.rp_model.specs.Parts.{NodePart, TaskPart}
 use Rattle.rp_model.specs.World.{World, part_at}
 use Rattle.rp_world.specs.Agreeing.{IsOrdered}
-use Rattle.rp_agreement.specs.Answered.{named, calls_so_far, calls_by, AreMade, AreItsCalls}
-use Rattle.rp_agreement.proofs.Lists.{has_get}
+use Rattle.rp_world.specs.rp_agreement.specs.Answered.{named, calls_so_far, calls_by, AreMade, AreItsCalls}
+use Rattle.rp_world.specs.rp_agreement.proofs.Lists.{has_get}
 use Rattle.rp_run.specs.Agreeing.{call_for, HasReplyIn, IsShownBy, IsRepliedBy, IsPrinted, RunIsPrinted, RunAgrees, RunPrints}
 use Rattle.rp_run.specs.Items.{Item, Replied, Shown, asked_by}
 use Rattle.rp_run.specs.Output.{RunSetting, text_of_said, run_said}

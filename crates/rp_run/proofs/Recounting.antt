@@ -14,8 +14,8 @@ use Rattle.rp_base.specs.declared.fault.Fault.TheVariants.{NoSuchMessage}
 use Rattle.rp_base.specs.declared.record.Rec.{Rec}
 use Rattle.rp_base.specs.declared.reply.Answer.{Answer}
 use Rattle.rp_base.proofs.Members.{has_split, has_left, has_right}
-use Rattle.rp_codec.specs.Message.{Message}
-use Rattle.rp_machine.specs.Replay.{one_to, replay_state}
+use Rattle.rp_model.specs.rp_codec.specs.Message.{Message}
+use Rattle.rp_model.specs.rp_machine.specs.Replay.{one_to, replay_state}
 use Rattle.rp_model.specs.Effect.{Done}
 use Rattle.rp_model.specs.Events.{event_of}
 use Rattle.rp_model.specs.Growing.{Grows}
@@ -26,10 +26,10 @@ use Rattle.rp_model.specs.declared.event.Event.{Event}
 use Rattle.rp_model.specs.declared.event.Event.TheVariants.{Node as NodeStep}
 use Rattle.rp_model.specs.declared.event.Step.TheVariants.{Deliver}
 use Rattle.rp_model.proofs.WorldGrowing.{GrowsIf, event_grows}
-use Rattle.rp_agreement.specs.Answered.{calls_so_far}
-use Rattle.rp_agreement.specs.Order.{IsPrefix}
-use Rattle.rp_agreement.specs.Asked.{Asks}
-use Rattle.rp_agreement.proofs.PartPlaces.{part_below, put_there, put_beside}
+use Rattle.rp_world.specs.rp_agreement.specs.Answered.{calls_so_far}
+use Rattle.rp_world.specs.rp_agreement.specs.Order.{IsPrefix}
+use Rattle.rp_world.specs.rp_agreement.specs.Asked.{Asks}
+use Rattle.rp_world.specs.rp_agreement.proofs.PartPlaces.{part_below, put_there, put_beside}
 use Rattle.rp_run.specs.Agreeing.{call_for}
 use Rattle.rp_run.specs.Items.{Item, Replied, Shown, Noted, Note, Stopped, Refused, DrainLimit, Asked, asked_in, asked_by, reply_in, replies_by}
 use Rattle.rp_run.specs.Output.{RunSetting, Play, Said, nothing_said, note_said, and_then, called_by, taken_items, traced_notes, changed_notes, state_item, part_items, nodes_items, least_unsettled, transition_of, effect_said, event_said, drain_from, command_said, script_said, opening_play, run_said, from_to}

@@ -12,9 +12,9 @@ use Rattle.rp_base.specs.declared.action.Operation.TheVariants.{Function, Proced
 use Rattle.rp_base.specs.declared.config.Config.{Config}
 use Rattle.rp_base.specs.declared.fault.Fault.{Fault}
 use Rattle.rp_base.specs.declared.fault.Fault.TheVariants.{BallotsSpent, LogFull, TaskBusy, NumbersSpent, BadConfig}
-use Rattle.rp_codec.specs.Message.{Message}
-use Rattle.rp_codec.specs.declared.packet.Party.{Party}
-use Rattle.rp_codec.specs.declared.packet.Party.TheVariants.{Node, Task, Audit}
+use Rattle.rp_model.specs.rp_codec.specs.Message.{Message}
+use Rattle.rp_model.specs.rp_codec.specs.declared.packet.Party.{Party}
+use Rattle.rp_model.specs.rp_codec.specs.declared.packet.Party.TheVariants.{Node, Task, Audit}
 use Rattle.rp_model.specs.declared.event.Event.{Event}
 use Rattle.rp_model.specs.declared.event.Event.TheVariants.{Submit, Again, Node as NodeStep, Cut, Stop, Restart}
 use Rattle.rp_model.specs.declared.event.Step.{Step}

@@ -7,14 +7,14 @@ use Rattle.rp_base.specs.declared.fault.Fault.{Fault}
 use Rattle.rp_base.specs.declared.fault.Fault.TheVariants.{NoSuchMessage}
 use Rattle.rp_base.specs.declared.reply.Answer.{Answer}
 use Rattle.rp_base.proofs.Members.{has_split, has_left, has_right}
-use Rattle.rp_machine.specs.Replay.{one_to, replay_state}
+use Rattle.rp_model.specs.rp_machine.specs.Replay.{one_to, replay_state}
 use Rattle.rp_model.specs.Parts.{NodePart, Running}
 use Rattle.rp_model.specs.World.{World, Transition, part_at}
 use Rattle.rp_model.specs.declared.event.Event.{Event}
 use Rattle.rp_model.specs.declared.event.Event.TheVariants.{Submit, Again, Node as NodeStep, Cut, Stop, Restart}
 use Rattle.rp_model.specs.declared.event.Step.TheVariants.{Deliver}
-use Rattle.rp_agreement.proofs.Lists.{one_to_has}
-use Rattle.rp_agreement.proofs.PartPlaces.{part_below}
+use Rattle.rp_world.specs.rp_agreement.proofs.Lists.{one_to_has}
+use Rattle.rp_world.specs.rp_agreement.proofs.PartPlaces.{part_below}
 use Rattle.rp_run.specs.Agreeing.{HasApplied, ShowsNodes}
 use Rattle.rp_run.specs.Items.{Item, Shown, Noted, Note, Refused, DrainLimit}
 use Rattle.rp_run.specs.Output.{RunSetting, Play, Said, note_said, called_by, taken_items, traced_notes, changed_notes, state_item, part_items, nodes_items, least_unsettled, transition_of, effect_said, event_said, drain_from, command_said, script_said, from_to}

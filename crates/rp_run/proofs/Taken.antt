@@ -1,7 +1,7 @@
 -- What the effect of an event settles, and what is printed of it where that is little.
 use Rattle.std.proofs.Common.{◌≡◌, ◌∙◌, ◌||◌, ℕ, false, Option, List, [], refl, sym, ap}
 use Rattle.std.proofs.lemmas.Bool.{or_parts}
-use Rattle.rp_codec.specs.Message.{Message}
+use Rattle.rp_model.specs.rp_codec.specs.Message.{Message}
 use Rattle.rp_model.specs.declared.effect.Dropped.{Dropped}
 use Rattle.rp_model.specs.declared.effect.Dropped.TheVariants.{No, Full, Foreign}
 use Rattle.rp_model.specs.declared.effect.Effect.{Effect}

@@ -6,9 +6,9 @@ use Rattle.rp_base.specs.Sets.{Has}
 use Rattle.rp_base.specs.declared.action.Action.{Action}
 use Rattle.rp_base.specs.declared.action.Action.TheVariants.{Noop, Call, Interrupt, Tick}
 use Rattle.rp_base.specs.declared.reply.Answer.{Answer}
-use Rattle.rp_machine.specs.Calls.{call_of}
-use Rattle.rp_machine.specs.Places.{HasReply}
-use Rattle.rp_machine.specs.Replay.{replay_state}
+use Rattle.rp_model.specs.rp_machine.specs.Calls.{call_of}
+use Rattle.rp_model.specs.rp_machine.specs.Places.{HasReply}
+use Rattle.rp_model.specs.rp_machine.specs.Replay.{replay_state}
 use Rattle.rp_model.specs.Events as events
 use Rattle.rp_model.specs.Events.{Event, Submit, Makes, event_of}
 use Rattle.rp_model.specs.Parts.{NodePart, Running, TaskPart}

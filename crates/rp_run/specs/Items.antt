@@ -4,7 +4,7 @@ use Rattle.std.specs.Prelude.{flat_map, if◌then◌else◌}
 use Rattle.rp_base.specs.declared.action.Operation.{Operation}
 use Rattle.rp_base.specs.declared.fault.Fault.{Fault}
 use Rattle.rp_base.specs.declared.reply.Answer.{Answer}
-use Rattle.rp_codec.specs.declared.packet.Body.{Body}
+use Rattle.rp_model.specs.rp_codec.specs.declared.packet.Body.{Body}
 use Rattle.rp_output.specs.Printed.{reply_line_of, applied_line_of, refused_line_of, opened_line_of}
 use Rattle.rp_output.specs.Printed.{running_line_of, full_line_of, stopped_line_of, limit_line_of}
 use Rattle.rp_output.specs.FaultMessage.{with_line_feed}

@@ -5,3 +5,10 @@ pub mod Output
 pub mod Runs
 pub mod Agreeing
 pub mod Faults
+pub use Rattle.rp_base
+pub use Rattle.rp_model.specs.rp_codec
+pub use Rattle.rp_deck
+pub use Rattle.rp_model.specs.rp_machine
+pub use Rattle.rp_model
+pub use Rattle.rp_output
+pub use Rattle.rp_world

@@ -6,12 +6,13 @@ use Rattle.rp_base.specs.declared.action.Action.{Action}
 use Rattle.rp_base.specs.declared.config.Config.{Config}
 use Rattle.rp_base.specs.declared.fault.Fault.{Fault}
 use Rattle.rp_base.specs.declared.reply.Answer.{Answer}
-use Rattle.rp_codec.specs.Message.{Message}
+use Rattle.rp_model.specs.rp_codec.specs.Message.{Message}
 use Rattle.rp_model.specs.World.{World, opening_world}
 use Rattle.rp_model.specs.declared.effect.Effect.{Effect}
 use Rattle.rp_model.specs.declared.event.Event.{Event}
 use Rattle.rp_world.specs.Steps.{ClusterState, cluster_setting}
-use Rattle.rp_run.specs.Output.{RunSetting, Play, Said, text_of_said, names_of, is_among, traced_text}
+use Rattle.rp_run.specs.Output.{RunSetting, Play, Said, text_of_said, names_of, is_among}
+use Rattle.rp_run.specs.Output.{traced_text}
 use Rattle.rp_run.specs.Output.{effect_text}
 use Rattle.rp_run.specs.Settled.{is_settled}
 use Rattle.rp_output.specs.Stream.{Begins}

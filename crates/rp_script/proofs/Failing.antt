@@ -1,8 +1,8 @@
 -- What is so where an answer fails.
 use Rattle.std.proofs.Common.{ℕ, Option, List, Result, Ok, Err}
 use Rattle.std.specs.Prelude.{OnErr}
-use Rattle.rp_base.specs.declared.fault.Fault.{Fault}
-use Rattle.rp_base.specs.declared.fault.Fault.TheVariants.{OutOfMemory, Device, Failed, BadPacket, NotRunning, BallotsSpent, LogFull, NoSuchMessage, TaskBusy, NumbersSpent, BadDeck, BadConfig, Io}
+use Rattle.rp_deck.specs.rp_base.specs.declared.fault.Fault.{Fault}
+use Rattle.rp_deck.specs.rp_base.specs.declared.fault.Fault.TheVariants.{OutOfMemory, Device, Failed, BadPacket, NotRunning, BallotsSpent, LogFull, NoSuchMessage, TaskBusy, NumbersSpent, BadDeck, BadConfig, Io}
 use Rattle.rp_deck.specs.declared.deck.Mode.{Mode}
 use Rattle.rp_output.specs.Faults.{IsRunFault}
 use Rattle.rp_script.specs.Given.{IsMeant}

@@ -2,8 +2,8 @@
 use Rattle.std.proofs.Common.{ℕ, Bool, Option, List}
 use Rattle.std.specs.Io.KnownBytes.{Keeps}
 use Rattle.rp_deck.specs.declared.deck.Deck.{Deck}
-use Rattle.rp_deck_declarations.specs.declared.deck_program.DeckProgram.{DeckProgram}
-use Rattle.rp_deck_declarations.specs.declared.deck_program.DeckProgram.TheVariants.{Tally, Objects}
+use Rattle.rp_deck.specs.rp_deck_declarations.specs.declared.deck_program.DeckProgram.{DeckProgram}
+use Rattle.rp_deck.specs.rp_deck_declarations.specs.declared.deck_program.DeckProgram.TheVariants.{Tally, Objects}
 use Rattle.rp_deck.specs.declared.deck.Line.{Line}
 use Rattle.rp_run.specs.Agreeing.{RunPrints}
 use Rattle.rp_script.specs.Agreeing.{PrintsAt}

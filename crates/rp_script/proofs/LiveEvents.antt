@@ -3,10 +3,10 @@ use Rattle.std.proofs.Common.{ℕ, suc, List, [], ◌∷◌, arith}
 use Rattle.std.specs.Prelude.{All}
 use Rattle.std.specs.List.{cons_option}
 use Rattle.std.proofs.lemmas.List.Elements.{All-nil, All-cons}
-use Rattle.rp_model.specs.declared.event.Event.{Event}
-use Rattle.rp_model.specs.declared.event.Event.TheVariants.{Submit, Again, Node, Cut, Stop, Restart}
-use Rattle.rp_model.specs.declared.event.Step.{Step}
-use Rattle.rp_model.specs.declared.event.Step.TheVariants.{Deliver, Lead, LeadRange, Interrupt, Tick, Report, Ask}
+use Rattle.rp_output.specs.rp_model.specs.declared.event.Event.{Event}
+use Rattle.rp_output.specs.rp_model.specs.declared.event.Event.TheVariants.{Submit, Again, Node, Cut, Stop, Restart}
+use Rattle.rp_output.specs.rp_model.specs.declared.event.Step.{Step}
+use Rattle.rp_output.specs.rp_model.specs.declared.event.Step.TheVariants.{Deliver, Lead, LeadRange, Interrupt, Tick, Report, Ask}
 use Rattle.rp_live.specs.Events.{IsLive, IsNoting}
 use Rattle.rp_deck.specs.Live.{IsLiveCommand, IsLiveEvent, IsLiveStep}
 use Rattle.rp_deck.specs.Script.{FitsIn, IsEventWithin, IsStepWithin}

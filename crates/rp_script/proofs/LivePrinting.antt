@@ -2,7 +2,7 @@
 use Rattle.std.proofs.Common.{◌≡◌, ℕ, suc, ◌+◌, ◌<◌, ◌≤◌, List, [], ◌∷◌, ◌++◌, drop, get_or, length, arith, sym, ap, ◌∙◌}
 use Rattle.std.proofs.lemmas.List.{drop_more, drop_all}
 use Rattle.std.proofs.lemmas.List.Concat.{flat_map-cons}
-use Rattle.rp_base.specs.declared.reply.Answer.{Answer}
+use Rattle.rp_deck.specs.rp_base.specs.declared.reply.Answer.{Answer}
 use Rattle.rp_script.specs.LiveOutput.{reply_text, replies_text, node_text, applied_text}
 
 module _ {A : Type 0} (xs : List A) (i : ℕ) (x : A) where

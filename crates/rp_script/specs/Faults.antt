@@ -1,10 +1,13 @@
 -- Which faults end the program.
 use Rattle.std.specs.Prelude.{◌⊎◌}
-use Rattle.rp_base.specs.declared.fault.Fault.{Fault}
-use Rattle.rp_base.specs.declared.fault.Fault.TheVariants.{OutOfMemory, Device, Failed, BadPacket}
-use Rattle.rp_base.specs.declared.fault.Fault.TheVariants.{NotRunning, BallotsSpent, LogFull}
-use Rattle.rp_base.specs.declared.fault.Fault.TheVariants.{NoSuchMessage, TaskBusy, NumbersSpent}
-use Rattle.rp_base.specs.declared.fault.Fault.TheVariants.{BadDeck, BadConfig, Io}
+use Rattle.rp_deck.specs.rp_base.specs.declared.fault.Fault.{Fault}
+use Rattle.rp_deck.specs.rp_base.specs.declared.fault.Fault.TheVariants.{OutOfMemory, Device}
+use Rattle.rp_deck.specs.rp_base.specs.declared.fault.Fault.TheVariants.{Failed, BadPacket}
+use Rattle.rp_deck.specs.rp_base.specs.declared.fault.Fault.TheVariants.{NotRunning, BallotsSpent}
+use Rattle.rp_deck.specs.rp_base.specs.declared.fault.Fault.TheVariants.{LogFull}
+use Rattle.rp_deck.specs.rp_base.specs.declared.fault.Fault.TheVariants.{NoSuchMessage, TaskBusy}
+use Rattle.rp_deck.specs.rp_base.specs.declared.fault.Fault.TheVariants.{NumbersSpent}
+use Rattle.rp_deck.specs.rp_base.specs.declared.fault.Fault.TheVariants.{BadDeck, BadConfig, Io}
 use Rattle.rp_output.specs.Faults.{IsRunFault}
 
 -- the deck is bad

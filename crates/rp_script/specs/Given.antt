@@ -1,10 +1,10 @@
 -- The meaning of the bytes that a reader gives: a deck, or the first bad line and its first reason.
 use Rattle.std.specs.Prelude.{◌≡◌, ◌≤◌, ℕ, Option, Result, Ok, Err, List, IfSome, length}
-use Rattle.rp_base.specs.declared.fault.Fault.{Fault}
-use Rattle.rp_base.specs.declared.fault.Fault.TheVariants.{BadDeck}
+use Rattle.rp_deck.specs.rp_base.specs.declared.fault.Fault.{Fault}
+use Rattle.rp_deck.specs.rp_base.specs.declared.fault.Fault.TheVariants.{BadDeck}
 use Rattle.rp_deck.specs.Deck.{IsRightDeck}
 use Rattle.rp_deck.specs.DeckViews.{deck_text}
-use Rattle.rp_words.specs.LineFaults.{BadLine}
+use Rattle.rp_deck.specs.rp_words.specs.LineFaults.{BadLine}
 use Rattle.rp_deck.specs.Meaning.{DeckText, meaning_of}
 use Rattle.rp_deck.specs.declared.deck.Deck.{Deck}
 use Rattle.rp_deck.specs.declared.deck.Mode.{Mode}

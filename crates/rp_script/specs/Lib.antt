@@ -5,3 +5,12 @@ pub mod Agreeing
 pub mod LiveRun
 pub mod LiveOutput
 pub mod Figures
+pub use Rattle.rp_deck.specs.indexmap
+pub use Rattle.rp_deck.specs.rp_base
+pub use Rattle.rp_deck
+pub use Rattle.rp_deck.specs.rp_deck_declarations
+pub use Rattle.rp_object.specs.rp_machine
+pub use Rattle.rp_output.specs.rp_model
+pub use Rattle.rp_object
+pub use Rattle.rp_output
+pub use Rattle.rp_run

@@ -1,6 +1,6 @@
 -- The output of a run in threads.
 use Rattle.std.specs.Prelude.{ℕ, suc, Bool, List, [], ◌∷◌, ◌++◌, flat_map, if◌then◌else◌}
-use Rattle.rp_base.specs.declared.reply.Answer.{Answer}
+use Rattle.rp_deck.specs.rp_base.specs.declared.reply.Answer.{Answer}
 use Rattle.rp_live.specs.declared.run.LiveOutcome.{LiveOutcome}
 use Rattle.rp_output.specs.Printed.{reply_line_of, applied_line_of, agreed_line}
 use Rattle.rp_output.specs.FaultMessage.{with_line_feed}

@@ -2,10 +2,10 @@
 use Rattle.std.specs.Prelude.{◌≡◌, ◌⊎◌, ℕ, pos, Option, Some, None, List, filter_map, replicate}
 use Rattle.std.specs.Io.KnownBytes.{Appends}
 use Rattle.std.specs.Arc.{arc_value}
-use Rattle.rp_machine.specs.TallyRule.{tally_next, tally_answers}
+use Rattle.rp_object.specs.rp_machine.specs.TallyRule.{tally_next, tally_answers}
 use Rattle.rp_object.specs.State.{first_state}
 use Rattle.rp_object.specs.Step.{objects_next, objects_answers}
-use Rattle.rp_model.specs.declared.event.Event.{Event}
+use Rattle.rp_output.specs.rp_model.specs.declared.event.Event.{Event}
 use Rattle.rp_live.specs.LiveOutcome.{IsLiveRun}
 use Rattle.rp_live.specs.declared.figures.Figures.{Figures}
 use Rattle.rp_live.specs.declared.run.LiveOutcome.{LiveOutcome}
@@ -17,8 +17,9 @@ use Rattle.rp_deck.specs.Live.{IsDeckFor}
 use Rattle.rp_deck.specs.declared.deck.Command.{Command}
 use Rattle.rp_deck.specs.declared.deck.Command.TheVariants.{Take, Lose, Drain, Show}
 use Rattle.rp_deck.specs.declared.deck.Deck.{Deck}
-use Rattle.rp_deck_declarations.specs.declared.deck_program.DeckProgram.{DeckProgram}
-use Rattle.rp_deck_declarations.specs.declared.deck_program.DeckProgram.TheVariants.{Tally, Objects}
+use Rattle.rp_deck.specs.rp_deck_declarations.specs.declared.deck_program.DeckProgram.{DeckProgram}
+use Rattle.rp_deck.specs.rp_deck_declarations.specs.declared.deck_program.DeckProgram.TheVariants.{Tally}
+use Rattle.rp_deck.specs.rp_deck_declarations.specs.declared.deck_program.DeckProgram.TheVariants.{Objects}
 use Rattle.rp_deck.specs.declared.deck.Line.{Line}
 use Rattle.rp_deck.specs.declared.deck.Mode.TheVariants.{Live}
 

@@ -1,15 +1,16 @@
 -- The output of a deck's script.
 use Rattle.std.specs.Prelude.{ℕ, ℤ, pos, Bool, List, replicate}
 use Rattle.std.specs.Arc.{arc_value}
-use Rattle.rp_machine.specs.TallyRule.{tally_next, tally_answers, tally_image}
+use Rattle.rp_object.specs.rp_machine.specs.TallyRule.{tally_next, tally_answers, tally_image}
 use Rattle.rp_object.specs.Image.{objects_image}
 use Rattle.rp_object.specs.State.{first_state, Running as ObjectsState}
 use Rattle.rp_object.specs.declared.program.Program.{Program}
 use Rattle.rp_object.specs.Step.{objects_next, objects_answers}
 use Rattle.rp_run.specs.Output.{RunSetting, text_of_said, names_of, run_said}
 use Rattle.rp_deck.specs.declared.deck.Deck.{Deck}
-use Rattle.rp_deck_declarations.specs.declared.deck_program.DeckProgram.{DeckProgram}
-use Rattle.rp_deck_declarations.specs.declared.deck_program.DeckProgram.TheVariants.{Tally, Objects}
+use Rattle.rp_deck.specs.rp_deck_declarations.specs.declared.deck_program.DeckProgram.{DeckProgram}
+use Rattle.rp_deck.specs.rp_deck_declarations.specs.declared.deck_program.DeckProgram.TheVariants.{Tally}
+use Rattle.rp_deck.specs.rp_deck_declarations.specs.declared.deck_program.DeckProgram.TheVariants.{Objects}
 
 -- the most messages that one `drain` of a deck delivers
 abbrev pub drain_limit : ℕ

@@ -35,7 +35,7 @@ use Rattle.rp_server.proofs.Applied.{applied_is, learned_right}
 use Rattle.rp_server.proofs.Keeping.{or_none, all_right}
 use Rattle.rp_server.proofs.Promising.{places, leads_passing}
 use Rattle.rp_server.proofs.Settling.{learns_more, taken_same}
-use Rattle.rp_codec.specs.Message.{Message}
+use Rattle.rp_model.specs.rp_codec.specs.Message.{Message}
 use Rattle.rp_server.proofs.Starting.{same_learned}
 
 -- ---- room in the log

@@ -10,8 +10,8 @@ use Rattle.rp_base.specs.declared.action.Action.TheVariants.{Noop, Call, Interru
 use Rattle.rp_base.specs.declared.reply.Answer.{Answer}
 use Rattle.rp_base.specs.Sets.{Has, IsSet}
 use Rattle.rp_base.proofs.Members.{has_left, has_right, has_passing, has_mapped, mapped_has}
-use Rattle.rp_codec.specs.Message.{Message}
-use Rattle.rp_codec.specs.declared.packet.Body.TheVariants.{Reply}
+use Rattle.rp_model.specs.rp_codec.specs.Message.{Message}
+use Rattle.rp_model.specs.rp_codec.specs.declared.packet.Body.TheVariants.{Reply}
 use Rattle.rp_log.specs.Contents.{Contents}
 use Rattle.rp_machine.specs.Calls.{CallName, call_of, calls_made, calls_of}
 use Rattle.rp_machine.specs.Replay.{Replayed, unmoved, counts, answers_after}

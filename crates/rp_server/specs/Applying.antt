@@ -3,9 +3,9 @@ use Rattle.std.specs.Prelude.{◌≡◌, ℕ, ◌+◌, ◌*◌, ◌≤◌, Bool,
 use Rattle.std.specs.Prelude.{IfSome}
 use Rattle.rp_base.specs.declared.action.Action.{Action}
 use Rattle.rp_base.specs.declared.reply.Answer.{Answer}
-use Rattle.rp_codec.specs.Message.{Message}
-use Rattle.rp_codec.specs.Tails.{decision_text}
-use Rattle.rp_codec.specs.declared.packet.Body.TheVariants.{Decided}
+use Rattle.rp_model.specs.rp_codec.specs.Message.{Message}
+use Rattle.rp_model.specs.rp_codec.specs.Tails.{decision_text}
+use Rattle.rp_model.specs.rp_codec.specs.declared.packet.Body.TheVariants.{Decided}
 use Rattle.rp_log.specs.Contents.{Contents}
 use Rattle.rp_machine.specs.Numbered.{Applied, outcome}
 use Rattle.rp_model.specs.Parts.{Turn}

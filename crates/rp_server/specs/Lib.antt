@@ -5,3 +5,6 @@ pub mod Status
 pub mod Applying
 pub mod Ticks
 pub mod Free
+pub use Rattle.rp_acceptor
+pub use Rattle.rp_learner
+pub use Rattle.rp_proposer

@@ -14,7 +14,7 @@ ghost use Rattle.rp_base.specs.declared.record.Rec.TheVariants.{Promised};
 ghost use Rattle.rp_base.specs.Right.{IsRightRecord};
 ghost use Rattle.rp_base.specs.Voting.{prepare_answer, accept_answer};
 ghost use Rattle.rp_base.specs.WriteFaults.{fault_of};
-ghost use Rattle.rp_codec.specs.Record.{record_text, HasRecordRanges};
+ghost use Rattle.rp_model.specs.rp_codec.specs.Record.{record_text, HasRecordRanges};
 ghost use Rattle.rp_model.specs.Says.{writes};
 ghost use Rattle.rp_store.specs.Stored.{IsPut, IsNotPut};
 ghost use Rattle.rp_server.specs.Invariant.{IsAnswer, vote_record};

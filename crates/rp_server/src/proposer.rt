@@ -12,7 +12,7 @@ ghost use Rattle.rp_base.specs.Right.{IsRightVote};
 ghost use Rattle.rp_base.specs.WriteFaults.{fault_of};
 ghost use Rattle.rp_base.specs.declared.action.Action.{Action};
 ghost use Rattle.rp_base.specs.declared.record.Rec.TheVariants.{Started};
-ghost use Rattle.rp_codec.specs.Record.{record_text};
+ghost use Rattle.rp_model.specs.rp_codec.specs.Record.{record_text};
 ghost use Rattle.rp_base.specs.Number.{window};
 ghost use Rattle.rp_model.specs.Leader.{is_free_position, is_out_of_reach, least_free, starts_above, unlearned_in, begun_running, on_promise_range, on_nack};
 ghost use Rattle.rp_model.specs.Says.{notes, writes};

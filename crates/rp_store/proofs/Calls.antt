@@ -2,9 +2,9 @@
 use Rattle.std.proofs.Common.{◌≡◌, ◌⊎◌, inl, inr, ℕ, suc, ◌+◌, ◌<◌, ◌≤◌, List, ◌++◌, length, take, Result, Ok, Err, refl, sym, ap, subst, ◌∙◌, arith}
 use Rattle.std.specs.Prelude.{IfErr, OnErr, IsErrAnd}
 use Rattle.std.proofs.lemmas.List.{take_all, take_at}
-use Rattle.rp_base.specs.declared.fault.Fault.{Fault}
-use Rattle.rp_base.specs.declared.fault.Fault.TheVariants.{OutOfMemory, Device}
-use Rattle.rp_base.specs.declared.record.Rec.{Rec}
+use Rattle.rp_codec.specs.rp_base.specs.declared.fault.Fault.{Fault}
+use Rattle.rp_codec.specs.rp_base.specs.declared.fault.Fault.TheVariants.{OutOfMemory, Device}
+use Rattle.rp_codec.specs.rp_base.specs.declared.record.Rec.{Rec}
 use Rattle.rp_store.specs.Disk.{Disk, appended, synced, read_once, ReadFailed, AppendFailed, SyncFailed, CutFailed, IsReadAtMost, KeepsFront, IsTrimmed}
 use Rattle.rp_store.specs.Records.{records_text, AreRecordsOf, KeepsRecords}
 use Rattle.rp_store.specs.Opening.{IsOpened, IsNotOpened}

@@ -1,7 +1,8 @@
 -- What a store is to its callers.
 use Rattle.std.specs.Prelude.{◌≡◌, ℕ, Bool, true, false, List}
-use Rattle.rp_base.specs.declared.fault.Fault.{Fault}
-use Rattle.rp_base.specs.declared.fault.Fault.TheVariants.{OutOfMemory, Device, Failed}
+use Rattle.rp_codec.specs.rp_base.specs.declared.fault.Fault.{Fault}
+use Rattle.rp_codec.specs.rp_base.specs.declared.fault.Fault.TheVariants.{OutOfMemory, Device}
+use Rattle.rp_codec.specs.rp_base.specs.declared.fault.Fault.TheVariants.{Failed}
 use Rattle.rp_store.specs.Disk.{Disk, appended, synced, AppendFailed}
 
 -- its device, and whether that has failed since it was opened

@@ -1,6 +1,6 @@
 -- What a stop inside a put leaves.
 use Rattle.std.specs.Prelude.{◌≡◌, ℕ, true, false, List}
-use Rattle.rp_base.specs.declared.fault.Fault.TheVariants.{OutOfMemory, Failed}
+use Rattle.rp_codec.specs.rp_base.specs.declared.fault.Fault.TheVariants.{OutOfMemory, Failed}
 use Rattle.rp_store.specs.declared.store.NotTorn.{NotTorn}
 use Rattle.rp_store.specs.declared.store.NotTorn.TheVariants.{Failed as DeviceFailed, Refused}
 use Rattle.rp_store.specs.Disk.{Disk, appended, stopped, AppendFailed}

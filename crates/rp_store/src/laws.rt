@@ -1,7 +1,7 @@
 //! What a stop inside a call leaves.
 
 ghost use Rattle.std.specs.Prelude.{◌≡◌, ℕ, ◌<◌, ◌≤◌, List, [], ◌∷◌, ◌++◌, length, take};
-ghost use Rattle.rp_base.specs.declared.record.Rec.{Rec};
+ghost use Rattle.rp_codec.specs.rp_base.specs.declared.record.Rec.{Rec};
 ghost use Rattle.rp_codec.specs.Record.{record_text, IsRecord};
 ghost use Rattle.rp_store.specs.Records.{records_text, AreRecordsOf};
 

@@ -1,17 +1,17 @@
 //! The store of a node's records.
 
 ghost use Rattle.std.specs.Prelude.{◌≡◌, ◌⊎◌, ◌+◌, ◌<◌, length, IfOk, IfErr, OnOk, OnErr, IsErrOf, false, true};
-ghost use Rattle.rp_base.specs.declared.fault.Fault.TheVariants as faults;
-ghost use Rattle.rp_base.specs.declared.record.Rec.{Rec};
-ghost use Rattle.rp_base.specs.Right.{IsRightRecord};
-ghost use Rattle.rp_base.specs.WriteFaults.{fault_of};
+ghost use Rattle.rp_codec.specs.rp_base.specs.declared.fault.Fault.TheVariants as faults;
+ghost use Rattle.rp_codec.specs.rp_base.specs.declared.record.Rec.{Rec};
+ghost use Rattle.rp_codec.specs.rp_base.specs.Right.{IsRightRecord};
+ghost use Rattle.rp_codec.specs.rp_base.specs.WriteFaults.{fault_of};
 ghost use Rattle.rp_codec.specs.Record.{record_text};
 ghost use Rattle.rp_store.specs.Disk.{appended, stopped, synced, AppendFailed, IsTrimmed, KeepsFront};
 ghost use Rattle.rp_store.specs.Opening.{IsOpened, IsNotOpened};
 
 use crate::device::{CutDevice, Device};
 use crate::reading::whole_records;
-use rp_base::{Fault, Rec, WriteFault};
+use rp_codec::rp_base::{Fault, Rec, WriteFault};
 use rp_codec::{is_call, learned_text, promised_text, started_text, text_of_record, voted_text};
 use std::alloc::Global;
 use std::marker::Model;

@@ -6,7 +6,7 @@ use Rattle.rp_base.specs.declared.fault.Fault.TheVariants.{Device, Failed, OutOf
 use Rattle.rp_base.specs.declared.reply.Answer.{Answer}
 use Rattle.rp_codec.specs.declared.packet.Party.{Party}
 use Rattle.rp_codec.specs.declared.packet.Party.TheVariants.{Node}
-use Rattle.rp_rules.specs.declared.input.Input.{Input}
+use Rattle.rp_replica.specs.rp_rules.specs.declared.input.Input.{Input}
 use Rattle.rp_replica.specs.declared.sent.Sent.{Sent}
 use Rattle.rp_tasks.specs.Line.{Line}
 use Rattle.rp_boxes.specs.Parts.{Part, OfNode, with_got}

@@ -8,7 +8,7 @@ use Rattle.rp_base.specs.declared.fault.Fault.{Fault}
 use Rattle.rp_base.specs.declared.reply.Answer.{Answer}
 use Rattle.rp_codec.specs.declared.packet.Party.{Party}
 use Rattle.rp_codec.specs.declared.packet.Party.TheVariants.{Node}
-use Rattle.rp_model.specs.Parts.{NodePart, Running}
+use Rattle.rp_replica.specs.rp_model.specs.Parts.{NodePart, Running}
 use Rattle.rp_boxes.specs.Parts.{Part}
 use Rattle.rp_boxes.specs.Seats.{SeatState, HasApplied, HasUncounted, IsStopped}
 use Rattle.rp_threads.specs.Loops.{is_idle, is_to_lead, sender_at}

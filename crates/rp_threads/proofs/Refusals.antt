@@ -9,16 +9,16 @@ use Rattle.rp_base.specs.declared.fault.Fault.{Fault}
 use Rattle.rp_base.specs.declared.fault.Fault.TheVariants.{BallotsSpent, Failed, LogFull, OutOfMemory}
 use Rattle.rp_codec.specs.Message.{Message}
 use Rattle.rp_codec.specs.Reading.{all_of}
-use Rattle.rp_model.specs.Effect.{Setting, Done, NodeInput, Receive, Lead, LeadRange, Ask, turn_done_if, effect_while, running_effect}
-use Rattle.rp_model.specs.Effect.{plan_of, turn_if}
-use Rattle.rp_model.specs.Node.{RunningNode, running_node}
-use Rattle.rp_model.specs.declared.plan.Plan.{Plan}
-use Rattle.rp_model.proofs.EveryPlan.{plan_refused}
+use Rattle.rp_replica.specs.rp_model.specs.Effect.{Setting, Done, NodeInput, Receive, Lead, LeadRange, Ask, turn_done_if, effect_while, running_effect}
+use Rattle.rp_replica.specs.rp_model.specs.Effect.{plan_of, turn_if}
+use Rattle.rp_replica.specs.rp_model.specs.Node.{RunningNode, running_node}
+use Rattle.rp_replica.specs.rp_model.specs.declared.plan.Plan.{Plan}
+use Rattle.rp_replica.specs.rp_model.proofs.EveryPlan.{plan_refused}
 use Rattle.std.specs.Prelude.{IfErr}
-use Rattle.rp_model.specs.Parts.{NodePart, Running, Turn}
-use Rattle.rp_rules.specs.declared.input.Input.{Input}
-use Rattle.rp_rules.specs.declared.input.Input.TheVariants as inputs
-use Rattle.rp_rules.specs.Inputs.{given_by, packet_given}
+use Rattle.rp_replica.specs.rp_model.specs.Parts.{NodePart, Running, Turn}
+use Rattle.rp_replica.specs.rp_rules.specs.declared.input.Input.{Input}
+use Rattle.rp_replica.specs.rp_rules.specs.declared.input.Input.TheVariants as inputs
+use Rattle.rp_replica.specs.rp_rules.specs.Inputs.{given_by, packet_given}
 use Rattle.rp_boxes.specs.Seats.{IsReason}
 use Rattle.rp_threads.specs.Loops.{is_refusal}
 use Rattle.rp_threads.specs.Turns.{IsReceipt}

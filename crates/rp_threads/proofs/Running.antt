@@ -6,9 +6,9 @@ use Rattle.rp_base.specs.declared.fault.Fault.{Fault}
 use Rattle.rp_base.specs.declared.reply.Answer.{Answer}
 use Rattle.rp_boxes.specs.Parts.{Part, Role, OfNode}
 use Rattle.rp_boxes.specs.Seats.{SeatState, IsStopped, IsTurn, setting_at}
-use Rattle.rp_model.specs.Effect.{Setting, Done, NodeInput, turn_done, turn_done_if, effect_while, running_effect}
-use Rattle.rp_model.specs.Parts.{NodePart, Running, Turn}
-use Rattle.rp_rules.specs.declared.input.Input.{Input}
+use Rattle.rp_replica.specs.rp_model.specs.Effect.{Setting, Done, NodeInput, turn_done, turn_done_if, effect_while, running_effect}
+use Rattle.rp_replica.specs.rp_model.specs.Parts.{NodePart, Running, Turn}
+use Rattle.rp_replica.specs.rp_rules.specs.declared.input.Input.{Input}
 use Rattle.rp_replica.specs.declared.sent.Sent.{Sent}
 use Rattle.rp_threads.specs.Rounds.{Runs}
 

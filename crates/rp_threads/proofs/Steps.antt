@@ -10,8 +10,8 @@ use Rattle.rp_base.proofs.Members.{has_right}
 use Rattle.rp_codec.specs.Message.{Message}
 use Rattle.rp_codec.specs.declared.packet.Party.{Party}
 use Rattle.rp_codec.specs.declared.packet.Party.TheVariants.{Node}
-use Rattle.rp_outbox.specs.Packets.{texts_of}
-use Rattle.rp_rules.specs.declared.input.Input.{Input}
+use Rattle.rp_replica.specs.rp_outbox.specs.Packets.{texts_of}
+use Rattle.rp_replica.specs.rp_rules.specs.declared.input.Input.{Input}
 use Rattle.rp_replica.specs.declared.sent.Sent.{Sent}
 use Rattle.rp_tasks.specs.Line.{Line}
 use Rattle.rp_boxes.specs.Parts.{Part, Role, OfNode, part_after}

@@ -11,8 +11,8 @@ use Rattle.rp_base.specs.declared.fault.Fault.TheVariants.{OutOfMemory, NumbersS
 use Rattle.rp_base.specs.declared.reply.Answer.{Answer}
 use Rattle.rp_codec.specs.declared.packet.Party.{Party}
 use Rattle.rp_codec.specs.declared.packet.Party.TheVariants.{Node, Task}
-use Rattle.rp_model.specs.Parts.{TaskPart, fresh_task}
-use Rattle.rp_model.specs.Tasks.{TaskInput, Submit, Again, asks_again, calls_if, may_call}
+use Rattle.rp_replica.specs.rp_model.specs.Parts.{TaskPart, fresh_task}
+use Rattle.rp_replica.specs.rp_model.specs.Tasks.{TaskInput, Submit, Again, asks_again, calls_if, may_call}
 use Rattle.rp_tasks.specs.Line.{Line}
 use Rattle.rp_boxes.specs.Parts.{OfTask, fresh_part}
 use Rattle.rp_boxes.specs.Seats.{SeatSetup, SeatState}

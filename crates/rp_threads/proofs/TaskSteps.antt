@@ -16,11 +16,11 @@ use Rattle.rp_base.specs.declared.reply.Reply.{Reply}
 use Rattle.rp_base.proofs.Members.{has_left, has_right, has_split}
 use Rattle.rp_codec.specs.Message.{Message}
 use Rattle.rp_codec.specs.declared.packet.Party.TheVariants.{Task}
-use Rattle.rp_model.specs.Effect.{Done, goes_on_as}
-use Rattle.rp_model.specs.Parts.{TaskPart, fresh_task}
-use Rattle.rp_model.specs.Tasks.{TaskInput, Submit, Again, asks, may_call, calls_if, asks_again, task_hears}
+use Rattle.rp_replica.specs.rp_model.specs.Effect.{Done, goes_on_as}
+use Rattle.rp_replica.specs.rp_model.specs.Parts.{TaskPart, fresh_task}
+use Rattle.rp_replica.specs.rp_model.specs.Tasks.{TaskInput, Submit, Again, asks, may_call, calls_if, asks_again, task_hears}
 use Rattle.rp_replica.specs.declared.sent.Sent.{Sent}
-use Rattle.rp_world.specs.Going.{reply_in}
+use Rattle.rp_boxes.specs.rp_world.specs.Going.{reply_in}
 use Rattle.rp_boxes.specs.Parts.{Part, Role, OfTask, part_after, with_got, fresh_part}
 use Rattle.rp_boxes.specs.Seats.{SeatState}
 use Rattle.rp_boxes.specs.TaskSeats.{IsTaskTurn, IsReplyTurn, reply_effect}

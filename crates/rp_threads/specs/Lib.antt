@@ -6,3 +6,11 @@ pub mod Tasks
 pub mod TaskRounds
 pub mod Threads
 pub mod Runs
+pub use Rattle.rp_boxes.specs.atomic_table
+pub use Rattle.rp_base
+pub use Rattle.rp_boxes
+pub use Rattle.rp_codec
+pub use Rattle.rp_replica.specs.rp_model
+pub use Rattle.rp_replica.specs.rp_outbox
+pub use Rattle.rp_replica
+pub use Rattle.rp_tasks

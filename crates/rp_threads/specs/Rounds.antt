@@ -8,9 +8,9 @@ use Rattle.rp_base.specs.declared.fault.Fault.TheVariants.{OutOfMemory, Device, 
 use Rattle.rp_base.specs.declared.reply.Answer.{Answer}
 use Rattle.rp_codec.specs.declared.packet.Party.{Party}
 use Rattle.rp_codec.specs.declared.packet.Party.TheVariants.{Node}
-use Rattle.rp_model.specs.Parts.{NodePart, Running}
-use Rattle.rp_rules.specs.declared.input.Input.{Input}
-use Rattle.rp_rules.specs.declared.input.Input.TheVariants.{Lead}
+use Rattle.rp_replica.specs.rp_model.specs.Parts.{NodePart, Running}
+use Rattle.rp_replica.specs.rp_rules.specs.declared.input.Input.{Input}
+use Rattle.rp_replica.specs.rp_rules.specs.declared.input.Input.TheVariants.{Lead}
 use Rattle.rp_tasks.specs.Line.{Line}
 use Rattle.rp_boxes.specs.Parts.{Part, OfNode}
 use Rattle.rp_boxes.specs.Seats.{SeatState, HasApplied, HasUncounted, IsRunning, IsStopped}

@@ -11,7 +11,7 @@ use Rattle.rp_base.specs.declared.fault.Fault.TheVariants.{OutOfMemory, NumbersS
 use Rattle.rp_base.specs.declared.reply.Answer.{Answer}
 use Rattle.rp_codec.specs.declared.packet.Party.{Party}
 use Rattle.rp_codec.specs.declared.packet.Party.TheVariants.{Node, Task}
-use Rattle.rp_model.specs.Tasks.{TaskInput, Submit, Again}
+use Rattle.rp_replica.specs.rp_model.specs.Tasks.{TaskInput, Submit, Again}
 use Rattle.rp_replica.specs.declared.sent.Sent.{Sent}
 use Rattle.rp_tasks.specs.Line.{Line, saturating_sum}
 use Rattle.rp_boxes.specs.Seats.{SeatState}

@@ -5,8 +5,8 @@ use Rattle.rp_base.specs.Sets.{Has}
 use Rattle.rp_base.specs.declared.action.Action.{Action}
 use Rattle.rp_base.specs.Calls.{next_call}
 use Rattle.rp_codec.specs.Message.{Message}
-use Rattle.rp_model.specs.Parts.{TaskPart}
-use Rattle.rp_model.specs.Tasks.{asks}
+use Rattle.rp_replica.specs.rp_model.specs.Parts.{TaskPart}
+use Rattle.rp_replica.specs.rp_model.specs.Tasks.{asks}
 use Rattle.rp_tasks.specs.Line.{Line}
 use Rattle.rp_boxes.specs.Parts.{OfTask}
 use Rattle.rp_boxes.specs.Seats.{SeatState}

@@ -10,10 +10,11 @@ use Rattle.rp_codec.specs.Message.{Message}
 use Rattle.rp_codec.specs.Text.{text_of}
 use Rattle.rp_codec.specs.declared.packet.Party.{Party}
 use Rattle.rp_codec.specs.declared.packet.Party.TheVariants.{Node}
-use Rattle.rp_outbox.specs.Packets.{texts_of}
-use Rattle.rp_rules.specs.declared.input.Input.{Input}
-use Rattle.rp_rules.specs.declared.input.Input.TheVariants.{Receive, Lead, LeadRange, Interrupt}
-use Rattle.rp_rules.specs.declared.input.Input.TheVariants.{Tick, Report, Ask}
+use Rattle.rp_replica.specs.rp_outbox.specs.Packets.{texts_of}
+use Rattle.rp_replica.specs.rp_rules.specs.declared.input.Input.{Input}
+use Rattle.rp_replica.specs.rp_rules.specs.declared.input.Input.TheVariants.{Receive, Lead}
+use Rattle.rp_replica.specs.rp_rules.specs.declared.input.Input.TheVariants.{LeadRange, Interrupt}
+use Rattle.rp_replica.specs.rp_rules.specs.declared.input.Input.TheVariants.{Tick, Report, Ask}
 use Rattle.rp_replica.specs.declared.sent.Sent.{Sent}
 use Rattle.rp_tasks.specs.Line.{Line}
 use Rattle.rp_boxes.specs.Moments.{WasPut, WasInUse, WasNotFull}

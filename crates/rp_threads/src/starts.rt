@@ -2,7 +2,7 @@
 
 ghost use Rattle.std.specs.Prelude.{◌≡◌, ◌≤◌, [], IfOk};
 ghost use Rattle.rp_boxes.specs.Parts.{fresh_part, OfTask};
-ghost use Rattle.rp_model.specs.Parts.{fresh_task};
+ghost use Rattle.rp_replica.specs.rp_model.specs.Parts.{fresh_task};
 ghost use Rattle.rp_threads.specs.Threads.{IsLooped, IsTaskLooped};
 
 use crate::gate::Gate;
@@ -10,8 +10,8 @@ use crate::loops::{NodeEnd, node_loop};
 use crate::options::LoopOptions;
 use crate::tasks::{TaskCall, TaskEnd, task_loop};
 use rp_boxes::{NodeSeat, TaskSeat};
-use rp_machine::Machine;
-use rp_store::Device;
+use rp_replica::rp_machine::Machine;
+use rp_replica::rp_store::Device;
 use rp_tasks::FaultLine;
 use std::alloc::AllocError;
 use std::marker::PhantomData;

@@ -3,7 +3,7 @@
 ghost use Rattle.std.specs.Prelude.{◌≡◌, ◌≤◌, [], All, IfOk, OnErr, length, true};
 ghost use Rattle.std.specs.List.{AllZip};
 ghost use Rattle.rp_boxes.specs.Parts.{fresh_part, OfTask};
-ghost use Rattle.rp_model.specs.Parts.{fresh_task};
+ghost use Rattle.rp_replica.specs.rp_model.specs.Parts.{fresh_task};
 ghost use Rattle.rp_threads.specs.Runs.{MayRun, HaveRun, RunsOrStops, IsNodeEnd, IsTaskEnd};
 ghost use Rattle.rp_threads.specs.Threads.{IsLooped, IsTaskLooped};
 
@@ -12,8 +12,8 @@ use crate::loops::NodeEnd;
 use crate::options::LoopOptions;
 use crate::starts::{NodeGuarantee, NodeStart, TaskGuarantee, TaskStart, start_node, start_task};
 use crate::tasks::TaskEnd;
-use rp_machine::Machine;
-use rp_store::Device;
+use rp_replica::rp_machine::Machine;
+use rp_replica::rp_store::Device;
 use std::alloc::AllocError;
 use std::sync::Wait;
 use std::thread;

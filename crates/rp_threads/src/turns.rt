@@ -3,7 +3,7 @@
 ghost use Rattle.std.specs.Prelude.{◌≡◌, ◌⊎◌, IfOk, OnOk, IfErr, OnErr, IsSome, Bool, option_map};
 ghost use Rattle.rp_base.specs.declared.fault.Fault.TheVariants.{OutOfMemory};
 ghost use Rattle.rp_codec.specs.declared.packet.Party.TheVariants.{Node};
-ghost use Rattle.rp_rules.specs.Inputs.{IsRightInput};
+ghost use Rattle.rp_replica.specs.rp_rules.specs.Inputs.{IsRightInput};
 ghost use Rattle.rp_boxes.specs.Seats.{IsGot, IsTurn, IsCutTurn, IsNoTurn};
 ghost use Rattle.rp_threads.specs.Lines.{HoldsTextsOf, given_on, line_after, line_with};
 ghost use Rattle.rp_threads.specs.Turns.{IsLost, turn_of, Works, Fails, IsEventBy, IsStopBy, IsNodeTurn, IsStoppedTurn};
@@ -12,9 +12,9 @@ use crate::sends::put_all;
 use rp_base::Fault;
 use rp_boxes::NodeSeat;
 use rp_codec::Party;
-use rp_machine::Machine;
 use rp_replica::Input;
-use rp_store::Device;
+use rp_replica::rp_machine::Machine;
+use rp_replica::rp_store::Device;
 use rp_tasks::{FaultLine, gives_what_it_took};
 use std::alloc::Global;
 

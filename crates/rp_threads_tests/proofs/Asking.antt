@@ -1,28 +1,28 @@
 -- What a call or a report sent is one packet, and the bytes are its text.
 use Rattle.std.proofs.Common.{◌≡◌, ℕ, ℤ, Option, Some, None, Result, Ok, Err, List, [], ◌∷◌, ◌++◌, length, slice_index_or, refl, sym, ap, subst, ◌∙◌, append-nil, inl, arith}
 use Rattle.std.specs.Prelude.{IfOk}
-use Rattle.atomic_table.specs.Seated.{TableId}
-use Rattle.rp_base.specs.Records.{applied_of}
-use Rattle.rp_base.specs.Sets.{Has}
-use Rattle.rp_base.specs.declared.action.Action.{Action}
-use Rattle.rp_base.specs.declared.action.Operation.{Operation}
-use Rattle.rp_base.specs.declared.config.Config.{Config}
-use Rattle.rp_base.specs.declared.fault.Fault.{Fault}
-use Rattle.rp_base.proofs.Members.{has_right}
-use Rattle.rp_codec.specs.Message.{Message}
-use Rattle.rp_codec.specs.Text.{text_of}
-use Rattle.rp_codec.specs.declared.packet.Party.{Party}
-use Rattle.rp_model.specs.Effect.{Done}
-use Rattle.rp_model.specs.Plans.{report_of}
-use Rattle.rp_model.specs.Parts.{TaskPart, fresh_task}
-use Rattle.rp_model.specs.Tasks.{Submit, asks, calls_if, may_call, next_call}
-use Rattle.rp_outbox.specs.Packets.{texts_of}
-use Rattle.rp_replica.specs.declared.sent.Sent.{Sent}
-use Rattle.rp_boxes.specs.FirstSeats.{AreFirstSeats}
-use Rattle.rp_boxes.specs.Parts.{OfTask, fresh_part}
-use Rattle.rp_boxes.specs.Seats.{SeatState, IsSentText, IsFetched, IsReport}
-use Rattle.rp_boxes.specs.TaskSeats.{IsTaskTurn}
-use Rattle.rp_tasks.specs.Line.{Line}
+use Rattle.rp_threads.specs.atomic_table.specs.Seated.{TableId}
+use Rattle.rp_threads.specs.rp_base.specs.Records.{applied_of}
+use Rattle.rp_threads.specs.rp_base.specs.Sets.{Has}
+use Rattle.rp_threads.specs.rp_base.specs.declared.action.Action.{Action}
+use Rattle.rp_threads.specs.rp_base.specs.declared.action.Operation.{Operation}
+use Rattle.rp_threads.specs.rp_base.specs.declared.config.Config.{Config}
+use Rattle.rp_threads.specs.rp_base.specs.declared.fault.Fault.{Fault}
+use Rattle.rp_threads.specs.rp_base.proofs.Members.{has_right}
+use Rattle.rp_threads.specs.rp_codec.specs.Message.{Message}
+use Rattle.rp_threads.specs.rp_codec.specs.Text.{text_of}
+use Rattle.rp_threads.specs.rp_codec.specs.declared.packet.Party.{Party}
+use Rattle.rp_threads.specs.rp_model.specs.Effect.{Done}
+use Rattle.rp_threads.specs.rp_model.specs.Plans.{report_of}
+use Rattle.rp_threads.specs.rp_model.specs.Parts.{TaskPart, fresh_task}
+use Rattle.rp_threads.specs.rp_model.specs.Tasks.{Submit, asks, calls_if, may_call, next_call}
+use Rattle.rp_threads.specs.rp_outbox.specs.Packets.{texts_of}
+use Rattle.rp_threads.specs.rp_replica.specs.declared.sent.Sent.{Sent}
+use Rattle.rp_threads.specs.rp_boxes.specs.FirstSeats.{AreFirstSeats}
+use Rattle.rp_threads.specs.rp_boxes.specs.Parts.{OfTask, fresh_part}
+use Rattle.rp_threads.specs.rp_boxes.specs.Seats.{SeatState, IsSentText, IsFetched, IsReport}
+use Rattle.rp_threads.specs.rp_boxes.specs.TaskSeats.{IsTaskTurn}
+use Rattle.rp_threads.specs.rp_tasks.specs.Line.{Line}
 use Rattle.rp_threads.specs.Lines.{HoldsTextsOf}
 
 -- one packet was sent

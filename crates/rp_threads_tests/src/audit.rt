@@ -1,14 +1,14 @@
 ghost use Rattle.std.specs.Prelude.{IfOk, List, ℕ, OnOk};
-ghost use Rattle.rp_boxes.specs.Audits.{IsGotReport};
+ghost use Rattle.rp_threads.specs.rp_boxes.specs.Audits.{IsGotReport};
 
 use crate::setup::{CONFIG, receive};
-use rp_base::{Action, Fault, NodeId, Position};
-use rp_boxes::{Added, AllSeats, Audit, NodeSeat, seats};
-use rp_codec::Party;
-use rp_machine::{Machine, Tally, TallyProgram};
-use rp_replica::Input;
-use rp_store::{Device, MemDevice};
 use rp_threads::node_step;
+use rp_threads::rp_base::{Action, Fault, NodeId, Position};
+use rp_threads::rp_boxes::{Added, AllSeats, Audit, NodeSeat, seats};
+use rp_threads::rp_codec::Party;
+use rp_threads::rp_machine::{Machine, Tally, TallyProgram};
+use rp_threads::rp_replica::Input;
+use rp_threads::rp_store::{Device, MemDevice};
 use std::alloc::Global;
 use std::test::Fail;
 

@@ -1,17 +1,17 @@
 //! Nodes and a task run, each in a thread.
 
 ghost use Rattle.std.specs.Prelude.{◌≡◌, ◌<◌, [], All, IfOk, IfSome, length, slice_get};
-ghost use Rattle.rp_boxes.specs.Parts.{fresh_part, OfTask};
-ghost use Rattle.rp_model.specs.Parts.{fresh_task};
+ghost use Rattle.rp_threads.specs.rp_boxes.specs.Parts.{fresh_part, OfTask};
+ghost use Rattle.rp_threads.specs.rp_model.specs.Parts.{fresh_task};
 
 use crate::setup::CONFIG;
-use rp_base::{Fault, NodeId, Operation, Position};
-use rp_boxes::{Added, AllSeats, Audit, NodeSeat, TaskSeat, seats};
-use rp_codec::{Body, Party, decode, packet_len};
-use rp_machine::{Machine, Tally, TallyProgram};
-use rp_replica::Input;
-use rp_store::{Device, MemDevice};
-use rp_tasks::FaultLine;
+use rp_threads::rp_base::{Fault, NodeId, Operation, Position};
+use rp_threads::rp_boxes::{Added, AllSeats, Audit, NodeSeat, TaskSeat, seats};
+use rp_threads::rp_codec::{Body, Party, decode, packet_len};
+use rp_threads::rp_machine::{Machine, Tally, TallyProgram};
+use rp_threads::rp_replica::Input;
+use rp_threads::rp_store::{Device, MemDevice};
+use rp_threads::rp_tasks::FaultLine;
 use rp_threads::{
     Gate, LoopOptions, NodeEnd, NodeStart, TaskCall, TaskStart, node_step, run_threads,
 };

@@ -1,14 +1,14 @@
 ghost use Rattle.std.specs.Prelude.{IfOk};
-ghost use Rattle.rp_boxes.specs.Seats.{IsSentText};
+ghost use Rattle.rp_threads.specs.rp_boxes.specs.Seats.{IsSentText};
 
 use crate::setup::{CONFIG, receive};
-use rp_base::{Fault, NodeId, Operation, Position, TaskId};
-use rp_boxes::{AllSeats, NodeSeat, TaskSeat, seats};
-use rp_codec::Party;
-use rp_machine::{Machine, Tally, TallyProgram};
-use rp_replica::{Input, Sent};
-use rp_store::{Device, MemDevice};
 use rp_threads::node_step;
+use rp_threads::rp_base::{Fault, NodeId, Operation, Position, TaskId};
+use rp_threads::rp_boxes::{AllSeats, NodeSeat, TaskSeat, seats};
+use rp_threads::rp_codec::Party;
+use rp_threads::rp_machine::{Machine, Tally, TallyProgram};
+use rp_threads::rp_replica::{Input, Sent};
+use rp_threads::rp_store::{Device, MemDevice};
 use std::alloc::Global;
 use std::test::Fail;
 

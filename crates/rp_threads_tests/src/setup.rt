@@ -1,10 +1,10 @@
-use rp_base::{Config, Fault};
-use rp_boxes::NodeSeat;
-use rp_codec::Party;
-use rp_machine::Machine;
-use rp_replica::Input;
-use rp_store::Device;
 use rp_threads::node_step;
+use rp_threads::rp_base::{Config, Fault};
+use rp_threads::rp_boxes::NodeSeat;
+use rp_threads::rp_codec::Party;
+use rp_threads::rp_machine::Machine;
+use rp_threads::rp_replica::Input;
+use rp_threads::rp_store::Device;
 use std::alloc::Global;
 
 /// Three nodes with a log of 1,000 positions.

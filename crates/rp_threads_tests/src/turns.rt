@@ -1,11 +1,11 @@
 use crate::setup::CONFIG;
-use rp_base::{Fault, NodeId, Operation, TaskId};
-use rp_boxes::{AllSeats, seats};
-use rp_codec::Party;
-use rp_machine::{Machine, Tally, TallyProgram};
-use rp_replica::Input;
-use rp_store::{Device, MemDevice};
-use rp_tasks::FaultLine;
+use rp_threads::rp_base::{Fault, NodeId, Operation, TaskId};
+use rp_threads::rp_boxes::{AllSeats, seats};
+use rp_threads::rp_codec::Party;
+use rp_threads::rp_machine::{Machine, Tally, TallyProgram};
+use rp_threads::rp_replica::Input;
+use rp_threads::rp_store::{Device, MemDevice};
+use rp_threads::rp_tasks::FaultLine;
 use rp_threads::{
     Gate, LoopOptions, Open, PacketCounts, TaskCall, Turn, node_loop, node_step, node_turn,
     task_loop,

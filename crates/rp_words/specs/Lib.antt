@@ -6,3 +6,5 @@ pub mod LineFaults
 pub mod Ahead
 pub mod LineEnds
 pub mod Numbers
+pub use Rattle.indexmap
+pub use Rattle.rp_base

@@ -2,7 +2,7 @@
 use Rattle.std.proofs.Common.{◌≡◌, [], ◌∷◌, Some, sym}
 use Rattle.std.specs.Ordering.{nat_cmp}
 use Rattle.std.specs.FinMap.{get, insert, empty}
-use Rattle.rp_body.proofs.Places.{get-by_place, by_place-set}
+use Rattle.rp_manual.specs.rp_body.proofs.Places.{get-by_place, by_place-set}
 use Rattle.std.proofs.Common.{arith}
 use Rattle.rp_manual.proofs.Assigning.{effect-Set, effect-Put, effect-Out, effect-If}
 

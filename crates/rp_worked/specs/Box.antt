@@ -12,17 +12,19 @@
 use Rattle.std.specs.Prelude.{ℕ, ℤ, pos, Option, List, [], ◌∷◌}
 use Rattle.std.proofs.Common.{lit<}
 use Rattle.std.specs.FinMap.{empty}
-use Rattle.rp_base.specs.declared.action.Action.{Action}
-use Rattle.rp_base.specs.declared.action.Action.TheVariants.{Call}
-use Rattle.rp_base.specs.declared.action.Operation.TheVariants.{Procedure, SetTimer, CancelTimer}
-use Rattle.rp_body.specs.declared.expression.Expr.TheVariants.{Number, Arg, Int, Add'}
-use Rattle.rp_body.specs.declared.statement.Stmt.{Stmt}
-use Rattle.rp_body.specs.declared.statement.Stmt.TheVariants.{Set}
-use Rattle.rp_body.specs.Store.{Store, by_place}
-use Rattle.rp_entry.specs.declared.operations.Operations.{Operations}
-use Rattle.rp_object.specs.declared.program.Profile.TheVariants.{Ravenscar}
-use Rattle.rp_object.specs.declared.program.Declarations.{Declarations}
-use Rattle.rp_object.specs.State.{ProgramState}
+use Rattle.rp_manual.specs.rp_base.specs.declared.action.Action.{Action}
+use Rattle.rp_manual.specs.rp_base.specs.declared.action.Action.TheVariants.{Call}
+use Rattle.rp_manual.specs.rp_base.specs.declared.action.Operation.TheVariants.{Procedure, SetTimer}
+use Rattle.rp_manual.specs.rp_base.specs.declared.action.Operation.TheVariants.{CancelTimer}
+use Rattle.rp_manual.specs.rp_body.specs.declared.expression.Expr.TheVariants.{Number, Arg, Int}
+use Rattle.rp_manual.specs.rp_body.specs.declared.expression.Expr.TheVariants.{Add'}
+use Rattle.rp_manual.specs.rp_body.specs.declared.statement.Stmt.{Stmt}
+use Rattle.rp_manual.specs.rp_body.specs.declared.statement.Stmt.TheVariants.{Set}
+use Rattle.rp_manual.specs.rp_body.specs.Store.{Store, by_place}
+use Rattle.rp_manual.specs.rp_entry.specs.declared.operations.Operations.{Operations}
+use Rattle.rp_manual.specs.rp_object.specs.declared.program.Profile.TheVariants.{Ravenscar}
+use Rattle.rp_manual.specs.rp_object.specs.declared.program.Declarations.{Declarations}
+use Rattle.rp_manual.specs.rp_object.specs.State.{ProgramState}
 use Rattle.rp_worked.specs.Memory.{Unread, listed, object_with}
 use Rattle.rp_worked.specs.Outcomes.{one_object}
 

@@ -13,19 +13,19 @@
 --     interrupt broken  gate.burst
 use Rattle.std.specs.Prelude.{Bool, ℕ, ℤ, pos, true, false, List, [], ◌∷◌}
 use Rattle.std.proofs.Common.{lit<}
-use Rattle.rp_base.specs.declared.action.Action.{Action}
-use Rattle.rp_base.specs.declared.action.Action.TheVariants.{Call}
-use Rattle.rp_base.specs.declared.action.Operation.TheVariants.{Procedure, Entry}
-use Rattle.rp_body.specs.declared.expression.Expr.TheVariants.{Number, Int, Add'}
-use Rattle.rp_body.specs.declared.expression.Cond.TheVariants.{Constant}
-use Rattle.rp_body.specs.declared.statement.Stmt.{Stmt}
-use Rattle.rp_body.specs.declared.statement.Stmt.TheVariants.{Set, Put, Out}
-use Rattle.rp_body.specs.Store.{Store, by_place}
-use Rattle.rp_entry.specs.declared.operations.Operations.{Operations}
-use Rattle.rp_entry.specs.declared.state.Waiting.{Waiting}
-use Rattle.rp_object.specs.declared.program.Profile.TheVariants.{Ravenscar}
-use Rattle.rp_object.specs.declared.program.Declarations.{Declarations}
-use Rattle.rp_object.specs.State.{ProgramState}
+use Rattle.rp_manual.specs.rp_base.specs.declared.action.Action.{Action}
+use Rattle.rp_manual.specs.rp_base.specs.declared.action.Action.TheVariants.{Call}
+use Rattle.rp_manual.specs.rp_base.specs.declared.action.Operation.TheVariants.{Procedure, Entry}
+use Rattle.rp_manual.specs.rp_body.specs.declared.expression.Expr.TheVariants.{Number, Int, Add'}
+use Rattle.rp_manual.specs.rp_body.specs.declared.expression.Cond.TheVariants.{Constant}
+use Rattle.rp_manual.specs.rp_body.specs.declared.statement.Stmt.{Stmt}
+use Rattle.rp_manual.specs.rp_body.specs.declared.statement.Stmt.TheVariants.{Set, Put, Out}
+use Rattle.rp_manual.specs.rp_body.specs.Store.{Store, by_place}
+use Rattle.rp_manual.specs.rp_entry.specs.declared.operations.Operations.{Operations}
+use Rattle.rp_manual.specs.rp_entry.specs.declared.state.Waiting.{Waiting}
+use Rattle.rp_manual.specs.rp_object.specs.declared.program.Profile.TheVariants.{Ravenscar}
+use Rattle.rp_manual.specs.rp_object.specs.declared.program.Declarations.{Declarations}
+use Rattle.rp_manual.specs.rp_object.specs.State.{ProgramState}
 use Rattle.rp_worked.specs.Memory.{Unread, listed, object_with}
 use Rattle.rp_worked.specs.Outcomes.{one_object}
 

@@ -2,9 +2,9 @@
 use Rattle.std.specs.Prelude.{ℕ, List, [], ◌∷◌, ◌<◌, ◌^◌, length, String}
 use Rattle.std.specs.declared.alloc.Global.{Global}
 use Rattle.std.proofs.Common.{lit<}
-use Rattle.rp_object.specs.declared.program.Declarations.{Declarations}
-use Rattle.rp_object.specs.State.{ProgramState}
-use Rattle.rp_object.specs.Image.{objects_image}
+use Rattle.rp_manual.specs.rp_object.specs.declared.program.Declarations.{Declarations}
+use Rattle.rp_manual.specs.rp_object.specs.State.{ProgramState}
+use Rattle.rp_manual.specs.rp_object.specs.Image.{objects_image}
 use Rattle.rp_worked.specs.Memory.{Unread, listed}
 
 -- the whole number is called so

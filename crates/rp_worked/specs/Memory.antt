@@ -4,9 +4,9 @@ use Rattle.std.specs.Prelude.{◌<◌, ◌^◌, List, length, refl, Vec, String,
 use Rattle.std.specs.declared.alloc.Global.{Global}
 use Rattle.std.proofs.Math.Nat.{le_refl}
 use denote.RawPtr.{Ptr}
-use Rattle.rp_body.specs.Store.{Store}
-use Rattle.rp_entry.specs.declared.operations.Operations.{Operations}
-use Rattle.rp_object.specs.declared.program.ObjectDeclaration.{ObjectDeclaration}
+use Rattle.rp_manual.specs.rp_body.specs.Store.{Store}
+use Rattle.rp_manual.specs.rp_entry.specs.declared.operations.Operations.{Operations}
+use Rattle.rp_manual.specs.rp_object.specs.declared.program.ObjectDeclaration.{ObjectDeclaration}
 
 -- what no rule reads: the heap, an address, a box, a name, and the names of components and entries
 pub record Unread : Type 0 where

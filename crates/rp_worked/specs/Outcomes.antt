@@ -1,15 +1,15 @@
 -- What a program is after some actions, and what was answered.
 use Rattle.std.specs.Prelude.{◌≡◌, ℕ, ℤ, Option, List, [], ◌∷◌}
-use Rattle.rp_base.specs.declared.action.Action.{Action}
-use Rattle.rp_base.specs.declared.reply.Reply.{Reply}
-use Rattle.rp_base.specs.declared.reply.Answer.{Answer}
-use Rattle.rp_body.specs.Store.{Store}
-use Rattle.rp_entry.specs.declared.operations.Operations.{Operations}
-use Rattle.rp_entry.specs.declared.state.Waiting.{Waiting}
-use Rattle.rp_machine.specs.Replay.{replay_answers, replay_state}
-use Rattle.rp_object.specs.declared.program.Declarations.{Declarations}
-use Rattle.rp_object.specs.State.{ProgramState, first_state}
-use Rattle.rp_object.specs.Step.{objects_next, objects_answers}
+use Rattle.rp_manual.specs.rp_base.specs.declared.action.Action.{Action}
+use Rattle.rp_manual.specs.rp_base.specs.declared.reply.Reply.{Reply}
+use Rattle.rp_manual.specs.rp_base.specs.declared.reply.Answer.{Answer}
+use Rattle.rp_manual.specs.rp_body.specs.Store.{Store}
+use Rattle.rp_manual.specs.rp_entry.specs.declared.operations.Operations.{Operations}
+use Rattle.rp_manual.specs.rp_entry.specs.declared.state.Waiting.{Waiting}
+use Rattle.rp_manual.specs.rp_machine.specs.Replay.{replay_answers, replay_state}
+use Rattle.rp_manual.specs.rp_object.specs.declared.program.Declarations.{Declarations}
+use Rattle.rp_manual.specs.rp_object.specs.State.{ProgramState, first_state}
+use Rattle.rp_manual.specs.rp_object.specs.Step.{objects_next, objects_answers}
 
 -- From the start of the program these actions, one after another, give these answers in this order,
 -- and lead to this state.

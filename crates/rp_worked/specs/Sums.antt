@@ -7,18 +7,18 @@
 use Rattle.std.specs.Prelude.{◌-◌, ◌^◌, ℕ, ℤ, pos, [], ◌∷◌}
 use Rattle.std.proofs.Common.{lit<}
 use Rattle.std.specs.FinMap.{empty}
-use Rattle.rp_base.specs.declared.action.Action.{Action}
-use Rattle.rp_base.specs.declared.action.Action.TheVariants.{Call}
-use Rattle.rp_base.specs.declared.action.Operation.TheVariants.{Function}
-use Rattle.rp_body.specs.declared.expression.Expr.{Expr}
-use Rattle.rp_body.specs.declared.expression.Expr.TheVariants.{Arg, Add', Sub'}
-use Rattle.rp_body.specs.declared.expression.Cond.TheVariants.{Less}
-use Rattle.rp_body.specs.Store.{Store}
-use Rattle.rp_entry.specs.declared.operations.Function.TheVariants.{Value, Truth}
-use Rattle.rp_entry.specs.declared.operations.Operations.{Operations}
-use Rattle.rp_object.specs.declared.program.Profile.TheVariants.{Ravenscar}
-use Rattle.rp_object.specs.declared.program.Declarations.{Declarations}
-use Rattle.rp_object.specs.State.{ProgramState}
+use Rattle.rp_manual.specs.rp_base.specs.declared.action.Action.{Action}
+use Rattle.rp_manual.specs.rp_base.specs.declared.action.Action.TheVariants.{Call}
+use Rattle.rp_manual.specs.rp_base.specs.declared.action.Operation.TheVariants.{Function}
+use Rattle.rp_manual.specs.rp_body.specs.declared.expression.Expr.{Expr}
+use Rattle.rp_manual.specs.rp_body.specs.declared.expression.Expr.TheVariants.{Arg, Add', Sub'}
+use Rattle.rp_manual.specs.rp_body.specs.declared.expression.Cond.TheVariants.{Less}
+use Rattle.rp_manual.specs.rp_body.specs.Store.{Store}
+use Rattle.rp_manual.specs.rp_entry.specs.declared.operations.Function.TheVariants.{Value, Truth}
+use Rattle.rp_manual.specs.rp_entry.specs.declared.operations.Operations.{Operations}
+use Rattle.rp_manual.specs.rp_object.specs.declared.program.Profile.TheVariants.{Ravenscar}
+use Rattle.rp_manual.specs.rp_object.specs.declared.program.Declarations.{Declarations}
+use Rattle.rp_manual.specs.rp_object.specs.State.{ProgramState}
 use Rattle.rp_worked.specs.Memory.{Unread, listed, object_with}
 use Rattle.rp_worked.specs.Outcomes.{one_object}
 

@@ -1,11 +1,11 @@
 //! Actions that do not count (`rp_worked` Gate and Box).
 
 ghost use Rattle.std.specs.Prelude.{◌≡◌, pos, true, false, None, List, [], ◌∷◌};
-ghost use Rattle.rp_base.specs.declared.action.Action.TheVariants.{Noop, Interrupt, Tick};
-ghost use Rattle.rp_base.specs.declared.reply.Reply.TheVariants.{Value};
-ghost use Rattle.rp_machine.specs.Replay.{kept_of};
-ghost use Rattle.rp_object.specs.State.{first_state};
-ghost use Rattle.rp_object.specs.Step.{objects_next, objects_answers};
+ghost use Rattle.rp_manual.specs.rp_base.specs.declared.action.Action.TheVariants.{Noop, Interrupt, Tick};
+ghost use Rattle.rp_manual.specs.rp_base.specs.declared.reply.Reply.TheVariants.{Value};
+ghost use Rattle.rp_manual.specs.rp_machine.specs.Replay.{kept_of};
+ghost use Rattle.rp_manual.specs.rp_object.specs.State.{first_state};
+ghost use Rattle.rp_manual.specs.rp_object.specs.Step.{objects_next, objects_answers};
 ghost use Rattle.rp_worked.specs.Memory.{Unread};
 ghost use Rattle.rp_worked.specs.Outcomes.{LeadTo, gets};
 ghost use Rattle.rp_worked.specs.Gate.{gate, gate_is, passes, lifts, lifts_next, first_call};

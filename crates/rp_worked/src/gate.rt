@@ -1,7 +1,7 @@
 //! An entry that waits for its barrier (`rp_worked` Gate).
 
 ghost use Rattle.std.specs.Prelude.{pos, true, false, List, [], ◌∷◌};
-ghost use Rattle.rp_base.specs.declared.reply.Reply.TheVariants.{Value, ConstraintError, ProgramError};
+ghost use Rattle.rp_manual.specs.rp_base.specs.declared.reply.Reply.TheVariants.{Value, ConstraintError, ProgramError};
 ghost use Rattle.rp_worked.specs.Memory.{Unread};
 ghost use Rattle.rp_worked.specs.Outcomes.{LeadTo, gets};
 ghost use Rattle.rp_worked.specs.Gate.{gate, gate_is, passes, lifts, bursts, first_call};

@@ -1,7 +1,7 @@
 //! Two entries, and queues of several calls (`rp_worked` Gates).
 
 ghost use Rattle.std.specs.Prelude.{pos, true, false, List, [], ◌∷◌};
-ghost use Rattle.rp_base.specs.declared.reply.Reply.TheVariants.{Value, ProgramError};
+ghost use Rattle.rp_manual.specs.rp_base.specs.declared.reply.Reply.TheVariants.{Value, ProgramError};
 ghost use Rattle.rp_worked.specs.Memory.{Unread};
 ghost use Rattle.rp_worked.specs.Outcomes.{LeadTo, gets};
 ghost use Rattle.rp_worked.specs.Gate.{passes, first_call};

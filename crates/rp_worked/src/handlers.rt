@@ -1,8 +1,8 @@
 //! Timing events and interrupts (`rp_worked` Box).
 
 ghost use Rattle.std.specs.Prelude.{pos, true, false, Some, None, List, [], ◌∷◌};
-ghost use Rattle.rp_base.specs.declared.action.Action.TheVariants.{Tick, Interrupt};
-ghost use Rattle.rp_base.specs.declared.reply.Reply.TheVariants.{Value, Truth};
+ghost use Rattle.rp_manual.specs.rp_base.specs.declared.action.Action.TheVariants.{Tick, Interrupt};
+ghost use Rattle.rp_manual.specs.rp_base.specs.declared.reply.Reply.TheVariants.{Value, Truth};
 ghost use Rattle.rp_worked.specs.Memory.{Unread};
 ghost use Rattle.rp_worked.specs.Outcomes.{LeadTo, gets};
 ghost use Rattle.rp_worked.specs.Gate.{gate_is, gate_with_interrupts, passes, first_call};

@@ -1,7 +1,7 @@
 //! Values beyond 64 signed bits (`rp_worked` Sums).
 
 ghost use Rattle.std.specs.Prelude.{true, List, [], ◌∷◌};
-ghost use Rattle.rp_base.specs.declared.reply.Reply.TheVariants.{Value, Truth, ConstraintError};
+ghost use Rattle.rp_manual.specs.rp_base.specs.declared.reply.Reply.TheVariants.{Value, Truth, ConstraintError};
 ghost use Rattle.rp_worked.specs.Memory.{Unread};
 ghost use Rattle.rp_worked.specs.Outcomes.{LeadTo, gets};
 ghost use Rattle.rp_worked.specs.Sums.{sums, sums_are, greatest_number, computes};

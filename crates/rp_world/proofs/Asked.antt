@@ -9,7 +9,7 @@ use Rattle.rp_store.specs.Disk.{Disk}
 use Rattle.rp_model.specs.Parts.{NodePart, Running as Known}
 use Rattle.rp_model.specs.World.{part_at}
 use Rattle.rp_replica.specs.State.{ReplicaState, server_of}
-use Rattle.rp_server.specs.State.{ServerState}
+use Rattle.rp_replica.specs.rp_server.specs.State.{ServerState}
 use Rattle.rp_world.specs.Nodes.{Member, RunsAs, Represents, stored_length}
 use Rattle.rp_world.specs.Steps.{IsRunningQueryAnswer, IsReplicaOf, IsRunningServerOf, IsServerOf, IsStored}
 use Rattle.rp_world.specs.declared.node.Node.{Node}

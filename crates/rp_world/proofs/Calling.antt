@@ -22,7 +22,7 @@ use Rattle.rp_model.specs.declared.effect.Effect.{Effect}
 use Rattle.rp_world.specs.Callers.{Caller}
 use Rattle.rp_world.specs.Going.{Goes, Answers, call_meant}
 use Rattle.rp_world.specs.Steps.{ClusterState}
-use Rattle.rp_outbox.specs.Packets.{Sending}
+use Rattle.rp_replica.specs.rp_outbox.specs.Packets.{Sending}
 use Rattle.rp_world.proofs.Fields.{Fields, as_seen, cluster_with, first_seen, goes_to, now, world, world_with, made_of}
 use Rattle.rp_world.proofs.Lists.{part_same}
 use Rattle.rp_world.proofs.Moving.{task_here, number_here, tasks_moved}

@@ -20,9 +20,9 @@ use Rattle.rp_model.specs.Leader.{on_lead_range}
 use Rattle.rp_model.specs.Node.{running_node}
 use Rattle.rp_model.specs.Parts.{NodePart, TaskPart, Running}
 use Rattle.rp_model.specs.World.{World, part_at, commanded, reaches_task, reaches, delivers, chosen, node_chosen, chosen_effect, chosen_cut, chosen_record, node_done_if}
-use Rattle.rp_rules.specs.Inputs.{given_by}
-use Rattle.rp_rules.specs.declared.input.Input.{Input}
-use Rattle.rp_rules.specs.declared.input.Input.TheVariants as inputs
+use Rattle.rp_replica.specs.rp_rules.specs.Inputs.{given_by}
+use Rattle.rp_replica.specs.rp_rules.specs.declared.input.Input.{Input}
+use Rattle.rp_replica.specs.rp_rules.specs.declared.input.Input.TheVariants as inputs
 use Rattle.rp_store.specs.Disk.{Disk}
 use Rattle.rp_world.specs.Choosing.{AreNodesOf, IsOf, IsOfNone, IsStepRefused}
 use Rattle.rp_world.specs.Nodes.{Represents, member_of}

@@ -12,8 +12,8 @@ use Rattle.rp_model.specs.declared.effect.Dropped.TheVariants.{No}
 use Rattle.rp_model.specs.Effect.{Done, NodeInput, cut_if, cut_part, goes_on_as, stop_part, stops_while, stop_effect, restart_while, restart_part, untorn_part}
 use Rattle.rp_model.specs.Parts.{NodePart, Running as Known}
 use Rattle.rp_model.specs.World.{World, Transition, part_at, with_part, node_done, node_done_if, stops, restarts}
-use Rattle.rp_rules.specs.declared.input.Input.{Input}
-use Rattle.rp_rules.specs.Inputs.{given_by}
+use Rattle.rp_replica.specs.rp_rules.specs.declared.input.Input.{Input}
+use Rattle.rp_replica.specs.rp_rules.specs.Inputs.{given_by}
 use Rattle.rp_world.specs.declared.node.Node.{Node}
 use Rattle.rp_world.specs.Failures.{RisesAt}
 use Rattle.rp_world.specs.Going.{Meant, Goes, Answers, AnswersRestart, IsRefusedWhole}

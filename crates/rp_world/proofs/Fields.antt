@@ -8,7 +8,7 @@ use Rattle.rp_store.specs.Disk.{Disk}
 use Rattle.rp_model.specs.Effect.{Setting}
 use Rattle.rp_model.specs.Parts.{NodePart, TaskPart}
 use Rattle.rp_model.specs.World.{World}
-use Rattle.rp_outbox.specs.Packets.{Sending}
+use Rattle.rp_replica.specs.rp_outbox.specs.Packets.{Sending}
 use Rattle.rp_world.specs.Callers.{Caller}
 use Rattle.rp_world.specs.Nodes.{Member, member_of, failures_in}
 use Rattle.rp_world.specs.Shape.{IsWorld, world_of}

@@ -9,7 +9,7 @@ use Rattle.rp_store.specs.Disk.{Disk}
 use Rattle.rp_model.specs.Parts.{NodePart, TaskPart, fresh_node, fresh_task}
 use Rattle.rp_model.specs.World.{World, opening_world}
 use Rattle.rp_world.specs.Callers.{Caller}
-use Rattle.rp_outbox.specs.Packets.{Sending}
+use Rattle.rp_replica.specs.rp_outbox.specs.Packets.{Sending}
 use Rattle.rp_world.specs.Nodes.{member_of, Represents}
 use Rattle.rp_world.specs.Shape.{part_by, world_of, AreFresh, AreFreshTasks, IsWorld}
 use Rattle.rp_world.specs.declared.node.Node.{Node}

@@ -11,7 +11,7 @@ use Rattle.rp_model.specs.Parts.{NodePart, Turn}
 use Rattle.rp_model.specs.World.{World, Transition, part_at, with_part, node_done, node_done_if, commanded, chosen_effect, chosen_record, step_effect, step_writes, stepping, written_by}
 use Rattle.rp_replica.specs.Inputs.{replica_effect}
 use Rattle.rp_replica.specs.State.{ReplicaState}
-use Rattle.rp_rules.specs.Plans.{TakesNoMemory}
+use Rattle.rp_replica.specs.rp_rules.specs.Plans.{TakesNoMemory}
 use Rattle.rp_world.specs.Nodes.{Member, RunsAs, IsLight, heard_while, node_step}
 use Rattle.rp_world.specs.Steps.{IsLightStep, votes_heard}
 use Rattle.rp_world.proofs.Turning.{same_effect}

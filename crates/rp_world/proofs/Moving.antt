@@ -14,7 +14,7 @@ use Rattle.rp_model.specs.Effect.{Done, cut_if, cut_part, goes_on_as}
 use Rattle.rp_model.specs.World.{World, Transition, part_at, with_part, node_done, node_done_if, written_by}
 use Rattle.rp_world.specs.declared.node.Node.{Node}
 use Rattle.rp_world.specs.Callers.{Caller}
-use Rattle.rp_outbox.specs.Packets.{Sending}
+use Rattle.rp_replica.specs.rp_outbox.specs.Packets.{Sending}
 use Rattle.rp_world.specs.Failures.{RisesOnly}
 use Rattle.rp_world.specs.Going.{Meant, Goes, Answers}
 use Rattle.rp_world.specs.Nodes.{member_of, Represents, HasNotFailed, IsNotRefused, NotTaken}

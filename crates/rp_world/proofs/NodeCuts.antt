@@ -7,8 +7,8 @@ use Rattle.rp_model.specs.declared.effect.Effect.{Effect}
 use Rattle.rp_model.specs.Effect.{NodeInput, node_effect, cut_if}
 use Rattle.rp_model.specs.Events.{Step}
 use Rattle.rp_model.specs.World.{commanded, chosen_cut, chosen_record, cut_step, node_done_if}
-use Rattle.rp_rules.specs.Inputs.{given_by}
-use Rattle.rp_rules.specs.declared.input.Input.{Input}
+use Rattle.rp_replica.specs.rp_rules.specs.Inputs.{given_by}
+use Rattle.rp_replica.specs.rp_rules.specs.declared.input.Input.{Input}
 use Rattle.rp_world.specs.Choosing.{IsOf}
 use Rattle.rp_world.specs.Going.{Meant, cut_meant, Goes, Answers}
 use Rattle.rp_world.specs.Nodes.{Member, IsCutBy, NotTaken, node_step}

@@ -12,7 +12,7 @@ use Rattle.rp_model.specs.Effect.{NodeInput, node_effect}
 use Rattle.rp_model.specs.Events.{Deliver}
 use Rattle.rp_model.specs.Parts.{NodePart}
 use Rattle.rp_model.specs.World.{part_at, node_done_if, nothing_happens, commanded, chosen_record, stepping, step_writes}
-use Rattle.rp_outbox.specs.Packets.{Sending}
+use Rattle.rp_replica.specs.rp_outbox.specs.Packets.{Sending}
 use Rattle.rp_world.specs.Going.{Meant, meant_by, step_meant, Goes, Answers, stated}
 use Rattle.rp_world.specs.Nodes.{Member, Represents, GoesBy, IsLight, NotTaken, DescribesSending, node_step}
 use Rattle.rp_world.specs.Steps.{IsLightStep, ClusterState}

@@ -8,9 +8,9 @@ use Rattle.rp_base.specs.declared.action.Action.{Action}
 use Rattle.rp_base.specs.declared.fault.Fault.{Fault}
 use Rattle.rp_base.specs.declared.reply.Answer.{Answer}
 use Rattle.rp_codec.specs.Message.{Message}
-use Rattle.rp_machine.specs.Calls.{CallName}
-use Rattle.rp_machine.specs.Places.{IsPlace, HasReply}
-use Rattle.rp_machine.specs.Replay.{replay_of, kept_of}
+use Rattle.rp_model.specs.rp_machine.specs.Calls.{CallName}
+use Rattle.rp_model.specs.rp_machine.specs.Places.{IsPlace, HasReply}
+use Rattle.rp_model.specs.rp_machine.specs.Replay.{replay_of, kept_of}
 use Rattle.rp_model.specs.Answers.{untorn, IsLeft, FailsBy, Steps}
 use Rattle.rp_model.specs.declared.effect.Effect.{Effect}
 use Rattle.rp_model.specs.Effect.{Setting}

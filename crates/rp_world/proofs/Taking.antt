@@ -7,7 +7,7 @@ use Rattle.rp_model.specs.declared.effect.Effect.{Effect}
 use Rattle.rp_model.specs.Effect.{Done, NodeInput}
 use Rattle.rp_model.specs.Parts.{NodePart}
 use Rattle.rp_model.specs.World.{World, part_at, commanded, node_chosen, chosen_effect, chosen_cut, chosen_record, node_done, node_done_if}
-use Rattle.rp_outbox.specs.Packets.{Sending}
+use Rattle.rp_replica.specs.rp_outbox.specs.Packets.{Sending}
 use Rattle.rp_world.specs.declared.node.Node.{Node}
 use Rattle.rp_world.specs.Going.{Meant, meant_by, Goes, Answers}
 use Rattle.rp_world.specs.Nodes.{GoesBy, NotTaken, DescribesSending, node_step}

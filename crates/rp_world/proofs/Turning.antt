@@ -21,9 +21,9 @@ use Rattle.rp_model.specs.declared.effect.Dropped.{Dropped}
 use Rattle.rp_replica.specs.declared.sent.Sent.{Sent}
 use Rattle.rp_replica.specs.State.{ReplicaState, part_of, setting_of, with_text, after_turn}
 use Rattle.rp_replica.specs.Kept.{HoldsPart, HoldsOnly, HoldsItsRecords, HoldsCut}
-use Rattle.rp_rules.specs.declared.input.Input.{Input}
+use Rattle.rp_replica.specs.rp_rules.specs.declared.input.Input.{Input}
 use Rattle.rp_replica.specs.Inputs.{effect_if_given, input_effect, replica_effect}
-use Rattle.rp_rules.specs.Inputs.{given_by}
+use Rattle.rp_replica.specs.rp_rules.specs.Inputs.{given_by}
 use Rattle.rp_replica.specs.Turning.{AnswersOnto, TurnsIf, TurnsOnto, FailsAt, Stops, StopsIf, IsRefused}
 use Rattle.rp_replica.specs.Cutting.{CutsIf, IsNotCutIf, cut_disk}
 use Rattle.rp_replica.specs.declared.cut.NotCut.{NotCut}

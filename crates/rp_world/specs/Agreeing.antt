@@ -9,9 +9,9 @@ use Rattle.rp_base.specs.declared.record.Vote.{Vote}
 use Rattle.rp_base.specs.declared.reply.Answer.{Answer}
 use Rattle.rp_codec.specs.declared.packet.Body.{Body}
 use Rattle.rp_codec.specs.declared.packet.Body.TheVariants.{Prepare, Accept, PrepareRange}
-use Rattle.rp_machine.specs.Calls.{CallName}
-use Rattle.rp_machine.specs.Places.{IsPlace, IsOnlyPlace, HasReply}
-use Rattle.rp_machine.specs.Replay.{replay_of, replay_state, kept_of}
+use Rattle.rp_model.specs.rp_machine.specs.Calls.{CallName}
+use Rattle.rp_model.specs.rp_machine.specs.Places.{IsPlace, IsOnlyPlace, HasReply}
+use Rattle.rp_model.specs.rp_machine.specs.Replay.{replay_of, replay_state, kept_of}
 use Rattle.rp_model.specs.Facts.{IsOrder}
 use Rattle.rp_model.specs.World.{World, part_at}
 use Rattle.rp_model.specs.Parts.{NodePart}

@@ -6,8 +6,8 @@ use Rattle.rp_model.specs.Effect.{Setting, NodeInput}
 use Rattle.rp_model.specs.Events.{Step}
 use Rattle.rp_model.specs.World.{World, part_at, commanded, chosen_cut, chosen_record}
 use Rattle.rp_model.specs.World.{step_effect, cut_step, step_writes, stepping}
-use Rattle.rp_rules.specs.Inputs.{given_by}
-use Rattle.rp_rules.specs.declared.input.Input.{Input}
+use Rattle.rp_replica.specs.rp_rules.specs.Inputs.{given_by}
+use Rattle.rp_replica.specs.rp_rules.specs.declared.input.Input.{Input}
 use Rattle.rp_store.specs.Disk.{Disk}
 use Rattle.rp_world.specs.Callers.{Caller}
 use Rattle.rp_world.specs.Shape.{IsWorld, part_by}

@@ -6,7 +6,7 @@ use Rattle.rp_base.specs.declared.action.Action.{Action}
 use Rattle.rp_base.specs.declared.reply.Answer.{Answer}
 use Rattle.rp_base.specs.declared.fault.Fault.TheVariants.{OutOfMemory, Device}
 use Rattle.rp_replica.specs.declared.sent.Sent.{Sent}
-use Rattle.rp_outbox.specs.Packets.{texts_of}
+use Rattle.rp_replica.specs.rp_outbox.specs.Packets.{texts_of}
 use Rattle.rp_base.specs.declared.config.Config.{Config}
 use Rattle.rp_base.specs.Promises.{HeardVote}
 use Rattle.rp_base.specs.declared.fault.Fault.{Fault}

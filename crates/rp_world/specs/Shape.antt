@@ -15,7 +15,7 @@ use Rattle.rp_agreement.specs.Answered.{IsKeptWorld}
 use Rattle.rp_agreement.specs.Ranges.{IsRangedWorld}
 use Rattle.rp_replica.specs.State.{ReplicaState, part_of}
 use Rattle.rp_world.specs.Callers.{Caller}
-use Rattle.rp_outbox.specs.Packets.{Sending}
+use Rattle.rp_replica.specs.rp_outbox.specs.Packets.{Sending}
 use Rattle.rp_world.specs.Nodes.{member_of, Represents}
 use Rattle.rp_world.specs.declared.node.Node.{Node}
 use Rattle.rp_world.specs.declared.node.Node.TheVariants.{Running, Stopped}

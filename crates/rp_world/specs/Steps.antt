@@ -21,7 +21,7 @@ use Rattle.rp_model.specs.World.{World, Transition, node_of, part_at, step_effec
 use Rattle.rp_model.specs.World.{stepping}
 use Rattle.rp_model.specs.Answers.{Steps}
 use Rattle.rp_replica.specs.State.{ReplicaState}
-use Rattle.rp_server.specs.State.{ServerState}
+use Rattle.rp_replica.specs.rp_server.specs.State.{ServerState}
 use Rattle.rp_world.specs.Failures.{AreCounted}
 use Rattle.rp_world.specs.Nodes.{heard_while, stored_length}
 

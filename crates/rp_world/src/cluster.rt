@@ -5,7 +5,7 @@ ghost use Rattle.rp_base.specs.Config.{IsRightConfig};
 ghost use Rattle.rp_base.specs.Records.{applied_of};
 ghost use Rattle.rp_codec.specs.Message.{IsPacket};
 ghost use Rattle.rp_codec.specs.Text.{text_of};
-ghost use Rattle.rp_machine.specs.Replay.{replay_state};
+ghost use Rattle.rp_model.specs.rp_machine.specs.Replay.{replay_state};
 ghost use Rattle.rp_base.specs.declared.action.Action.{Action};
 ghost use Rattle.rp_base.specs.declared.record.Rec.TheVariants as records;
 ghost use Rattle.rp_base.specs.declared.record.Vote.{Vote};
@@ -39,9 +39,9 @@ use rp_agreement::{
     replies_answer_calls_that_count, replies_follow_the_order, states_are_alike, the_order_exists,
 };
 use rp_base::{Action, Answer, Config, Fault, NodeId, TaskId};
-use rp_machine::{Machine, a_call_has_one_place};
+use rp_model::rp_machine::{Machine, a_call_has_one_place};
 use rp_model::{Effect, Event, Step, worlds_grow};
-use rp_server::Server;
+use rp_replica::rp_server::Server;
 use rp_store::{CutDevice, Device, InfallibleDevice};
 use std::alloc::Global;
 use std::marker::Model;

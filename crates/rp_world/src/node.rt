@@ -4,7 +4,7 @@ ghost use Rattle.std.specs.Prelude.{◌≡◌, ◌⊎◌, ◌≤◌, ◌<◌, �
 ghost use Rattle.rp_base.specs.Config.{IsRightConfig};
 ghost use Rattle.rp_codec.specs.Decoding.{IsLongBody};
 ghost use Rattle.rp_codec.specs.Message.{Message};
-ghost use Rattle.rp_rules.specs.Inputs.{IsLong, IsRightInput, given_by};
+ghost use Rattle.rp_replica.specs.rp_rules.specs.Inputs.{IsLong, IsRightInput, given_by};
 ghost use Rattle.rp_base.specs.declared.fault.Fault.TheVariants as faults;
 ghost use Rattle.rp_model.specs.Effect.{NodeInput, stop_effect, restart_part};
 ghost use Rattle.rp_model.specs.Parts.{fresh_node};
@@ -13,9 +13,9 @@ ghost use Rattle.rp_world.specs.Failures.{SomeHasFailed};
 ghost use Rattle.rp_world.specs.Nodes.{Member, member_of, RunsAs, RestsAs, Represents, GoesBy, IsCutBy, IsLight, IsNotStarted, IsResting, RefusedBy, IsLeftTorn, NotTaken, DescribesNothing, DescribesOpened, DescribesSending, failures_in, node_step, stored_length};
 
 use rp_base::{Config, Fault, NodeId};
-use rp_machine::Machine;
 use rp_model::Dropped;
-use rp_outbox::Outbox;
+use rp_model::rp_machine::Machine;
+use rp_replica::rp_outbox::Outbox;
 use rp_replica::{Input, NotCut, Replica};
 use rp_store::{CutDevice, Device, InfallibleDevice};
 use std::alloc::Global;

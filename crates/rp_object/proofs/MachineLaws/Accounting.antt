@@ -13,9 +13,9 @@ use Rattle.rp_base.specs.declared.action.Operation.TheVariants.{SetTimer, Cancel
 use Rattle.rp_base.specs.declared.reply.Answer.{Answer}
 use Rattle.rp_base.specs.declared.reply.Reply.{Reply as CallReply}
 use Rattle.rp_base.specs.declared.reply.Reply.TheVariants.{ProgramError, NoSuchOperation}
-use Rattle.rp_body.specs.declared.statement.Stmt.{Stmt}
-use Rattle.rp_body.specs.Store.{bool_value}
-use Rattle.rp_body.specs.Meaning.{body_effect}
+use Rattle.rp_entry.specs.rp_body.specs.declared.statement.Stmt.{Stmt}
+use Rattle.rp_entry.specs.rp_body.specs.Store.{bool_value}
+use Rattle.rp_entry.specs.rp_body.specs.Meaning.{body_effect}
 use Rattle.rp_entry.specs.declared.operations.Operations.{Operations}
 use Rattle.rp_entry.specs.declared.operations.Function.{Function as Called}
 use Rattle.rp_entry.specs.declared.operations.Entry.{Entry as Gate}

@@ -13,8 +13,8 @@ use Rattle.rp_base.specs.declared.action.Operation.{Operation}
 use Rattle.rp_base.specs.declared.action.Operation.TheVariants.{Function, Procedure, Entry}
 use Rattle.rp_base.specs.declared.action.Operation.TheVariants.{SetTimer, CancelTimer}
 use Rattle.rp_base.specs.declared.reply.Reply.TheVariants.{ProgramError, NoSuchOperation}
-use Rattle.rp_body.specs.Store.{limits_of}
-use Rattle.rp_body.specs.Ranges.{HasBools}
+use Rattle.rp_entry.specs.rp_body.specs.Store.{limits_of}
+use Rattle.rp_entry.specs.rp_body.specs.Ranges.{HasBools}
 use Rattle.rp_entry.specs.declared.operations.Operations.{Operations}
 use Rattle.rp_entry.specs.declared.state.Waiting.{Waiting}
 use Rattle.rp_entry.specs.declared.state.CallOutcome.TheVariants.{Reply}

@@ -13,7 +13,7 @@ use Rattle.rp_base.specs.declared.reply.Answer.{Answer}
 use Rattle.rp_base.specs.declared.reply.Reply.{Reply as CallReply}
 use Rattle.rp_base.specs.declared.reply.Reply.TheVariants.{Value, Truth, ProgramError}
 use Rattle.rp_base.specs.declared.reply.Reply.TheVariants.{NoSuchOperation}
-use Rattle.rp_body.proofs.Outs.{fits_signed}
+use Rattle.rp_entry.specs.rp_body.proofs.Outs.{fits_signed}
 use Rattle.rp_entry.specs.declared.state.Waiting.{Waiting}
 use Rattle.rp_entry.specs.declared.state.CallOutcome.{CallOutcome}
 use Rattle.rp_entry.specs.declared.state.CallOutcome.TheVariants.{Reply, Waits}

@@ -10,7 +10,7 @@ use Rattle.std.proofs.lemmas.Bool.{cases_eq}
 use Rattle.std.proofs.lemmas.List.{append_cancel_left}
 use Rattle.std.proofs.lemmas.List.Elements.{recursion_from_All}
 use Rattle.std.proofs.Math.Logic.{⊎_elim}
-use Rattle.rp_body.specs.Store.{Store, int_value, bool_value}
+use Rattle.rp_entry.specs.rp_body.specs.Store.{Store, int_value, bool_value}
 use Rattle.rp_base.specs.Sets.{Has}
 use Rattle.rp_base.proofs.Members.{has_left, has_right}
 use Rattle.rp_entry.specs.declared.state.Waiting.{Waiting}

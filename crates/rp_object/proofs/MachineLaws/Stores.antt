@@ -9,9 +9,9 @@ use Rattle.std.proofs.lemmas.Bool.{cases_lt}
 use Rattle.std.proofs.lemmas.Option.{same_Some}
 use Rattle.std.proofs.Math.Logic.{⊎_elim}
 use lib.Signed.{mag}
-use Rattle.rp_body.specs.declared.components.Ranged.{Ranged}
-use Rattle.rp_body.specs.Store.{Store, int_value, bool_value, is_within}
-use Rattle.rp_body.specs.Ranges.{range_of, HasRangesOf, HasBoolsOf, IsInRange}
+use Rattle.rp_entry.specs.rp_body.specs.declared.components.Ranged.{Ranged}
+use Rattle.rp_entry.specs.rp_body.specs.Store.{Store, int_value, bool_value, is_within}
+use Rattle.rp_entry.specs.rp_body.specs.Ranges.{range_of, HasRangesOf, HasBoolsOf, IsInRange}
 use Rattle.rp_object.specs.declared.program.ObjectDeclaration.{ObjectDeclaration}
 use Rattle.rp_object.specs.Program.{EndsFit, DeclarationFits}
 

@@ -1,8 +1,8 @@
 -- What is bound is what the text declares.
 use Rattle.std.proofs.Common.{sym, subst, ◌∙◌}
-use Rattle.rp_base.specs.declared.fault.Fault.{Fault}
-use Rattle.rp_words.specs.Ahead.{ahead}
-use Rattle.rp_words.specs.LineFaults.{Refuses}
+use Rattle.rp_deck_declarations.specs.rp_base.specs.declared.fault.Fault.{Fault}
+use Rattle.rp_deck_declarations.specs.rp_words.specs.Ahead.{ahead}
+use Rattle.rp_deck_declarations.specs.rp_words.specs.LineFaults.{Refuses}
 use Rattle.rp_bind.specs.Binds.{declared_in}
 use Rattle.rp_bind.proofs.Reading.{declared_from, faulted}
 use Rattle.rp_bind.proofs.deck_binding.bind.Goals as goal

@@ -5,7 +5,7 @@ use Rattle.std.specs.declared.alloc.Global.{Global}
 use Rattle.std.specs.Map.Iter.{deref_pair}
 use Rattle.std.proofs.lemmas.Map.Iter.{iter_end}
 use Rattle.std.proofs.lemmas.List.Folds.{flat_map-map}
-use Rattle.rp_deck_objects.specs.declared.names.OperationName.{OperationName}
+use Rattle.rp_deck_declarations.specs.rp_deck_objects.specs.declared.names.OperationName.{OperationName}
 use Rattle.rp_bind.specs.Packages.{index_of, operation_kind}
 use Rattle.rp_bind.specs.Texts.{operation_lines}
 use Rattle.rp_bind.proofs.packages.write_operations.Goals as goal

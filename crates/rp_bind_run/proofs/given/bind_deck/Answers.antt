@@ -7,11 +7,11 @@ use Rattle.rp_bind.specs.declared.deck_binding.Binding.{Binding}
 use Rattle.rp_bind.specs.declared.deck_binding.Binding.TheVariants.{Packages, Refused}
 use Rattle.rp_bind.specs.declared.lines.Language.{Language}
 use Rattle.rp_bind_run.specs.Prints.{BindsBytes, FailsBinding}
-use Rattle.rp_output.specs.Stream.{Begins}
-use Rattle.rp_output.proofs.Writing.{appends_kept, begins_all}
+use Rattle.rp_script.specs.rp_output.specs.Stream.{Begins}
+use Rattle.rp_script.specs.rp_output.proofs.Writing.{appends_kept, begins_all}
 use Rattle.rp_script.proofs.Failing.{on_err}
 use Rattle.rp_script.specs.Given.{most_bytes}
-use Rattle.rp_words.specs.LineFaults.{Refuses}
+use Rattle.rp_bind.specs.rp_words.specs.LineFaults.{Refuses}
 use Rattle.rp_bind_run.proofs.Failing.{ends_run, fails_deck, fails_run, faulted}
 use Rattle.rp_bind_run.proofs.given.bind_deck.Goals as goal
 

@@ -2,15 +2,15 @@
 use Rattle.std.proofs.Common.{◌≡◌, ◌∙◌, ◌≤◌, List, ℕ, Result, Ok, Err, Some, None, Option, inl, inr, map, option_map, rules, string_bytes, refl, sym, ap, subst, length}
 use Rattle.std.specs.Io.KnownBytes.{Appends}
 use Rattle.std.specs.Prelude.{IfErr, IfSome, IsErrAnd}
-use Rattle.rp_base.specs.declared.fault.Fault.{Fault}
-use Rattle.rp_base.specs.declared.fault.Fault.TheVariants.{OutOfMemory}
-use Rattle.rp_deck.specs.Deck.{IsRightDeck}
-use Rattle.rp_deck.specs.DeckViews.{deck_text}
-use Rattle.rp_deck.specs.Meaning.{meaning_of}
-use Rattle.rp_deck.specs.declared.deck.Deck.{Deck}
-use Rattle.rp_deck.specs.declared.deck.Mode.TheVariants.{Script}
-use Rattle.rp_output.specs.Stream.{Begins}
-use Rattle.rp_output.proofs.Writing.{appends_kept, begins_all}
+use Rattle.rp_script.specs.rp_base.specs.declared.fault.Fault.{Fault}
+use Rattle.rp_script.specs.rp_base.specs.declared.fault.Fault.TheVariants.{OutOfMemory}
+use Rattle.rp_script.specs.rp_deck.specs.Deck.{IsRightDeck}
+use Rattle.rp_script.specs.rp_deck.specs.DeckViews.{deck_text}
+use Rattle.rp_script.specs.rp_deck.specs.Meaning.{meaning_of}
+use Rattle.rp_script.specs.rp_deck.specs.declared.deck.Deck.{Deck}
+use Rattle.rp_script.specs.rp_deck.specs.declared.deck.Mode.TheVariants.{Script}
+use Rattle.rp_script.specs.rp_output.specs.Stream.{Begins}
+use Rattle.rp_script.specs.rp_output.proofs.Writing.{appends_kept, begins_all}
 use Rattle.rp_script.proofs.Failing.{on_err}
 use Rattle.rp_script.specs.Given.{FailsRun, most_bytes}
 use Rattle.rp_chart.specs.declared.chart.ChartRequest.{ChartRequest}

@@ -1,7 +1,7 @@
 -- The name is that of the entry.
 use Rattle.std.proofs.Common.{◌≡◌, Some, None, rules, sym, ap, ◌∙◌}
 use Rattle.std.specs.Prelude.{slice_get, string_bytes}
-use Rattle.rp_output.specs.Trace.{or_nothing}
+use Rattle.rp_script.specs.rp_output.specs.Trace.{or_nothing}
 use Rattle.rp_chart.proofs.TaskNames.{name_at}
 use Rattle.rp_chart.proofs.chart.name_at.Goals as goal
 

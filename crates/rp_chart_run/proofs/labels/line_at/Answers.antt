@@ -2,7 +2,7 @@
 use Rattle.std.proofs.Common.{◌≡◌, ◌∙◌, ℕ, zero, suc, ◌-◌, ◌≤◌, Option, List, map, length, ◌<◌, arith, sym, ap}
 use Rattle.std.specs.Prelude.{option_map, slice_get}
 use Rattle.std.proofs.lemmas.Option.{slice_get-map, slice_get-get_or}
-use Rattle.rp_output.specs.Trace.{or_nothing}
+use Rattle.rp_run.specs.rp_output.specs.Trace.{or_nothing}
 use Rattle.rp_chart_run.specs.Causes.{line_text}
 use Rattle.rp_chart_run.proofs.labels.line_at.Goals as goal
 

@@ -1,7 +1,7 @@
 -- One packet more, or the end.
 use Rattle.std.proofs.Common.{◌≡◌, ◌∙◌, ◌+◌, ◌-◌, ◌≤◌, ℕ, List, [], ◌∷◌, ◌++◌, length, drop, arith, sym, ap, append-nil}
 use Rattle.std.proofs.lemmas.List.{drop_all}
-use Rattle.rp_codec.specs.Message.{Message}
+use Rattle.rp_run.specs.rp_codec.specs.Message.{Message}
 use Rattle.rp_chart_run.proofs.Charting.{one_more}
 use Rattle.rp_chart_run.proofs.prospect.packets_from.Goals as goal
 

@@ -2,8 +2,8 @@
 use Rattle.std.proofs.Common.{◌≡◌, ◌∙◌, ◌+◌, None, [], map, drop, string_bytes, arith, refl, sym, ap, subst}
 use Rattle.std.specs.Prelude.{option_map}
 use Rattle.std.proofs.lemmas.Result.{IfOk-weaker}
-use Rattle.rp_model.specs.Effect.{Setting}
-use Rattle.rp_model.specs.World.{World, opening_world}
+use Rattle.rp_run.specs.rp_model.specs.Effect.{Setting}
+use Rattle.rp_run.specs.rp_model.specs.World.{World, opening_world}
 use Rattle.rp_run.specs.Output.{Play, command_said, opening_play, script_said}
 use Rattle.rp_run.specs.Runs.{Follows, opening_cluster, run_setting}
 use Rattle.rp_history.specs.Histories.{IsSketchOf, lane_text}
@@ -11,8 +11,8 @@ use Rattle.rp_page.specs.Pages.{IsDrawnAs}
 use Rattle.rp_history.specs.declared.stage.Stage.{Stage}
 use Rattle.rp_run.proofs.RunParts.{sets_out, ends, no_line, line_goes_on}
 use Rattle.rp_run.proofs.Stepping.{same_run_setting, opening_parts}
-use Rattle.rp_world.specs.Steps.{cluster_setting}
-use Rattle.rp_world.proofs.Answering.{same_setting}
+use Rattle.rp_run.specs.rp_world.specs.Steps.{cluster_setting}
+use Rattle.rp_run.specs.rp_world.proofs.Answering.{same_setting}
 use Rattle.rp_chart_run.specs.ScriptHistory.{command_happens, drawn_run, lines_happen, script_happens}
 use Rattle.rp_chart_run.proofs.Charting.{goes_on as chart_goes_on, ends as chart_ends}
 use Rattle.rp_chart_run.proofs.ScriptHistory.{next_line, no_line as none_left}

@@ -1,6 +1,6 @@
 use Rattle.std.proofs.Common.{◌≡◌, ◌∙◌, [], map, inl, inr, rules, true, false, codes, ap, ap₂, sym, subst, refl, Option, Some}
 use Rattle.clap.specs.Words.{Text, fault_of, found_of, one_text, subcommand_name_of}
-use Rattle.rp_bind.specs.declared.lines.Language.{Language}
+use Rattle.rp_bind_run.specs.rp_bind.specs.declared.lines.Language.{Language}
 use Rattle.rp_explore_run.specs.declared.answer.ExploreRequest.{ExploreRequest}
 use Rattle.rp_chart.specs.declared.chart.ChartRequest.{ChartRequest}
 use Rattle.rp_console.specs.CommandLine.{bind_option, chart_option, console, explore_option, live_args, option_of, trace_of, IsChartRequest, IsLanguage, IsRequest, ReadsAs}

@@ -1,10 +1,10 @@
 -- What is reported is the line of the run's figures, that its drawing is too long, what became of a
 -- search, why a deck has no packages, or a fault with its hint.
 use Rattle.std.proofs.Common.{◌≡◌, ◌∙◌, ℕ, List, Option, Result, Ok, ap, sym}
-use Rattle.rp_base.specs.declared.fault.Fault.{Fault}
-use Rattle.rp_output.specs.FaultMessage.{with_line_feed}
-use Rattle.rp_output.specs.Stream.{Writes}
-use Rattle.rp_output.proofs.Writing.{writes_same}
+use Rattle.rp_deck_hints.specs.rp_base.specs.declared.fault.Fault.{Fault}
+use Rattle.rp_bind_run.specs.rp_output.specs.FaultMessage.{with_line_feed}
+use Rattle.rp_bind_run.specs.rp_output.specs.Stream.{Writes}
+use Rattle.rp_bind_run.specs.rp_output.proofs.Writing.{writes_same}
 use Rattle.rp_deck_hints.specs.declared.hint.Hint.{Hint}
 use Rattle.rp_console.specs.Console.{fault_report, report_of}
 use Rattle.rp_console.specs.declared.console.Report.{Report}

@@ -1,7 +1,7 @@
 -- What is reported is why there is no deck.
 use Rattle.std.proofs.Common.{ap, sym}
 use Rattle.rp_explore_run.specs.declared.answer.Verdict.TheVariants.{NoOutcome, NotShown, TooLong}
-use Rattle.rp_output.proofs.Writing.{writes_same}
+use Rattle.rp_bind_run.specs.rp_output.proofs.Writing.{writes_same}
 use Rattle.rp_console.specs.Console.{search_report}
 use Rattle.rp_console.proofs.console.end_search.Goals as goal
 

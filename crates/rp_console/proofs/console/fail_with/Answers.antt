@@ -1,8 +1,8 @@
 -- What is reported is the line of the fault, and then that of the hint.
 use Rattle.std.proofs.Common.{[], ◌++◌, ◌∙◌, Option, Some, ap, sym}
 use Rattle.rp_deck_hints.specs.declared.hint.Hint.{Hint}
-use Rattle.rp_output.specs.FaultMessage.{fault_message_of, with_line_feed}
-use Rattle.rp_output.proofs.Writing.{writes_same}
+use Rattle.rp_bind_run.specs.rp_output.specs.FaultMessage.{fault_message_of, with_line_feed}
+use Rattle.rp_bind_run.specs.rp_output.proofs.Writing.{writes_same}
 use Rattle.rp_console.specs.Console.{hint_report}
 use Rattle.rp_console.proofs.Hinting.{nothing_after, failed_before, after_line}
 use Rattle.rp_console.proofs.console.fail_with.Goals as goal

@@ -2,9 +2,9 @@ use Rattle.std.proofs.Common.{◌≡◌, ◌∙◌, ℕ, zero, suc, List, [], �
 use Rattle.std.specs.Prelude.{slice_get}
 use Rattle.std.specs.Map.{values_of}
 use Rattle.std.proofs.lemmas.Option.{slice_get_within, get_or_from_slice_get}
-use Rattle.indexmap.specs.IndexMap.{values}
-use Rattle.rp_deck_objects.specs.declared.names.OperationName.{OperationName}
-use Rattle.rp_deck_objects.specs.ObjectViews.{operation_of}
+use Rattle.rp_words.specs.indexmap.specs.IndexMap.{values}
+use Rattle.rp_deck_declarations.specs.rp_deck_objects.specs.declared.names.OperationName.{OperationName}
+use Rattle.rp_deck_declarations.specs.rp_deck_objects.specs.ObjectViews.{operation_of}
 use Rattle.rp_words.specs.Tables.{value_at}
 use Rattle.rp_deck.proofs.calls.operation_named.Goals as goal
 

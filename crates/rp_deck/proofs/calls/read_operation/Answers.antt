@@ -2,8 +2,8 @@
 use Rattle.std.proofs.Common.{◌≡◌, ◌+◌, ℕ, suc, Some, rules, arith, sym, subst, ◌∙◌}
 use Rattle.std.specs.Prelude.{slice_get}
 use Rattle.std.specs.List.{IsAmong}
-use Rattle.indexmap.specs.IndexMap.{values}
-use Rattle.rp_deck_objects.specs.ObjectViews.{operation_of}
+use Rattle.rp_words.specs.indexmap.specs.IndexMap.{values}
+use Rattle.rp_deck_declarations.specs.rp_deck_objects.specs.ObjectViews.{operation_of}
 use Rattle.rp_deck_declarations.specs.Programs.{IsOffered}
 use Rattle.rp_deck_declarations.proofs.Offering.{offered}
 use Rattle.rp_deck.proofs.calls.read_operation.Goals as goal

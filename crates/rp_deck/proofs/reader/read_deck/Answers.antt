@@ -1,6 +1,6 @@
 use Rattle.std.proofs.Common.{ℕ, List, map, Result, Ok, Err, ap, sym, subst, ◌∙◌}
 use Rattle.std.proofs.lemmas.Result.{err_from_is_err_and}
-use Rattle.rp_base.specs.declared.fault.Fault.{Fault}
+use Rattle.rp_words.specs.rp_base.specs.declared.fault.Fault.{Fault}
 use Rattle.rp_deck.specs.declared.deck.Deck.{Deck}
 use Rattle.rp_words.specs.Ahead.{ahead, after_last}
 use Rattle.rp_deck_declarations.specs.Declaring.{declarations_of}

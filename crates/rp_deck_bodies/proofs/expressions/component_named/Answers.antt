@@ -1,8 +1,8 @@
 use Rattle.std.proofs.Common.{◌≡◌, ℕ, List, Option, Some, None, IfOk, sym, subst}
 use Rattle.std.specs.Option.{ok_or}
-use Rattle.indexmap.specs.IndexMap.{values}
-use Rattle.rp_base.specs.declared.fault.DeckReason.{DeckReason}
-use Rattle.rp_base.specs.declared.fault.DeckReason.TheVariants.{UnknownName}
+use Rattle.rp_words.specs.indexmap.specs.IndexMap.{values}
+use Rattle.rp_words.specs.rp_base.specs.declared.fault.DeckReason.{DeckReason}
+use Rattle.rp_words.specs.rp_base.specs.declared.fault.DeckReason.TheVariants.{UnknownName}
 use Rattle.rp_deck_bodies.specs.declared.names.Component.{Component}
 use Rattle.rp_deck_bodies.specs.Counted.{IsCounted, WhereCounted}
 use Rattle.rp_words.specs.Tables.{key_names, find}

@@ -1,5 +1,5 @@
 use Rattle.std.proofs.Common.{ap, sym, subst, ◌∙◌}
-use Rattle.rp_base.specs.declared.fault.Fault.{Fault}
+use Rattle.rp_object.specs.rp_base.specs.declared.fault.Fault.{Fault}
 use Rattle.rp_words.specs.Ahead.{ahead, after_last}
 use Rattle.rp_deck_declarations.specs.Declaring.{declarations_of}
 use Rattle.rp_words.specs.LineFaults.{Refuses, fault_at}

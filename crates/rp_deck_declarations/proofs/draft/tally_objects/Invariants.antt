@@ -1,6 +1,6 @@
 use Rattle.std.proofs.Common.{◌≡◌, ◌≤◌}
 use Rattle.std.specs.String.{string_eq}
-use Rattle.indexmap.specs.IndexSet.{index_set_len, IsUnique}
+use Rattle.rp_words.specs.indexmap.specs.IndexSet.{index_set_len, IsUnique}
 use Rattle.rp_words.specs.Tables.{set_names}
 use Rattle.rp_deck_declarations.specs.Drafts.{tally_names}
 use Rattle.rp_deck_declarations.proofs.draft.tally_objects.Given as goal

@@ -1,6 +1,6 @@
 use Rattle.std.proofs.Common.{◌≡◌, ℕ, List, length, map, replicate, inl, inr, ap, sym, ◌∙◌}
 use Rattle.std.proofs.lemmas.Bool.{cases_Bool}
-use Rattle.indexmap.specs.IndexSet.{index_set_len}
+use Rattle.rp_words.specs.indexmap.specs.IndexSet.{index_set_len}
 use Rattle.rp_deck_declarations.specs.DeclaredViews.{program_text, timer_handlers}
 use Rattle.rp_deck_objects.specs.ObjectViews.{object_text, protected_of, object_operations, own_operations}
 use Rattle.rp_deck_declarations.specs.DraftViews.{draft_text}

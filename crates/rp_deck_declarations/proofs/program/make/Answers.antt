@@ -1,8 +1,8 @@
 use Rattle.std.proofs.lemmas.Result.{IfOk-weaker}
 use Rattle.std.proofs.Common.{◌≡◌, true, length, arith, ap, sym, subst, ◌∙◌}
 use Rattle.std.specs.Prelude.{All}
-use Rattle.indexmap.specs.IndexMap.{values, index_map_len}
-use Rattle.indexmap.specs.IndexSet.{index_set_len}
+use Rattle.rp_words.specs.indexmap.specs.IndexMap.{values, index_map_len}
+use Rattle.rp_words.specs.indexmap.specs.IndexSet.{index_set_len}
 use Rattle.rp_object.specs.Program.{operations_of, IsPriority, KeepsProfile, is_handler}
 use Rattle.rp_object.specs.declared.program.Declarations.{Declarations}
 use Rattle.rp_object.specs.declared.program.Handler.{Handler}

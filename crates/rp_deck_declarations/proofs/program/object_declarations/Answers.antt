@@ -5,7 +5,7 @@ use Rattle.rp_object.specs.Program.{operations_of, DeclarationFits, KeepsProfile
 use Rattle.rp_object.specs.declared.program.ObjectDeclaration.{ObjectDeclaration}
 use Rattle.std.proofs.lemmas.Grind.{common_steps}
 use Rattle.rp_deck_objects.specs.ObjectViews.{protected_text, object_text, protected_of, object_operations, own_operations}
-use Rattle.rp_deck_bodies.proofs.ListLemmas.{all_last}
+use Rattle.rp_deck_objects.specs.rp_deck_bodies.proofs.ListLemmas.{all_last}
 use Rattle.rp_deck_declarations.proofs.Offering.{all_named_more}
 use Rattle.rp_deck_declarations.proofs.ProgramLemmas.{one_more}
 use Rattle.rp_deck_declarations.proofs.program.object_declarations.Goals as goal

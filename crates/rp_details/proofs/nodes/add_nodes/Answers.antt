@@ -1,6 +1,6 @@
 -- One node more, or the end.
 use Rattle.std.proofs.Common.{◌≡◌, ◌∙◌, ◌+◌, ◌++◌, List, ℕ, rules, arith, sym, ap, append_assoc, append-nil}
-use Rattle.rp_model.specs.World.{part_at}
+use Rattle.rp_world.specs.rp_model.specs.World.{part_at}
 use Rattle.rp_run.specs.Runs.{run_setting}
 use Rattle.rp_details.specs.Details.{node_lines, nodes_lines}
 use Rattle.rp_details.proofs.Texts.{no_nodes, nodes_more}

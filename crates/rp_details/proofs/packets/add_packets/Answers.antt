@@ -1,6 +1,6 @@
 -- One packet more, or the end.
 use Rattle.std.proofs.Common.{◌≡◌, ◌∙◌, ◌≤◌, ◌<◌, ◌+◌, ◌-◌, ◌++◌, List, ℕ, length, drop, arith, refl, sym, ap, append_assoc, append-nil}
-use Rattle.rp_model.specs.World.{part_at}
+use Rattle.rp_world.specs.rp_model.specs.World.{part_at}
 use Rattle.rp_run.specs.Output.{names_of}
 use Rattle.rp_details.specs.Details.{found_lines, packets_lines}
 use Rattle.rp_details.proofs.Texts.{packets_end, packets_next}

@@ -1,8 +1,8 @@
 -- One task more, or the end.
 use Rattle.std.proofs.Common.{◌≡◌, ◌∙◌, ◌+◌, ◌++◌, List, ℕ, min, rules, arith, sym, ap, append_assoc, append-nil}
-use Rattle.rp_codec.specs.declared.packet.Party.TheVariants as parties
-use Rattle.rp_model.specs.World.{part_at}
-use Rattle.rp_output.specs.Trace.{party_text_of}
+use Rattle.rp_world.specs.rp_codec.specs.declared.packet.Party.TheVariants as parties
+use Rattle.rp_world.specs.rp_model.specs.World.{part_at}
+use Rattle.rp_run.specs.rp_output.specs.Trace.{party_text_of}
 use Rattle.rp_run.specs.Output.{names_of}
 use Rattle.rp_details.specs.Details.{task_lines, tasks_lines}
 use Rattle.rp_details.proofs.Texts.{tasks_more}

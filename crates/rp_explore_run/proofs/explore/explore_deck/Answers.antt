@@ -2,16 +2,16 @@
 use Rattle.std.proofs.Common.{◌≡◌, ◌∙◌, ◌≤◌, List, ℕ, Bor, Ok, Option, inr, map, refl, ap, subst, length}
 use Rattle.std.specs.Io.KnownBytes.{Appends}
 use Rattle.std.specs.Prelude.{IfSome}
-use Rattle.rp_base.specs.declared.fault.Fault.TheVariants.{OutOfMemory}
-use Rattle.rp_deck.specs.Deck.{IsRightDeck}
-use Rattle.rp_explore_deck.specs.Plans.{plan_of, plan_text}
-use Rattle.rp_explore_deck.specs.declared.plan.Plan.{Plan}
+use Rattle.rp_script.specs.rp_base.specs.declared.fault.Fault.TheVariants.{OutOfMemory}
+use Rattle.rp_script.specs.rp_deck.specs.Deck.{IsRightDeck}
+use Rattle.rp_explore_rules.specs.rp_explore_deck.specs.Plans.{plan_of, plan_text}
+use Rattle.rp_explore_rules.specs.rp_explore_deck.specs.declared.plan.Plan.{Plan}
 use Rattle.rp_explore_run.specs.Explores.{ExploresAs, FailsExplore, IsExplored}
 use Rattle.rp_explore_run.specs.declared.answer.ExploreRequest.{ExploreRequest}
 use Rattle.rp_explore_run.specs.declared.answer.Printed.{Printed}
 use Rattle.rp_order_deck.specs.Wanted.{text_lines}
-use Rattle.rp_output.specs.Stream.{Begins}
-use Rattle.rp_output.proofs.Writing.{appends_kept, begins_all}
+use Rattle.rp_script.specs.rp_output.specs.Stream.{Begins}
+use Rattle.rp_script.specs.rp_output.proofs.Writing.{appends_kept, begins_all}
 use Rattle.rp_script.proofs.Failing.{on_err}
 use Rattle.rp_script.specs.Given.{most_bytes}
 use Rattle.rp_explore_run.proofs.Failing.{ends_run, fails_run, faulted}

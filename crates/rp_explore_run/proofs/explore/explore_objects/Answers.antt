@@ -2,9 +2,9 @@
 use Rattle.std.proofs.lemmas.Result.{IfOk-weaker}
 use Rattle.std.specs.Arc.{arc_value}
 use Rattle.rp_explore_run.specs.Judging.{keeps}
-use Rattle.rp_object.specs.Image.{objects_image}
-use Rattle.rp_object.specs.State.{first_state}
-use Rattle.rp_object.specs.Step.{objects_answers, objects_next}
+use Rattle.rp_script.specs.rp_object.specs.Image.{objects_image}
+use Rattle.rp_script.specs.rp_object.specs.State.{first_state}
+use Rattle.rp_script.specs.rp_object.specs.Step.{objects_answers, objects_next}
 use Rattle.rp_explore_run.proofs.Exploring.{explored_for}
 use Rattle.rp_explore_run.proofs.explore.explore_objects.Goals as goal
 

@@ -3,17 +3,17 @@ use Rattle.std.proofs.Common.{◌≡◌, ◌∙◌, ℕ, List, Bor, length, map,
 use Rattle.std.proofs.lemmas.List.{length-map}
 use Rattle.std.proofs.lemmas.Result.{IfOk-weaker}
 use Rattle.std.specs.Arc.{arc_value}
-use Rattle.rp_deck.specs.declared.deck.Line.{Line}
-use Rattle.rp_deck_declarations.specs.declared.deck_program.DeckProgram.{DeckProgram}
-use Rattle.rp_explore_deck.specs.declared.actions.PlannedAction.{PlannedAction}
-use Rattle.rp_explore_deck.specs.declared.rules.PlacedRule.{PlacedRule}
+use Rattle.rp_script.specs.rp_deck.specs.declared.deck.Line.{Line}
+use Rattle.rp_script.specs.rp_deck_declarations.specs.declared.deck_program.DeckProgram.{DeckProgram}
+use Rattle.rp_explore_rules.specs.rp_explore_deck.specs.declared.actions.PlannedAction.{PlannedAction}
+use Rattle.rp_explore_rules.specs.rp_explore_deck.specs.declared.rules.PlacedRule.{PlacedRule}
 use Rattle.rp_explore_run.specs.Explores.{IsExploredBy, head_of}
 use Rattle.rp_explore_run.specs.Judging.{keeps, no_truths}
 use Rattle.rp_explore_run.specs.declared.explore.Asked.{Asked}
-use Rattle.rp_machine.specs.TallyRule.{tally_answers, tally_image, tally_next}
-use Rattle.rp_object.specs.Image.{objects_image}
-use Rattle.rp_object.specs.State.{first_state}
-use Rattle.rp_object.specs.Step.{objects_answers, objects_next}
+use Rattle.rp_script.specs.rp_machine.specs.TallyRule.{tally_answers, tally_image, tally_next}
+use Rattle.rp_script.specs.rp_object.specs.Image.{objects_image}
+use Rattle.rp_script.specs.rp_object.specs.State.{first_state}
+use Rattle.rp_script.specs.rp_object.specs.Step.{objects_answers, objects_next}
 use Rattle.rp_explore_run.proofs.Exploring.{deck_same, explored_at}
 use Rattle.rp_explore_run.proofs.explore.explore_plan.Goals as goal
 

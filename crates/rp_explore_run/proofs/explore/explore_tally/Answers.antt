@@ -2,7 +2,7 @@
 use Rattle.std.proofs.lemmas.Result.{IfOk-weaker}
 use Rattle.std.proofs.Common.{pos, replicate}
 use Rattle.rp_explore_run.specs.Judging.{no_truths}
-use Rattle.rp_machine.specs.TallyRule.{tally_answers, tally_image, tally_next}
+use Rattle.rp_script.specs.rp_machine.specs.TallyRule.{tally_answers, tally_image, tally_next}
 use Rattle.rp_explore_run.proofs.Exploring.{explored_for}
 use Rattle.rp_explore_run.proofs.explore.explore_tally.Goals as goal
 

@@ -1,5 +1,5 @@
 use Rattle.std.proofs.Common.{◌≡◌, take}
-use Rattle.rp_machine.specs.Asked.{last_number}
+use Rattle.rp_script.specs.rp_machine.specs.Asked.{last_number}
 use Rattle.rp_explore_run.proofs.findings.last_number.Given as goal
 
 -- the last call before this action

@@ -1,6 +1,6 @@
 -- One reply more.
 use Rattle.std.proofs.Common.{◌≡◌, ◌<◌, ◌∙◌, get_or, length, ap}
-use Rattle.rp_base.specs.declared.reply.Answer.{Answer}
+use Rattle.rp_script.specs.rp_base.specs.declared.reply.Answer.{Answer}
 use Rattle.std.proofs.Common.{List}
 use Rattle.rp_explore_run.proofs.Given.{given_more}
 use Rattle.rp_explore_run.proofs.findings.push_replies.Goals as goal

@@ -1,5 +1,5 @@
 use Rattle.std.proofs.Common.{◌≡◌, ◌++◌, flat_map}
-use Rattle.rp_machine.specs.Replay.{one_to}
+use Rattle.rp_script.specs.rp_machine.specs.Replay.{one_to}
 use Rattle.rp_explore_run.specs.Findings.{waits_at}
 use Rattle.rp_explore_run.proofs.findings.push_waits.Given as goal
 

@@ -1,8 +1,8 @@
 -- One rule more.
 use Rattle.std.proofs.Common.{refl}
 use Rattle.std.specs.Arc.{arc_value}
-use Rattle.rp_object.specs.State.{first_state}
-use Rattle.rp_object.specs.Step.{objects_answers, objects_next}
+use Rattle.rp_script.specs.rp_object.specs.State.{first_state}
+use Rattle.rp_script.specs.rp_object.specs.Step.{objects_answers, objects_next}
 use Rattle.rp_explore_run.specs.Judging.{IsJudged, keeps}
 use Rattle.rp_explore_run.proofs.Judging.{zip_more}
 use Rattle.rp_explore_run.proofs.judge.judge_objects.Goals as goal

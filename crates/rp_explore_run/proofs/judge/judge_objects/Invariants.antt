@@ -1,9 +1,9 @@
 use Rattle.std.proofs.Common.{take}
 use Rattle.std.specs.List.{AllZip}
 use Rattle.rp_explore_run.specs.Judging.{IsJudged, keeps}
-use Rattle.rp_object.specs.State.{first_state}
+use Rattle.rp_script.specs.rp_object.specs.State.{first_state}
 use Rattle.std.specs.Arc.{arc_value}
-use Rattle.rp_object.specs.Step.{objects_answers, objects_next}
+use Rattle.rp_script.specs.rp_object.specs.Step.{objects_answers, objects_next}
 use Rattle.rp_explore_run.proofs.judge.judge_objects.Given as goal
 
 -- the rules before this one are judged

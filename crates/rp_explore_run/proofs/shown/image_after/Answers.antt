@@ -1,7 +1,7 @@
 -- Each action of the order is right.
 use Rattle.std.proofs.Common.{subst, sym}
-use Rattle.rp_base.specs.Sets.{Has}
-use Rattle.rp_base.specs.declared.action.Action.{Action}
+use Rattle.rp_script.specs.rp_base.specs.Sets.{Has}
+use Rattle.rp_script.specs.rp_base.specs.declared.action.Action.{Action}
 use Rattle.rp_explore.proofs.Lists.{has_at}
 use Rattle.rp_explore_run.proofs.shown.image_after.Goals as goal
 

@@ -1,7 +1,7 @@
 -- The output is that of the deck.
 use Rattle.std.proofs.Common.{◌∙◌, ◌++◌, List, ℕ, Option, false, ap, subst}
 use Rattle.std.specs.Prelude.{IfSome}
-use Rattle.rp_deck.specs.declared.deck.Deck.{Deck}
+use Rattle.rp_script.specs.rp_deck.specs.declared.deck.Deck.{Deck}
 use Rattle.rp_explore_run.specs.Trials.{IsDeckText}
 use Rattle.rp_script.specs.Output.{output_of}
 use Rattle.rp_explore_run.proofs.trial.output_of.Goals as goal

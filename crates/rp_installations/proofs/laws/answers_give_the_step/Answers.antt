@@ -1,4 +1,4 @@
-use Rattle.rp_replica.specs.Inputs.{effect_if_given}
+use Rattle.rp_world.specs.rp_replica.specs.Inputs.{effect_if_given}
 use Rattle.rp_installations.proofs.NodeAnswers.{step_gives, last_gives}
 use Rattle.rp_installations.proofs.laws.answers_give_the_step.Goals as goal
 

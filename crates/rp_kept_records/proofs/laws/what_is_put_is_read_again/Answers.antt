@@ -1,7 +1,7 @@
 -- All that was put is stable, so a stop leaves it, and contents are read in one way.
 use Rattle.std.proofs.Common.{◌≡◌, ℕ, ◌+◌, List, [], ◌∷◌, ◌++◌, length, take, sym, ap, ◌∙◌, arith}
 use Rattle.std.proofs.lemmas.List.{take_all}
-use Rattle.rp_codec.specs.Record.{record_text}
+use Rattle.rp_store.specs.rp_codec.specs.Record.{record_text}
 use Rattle.rp_store.specs.Disk.{Disk, stopped}
 use Rattle.rp_kept_records.proofs.Reading.{reads}
 use Rattle.rp_kept_records.proofs.laws.what_is_put_is_read_again.Goals as goal

@@ -1,6 +1,6 @@
 -- What was stable is left, with the first bytes of the record, and contents are read in one way.
 use Rattle.std.proofs.Common.{[], ◌∷◌, ◌++◌, take, ap, ◌∙◌, arith, length-take}
-use Rattle.rp_codec.specs.Record.{record_text}
+use Rattle.rp_store.specs.rp_codec.specs.Record.{record_text}
 use Rattle.rp_store.specs.Disk.{Disk}
 use Rattle.rp_kept_records.proofs.Reading.{reads, take_more}
 use Rattle.rp_kept_records.proofs.laws.what_is_torn_is_cut_off.Goals as goal

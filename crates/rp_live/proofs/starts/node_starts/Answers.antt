@@ -1,6 +1,6 @@
 -- One more node is ready.
 use Rattle.std.proofs.Common.{◌≡◌, ◌++◌, map, All, arith, append-nil, sym, ap, subst, ◌∙◌}
-use Rattle.rp_codec.specs.declared.packet.Party.TheVariants.{Node}
+use Rattle.rp_threads.specs.rp_codec.specs.declared.packet.Party.TheVariants.{Node}
 use Rattle.rp_live.specs.Lines.{party_line}
 use Rattle.rp_live.proofs.Seating.{all_more, none_left, one_ready}
 use Rattle.rp_live.proofs.starts.node_starts.Goals as goal

@@ -1,6 +1,6 @@
 -- The nodes so far are ready.
 use Rattle.std.proofs.Common.{◌≡◌, ◌++◌, All, map}
-use Rattle.rp_codec.specs.declared.packet.Party.TheVariants.{Node}
+use Rattle.rp_threads.specs.rp_codec.specs.declared.packet.Party.TheVariants.{Node}
 use Rattle.rp_live.specs.Lines.{party_line}
 use Rattle.rp_live.proofs.starts.node_starts.Given as goal
 

@@ -1,6 +1,6 @@
 -- One more task is ready.
 use Rattle.std.proofs.Common.{◌≡◌, ◌++◌, map, filter_map, All, arith, append-nil, sym, ap, subst, ◌∙◌}
-use Rattle.rp_codec.specs.declared.packet.Party.TheVariants.{Task}
+use Rattle.rp_threads.specs.rp_codec.specs.declared.packet.Party.TheVariants.{Task}
 use Rattle.rp_live.specs.Events.{call_by}
 use Rattle.rp_live.specs.Lines.{party_line}
 use Rattle.rp_live.proofs.Seating.{all_more, none_left, one_ready}

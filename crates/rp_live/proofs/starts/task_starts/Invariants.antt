@@ -1,6 +1,6 @@
 -- The tasks so far are ready.
 use Rattle.std.proofs.Common.{◌≡◌, ◌++◌, All, map, filter_map}
-use Rattle.rp_codec.specs.declared.packet.Party.TheVariants.{Task}
+use Rattle.rp_threads.specs.rp_codec.specs.declared.packet.Party.TheVariants.{Task}
 use Rattle.rp_live.specs.Events.{call_by}
 use Rattle.rp_live.specs.Lines.{party_line}
 use Rattle.rp_live.proofs.starts.task_starts.Given as goal

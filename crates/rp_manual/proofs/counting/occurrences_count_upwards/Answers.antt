@@ -1,7 +1,7 @@
 -- By the occurrences of the source that counted.
 use Rattle.std.proofs.Common.{nat_lt, refl, lt-ltb, ltb-true}
-use Rattle.rp_machine.specs.Replay.{occurrences_of}
-use Rattle.rp_machine.proofs.Calling.{all_true}
+use Rattle.rp_object.specs.rp_machine.specs.Replay.{occurrences_of}
+use Rattle.rp_object.specs.rp_machine.proofs.Calling.{all_true}
 use Rattle.rp_manual.proofs.Turns.{all_from, occurrence_there, is_occurrence}
 use Rattle.rp_manual.proofs.counting.occurrences_count_upwards.Goals as goal
 

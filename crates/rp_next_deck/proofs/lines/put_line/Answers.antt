@@ -1,6 +1,6 @@
 -- What follows the first word, by what it declares.
 use Rattle.std.proofs.Common.{◌≡◌, ℕ, Option, List, [], ◌∷◌, ◌++◌, ap, ◌∙◌, sym, subst, refl, append_assoc}
-use Rattle.rp_words.specs.Words.{unread}
+use Rattle.rp_deck.specs.rp_words.specs.Words.{unread}
 use Rattle.rp_next_deck.specs.NextLines.{IsNextRest}
 use Rattle.rp_next_deck.proofs.Putting.{line_joined}
 use Rattle.rp_next_deck.proofs.lines.put_line.Goals as goal

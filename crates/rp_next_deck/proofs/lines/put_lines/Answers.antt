@@ -2,8 +2,8 @@
 use Rattle.std.proofs.Common.{◌≡◌, ℕ, List, ◌++◌, ap, ◌∙◌, sym, append_assoc, false}
 use Rattle.std.specs.Prelude.{codes}
 use Rattle.std.specs.Str.{bytes_eq}
-use Rattle.rp_words.specs.Ahead.{ahead, text_of}
-use Rattle.rp_words.specs.Lines.{lines_of, texts_from}
+use Rattle.rp_deck.specs.rp_words.specs.Ahead.{ahead, text_of}
+use Rattle.rp_deck.specs.rp_words.specs.Lines.{lines_of, texts_from}
 use Rattle.rp_next_deck.specs.NextLines.{AreNextLines}
 use Rattle.rp_next_deck.proofs.Putting.{no_line, one_line}
 use Rattle.rp_next_deck.proofs.lines.put_lines.Goals as goal

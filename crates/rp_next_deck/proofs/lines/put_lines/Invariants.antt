@@ -1,6 +1,6 @@
 use Rattle.std.proofs.Common.{◌≡◌, ◌++◌, ℕ, List, length}
-use Rattle.rp_words.specs.Ahead.{left, ahead}
-use Rattle.rp_words.specs.Lines.{lines_of, texts_from}
+use Rattle.rp_deck.specs.rp_words.specs.Ahead.{left, ahead}
+use Rattle.rp_deck.specs.rp_words.specs.Lines.{lines_of, texts_from}
 use Rattle.rp_next_deck.specs.NextLines.{AreNextLines}
 use Rattle.rp_next_deck.proofs.lines.put_lines.Given as goal
 

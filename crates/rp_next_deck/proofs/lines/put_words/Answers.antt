@@ -1,7 +1,7 @@
 -- The words that are put and those that are left make all.
 use Rattle.std.proofs.Common.{◌≡◌, ◌+◌, ◌-◌, suc, ℕ, Ok, List, [], ◌∷◌, ◌++◌, ap, ◌∙◌, sym, subst, arith, append-nil, append_assoc}
-use Rattle.rp_words.specs.Reading.{word_at}
-use Rattle.rp_words.specs.Words.{unread}
+use Rattle.rp_deck.specs.rp_words.specs.Reading.{word_at}
+use Rattle.rp_deck.specs.rp_words.specs.Words.{unread}
 use Rattle.rp_next_deck.specs.NextLines.{AreFirstWords}
 use Rattle.rp_next_deck.proofs.Putting.{none_left, no_more, one_more}
 use Rattle.rp_next_deck.proofs.lines.put_words.Goals as goal

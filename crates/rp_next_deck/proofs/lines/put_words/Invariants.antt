@@ -1,5 +1,5 @@
 use Rattle.std.proofs.Common.{◌≡◌, ◌-◌, ◌++◌, ℕ, List}
-use Rattle.rp_words.specs.Words.{unread}
+use Rattle.rp_deck.specs.rp_words.specs.Words.{unread}
 use Rattle.rp_next_deck.specs.NextLines.{AreFirstWords}
 use Rattle.rp_next_deck.proofs.lines.put_words.Given as goal
 

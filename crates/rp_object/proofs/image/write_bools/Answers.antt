@@ -1,6 +1,6 @@
 -- One name more.
 use Rattle.std.proofs.Common.{◌+◌, ℕ, Bool, List, [], ◌∷◌, ◌++◌, ◌∙◌, ap, append_assoc, string_bytes}
-use Rattle.rp_body.specs.Store.{bool_value}
+use Rattle.rp_entry.specs.rp_body.specs.Store.{bool_value}
 use Rattle.rp_object.specs.Image.{truth_text}
 use Rattle.rp_object.proofs.Writing.{bools_more}
 use Rattle.rp_object.proofs.image.write_bools.Goals as goal

@@ -2,7 +2,7 @@
 use Rattle.std.proofs.Common.{◌+◌, ℤ, ◌∷◌, ◌++◌, ◌∙◌, ap, string_bytes, w64}
 use Rattle.std.proofs.lemmas.Int.{to_z-of_z}
 use Rattle.std.specs.Fmt.{signed_decimal}
-use Rattle.rp_body.specs.Store.{int_value}
+use Rattle.rp_entry.specs.rp_body.specs.Store.{int_value}
 use Rattle.rp_object.proofs.Writing.{ints_more}
 use Rattle.rp_object.proofs.image.write_ints.Goals as goal
 

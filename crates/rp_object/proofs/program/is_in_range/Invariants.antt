@@ -1,7 +1,7 @@
 use Rattle.std.proofs.Common.{ℕ, ◌<◌, IsTrue, FitsSigned, w64}
 use Rattle.std.specs.Prelude.{IfSome}
 use Rattle.std.specs.FinMap.{get}
-use Rattle.rp_body.specs.Store.{is_within}
+use Rattle.rp_entry.specs.rp_body.specs.Store.{is_within}
 use Rattle.rp_object.proofs.program.is_in_range.Given as goal
 
 abbrev pub invariant-loop-name : goal.invariant-loop-name

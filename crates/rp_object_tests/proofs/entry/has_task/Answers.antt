@@ -1,8 +1,8 @@
 -- No call of the queue is of the task.
 use Rattle.std.proofs.Common.{◌≡◌, ◌≢◌, ◌<◌, ℕ, suc, List, [], ◌∷◌, length, map, Some, inl, inr, refl, sym, arith}
 use Rattle.std.specs.Prelude.{slice_get}
-use Rattle.rp_base.specs.Sets.{Has}
-use Rattle.rp_entry.specs.declared.state.Waiting.{Waiting}
+use Rattle.rp_object.specs.rp_base.specs.Sets.{Has}
+use Rattle.rp_object.specs.rp_entry.specs.declared.state.Waiting.{Waiting}
 use Rattle.rp_object_tests.proofs.entry.has_task.Goals as goal
 
 none_has : (task : ℕ) (queue : List Waiting) → ((k : ℕ) → k < length queue → (call : Waiting) → slice_get queue k ≡ Some call → call.task ≢ task) → ¬ Has task (map (λ (call : Waiting). call.task) queue)

@@ -1,10 +1,10 @@
 -- No call at any entry is of the task.
 use Rattle.std.proofs.Common.{ℕ, ◌<◌, suc, List, [], ◌∷◌, length, get_or, map, inl, inr, sym, subst, arith}
 use Rattle.std.proofs.lemmas.List.{map-append}
-use Rattle.rp_base.specs.Sets.{Has}
-use Rattle.rp_base.proofs.Members.{has_split}
-use Rattle.rp_entry.specs.declared.state.Waiting.{Waiting}
-use Rattle.rp_entry.specs.Queue.{all_calls}
+use Rattle.rp_object.specs.rp_base.specs.Sets.{Has}
+use Rattle.rp_object.specs.rp_base.proofs.Members.{has_split}
+use Rattle.rp_object.specs.rp_entry.specs.declared.state.Waiting.{Waiting}
+use Rattle.rp_object.specs.rp_entry.specs.Queue.{all_calls}
 use Rattle.rp_object_tests.proofs.entry.is_waiting.Goals as goal
 
 abbrev tasks_of : List Waiting → List ℕ

@@ -1,6 +1,6 @@
 use Rattle.std.proofs.Common.{ℕ, ◌<◌, List, get_or, map}
-use Rattle.rp_base.specs.Sets.{Has}
-use Rattle.rp_entry.specs.declared.state.Waiting.{Waiting}
+use Rattle.rp_object.specs.rp_base.specs.Sets.{Has}
+use Rattle.rp_object.specs.rp_entry.specs.declared.state.Waiting.{Waiting}
 use Rattle.rp_object_tests.proofs.entry.is_waiting.Given as goal
 
 -- no call in the queues before this one is of the task

@@ -1,11 +1,11 @@
 -- By the order of the history, which is one of what may happen.
 use Rattle.std.proofs.Common.{suc}
-use Rattle.rp_base.specs.Action.{IsRight}
-use Rattle.rp_base.specs.Sets.{Has}
-use Rattle.rp_base.specs.declared.action.Action.{Action}
-use Rattle.rp_base.specs.Records.{applied_of}
-use Rattle.rp_agreement.specs.Answered.{setting_for}
-use Rattle.rp_agreement.specs.Worlds.{node_in}
+use Rattle.rp_world.specs.rp_base.specs.Action.{IsRight}
+use Rattle.rp_world.specs.rp_base.specs.Sets.{Has}
+use Rattle.rp_world.specs.rp_base.specs.declared.action.Action.{Action}
+use Rattle.rp_world.specs.rp_base.specs.Records.{applied_of}
+use Rattle.rp_world.specs.rp_agreement.specs.Answered.{setting_for}
+use Rattle.rp_world.specs.rp_agreement.specs.Worlds.{node_in}
 use Rattle.rp_orders_world.proofs.Staying.{place_of, is_order, is_prefix_order}
 use Rattle.rp_orders_world.proofs.histories.histories_stay_within.Goals as goal
 

@@ -1,6 +1,6 @@
 use Rattle.std.proofs.Common.{◌≡◌, ◌-◌, suc, List, ℕ, Some, length, drop, get_or, sym, ap, ◌∙◌, arith}
 use Rattle.std.specs.Prelude.{option_map}
-use Rattle.rp_codec.specs.Text.{text_of}
+use Rattle.rp_model.specs.rp_codec.specs.Text.{text_of}
 use Rattle.rp_outbox.specs.Packets.{packets_in}
 use Rattle.rp_outbox.proofs.Joined.{again, next_of, ends_at, text_within, text_is}
 use Rattle.rp_outbox.proofs.outbox.text_between.Goals as goal

@@ -1,7 +1,7 @@
 use Rattle.std.proofs.Common.{◌≡◌, ◌∙◌, ◌++◌, [], ◌∷◌, List, ℕ, Option, Some, None, Result, IsErr, ap}
 use Rattle.std.specs.Prelude.{IfSome}
 use Rattle.std.specs.Fmt.{AppendsText, with_newline}
-use Rattle.rp_base.specs.declared.fault.Fault.{Fault}
+use Rattle.rp_model.specs.rp_base.specs.declared.fault.Fault.{Fault}
 use Rattle.rp_output.proofs.Writing.{writes_nothing, writes_same}
 use Rattle.rp_output.specs.Stream.{Writes}
 use Rattle.rp_output.proofs.stream.print.Goals as goal

@@ -5,7 +5,7 @@ use Rattle.std.specs.Fmt.{WritesText, with_newline}
 use Rattle.std.specs.Fmt.InlineText.{AppendsIfIntact, IsIntact, inline_text}
 use Rattle.std.specs.List.{FoldsTo, concat}
 use Rattle.std.specs.declared.fmt.InlineText.{InlineText}
-use Rattle.rp_base.specs.declared.fault.Fault.{Fault}
+use Rattle.rp_model.specs.rp_base.specs.declared.fault.Fault.{Fault}
 use Rattle.rp_output.proofs.Writing.{begins_nothing, writes_same}
 use Rattle.rp_output.specs.Stream.{Begins, Writes}
 use Rattle.rp_output.proofs.stream.report.Goals as goal

@@ -1,7 +1,7 @@
 -- The page is that of the sketch of the history.
 use Rattle.std.proofs.Common.{◌≡◌, ◌∙◌, ◌++◌, ℕ, List, refl, sym, ap}
 use Rattle.std.specs.Prelude.{string_bytes}
-use Rattle.rp_drawing.specs.Drawings.{page_text}
+use Rattle.rp_history.specs.rp_drawing.specs.Drawings.{page_text}
 use Rattle.rp_page.specs.Frame.{before_drawing, after_drawing, after_sections}
 use Rattle.rp_page.specs.Pages.{sections_text}
 use Rattle.rp_page.proofs.page.draw_page.Goals as goal

@@ -2,7 +2,7 @@
 use Rattle.std.proofs.Common.{◌≡◌, ◌∙◌, ◌+◌, ◌++◌, ◌<◌, ℕ, List, length, drop, get_or, string_bytes, ap, sym, arith, append_assoc}
 use Rattle.std.proofs.lemmas.List.{at_drop_more}
 use Rattle.rp_page.specs.Pages.{row_section, sections_from}
-use Rattle.rp_drawing.specs.declared.sketch.Row.{Row}
+use Rattle.rp_history.specs.rp_drawing.specs.declared.sketch.Row.{Row}
 use Rattle.rp_page.proofs.section.add_sections.Goals as goal
 
 pub loop-place-preserved : goal.loop-place-preserved

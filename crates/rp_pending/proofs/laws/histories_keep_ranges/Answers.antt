@@ -1,7 +1,7 @@
 -- By the walk over the events.
 use Rattle.rp_agreement.specs.Answered.{setting_for}
 use Rattle.rp_agreement.specs.Ranges.{IsRangedWorld}
-use Rattle.rp_model.specs.World.{opening_world}
+use Rattle.rp_agreement.specs.rp_model.specs.World.{opening_world}
 use Rattle.rp_agreement.proofs.EventWalk.{any_input, any_task, any_event, history_keeps}
 use Rattle.rp_agreement.proofs.RangeKeeping.{ranges_kept, opening_ranged}
 use Rattle.rp_pending.proofs.laws.histories_keep_ranges.Goals as goal

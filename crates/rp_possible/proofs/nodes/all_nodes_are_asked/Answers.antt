@@ -1,7 +1,7 @@
 -- The numbers from 1 on are all nodes, and a node that leads asks them all.
 use Rattle.std.proofs.Common.{Some, sym, subst}
 use Rattle.rp_base.specs.Sets.{Has}
-use Rattle.rp_codec.specs.Message.{Message}
+use Rattle.rp_model.specs.rp_codec.specs.Message.{Message}
 use Rattle.rp_model.specs.Says.{says_to_all}
 use Rattle.rp_possible.proofs.Asked.{goes_to, goes_only, led_so}
 use Rattle.rp_possible.proofs.nodes.all_nodes_are_asked.Goals as goal

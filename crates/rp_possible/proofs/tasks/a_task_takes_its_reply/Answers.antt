@@ -1,9 +1,9 @@
 -- The packet reaches the task, which waits for its call.
 use Rattle.std.proofs.Common.{◌≡◌, true, Option, Ok, refl, ap, ◌∙◌, lt-ltb, eq-eqb}
 use Rattle.std.proofs.lemmas.Bool.{and_from, cond-true}
-use Rattle.rp_codec.specs.Message.{Message}
-use Rattle.rp_codec.specs.declared.packet.Body.TheVariants as bodies
-use Rattle.rp_codec.specs.declared.packet.Party.TheVariants.{Node, Task}
+use Rattle.rp_model.specs.rp_codec.specs.Message.{Message}
+use Rattle.rp_model.specs.rp_codec.specs.declared.packet.Body.TheVariants as bodies
+use Rattle.rp_model.specs.rp_codec.specs.declared.packet.Party.TheVariants.{Node, Task}
 use Rattle.rp_base.specs.Calls.{is_reply_to}
 use Rattle.rp_model.specs.Effect.{Done, goes_on_as}
 use Rattle.rp_model.specs.Parts.{TaskPart}

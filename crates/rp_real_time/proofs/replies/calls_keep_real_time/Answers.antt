@@ -1,10 +1,10 @@
 -- The later order goes on from the order of now.
 use Rattle.std.proofs.Common.{◌≡◌, ◌≤◌, ℕ, suc, Option, Some, List, length, ap, sym, subst, arith}
 use Rattle.std.specs.Prelude.{unwrap_or, slice_get}
-use Rattle.rp_base.specs.declared.action.Action.{Action}
-use Rattle.rp_machine.specs.Places.{IsPlace}
-use Rattle.rp_model.specs.Parts.{TaskPart, fresh_task}
-use Rattle.rp_model.specs.World.{World, part_at}
+use Rattle.rp_agreement.specs.rp_base.specs.declared.action.Action.{Action}
+use Rattle.rp_agreement.specs.rp_machine.specs.Places.{IsPlace}
+use Rattle.rp_agreement.specs.rp_model.specs.Parts.{TaskPart, fresh_task}
+use Rattle.rp_agreement.specs.rp_model.specs.World.{World, part_at}
 use Rattle.rp_agreement.specs.Answered.{setting_for, named, calls_so_far, task_in}
 use Rattle.rp_agreement.specs.Computed.{order_of}
 use Rattle.rp_real_time.specs.RealTime.{IsAnsweredNow}

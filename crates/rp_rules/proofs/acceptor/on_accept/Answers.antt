@@ -1,5 +1,5 @@
 use Rattle.std.proofs.Common.{ap, ◌∙◌}
-use Rattle.rp_codec.specs.declared.usual_texts.Header.{Header}
+use Rattle.rp_model.specs.rp_codec.specs.declared.usual_texts.Header.{Header}
 use Rattle.rp_model.specs.Acceptor.{answer_to, accept_plan}
 use Rattle.rp_model.specs.declared.plan.Plan.TheVariants.{Vote}
 use Rattle.rp_rules.proofs.acceptor.on_accept.Goals as goal

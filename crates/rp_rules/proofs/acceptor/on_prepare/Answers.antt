@@ -1,7 +1,7 @@
 use Rattle.std.proofs.Common.{◌≡◌, ◌≤◌, refl, sym, subst}
 use Rattle.std.specs.Prelude.{IfSome}
-use Rattle.rp_codec.specs.Message.{IsVoteBelow}
-use Rattle.rp_codec.specs.declared.usual_texts.Header.{Header}
+use Rattle.rp_model.specs.rp_codec.specs.Message.{IsVoteBelow}
+use Rattle.rp_model.specs.rp_codec.specs.declared.usual_texts.Header.{Header}
 use Rattle.rp_rules.proofs.Answering.{IsPromise, promised, may_report}
 use Rattle.rp_rules.proofs.acceptor.on_prepare.Goals as goal
 

@@ -1,7 +1,7 @@
 use Rattle.std.proofs.Common.{suc}
 use Rattle.std.specs.Prelude.{nat_le}
 use Rattle.std.proofs.lemmas.Bool.{and_parts, leb-true}
-use Rattle.rp_acceptor.proofs.Answering.{above_all, refused_below}
+use Rattle.rp_server.specs.rp_acceptor.proofs.Answering.{above_all, refused_below}
 use Rattle.rp_base.specs.Ranges.{end_of}
 use Rattle.rp_rules.proofs.acceptor.on_prepare_range.Goals as goal
 

@@ -1,6 +1,6 @@
 use Rattle.std.proofs.Common.{◌≡◌, Some, None, sym, ap, ◌∙◌}
 use Rattle.rp_base.specs.declared.action.Action.TheVariants.{Call}
-use Rattle.rp_machine.specs.Asked.{kept_reply}
+use Rattle.rp_model.specs.rp_machine.specs.Asked.{kept_reply}
 use Rattle.rp_model.specs.Arrivals.{on_call, on_numbered}
 use Rattle.rp_model.specs.Node.{kept_by, given_by}
 use Rattle.rp_rules.specs.Inputs.{running_server}

@@ -1,5 +1,5 @@
 use Rattle.std.proofs.Common.{refl}
-use Rattle.rp_proposer.specs.declared.proposal.Progress.TheVariants.{Waiting, Offer, Stale}
+use Rattle.rp_server.specs.rp_proposer.specs.declared.proposal.Progress.TheVariants.{Waiting, Offer, Stale}
 use Rattle.rp_rules.specs.Inputs.{running_server}
 use Rattle.rp_server.proofs.Promising.{plan_is}
 use Rattle.rp_rules.proofs.leader.on_promise.Goals as goal

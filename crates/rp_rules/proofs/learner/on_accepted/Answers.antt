@@ -1,5 +1,5 @@
 use Rattle.std.proofs.Common.{sym, ap, ◌∙◌}
-use Rattle.rp_learner.specs.Status.{vote_for}
+use Rattle.rp_server.specs.rp_learner.specs.Status.{vote_for}
 use Rattle.rp_rules.specs.Inputs.{running_server}
 use Rattle.rp_rules.proofs.Accepted.{status_plan, accepted_plan}
 use Rattle.rp_rules.proofs.learner.on_accepted.Goals as goal

@@ -1,5 +1,5 @@
 use Rattle.std.proofs.Common.{subst}
-use Rattle.rp_codec.specs.Decoding.{IsDecoded}
+use Rattle.rp_model.specs.rp_codec.specs.Decoding.{IsDecoded}
 use Rattle.rp_rules.proofs.PacketMemory.{text_no_memory, rule_no_memory}
 use Rattle.rp_rules.proofs.texts.on_other_text.Goals as goal
 

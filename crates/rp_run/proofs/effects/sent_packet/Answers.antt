@@ -3,10 +3,10 @@ use Rattle.std.proofs.Common.{◌≡◌, ℕ, List, Option, Some, None, Result, 
 use Rattle.std.specs.Prelude.{IfSome}
 use Rattle.std.specs.Result.{result_ok}
 use Rattle.rp_base.specs.declared.fault.PacketReason.{PacketReason}
-use Rattle.rp_codec.specs.Decoding.{IsDecoded}
-use Rattle.rp_codec.specs.Message.{Message, IsPacket}
-use Rattle.rp_codec.specs.Text.{text_of}
-use Rattle.rp_codec.proofs.Decoded.{written_read}
+use Rattle.rp_model.specs.rp_codec.specs.Decoding.{IsDecoded}
+use Rattle.rp_model.specs.rp_codec.specs.Message.{Message, IsPacket}
+use Rattle.rp_model.specs.rp_codec.specs.Text.{text_of}
+use Rattle.rp_model.specs.rp_codec.proofs.Decoded.{written_read}
 use Rattle.rp_model.specs.World.{part_at}
 use Rattle.rp_run.proofs.effects.sent_packet.Goals as goal
 

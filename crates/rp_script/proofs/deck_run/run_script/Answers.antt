@@ -1,7 +1,7 @@
 -- The deck is the one that was read, and what it printed is kept.
 use Rattle.std.proofs.Common.{Result, Ok, Err, Option, List, ℕ, inr}
 use Rattle.std.specs.Prelude.{OnOk}
-use Rattle.rp_base.specs.declared.fault.Fault.{Fault}
+use Rattle.rp_deck.specs.rp_base.specs.declared.fault.Fault.{Fault}
 use Rattle.rp_script.specs.Agreeing.{ScriptPrints}
 use Rattle.rp_script.specs.Output.{output_of}
 use Rattle.rp_script.proofs.Failing.{on_err}

@@ -3,7 +3,7 @@ use Rattle.std.proofs.Common.{◌≡◌, ℕ, ◌+◌, ◌<◌, Option, Some, No
 use Rattle.std.specs.Prelude.{option_to_list}
 use Rattle.std.proofs.lemmas.List.{take_more}
 use Rattle.std.proofs.lemmas.List.Elements.{filter_map-append}
-use Rattle.rp_model.specs.declared.event.Event.{Event}
+use Rattle.rp_output.specs.rp_model.specs.declared.event.Event.{Event}
 use Rattle.rp_deck.specs.declared.deck.Line.{Line}
 use Rattle.rp_script.specs.LiveRun.{event_of}
 use Rattle.rp_script.proofs.live_run.events_of.Goals as goal

@@ -2,18 +2,18 @@
 use Rattle.std.proofs.Common.{◌≡◌, ℕ, pos, Result, List, replicate, sym, ap, subst, ◌∙◌, arith}
 use Rattle.std.specs.Prelude.{All, IfOk}
 use Rattle.std.specs.Arc.{arc_value}
-use Rattle.rp_base.specs.declared.fault.Fault.{Fault}
-use Rattle.rp_machine.specs.TallyRule.{tally_next, tally_answers}
+use Rattle.rp_deck.specs.rp_base.specs.declared.fault.Fault.{Fault}
+use Rattle.rp_object.specs.rp_machine.specs.TallyRule.{tally_next, tally_answers}
 use Rattle.rp_object.specs.State.{first_state}
 use Rattle.rp_object.specs.Step.{objects_next, objects_answers}
 use Rattle.rp_object.specs.declared.program.Program.{Program}
 use Rattle.rp_live.specs.LiveOutcome.{IsLiveRun}
 use Rattle.rp_live.specs.declared.run.LiveOutcome.{LiveOutcome}
-use Rattle.rp_deck_declarations.specs.declared.deck_program.DeckProgram.{DeckProgram}
-use Rattle.rp_deck_declarations.specs.declared.deck_program.DeckProgram.TheVariants.{Tally, Objects}
-use Rattle.indexmap.specs.IndexMap.{index_map_len}
-use Rattle.indexmap.specs.IndexSet.{index_set_len}
-use Rattle.rp_model.specs.declared.event.Event.{Event}
+use Rattle.rp_deck.specs.rp_deck_declarations.specs.declared.deck_program.DeckProgram.{DeckProgram}
+use Rattle.rp_deck.specs.rp_deck_declarations.specs.declared.deck_program.DeckProgram.TheVariants.{Tally, Objects}
+use Rattle.rp_deck.specs.indexmap.specs.IndexMap.{index_map_len}
+use Rattle.rp_deck.specs.indexmap.specs.IndexSet.{index_set_len}
+use Rattle.rp_output.specs.rp_model.specs.declared.event.Event.{Event}
 use Rattle.rp_live.specs.Events.{IsLive}
 use Rattle.rp_deck.specs.declared.deck.Deck.{Deck}
 use Rattle.rp_deck.specs.declared.deck.Mode.TheVariants.{Live}

@@ -1,7 +1,7 @@
 -- The deck is the one that was read, and its result is what was printed.
 use Rattle.std.proofs.Common.{◌≡◌, ℕ, Result, Ok, Err, Option, List, inr, refl, sym, subst}
 use Rattle.std.specs.Prelude.{IfErr, IsErrAnd}
-use Rattle.rp_base.specs.declared.fault.Fault.{Fault}
+use Rattle.rp_deck.specs.rp_base.specs.declared.fault.Fault.{Fault}
 use Rattle.rp_deck.specs.Live.{IsDeckFor}
 use Rattle.rp_deck.specs.declared.deck.Deck.{Deck}
 use Rattle.rp_deck.specs.declared.deck.Mode.TheVariants.{Live}

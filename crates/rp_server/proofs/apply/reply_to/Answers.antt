@@ -1,7 +1,7 @@
 use Rattle.std.proofs.Common.{◌≡◌, ◌+◌, ◌*◌, ◌≤◌, [], ◌∷◌, ◌++◌, List, take, length, sym, ap, subst, ◌∙◌, arith, append_assoc}
 use Rattle.std.proofs.lemmas.List.{length-append}
-use Rattle.rp_codec.specs.Message.{Message}
-use Rattle.rp_codec.specs.declared.packet.Body.TheVariants.{Reply}
+use Rattle.rp_model.specs.rp_codec.specs.Message.{Message}
+use Rattle.rp_model.specs.rp_codec.specs.declared.packet.Body.TheVariants.{Reply}
 use Rattle.rp_model.specs.Says.{says_to_task}
 use Rattle.rp_model.specs.Pending.{replies_to}
 use Rattle.rp_model.proofs.Replying.{replies_one_more, replies_no_more}

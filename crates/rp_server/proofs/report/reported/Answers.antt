@@ -2,7 +2,7 @@ use Rattle.std.proofs.Common.{◌≡◌, ℕ, ◌+◌, ◌-◌, ◌<◌, ◌≤�
 use Rattle.std.specs.Prelude.{IfSome, IsSome}
 use Rattle.rp_base.specs.declared.action.Action.{Action}
 use Rattle.rp_base.specs.declared.action.Action.TheVariants.{Noop}
-use Rattle.rp_codec.specs.Message.{report_len}
+use Rattle.rp_model.specs.rp_codec.specs.Message.{report_len}
 use Rattle.rp_server.proofs.Taken.{taken_at, read_at, read_on}
 use Rattle.rp_server.proofs.report.reported.Goals as goal
 

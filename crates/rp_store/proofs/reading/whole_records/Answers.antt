@@ -1,6 +1,6 @@
 use Rattle.std.proofs.Common.{◌≡◌, ℕ, List, [], ◌∷◌, ◌++◌, refl, sym, ap, subst, ◌∙◌, append_assoc, arith}
 use Rattle.std.specs.List.{AllByRecursion}
-use Rattle.rp_base.specs.declared.record.Rec.{Rec}
+use Rattle.rp_codec.specs.rp_base.specs.declared.record.Rec.{Rec}
 use Rattle.rp_codec.specs.Record.{record_text_at, IsRecord, IsRecordTextBefore}
 use Rattle.rp_store.specs.Records.{AreTextsOf}
 use Rattle.rp_store.proofs.Whole.{all_end, texts_end, are_records, record_found, record_taken}

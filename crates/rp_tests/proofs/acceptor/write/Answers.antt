@@ -1,9 +1,9 @@
 use Rattle.std.proofs.Common.{◌≡◌, List, ℕ, [], ◌∷◌, sym, subst}
-use Rattle.rp_base.specs.declared.record.Rec.{Rec}
-use Rattle.rp_base.specs.declared.record.Rec.TheVariants.{Started, Promised, Voted, Learned, PromisedRange}
-use Rattle.rp_base.specs.Ranges.{Range}
-use Rattle.rp_base.specs.Sets.{Has}
-use Rattle.rp_base.proofs.Members.{has_right}
+use Rattle.rp_codec.specs.rp_base.specs.declared.record.Rec.{Rec}
+use Rattle.rp_codec.specs.rp_base.specs.declared.record.Rec.TheVariants.{Started, Promised, Voted, Learned, PromisedRange}
+use Rattle.rp_codec.specs.rp_base.specs.Ranges.{Range}
+use Rattle.rp_codec.specs.rp_base.specs.Sets.{Has}
+use Rattle.rp_codec.specs.rp_base.proofs.Members.{has_right}
 use Rattle.rp_acceptor.specs.Noted.{Noted, HasRoom, places_in, ranges_in, reserves}
 use Rattle.rp_tests.proofs.acceptor.write.Goals as goal
 

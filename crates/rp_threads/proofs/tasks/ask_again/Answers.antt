@@ -1,5 +1,5 @@
 -- The packet of the step is put.
-use Rattle.rp_model.specs.Tasks.{Again}
+use Rattle.rp_replica.specs.rp_model.specs.Tasks.{Again}
 use Rattle.rp_threads.proofs.TaskSteps.{sent_once, few_of_again, asked_by_turn, asked_got}
 use Rattle.rp_threads.proofs.tasks.ask_again.Goals as goal
 

@@ -2,7 +2,7 @@
 use Rattle.std.proofs.Common.{rules, subst, ℤ, w64, FitsSigned}
 use Rattle.std.proofs.lemmas.Int.{to_z-of_z}
 use Rattle.rp_boxes.specs.TaskSeats.{IsTaskTurn}
-use Rattle.rp_model.specs.Tasks.{Submit}
+use Rattle.rp_replica.specs.rp_model.specs.Tasks.{Submit}
 use Rattle.rp_threads.proofs.TaskSteps.{sent_once, few_of_call, asked_by_turn, asked_got}
 use Rattle.rp_threads.proofs.tasks.make.Goals as goal
 

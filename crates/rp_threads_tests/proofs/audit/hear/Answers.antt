@@ -1,6 +1,6 @@
 -- The report of one action, which the audit got first, is still got once it got the report of two.
 use Rattle.std.proofs.Common.{sym, subst}
-use Rattle.rp_boxes.specs.Audits.{IsGotReport}
+use Rattle.rp_threads.specs.rp_boxes.specs.Audits.{IsGotReport}
 use Rattle.rp_threads_tests.proofs.audit.hear.Goals as goal
 
 pub add_both-requires-clause-other : goal.add_both-requires-clause-other

@@ -1,6 +1,6 @@
 -- What the audit fetched is a report.
 use Rattle.std.proofs.Common.{sym, subst}
-use Rattle.rp_boxes.specs.Audits.{IsGotReport}
+use Rattle.rp_threads.specs.rp_boxes.specs.Audits.{IsGotReport}
 use Rattle.rp_threads_tests.proofs.running.hear.Goals as goal
 
 pub add-requires : goal.add-requires

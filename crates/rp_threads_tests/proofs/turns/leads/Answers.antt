@@ -1,6 +1,6 @@
 -- The line holds nothing.
 use Rattle.std.proofs.Common.{ap}
-use Rattle.rp_tasks.specs.Line.{Line}
+use Rattle.rp_threads.specs.rp_tasks.specs.Line.{Line}
 use Rattle.rp_threads_tests.proofs.Asking.{nothing_held}
 use Rattle.rp_threads_tests.proofs.turns.leads.Goals as goal
 

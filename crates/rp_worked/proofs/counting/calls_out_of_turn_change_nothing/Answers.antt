@@ -1,9 +1,9 @@
 -- By computing.
 use Rattle.std.proofs.Common.{◌≡◌, pos, false, [], ◌∷◌, refl, ap, ◌∙◌}
-use Rattle.rp_machine.specs.Replay.{Replayed, replay_step, replay_of}
-use Rattle.rp_object.specs.declared.program.Declarations.{Declarations}
-use Rattle.rp_object.specs.State.{Running, first_state}
-use Rattle.rp_object.specs.Step.{objects_next, objects_answers}
+use Rattle.rp_manual.specs.rp_machine.specs.Replay.{Replayed, replay_step, replay_of}
+use Rattle.rp_manual.specs.rp_object.specs.declared.program.Declarations.{Declarations}
+use Rattle.rp_manual.specs.rp_object.specs.State.{Running, first_state}
+use Rattle.rp_manual.specs.rp_object.specs.Step.{objects_next, objects_answers}
 use Rattle.rp_worked.specs.Memory.{Unread}
 use Rattle.rp_worked.specs.Gate.{gate, gate_is, passes, lifts_next, first_call}
 use Rattle.rp_worked.proofs.Computing.{works}

@@ -1,13 +1,13 @@
 -- By computing, one action at a time.
 use Rattle.std.proofs.Common.{◌≡◌, pos, true, false, List, [], ◌∷◌, refl, ap, ◌∙◌}
-use Rattle.rp_base.specs.declared.action.Action.{Action}
-use Rattle.rp_base.specs.declared.reply.Reply.TheVariants.{Value}
-use Rattle.rp_base.specs.declared.reply.Answer.{Answer}
-use Rattle.rp_body.specs.declared.statement.Outcome.TheVariants.{Out}
-use Rattle.rp_body.specs.Meaning.{body_effect}
-use Rattle.rp_machine.specs.Replay.{Replayed, replay_step, replay_of}
-use Rattle.rp_object.specs.State.{ProgramState, Running, first_state}
-use Rattle.rp_object.specs.Step.{objects_next, objects_answers}
+use Rattle.rp_manual.specs.rp_base.specs.declared.action.Action.{Action}
+use Rattle.rp_manual.specs.rp_base.specs.declared.reply.Reply.TheVariants.{Value}
+use Rattle.rp_manual.specs.rp_base.specs.declared.reply.Answer.{Answer}
+use Rattle.rp_manual.specs.rp_body.specs.declared.statement.Outcome.TheVariants.{Out}
+use Rattle.rp_manual.specs.rp_body.specs.Meaning.{body_effect}
+use Rattle.rp_manual.specs.rp_machine.specs.Replay.{Replayed, replay_step, replay_of}
+use Rattle.rp_manual.specs.rp_object.specs.State.{ProgramState, Running, first_state}
+use Rattle.rp_manual.specs.rp_object.specs.Step.{objects_next, objects_answers}
 use Rattle.rp_worked.specs.Memory.{Unread}
 use Rattle.rp_worked.specs.Outcomes.{gets}
 use Rattle.rp_worked.specs.Gate.{passes, first_call}

@@ -1,7 +1,7 @@
 -- One delivery more, or the end.
 use Rattle.std.proofs.Common.{◌≡◌, ◌∙◌, ℕ, ◌+◌, ◌-◌, ◌<◌, ◌≤◌, None, [], ◌∷◌, ◌++◌, length, arith, refl, subst}
-use Rattle.rp_model.specs.declared.event.Event.TheVariants.{Node as NodeStep}
-use Rattle.rp_model.specs.declared.event.Step.TheVariants.{Deliver}
+use Rattle.rp_run.specs.rp_model.specs.declared.event.Event.TheVariants.{Node as NodeStep}
+use Rattle.rp_run.specs.rp_model.specs.declared.event.Step.TheVariants.{Deliver}
 use Rattle.rp_run.specs.Items.{DrainLimit}
 use Rattle.rp_run.specs.Output.{Play, drained, event_said, note_said}
 use Rattle.rp_run.specs.Runs.{run_setting}

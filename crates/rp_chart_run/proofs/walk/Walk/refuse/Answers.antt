@@ -1,6 +1,6 @@
 -- The line has the label.
 use Rattle.std.proofs.Common.{◌≡◌, ◌∙◌, ℕ, Bool, List, [], ◌∷◌, ◌++◌, rules, ap, string_bytes}
-use Rattle.rp_drawing.specs.Words.{whole_text}
+use Rattle.rp_history.specs.rp_drawing.specs.Words.{whole_text}
 use Rattle.rp_history.specs.Histories.{LabelText}
 use Rattle.rp_chart_run.specs.Causes.{line_text}
 use Rattle.rp_chart_run.specs.Effects.{refusal_text}

@@ -1,21 +1,21 @@
 -- By what the step of the cluster was.
 use Rattle.std.proofs.Common.{◌≡◌, ◌∙◌, ◌+◌, ◌-◌, ◌^◌, min, ℕ, ◌≤◌, Option, None, Ok, List, [], ◌∷◌, ◌++◌, length, length-append, drop, arith, sym, ap, subst}
 use Rattle.std.proofs.lemmas.List.{length-drop}
-use Rattle.rp_base.specs.Fault.{code_of}
-use Rattle.rp_drawing.specs.Ways.{IsEndingWithin}
-use Rattle.rp_drawing.specs.declared.sketch.Ending.{Ending}
+use Rattle.rp_run.specs.rp_base.specs.Fault.{code_of}
+use Rattle.rp_history.specs.rp_drawing.specs.Ways.{IsEndingWithin}
+use Rattle.rp_history.specs.rp_drawing.specs.declared.sketch.Ending.{Ending}
 use Rattle.rp_history.specs.Histories.{Happening, LabelText, EventHappened, IsSketchOf, label_text}
 use Rattle.rp_history.proofs.HistoryLemmas.{ending_was_sent}
-use Rattle.rp_model.specs.Events.{event_of}
-use Rattle.rp_codec.specs.declared.packet.Party.{Party}
+use Rattle.rp_run.specs.rp_model.specs.Events.{event_of}
+use Rattle.rp_run.specs.rp_codec.specs.declared.packet.Party.{Party}
 use Rattle.rp_history.specs.declared.happened.Happened.{Happened}
 use Rattle.rp_history.specs.declared.happened.NodeState.{NodeState}
-use Rattle.rp_model.specs.Answers.{Describes}
-use Rattle.rp_model.specs.World.{World, Transition, part_at}
-use Rattle.rp_base.specs.declared.reply.Answer.{Answer}
-use Rattle.rp_model.specs.declared.effect.Dropped.{Dropped}
-use Rattle.rp_model.specs.declared.effect.Effect.{Effect}
-use Rattle.rp_model.specs.declared.event.Event.{Event}
+use Rattle.rp_run.specs.rp_model.specs.Answers.{Describes}
+use Rattle.rp_run.specs.rp_model.specs.World.{World, Transition, part_at}
+use Rattle.rp_run.specs.rp_base.specs.declared.reply.Answer.{Answer}
+use Rattle.rp_run.specs.rp_model.specs.declared.effect.Dropped.{Dropped}
+use Rattle.rp_run.specs.rp_model.specs.declared.effect.Effect.{Effect}
+use Rattle.rp_run.specs.rp_model.specs.declared.event.Event.{Event}
 use Rattle.rp_run.specs.Output.{RunSetting, event_said}
 use Rattle.rp_run.specs.Runs.{run_setting}
 use Rattle.rp_run.proofs.Taken.{settled_alike}

@@ -1,6 +1,6 @@
 -- The command is the one that was matched.
 use Rattle.std.proofs.Common.{◌∙◌, ℕ, ◌++◌, sym, ap}
-use Rattle.rp_model.specs.World.{World}
+use Rattle.rp_run.specs.rp_model.specs.World.{World}
 use Rattle.rp_chart_run.specs.ScriptHistory.{drawn_run, nodes_shown}
 use Rattle.rp_chart_run.proofs.Charting.{charted_as}
 use Rattle.rp_chart_run.proofs.walk.Walk.take.Goals as goal

@@ -1,4 +1,4 @@
-use Rattle.indexmap.specs.IndexMap.{values}
+use Rattle.rp_words.specs.indexmap.specs.IndexMap.{values}
 use Rattle.rp_deck_bodies.proofs.statements.BodyDraft.read_rest.Goals as goal
 
 pub read_statement-requires : goal.read_statement-requires

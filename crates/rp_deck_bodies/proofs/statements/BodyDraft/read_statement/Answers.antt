@@ -1,5 +1,5 @@
 -- A statement more.
-use Rattle.indexmap.specs.IndexMap.{values}
+use Rattle.rp_words.specs.indexmap.specs.IndexMap.{values}
 use Rattle.std.specs.Prelude.{IsTrue}
 use Rattle.rp_body.specs.Check.{stmt_fits}
 use Rattle.rp_body.specs.declared.statement.Stmt.{Stmt}

@@ -1,7 +1,7 @@
 use Rattle.std.proofs.Common.{arith, refl}
 use Rattle.std.specs.Prelude.{unwrap_or}
 use Rattle.std.proofs.lemmas.Grind.{common_steps}
-use Rattle.indexmap.specs.IndexMap.{values}
+use Rattle.rp_words.specs.indexmap.specs.IndexMap.{values}
 use Rattle.rp_object.specs.declared.program.Profile.TheVariants.{Ravenscar}
 use Rattle.rp_deck_declarations.specs.Declarations.{IsNameTable, procedure_counts}
 use Rattle.rp_deck_declarations.proofs.HandlerLemmas.{handled_more, with_handlers}

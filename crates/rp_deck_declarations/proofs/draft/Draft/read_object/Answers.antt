@@ -3,10 +3,10 @@ use Rattle.std.proofs.Common.{rules, arith, refl, sym, subst}
 use Rattle.std.specs.Prelude.{All, unwrap_or}
 use Rattle.std.proofs.lemmas.Grind.{common_steps}
 use Rattle.rp_object.specs.declared.program.Profile.TheVariants.{Ravenscar}
-use Rattle.indexmap.specs.IndexMap.{values}
+use Rattle.rp_words.specs.indexmap.specs.IndexMap.{values}
 use Rattle.rp_deck_objects.specs.ObjectLimits.{IsObject}
 use Rattle.rp_deck_declarations.proofs.HandlerLemmas.{handled_still}
-use Rattle.rp_deck_bodies.proofs.ListLemmas.{all_last}
+use Rattle.rp_deck_objects.specs.rp_deck_bodies.proofs.ListLemmas.{all_last}
 use Rattle.rp_deck_declarations.proofs.draft.Draft.read_object.Goals as goal
 
 pub returns-clause-draft : goal.returns-clause-draft

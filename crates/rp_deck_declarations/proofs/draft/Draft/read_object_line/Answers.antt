@@ -3,7 +3,7 @@ use Rattle.std.proofs.Common.{◌≡◌, ◌+◌, Some, Ok, List, length, rules,
 use Rattle.std.specs.Prelude.{slice_get, unwrap_or}
 use Rattle.std.proofs.lemmas.Grind.{common_steps}
 use Rattle.std.proofs.lemmas.List.Elements.{All-set}
-use Rattle.indexmap.specs.IndexMap.{values}
+use Rattle.rp_words.specs.indexmap.specs.IndexMap.{values}
 use Rattle.rp_object.specs.declared.program.Profile.TheVariants.{Ravenscar}
 use Rattle.rp_deck_objects.specs.ObjectLimits.{IsObject}
 use Rattle.rp_deck_declarations.proofs.HandlerLemmas.{handled_grown}

@@ -2,7 +2,7 @@ use Rattle.std.proofs.Common.{◌≡◌, List, Some, subst}
 use Rattle.std.specs.Prelude.{slice_get}
 use Rattle.rp_deck_objects.specs.declared.objects.ObjectDraft.{ObjectDraft}
 use Rattle.rp_deck_objects.specs.ObjectLimits.{IsObject}
-use Rattle.rp_deck_bodies.proofs.CountedLemmas.{at_place}
+use Rattle.rp_deck_objects.specs.rp_deck_bodies.proofs.CountedLemmas.{at_place}
 use Rattle.rp_deck_declarations.proofs.DeclaringLemmas.{read_at}
 use Rattle.rp_deck_declarations.proofs.HandlerLemmas.{handled_by}
 use Rattle.rp_deck_declarations.proofs.draft.Draft.take_handler.Goals as goal

@@ -1,8 +1,8 @@
 -- A Boolean more.
 use Rattle.std.proofs.Common.{◌≡◌, ◌+◌, ◌∷◌, [], ◌++◌, length, rules, refl}
 use Rattle.std.specs.FinMap.{len}
-use Rattle.indexmap.specs.IndexMap.{values}
-use Rattle.rp_entry.specs.Operations.{OperationsFit}
+use Rattle.rp_deck_bodies.specs.indexmap.specs.IndexMap.{values}
+use Rattle.rp_object.specs.rp_entry.specs.Operations.{OperationsFit}
 use Rattle.rp_deck_bodies.specs.declared.names.Component.TheVariants.{Bool}
 use Rattle.rp_deck_objects.proofs.ObjectLemmas.{same_components, bool_more, counted_front}
 use Rattle.rp_deck_objects.proofs.objects.ObjectDraft.add_bool.Goals as goal

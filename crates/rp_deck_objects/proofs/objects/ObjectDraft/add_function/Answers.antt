@@ -1,8 +1,8 @@
 -- A function more, and its name.
 use Rattle.std.proofs.Common.{◌≡◌, ◌+◌, length, true, rules, refl, sym, subst}
 use Rattle.std.specs.Prelude.{is_some}
-use Rattle.rp_entry.specs.Operations.{of_index}
-use Rattle.rp_entry.specs.declared.operations.Operations.{Operations}
+use Rattle.rp_object.specs.rp_entry.specs.Operations.{of_index}
+use Rattle.rp_object.specs.rp_entry.specs.declared.operations.Operations.{Operations}
 use Rattle.rp_deck_objects.specs.declared.names.OperationName.TheVariants.{Function}
 use Rattle.rp_deck_objects.proofs.Naming.{last_numbered, function_more, named_after}
 use Rattle.rp_deck_objects.proofs.ObjectLemmas.{function_fits, same_entries}

@@ -3,10 +3,10 @@ use Rattle.std.proofs.Common.{◌≡◌, ◌+◌, ◌∷◌, [], ◌++◌, lengt
 use Rattle.std.specs.Prelude.{IsTrue, FitsSigned}
 use Rattle.std.specs.Int.{w64}
 use Rattle.std.specs.FinMap.{insert, len}
-use Rattle.indexmap.specs.IndexMap.{values}
-use Rattle.rp_body.specs.declared.components.Ranged.{Ranged}
-use Rattle.rp_body.specs.Store.{is_within}
-use Rattle.rp_entry.specs.Operations.{OperationsFit}
+use Rattle.rp_deck_bodies.specs.indexmap.specs.IndexMap.{values}
+use Rattle.rp_object.specs.rp_body.specs.declared.components.Ranged.{Ranged}
+use Rattle.rp_object.specs.rp_body.specs.Store.{is_within}
+use Rattle.rp_object.specs.rp_entry.specs.Operations.{OperationsFit}
 use Rattle.rp_deck_bodies.specs.declared.names.Component.TheVariants.{Int}
 use Rattle.rp_deck_objects.proofs.ObjectLemmas.{same_components, int_more, counted_front}
 use Rattle.rp_deck_objects.proofs.objects.ObjectDraft.add_int.Goals as goal

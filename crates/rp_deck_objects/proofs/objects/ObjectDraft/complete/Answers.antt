@@ -2,10 +2,10 @@
 use Rattle.std.proofs.Common.{◌≡◌, ◌+◌, length, true, rules, arith, refl, sym, subst}
 use Rattle.std.specs.Prelude.{is_some}
 use Rattle.std.proofs.lemmas.Result.{on_ok_weaker}
-use Rattle.rp_entry.specs.Operations.{of_index}
-use Rattle.rp_entry.specs.declared.operations.Operations.{Operations}
-use Rattle.rp_entry.specs.declared.operations.Entry.{Entry as DeclaredEntry}
-use Rattle.indexmap.specs.IndexMap.{values}
+use Rattle.rp_object.specs.rp_entry.specs.Operations.{of_index}
+use Rattle.rp_object.specs.rp_entry.specs.declared.operations.Operations.{Operations}
+use Rattle.rp_object.specs.rp_entry.specs.declared.operations.Entry.{Entry as DeclaredEntry}
+use Rattle.rp_deck_bodies.specs.indexmap.specs.IndexMap.{values}
 use Rattle.rp_deck_objects.specs.declared.objects.Head.{Head}
 use Rattle.rp_deck_objects.specs.declared.objects.Head.TheVariants as heads
 use Rattle.rp_deck_objects.specs.declared.names.OperationName.TheVariants.{Procedure, Entry}

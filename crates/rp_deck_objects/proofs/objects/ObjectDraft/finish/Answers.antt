@@ -1,7 +1,7 @@
 -- An object that keeps its limits.
 use Rattle.std.proofs.Common.{◌≡◌, length, arith, sym, subst}
-use Rattle.rp_body.specs.Store.{limits_of}
-use Rattle.rp_entry.specs.Operations.{OperationsFit}
+use Rattle.rp_object.specs.rp_body.specs.Store.{limits_of}
+use Rattle.rp_object.specs.rp_entry.specs.Operations.{OperationsFit}
 use Rattle.rp_object.specs.Program.{KeepsProfile}
 use Rattle.rp_deck_objects.proofs.objects.ObjectDraft.finish.Goals as goal
 

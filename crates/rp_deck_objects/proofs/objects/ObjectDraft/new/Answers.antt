@@ -1,6 +1,6 @@
 -- An object that has nothing yet.
 use Rattle.std.proofs.Common.{◌≡◌, [], ◌∙◌, length, rules, sym, ap, subst}
-use Rattle.indexmap.specs.IndexMap.{values}
+use Rattle.rp_deck_bodies.specs.indexmap.specs.IndexMap.{values}
 use Rattle.rp_deck_objects.specs.ObjectLimits.{KeepsComponents}
 use Rattle.rp_deck_objects.proofs.ObjectLemmas.{no_components, no_operations, no_entries}
 use Rattle.rp_deck_objects.proofs.objects.ObjectDraft.new.Goals as goal

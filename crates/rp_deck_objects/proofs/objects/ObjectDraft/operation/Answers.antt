@@ -1,13 +1,13 @@
 use Rattle.std.proofs.Common.{◌≡◌, ◌∙◌, true, List, ℕ, Option, Some, None, IfSome, ap, sym}
 use Rattle.std.specs.Prelude.{option_map, All}
-use Rattle.indexmap.specs.IndexMap.{values}
-use Rattle.rp_entry.specs.declared.operations.Operations.{Operations}
+use Rattle.rp_deck_bodies.specs.indexmap.specs.IndexMap.{values}
+use Rattle.rp_object.specs.rp_entry.specs.declared.operations.Operations.{Operations}
 use Rattle.rp_object.specs.Program.{has_operation}
 use Rattle.rp_deck_objects.specs.declared.names.OperationName.{OperationName}
 use Rattle.rp_deck_objects.specs.ObjectViews.{operation_of}
-use Rattle.rp_words.specs.Tables.{find, key_names}
+use Rattle.rp_deck_bodies.specs.rp_words.specs.Tables.{find, key_names}
 use Rattle.rp_deck_bodies.proofs.CountedLemmas.{found_holds}
-use Rattle.rp_words.proofs.TablesLemmas.{found_is, found_itself}
+use Rattle.rp_deck_bodies.specs.rp_words.proofs.TablesLemmas.{found_is, found_itself}
 use Rattle.rp_deck_objects.proofs.objects.ObjectDraft.operation.Goals as goal
 
 has_found : (name : List ℕ) (names : List (List ℕ)) (declared : List OperationName) (operations : Operations) (found : Option OperationName) → found ≡ find name names declared

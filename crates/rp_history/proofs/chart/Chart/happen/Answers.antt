@@ -1,6 +1,6 @@
 -- The event is the last moment.
 use Rattle.std.proofs.Common.{◌∙◌, Bool, Option, List, map, length, length-append, arith, sym, ap, subst}
-use Rattle.rp_codec.specs.Message.{Message}
+use Rattle.rp_model.specs.rp_codec.specs.Message.{Message}
 use Rattle.rp_drawing.specs.Ways.{IsEndingWithin}
 use Rattle.rp_drawing.specs.declared.sketch.Ending.{Ending}
 use Rattle.rp_drawing.specs.declared.sketch.Moment.{Moment}

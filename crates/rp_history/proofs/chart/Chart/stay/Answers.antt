@@ -1,7 +1,7 @@
 -- The world stays.
 use Rattle.std.proofs.Common.{◌∙◌, Bool, Option, List, [], map, length, arith, sym, ap, subst}
 use Rattle.std.proofs.lemmas.List.{drop_all}
-use Rattle.rp_codec.specs.Message.{Message}
+use Rattle.rp_model.specs.rp_codec.specs.Message.{Message}
 use Rattle.rp_drawing.specs.Ways.{IsEndingWithin}
 use Rattle.rp_drawing.specs.declared.sketch.Ending.{Ending}
 use Rattle.rp_drawing.specs.declared.sketch.Moment.{Moment}

@@ -1,5 +1,5 @@
 use Rattle.std.proofs.Common.{ℕ, subst}
-use Rattle.rp_codec.specs.declared.packet.Body.TheVariants.{Accept}
+use Rattle.rp_model.specs.rp_codec.specs.declared.packet.Body.TheVariants.{Accept}
 use Rattle.rp_model.specs.Says.{says}
 use Rattle.rp_outbox.specs.Packets.{IsTextOf}
 use Rattle.rp_outbox.proofs.Placed.{accept_is_packet}

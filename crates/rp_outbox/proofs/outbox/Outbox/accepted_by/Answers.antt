@@ -1,4 +1,4 @@
-use Rattle.rp_codec.specs.Usual.{accepted_at}
+use Rattle.rp_model.specs.rp_codec.specs.Usual.{accepted_at}
 use Rattle.rp_outbox.proofs.Placed.{accepted_is_packet}
 use Rattle.rp_outbox.proofs.outbox.Outbox.accepted_by.Goals as goal
 

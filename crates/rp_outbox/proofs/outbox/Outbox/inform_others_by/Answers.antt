@@ -1,6 +1,6 @@
 use Rattle.std.proofs.Common.{◌≡◌, ℕ, subst}
-use Rattle.rp_codec.specs.Text.{text_of}
-use Rattle.rp_codec.specs.declared.packet.Body.TheVariants.{Decided}
+use Rattle.rp_model.specs.rp_codec.specs.Text.{text_of}
+use Rattle.rp_model.specs.rp_codec.specs.declared.packet.Body.TheVariants.{Decided}
 use Rattle.rp_model.specs.Says.{says}
 use Rattle.rp_outbox.proofs.Placed.{decided_is_packet}
 use Rattle.rp_outbox.proofs.outbox.Outbox.inform_others_by.Goals as goal

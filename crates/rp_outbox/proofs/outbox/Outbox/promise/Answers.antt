@@ -1,4 +1,4 @@
-use Rattle.rp_codec.specs.Usual.{promise_at}
+use Rattle.rp_model.specs.rp_codec.specs.Usual.{promise_at}
 use Rattle.rp_outbox.proofs.Placed.{promise_is_packet}
 use Rattle.rp_outbox.proofs.outbox.Outbox.promise.Goals as goal
 

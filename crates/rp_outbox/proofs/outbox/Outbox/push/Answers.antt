@@ -1,6 +1,6 @@
 use Rattle.std.proofs.Common.{◌≡◌, ◌≤◌, ◌++◌, ◌∷◌, [], List, ℕ, length, take, refl, ap, ◌∙◌, arith}
 use Rattle.std.proofs.lemmas.List.{take_all}
-use Rattle.rp_codec.specs.Text.{text_of}
+use Rattle.rp_model.specs.rp_codec.specs.Text.{text_of}
 use Rattle.rp_outbox.specs.Packets.{Sending}
 use Rattle.rp_outbox.proofs.Joined.{run_more, sent_more, end_of}
 use Rattle.rp_outbox.proofs.outbox.Outbox.push.Goals as goal

@@ -1,5 +1,5 @@
 use Rattle.std.proofs.Common.{◌+◌, ◌∙◌, arith}
-use Rattle.rp_base.specs.Number.{IsNode}
+use Rattle.rp_model.specs.rp_base.specs.Number.{IsNode}
 use Rattle.rp_model.specs.Says.{says}
 use Rattle.rp_outbox.proofs.Queueing.{to_another, to_any_node, one_node_more}
 use Rattle.rp_outbox.proofs.outbox.Outbox.put_to_all.Goals as goal

@@ -1,5 +1,5 @@
 use Rattle.std.proofs.Common.{◌≡◌, ◌+◌, ◌*◌, ◌≤◌, ◌++◌, ℕ}
-use Rattle.rp_codec.specs.declared.packet.Body.{Body}
+use Rattle.rp_model.specs.rp_codec.specs.declared.packet.Body.{Body}
 use Rattle.rp_model.specs.Says.{says, says_to_all}
 use Rattle.rp_outbox.specs.Packets.{IsTextOf, longest_text}
 use Rattle.rp_outbox.proofs.outbox.Outbox.put_to_all.Given as goal

@@ -1,6 +1,6 @@
 use Rattle.std.proofs.Common.{◌≡◌, ◌+◌, ◌*◌, ◌≤◌, ◌++◌, Bool, true, false, not, nat_eq, refl, sym, ap, subst, ◌∙◌, arith}
-use Rattle.rp_base.specs.Number.{IsNode}
-use Rattle.rp_codec.specs.declared.packet.Body.{Body}
+use Rattle.rp_model.specs.rp_base.specs.Number.{IsNode}
+use Rattle.rp_model.specs.rp_codec.specs.declared.packet.Body.{Body}
 use Rattle.rp_model.specs.Says.{says, says_to_others}
 use Rattle.rp_outbox.specs.Packets.{IsTextOf, Sending}
 use Rattle.rp_outbox.proofs.Queueing.{to_another, to_any_node, other_node_more, own_node_left}

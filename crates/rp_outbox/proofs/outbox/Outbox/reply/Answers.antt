@@ -1,8 +1,8 @@
 use Rattle.std.proofs.Common.{◌≡◌, rules, sym, subst, FitsSigned, w64}
-use Rattle.rp_base.specs.Right.{IsReply}
-use Rattle.rp_base.specs.declared.reply.Reply.{Reply}
-use Rattle.rp_codec.specs.Text.{text_of}
-use Rattle.rp_codec.specs.declared.packet.Body.TheVariants.{Reply as Answered}
+use Rattle.rp_model.specs.rp_base.specs.Right.{IsReply}
+use Rattle.rp_model.specs.rp_base.specs.declared.reply.Reply.{Reply}
+use Rattle.rp_model.specs.rp_codec.specs.Text.{text_of}
+use Rattle.rp_model.specs.rp_codec.specs.declared.packet.Body.TheVariants.{Reply as Answered}
 use Rattle.rp_model.specs.Says.{says_to_task}
 use Rattle.rp_outbox.proofs.outbox.Outbox.reply.Goals as goal
 

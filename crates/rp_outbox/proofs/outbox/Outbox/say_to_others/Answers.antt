@@ -1,6 +1,6 @@
 use Rattle.std.proofs.Common.{ap, subst, ◌∙◌}
-use Rattle.rp_codec.specs.Message.{IsPacket}
-use Rattle.rp_codec.specs.Text.{text_of}
+use Rattle.rp_model.specs.rp_codec.specs.Message.{IsPacket}
+use Rattle.rp_model.specs.rp_codec.specs.Text.{text_of}
 use Rattle.rp_outbox.proofs.outbox.Outbox.say_to_others.Goals as goal
 
 pub put_to_others-requires-clause-packet : goal.put_to_others-requires-clause-packet

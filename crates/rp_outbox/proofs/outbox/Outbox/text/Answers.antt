@@ -1,7 +1,7 @@
 use Rattle.std.proofs.Common.{length, take, sym, ap, ◌∙◌, arith}
 use Rattle.std.specs.Prelude.{slice_get, option_map}
 use Rattle.std.proofs.lemmas.Option.{slice_get_past}
-use Rattle.rp_codec.specs.Text.{text_of}
+use Rattle.rp_model.specs.rp_codec.specs.Text.{text_of}
 use Rattle.rp_outbox.specs.Packets.{Sending, packets_in}
 use Rattle.rp_outbox.proofs.Joined.{run_again, right_at}
 use Rattle.rp_outbox.proofs.outbox.Outbox.text.Goals as goal

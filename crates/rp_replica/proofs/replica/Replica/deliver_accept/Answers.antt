@@ -1,7 +1,7 @@
 -- A first vote is written and sent.
 use Rattle.std.proofs.Common.{◌≡◌, List, Some, None, refl, sym, subst}
 use Rattle.std.specs.Prelude.{slice_get, Result, OnOk, OnErr, IfErr}
-use Rattle.rp_acceptor.specs.First.{IsFirstVote}
+use Rattle.rp_rules.specs.rp_acceptor.specs.First.{IsFirstVote}
 use Rattle.rp_base.specs.declared.fault.WriteFault.{WriteFault}
 use Rattle.rp_base.specs.declared.record.Rec.TheVariants.{Voted}
 use Rattle.rp_base.specs.WriteFaults.{fault_of}

@@ -2,8 +2,8 @@
 use Rattle.std.proofs.Common.{◌≡◌, false, true, refl, sym, subst, append-nil, ◌∙◌}
 use Rattle.std.specs.Prelude.{slice_get, Result, Err}
 use Rattle.rp_base.specs.declared.fault.WriteFault.{WriteFault}
-use Rattle.rp_learner.specs.Status.{vote_for}
-use Rattle.rp_learner.specs.declared.learner.VoteStatus.TheVariants as statuses
+use Rattle.rp_rules.specs.rp_learner.specs.Status.{vote_for}
+use Rattle.rp_rules.specs.rp_learner.specs.declared.learner.VoteStatus.TheVariants as statuses
 use Rattle.rp_model.specs.declared.effect.Dropped.TheVariants.{No}
 use Rattle.rp_model.specs.declared.plan.Plan.TheVariants as plans
 use Rattle.rp_outbox.proofs.Joined.{text_found_is}

@@ -1,7 +1,7 @@
 -- A promise with no vote to report is written and sent.
 use Rattle.std.proofs.Common.{◌≡◌, List, Some, None, refl, sym, subst}
 use Rattle.std.specs.Prelude.{slice_get, Result, OnOk, OnErr, IfErr}
-use Rattle.rp_acceptor.specs.First.{IsFirstPromise}
+use Rattle.rp_rules.specs.rp_acceptor.specs.First.{IsFirstPromise}
 use Rattle.rp_base.specs.declared.fault.WriteFault.{WriteFault}
 use Rattle.rp_base.specs.declared.record.Rec.TheVariants.{Promised}
 use Rattle.rp_base.specs.WriteFaults.{fault_of}

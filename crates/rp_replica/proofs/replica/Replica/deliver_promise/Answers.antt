@@ -5,7 +5,7 @@ use Rattle.rp_codec.specs.declared.packet.Body.TheVariants as bodies
 use Rattle.rp_model.specs.declared.effect.Dropped.TheVariants.{No}
 use Rattle.rp_model.specs.declared.plan.Plan.TheVariants as plans
 use Rattle.rp_outbox.proofs.Joined.{text_found_is}
-use Rattle.rp_proposer.specs.declared.proposal.Progress.TheVariants as steps
+use Rattle.rp_rules.specs.rp_proposer.specs.declared.proposal.Progress.TheVariants as steps
 use Rattle.rp_rules.specs.Plans.{IsPlanOf}
 use Rattle.rp_replica.specs.State.{ReplicaState, server_of}
 use Rattle.rp_replica.proofs.Delivered.{HasPlan, progress_plan, carried_out, not_carried_out, takes_memory, goes_to_some}

@@ -1,5 +1,5 @@
 use Rattle.std.proofs.Common.{◌≡◌, true, Some, [], sym, subst, refl}
-use Rattle.rp_server.specs.Invariant.{vote_record}
+use Rattle.rp_rules.specs.rp_server.specs.Invariant.{vote_record}
 use Rattle.rp_model.specs.Parts.{is_in_log}
 use Rattle.rp_model.specs.Says.{writes}
 use Rattle.rp_replica.specs.Cutting.{MayWrite}

@@ -1,7 +1,7 @@
 use Rattle.std.proofs.Common.{◌≤◌, Some, sym, subst, refl}
 use Rattle.std.proofs.lemmas.Bool.{le-leb}
 use Rattle.rp_base.specs.declared.record.Rec.TheVariants.{Learned}
-use Rattle.rp_server.specs.Applying.{learns_alone}
+use Rattle.rp_rules.specs.rp_server.specs.Applying.{learns_alone}
 use Rattle.rp_replica.specs.Cutting.{MayWrite}
 use Rattle.rp_replica.specs.State.{ReplicaState}
 use Rattle.rp_replica.proofs.Cuts.{write_fails}

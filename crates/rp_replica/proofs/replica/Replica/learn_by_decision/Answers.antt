@@ -1,7 +1,7 @@
 use Rattle.std.proofs.Common.{◌≡◌, [], ◌∷◌, ◌++◌, ap, ◌∙◌, append_assoc, List}
 use Rattle.rp_base.specs.declared.record.Rec.TheVariants.{Learned}
 use Rattle.rp_model.specs.Learner.{asks_for, missing_position}
-use Rattle.rp_server.specs.Applying.{learns_alone}
+use Rattle.rp_rules.specs.rp_server.specs.Applying.{learns_alone}
 use Rattle.rp_replica.specs.State.{ReplicaState, server_of}
 use Rattle.rp_replica.proofs.Accepted.{learned_commits}
 use Rattle.rp_codec.specs.Message.{Message}

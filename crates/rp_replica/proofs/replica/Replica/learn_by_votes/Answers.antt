@@ -1,7 +1,7 @@
 use Rattle.std.proofs.Common.{[], ◌++◌, ap, sym, ◌∙◌, append-nil, List}
 use Rattle.rp_codec.specs.declared.packet.Body.TheVariants as bodies
 use Rattle.rp_model.specs.Says.{says_to_others}
-use Rattle.rp_server.specs.Applying.{learns_alone}
+use Rattle.rp_rules.specs.rp_server.specs.Applying.{learns_alone}
 use Rattle.rp_replica.specs.State.{server_of}
 use Rattle.rp_replica.proofs.Accepted.{learned_commits}
 use Rattle.rp_codec.specs.Message.{Message}

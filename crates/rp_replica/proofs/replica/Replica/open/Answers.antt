@@ -3,7 +3,7 @@ use Rattle.std.specs.List.{AllByRecursion}
 use Rattle.rp_base.specs.declared.record.Rec.{Rec}
 use Rattle.rp_base.specs.Right.{IsRightRecord}
 use Rattle.rp_model.specs.Parts.{is_in_log}
-use Rattle.rp_server.specs.Invariant.{AllInLog}
+use Rattle.rp_rules.specs.rp_server.specs.Invariant.{AllInLog}
 use Rattle.rp_rules.proofs.Answering.{right_records}
 use Rattle.rp_replica.proofs.Keeping.{all_in_log}
 use Rattle.rp_replica.proofs.replica.Replica.open.Goals as goal

@@ -1,6 +1,6 @@
 -- The node is the one that was opened, with no step made.
 use Rattle.std.proofs.Common.{refl, subst, sym}
-use Rattle.rp_store.specs.Disk.{disk_of}
+use Rattle.rp_replica.specs.rp_store.specs.Disk.{disk_of}
 use Rattle.rp_requests.specs.Nodes.{NodeState}
 use Rattle.rp_requests.specs.Opening.{IsOpenedNode}
 use Rattle.rp_requests.proofs.node.Node.open.Goals as goal

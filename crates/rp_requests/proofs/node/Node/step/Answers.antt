@@ -1,10 +1,10 @@
 -- The step took effect, and its answer is put into the buffer, or is too long for it; or it was refused.
 use Rattle.std.proofs.Common.{◌≡◌, ◌≤◌, ◌∙◌, Bool, Result, Err, arith, ap, length, refl, subst, sym}
 use Rattle.rp_base.specs.declared.fault.Fault.{Fault}
-use Rattle.rp_model.specs.Effect.{NodeInput}
-use Rattle.rp_model.specs.Parts.{Turn}
+use Rattle.rp_replica.specs.rp_model.specs.Effect.{NodeInput}
+use Rattle.rp_replica.specs.rp_model.specs.Parts.{Turn}
 use Rattle.rp_replica.specs.Inputs.{input_effect}
-use Rattle.rp_rules.specs.Inputs.{given_by}
+use Rattle.rp_replica.specs.rp_rules.specs.Inputs.{given_by}
 use Rattle.rp_requests.specs.declared.refusal.Refusal.{Refusal}
 use Rattle.rp_requests.specs.Nodes.{NodeState, StepAnswers, is_at_end, step_bytes, step_refusal}
 use Rattle.rp_requests.proofs.Steps.{refused, step_put, step_too_long}

@@ -1,6 +1,6 @@
 use Rattle.std.proofs.Common.{◌≡◌, Bool, ap, refl, subst, sym, ◌∙◌, drop, ◌++◌, append_assoc, append-nil, List}
 use Rattle.rp_base.specs.declared.record.Rec.{Rec}
-use Rattle.rp_codec.specs.declared.packet.Body.TheVariants.{Decided}
+use Rattle.rp_model.specs.rp_codec.specs.declared.packet.Body.TheVariants.{Decided}
 use Rattle.rp_model.specs.Says.{says_to_others}
 use Rattle.rp_server.specs.Applying.{learns_alone, decided_packets}
 use Rattle.rp_server.specs.State.{ServerState, server_after}
@@ -8,7 +8,7 @@ use Rattle.rp_server.specs.Invariant.{IsServer}
 use Rattle.rp_outbox.specs.Packets.{Sending}
 use Rattle.rp_server.proofs.Learned.{server_room, log_learned, learned_is_right, follows_on, follows_alike, server_learned, learned_taken, replies_learned}
 use Rattle.rp_server.proofs.server.Server.learn.Goals.{then-decision, else-decision}
-use Rattle.rp_codec.specs.Message.{Message}
+use Rattle.rp_model.specs.rp_codec.specs.Message.{Message}
 use Rattle.rp_server.proofs.server.Server.learn.Goals as goal
 
 pub invariant_of-self-in_err-write_decision : goal.invariant_of-self-in_err-write_decision

@@ -4,7 +4,7 @@ use Rattle.std.proofs.lemmas.List.Elements.{All-from_recursion}
 use Rattle.rp_base.specs.declared.action.Action.{Action}
 use Rattle.rp_base.specs.Action.{IsRight}
 use Rattle.rp_base.specs.Records.{applied_of}
-use Rattle.rp_codec.specs.Message.{report_len}
+use Rattle.rp_model.specs.rp_codec.specs.Message.{report_len}
 use Rattle.rp_log.proofs.RecordedRuns.{all_taken}
 use Rattle.rp_server.specs.State.{ServerState}
 use Rattle.rp_server.proofs.Reporting.{run_right, reported_right}

@@ -1,6 +1,6 @@
 use Rattle.std.proofs.Common.{◌≡◌, Ok, ap, ◌∙◌}
 use Rattle.rp_replica.specs.Inputs.{effect_if_given, input_effect}
-use Rattle.rp_rules.specs.Inputs.{given_by}
+use Rattle.rp_replica.specs.rp_rules.specs.Inputs.{given_by}
 use Rattle.rp_world.proofs.Light.{light_turn}
 use Rattle.rp_world.proofs.Represented.{node_runs, runs_as}
 use Rattle.rp_world.proofs.Turning.{each_ok, each_err, each_given, unsent}

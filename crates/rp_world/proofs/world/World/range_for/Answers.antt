@@ -3,8 +3,8 @@ use Rattle.std.proofs.lemmas.Bool.{ltb-false}
 use Rattle.std.specs.Prelude.{IfOk}
 use Rattle.rp_base.specs.Ranges.{range_of}
 use Rattle.rp_model.specs.Effect as inputs
-use Rattle.rp_rules.specs.Inputs.{given_by}
-use Rattle.rp_rules.specs.declared.input.Input.TheVariants.{LeadRange}
+use Rattle.rp_replica.specs.rp_rules.specs.Inputs.{given_by}
+use Rattle.rp_replica.specs.rp_rules.specs.declared.input.Input.TheVariants.{LeadRange}
 use Rattle.rp_world.specs.Nodes.{member_of}
 use Rattle.rp_world.proofs.Choosing.{none_among, one_among, represents_among, range_given, fault_of, no_node_leads, stopped_leads, leads_no_range}
 use Rattle.rp_world.proofs.Placing.{found_in, placed_at}

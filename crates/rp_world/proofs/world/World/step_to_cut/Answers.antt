@@ -4,8 +4,8 @@ use Rattle.rp_codec.specs.Reading.{all_of}
 use Rattle.rp_model.specs.Effect as nodes
 use Rattle.rp_model.specs.Events.{step_of}
 use Rattle.rp_model.specs.World.{part_at}
-use Rattle.rp_rules.specs.Inputs.{packet_given}
-use Rattle.rp_rules.specs.declared.input.Input.TheVariants.{Receive}
+use Rattle.rp_replica.specs.rp_rules.specs.Inputs.{packet_given}
+use Rattle.rp_replica.specs.rp_rules.specs.declared.input.Input.TheVariants.{Receive}
 use Rattle.rp_world.specs.Choosing.{IsOf, IsOfNone}
 use Rattle.rp_world.proofs.Choosing.{as_many, no_text, no_message, for_no_node, past_all, delivered, none_chosen, one_chosen}
 use Rattle.rp_world.proofs.Messages.{packet_found}

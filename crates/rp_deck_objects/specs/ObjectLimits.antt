@@ -11,8 +11,8 @@ use Rattle.rp_object.specs.rp_entry.specs.declared.operations.Operations.{Operat
 use Rattle.rp_object.specs.Program.{has_operation, IsPriority, EndsFit, KeepsProfile}
 use Rattle.rp_object.specs.declared.program.Profile.{Profile}
 use Rattle.rp_object.specs.declared.program.Profile.TheVariants.{Ravenscar, Jorvik}
-use Rattle.rp_deck_bodies.specs.rp_words.specs.declared.line_error.LineError.{LineError}
-use Rattle.rp_deck_bodies.specs.rp_words.specs.Tables.{is_declared, key_names}
+use Rattle.rp_words.specs.declared.line_error.LineError.{LineError}
+use Rattle.rp_words.specs.Tables.{is_declared, key_names}
 use Rattle.rp_deck_bodies.specs.BodyLimits.{IsBody}
 use Rattle.rp_deck_bodies.specs.Counted.{AreCounted, WhereCounted}
 use Rattle.rp_deck_bodies.specs.declared.names.Component.{Component}

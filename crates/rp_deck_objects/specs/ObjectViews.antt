@@ -9,7 +9,7 @@ use Rattle.rp_object.specs.rp_entry.specs.declared.operations.Function.{Function
 use Rattle.rp_object.specs.rp_entry.specs.declared.operations.Function.TheVariants as functions
 use Rattle.rp_object.specs.Program.{operations_of}
 use Rattle.rp_object.specs.declared.program.ObjectDeclaration.{ObjectDeclaration}
-use Rattle.rp_deck_bodies.specs.rp_words.specs.Tables.{key_names}
+use Rattle.rp_words.specs.Tables.{key_names}
 use Rattle.rp_deck_bodies.specs.Bodies.{BodyText}
 use Rattle.rp_deck_bodies.specs.BodyViews.{body_text, body_draft_text}
 use Rattle.rp_deck_bodies.specs.ExpressionViews.{expr_text, cond_text}

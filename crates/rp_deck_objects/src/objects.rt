@@ -3,22 +3,18 @@
 ghost use Rattle.std.specs.Prelude.{◌≡◌, ◌≤◌, ◌<◌, ◌+◌, Some, true, false, length, IfSome, IfOk, IfErr, OnOk};
 ghost use Rattle.std.specs.FinMap.{len};
 ghost use Rattle.rp_object.specs.Program.{has_operation, operations_of, DeclarationFits, KeepsProfile};
-ghost use Rattle.rp_deck_bodies.specs.rp_words.specs.Ahead.{text_of};
+ghost use Rattle.rp_words.specs.Ahead.{text_of};
 ghost use Rattle.rp_deck_bodies.specs.indexmap.specs.IndexMap.{values};
 ghost use Rattle.rp_object.specs.rp_body.specs.Store.{is_within};
 ghost use Rattle.rp_object.specs.rp_entry.specs.Operations.{FunctionFits};
 ghost use Rattle.rp_deck_bodies.specs.Counted.{WhereCounted};
 ghost use Rattle.rp_deck_objects.specs.ObjectLimits.{AreNamed};
 ghost use Rattle.rp_deck_objects.specs.Objects.{ranged_at, function_named, most_entries, longest_at, queue_at};
-ghost use Rattle.rp_deck_bodies.specs.rp_words.specs.Reading.{Gives, Makes};
-ghost use Rattle.rp_deck_bodies.specs.rp_words.specs.Words.{unread};
+ghost use Rattle.rp_words.specs.Reading.{Gives, Makes};
+ghost use Rattle.rp_words.specs.Words.{unread};
 
 use crate::names::{EntryIndex, Index, OperationName, OperationNames};
 use rp_deck_bodies::indexmap::IndexMap;
-use rp_deck_bodies::rp_words::{
-    LineError, TextLine, Words, insert_in_map, insert_string_in_map, is_word, map_has_name, named,
-    take_name_new_to_map, truth_named,
-};
 use rp_deck_bodies::{
     BodyDraft, Component, ComponentNames, bool_named, is_of_expressions, read_cond, read_expr,
 };
@@ -26,6 +22,10 @@ use rp_object::rp_base::{DeckReason, MOST_ENTRIES, MOST_OPERATIONS};
 use rp_object::rp_body::{Components, MOST_OF_A_KIND, Ranged};
 use rp_object::rp_entry::{Entry, Function, LONGEST_QUEUE, Operations};
 use rp_object::{ObjectDeclaration, Profile};
+use rp_words::{
+    LineError, TextLine, Words, insert_in_map, insert_string_in_map, is_word, map_has_name, named,
+    take_name_new_to_map, truth_named,
+};
 use std::alloc::{AllocError, Global};
 use std::sync::Arc;
 
@@ -105,7 +105,7 @@ impl ObjectDraft {
     ghost use Rattle.rp_deck_objects.specs.Objects.{empty_object, component_name_at, with_int, int_line, with_bool, bool_line, function_of, with_function, function_line, procedure_line, entry_line, begun_line, completed_as, operation_line, part_line, object_step};
     ghost use Rattle.rp_deck_objects.specs.ObjectLimits.{MayBegin, IsOpenIn, IsObject, MayDeclare, KeepsProcedures, KeepsObject};
     ghost use Rattle.rp_deck_bodies.specs.BodyViews.{body_draft_text};
-    ghost use Rattle.rp_deck_bodies.specs.rp_words.specs.Tables.{find, is_declared, key_names};
+    ghost use Rattle.rp_words.specs.Tables.{find, is_declared, key_names};
 
     /// An object that has nothing yet.
     pub fn new(alloc: Global, name: String, ceiling: u8) -> Self
@@ -297,7 +297,7 @@ impl ObjectDraft {
     }
 
     /// Adds a whole number.
-    #[tactic(auto, using(rp_deck_bodies::rp_words::proofs::TablesLemmas::map_last))]
+    #[tactic(auto, using(rp_words::proofs::TablesLemmas::map_last))]
     fn add_int(&mut self, alloc: Global, name: &str, component: Ranged) -> Result<(), LineError>
         requires new { is_declared name.now (key_names self.old.component_names) ≡ false }
         requires room { len self.old.components.ints < 8 }
@@ -315,7 +315,7 @@ impl ObjectDraft {
     }
 
     /// Adds a Boolean.
-    #[tactic(auto, using(rp_deck_bodies::rp_words::proofs::TablesLemmas::map_last))]
+    #[tactic(auto, using(rp_words::proofs::TablesLemmas::map_last))]
     fn add_bool(&mut self, alloc: Global, name: &str, value: bool) -> Result<(), LineError>
         requires new { is_declared name.now (key_names self.old.component_names) ≡ false }
         requires room { len self.old.components.bools < 8 }
@@ -348,7 +348,7 @@ impl ObjectDraft {
     }
 
     /// Adds a function.
-    #[tactic(auto, using(rp_deck_bodies::rp_words::proofs::TablesLemmas::map_last))]
+    #[tactic(auto, using(rp_words::proofs::TablesLemmas::map_last))]
     fn add_function(
         &mut self,
         alloc: Global,

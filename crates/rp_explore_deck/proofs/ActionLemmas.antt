@@ -2,9 +2,9 @@
 use Rattle.std.proofs.Common.{◌≡◌, ◌≤◌, ℕ, List, [], ◌∷◌, ◌++◌, ◌⊎◌, inl, inr, subst, sym, arith}
 use Rattle.std.specs.Prelude.{All, slice_index_or}
 use Rattle.rp_words.specs.indexmap.specs.IndexSet.{index_set_len}
-use Rattle.rp_base.specs.Action.{IsRight}
-use Rattle.rp_base.specs.Sets.{Has}
-use Rattle.rp_base.specs.declared.action.Action.{Action}
+use Rattle.rp_deck.specs.rp_base.specs.Action.{IsRight}
+use Rattle.rp_deck.specs.rp_base.specs.Sets.{Has}
+use Rattle.rp_deck.specs.rp_base.specs.declared.action.Action.{Action}
 use Rattle.rp_deck.specs.Deck.{IsRightDeck}
 use Rattle.rp_deck.specs.DeckViews.{command_text}
 use Rattle.rp_deck.specs.Script.{FitsIn}

@@ -4,13 +4,13 @@ use Rattle.std.specs.Prelude.{if◌then◌else◌, ◌&&◌, ◌||◌}
 use Rattle.std.specs.List.{list_any}
 use Rattle.std.proofs.lemmas.Bool.{eqb-true, eq-eqb}
 use Rattle.std.proofs.lemmas.List.Elements.{filter-append}
-use Rattle.rp_base.specs.Action.{same_action}
-use Rattle.rp_base.specs.Sets.{Has}
-use Rattle.rp_base.specs.declared.action.Action.{Action}
-use Rattle.rp_base.specs.declared.action.Action.TheVariants as actions
-use Rattle.rp_base.specs.declared.fault.DeckReason.{DeckReason}
-use Rattle.rp_base.specs.declared.fault.DeckReason.TheVariants.{UnknownWord}
-use Rattle.rp_base.proofs.Members.{has_split}
+use Rattle.rp_deck.specs.rp_base.specs.Action.{same_action}
+use Rattle.rp_deck.specs.rp_base.specs.Sets.{Has}
+use Rattle.rp_deck.specs.rp_base.specs.declared.action.Action.{Action}
+use Rattle.rp_deck.specs.rp_base.specs.declared.action.Action.TheVariants as actions
+use Rattle.rp_deck.specs.rp_base.specs.declared.fault.DeckReason.{DeckReason}
+use Rattle.rp_deck.specs.rp_base.specs.declared.fault.DeckReason.TheVariants.{UnknownWord}
+use Rattle.rp_deck.specs.rp_base.proofs.Members.{has_split}
 use Rattle.rp_deck.specs.ScriptLines.{LineCommand, CommandText, Take}
 use Rattle.rp_deck_declarations.specs.Declaring.{on_line}
 use Rattle.rp_explore_deck.specs.GuardLines.{calls_above, guard_of, guards_of}

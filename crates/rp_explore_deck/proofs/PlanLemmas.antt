@@ -1,9 +1,9 @@
 -- The plan of a deck and of what its added lines say.
 use Rattle.std.proofs.Common.{◌≡◌, ℕ, ◌+◌, Bool, true, false, List, length, Result, Ok, Err, refl, ap, arith, subst, sym, ◌∙◌}
 use Rattle.std.specs.Prelude.{nat_lt, if◌then◌else◌, IfOk, IfErr}
-use Rattle.rp_base.specs.declared.fault.DeckReason.{DeckReason}
-use Rattle.rp_base.specs.declared.fault.Fault.{Fault}
-use Rattle.rp_base.specs.declared.fault.Fault.TheVariants as faults
+use Rattle.rp_deck.specs.rp_base.specs.declared.fault.DeckReason.{DeckReason}
+use Rattle.rp_deck.specs.rp_base.specs.declared.fault.Fault.{Fault}
+use Rattle.rp_deck.specs.rp_base.specs.declared.fault.Fault.TheVariants as faults
 use Rattle.rp_deck.specs.Meaning.{DeckText, texts_of, line_after, meaning_of}
 use Rattle.rp_deck.specs.declared.deck.Deck.{Deck}
 use Rattle.rp_deck.specs.declared.deck.Mode.TheVariants.{Live}

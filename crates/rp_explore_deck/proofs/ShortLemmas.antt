@@ -1,7 +1,7 @@
 -- A script has no more lines than its text has bytes.
 use Rattle.std.proofs.Common.{◌≡◌, ℕ, suc, ◌+◌, ◌≤◌, Bool, true, false, List, [], ◌∷◌, length, Result, Ok, Err, refl, ap, arith, length-append, Option, Some, None}
 use Rattle.std.specs.Prelude.{option_to_list, if◌then◌else◌, ◌==◌, ◌&&◌}
-use Rattle.rp_base.specs.declared.fault.DeckReason.{DeckReason}
+use Rattle.rp_deck.specs.rp_base.specs.declared.fault.DeckReason.{DeckReason}
 use Rattle.rp_deck.specs.Meaning.{DeckText, deck_of, texts_of, line_after, meaning_of}
 use Rattle.rp_deck.specs.ScriptLines.{LineCommand, command_line, script_of}
 use Rattle.rp_deck.specs.declared.deck.Mode.{Mode}

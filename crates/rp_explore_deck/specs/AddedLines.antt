@@ -4,8 +4,8 @@ use Rattle.std.specs.Prelude.{ℕ, ◌+◌, ◌||◌, Bool, true, false, nat_eq,
 use Rattle.std.specs.Prelude.{Option, Some, None, is_some, Result, Ok, if◌then◌else◌}
 use Rattle.std.specs.List.{list_any}
 use Rattle.std.specs.Str.{bytes_eq}
-use Rattle.rp_base.specs.Sets.{with_member}
-use Rattle.rp_base.specs.declared.fault.DeckReason.{DeckReason}
+use Rattle.rp_deck.specs.rp_base.specs.Sets.{with_member}
+use Rattle.rp_deck.specs.rp_base.specs.declared.fault.DeckReason.{DeckReason}
 use Rattle.rp_deck_declarations.specs.Declaring.{on_line}
 use Rattle.rp_explore_deck.specs.declared.rules.RuleKind.{RuleKind}
 use Rattle.rp_explore_deck.specs.declared.rules.RuleKind.TheVariants.{Never, Always, Finally}

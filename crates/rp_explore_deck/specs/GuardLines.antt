@@ -2,10 +2,10 @@
 use Rattle.std.specs.Prelude.{ℕ, ◌+◌, ◌||◌, ◌&&◌, Bool, nat_eq, nat_lt, List, [], ◌∷◌, ◌++◌, codes}
 use Rattle.std.specs.Prelude.{filter, length, Option, Some, None, Result, Ok, if◌then◌else◌}
 use Rattle.std.specs.Str.{bytes_eq}
-use Rattle.rp_base.specs.declared.fault.DeckReason.{DeckReason}
-use Rattle.rp_base.specs.declared.fault.DeckReason.TheVariants.{UnknownWord}
-use Rattle.rp_base.specs.declared.reply.Reply.{Reply}
-use Rattle.rp_base.specs.declared.reply.Reply.TheVariants as replies
+use Rattle.rp_deck.specs.rp_base.specs.declared.fault.DeckReason.{DeckReason}
+use Rattle.rp_deck.specs.rp_base.specs.declared.fault.DeckReason.TheVariants.{UnknownWord}
+use Rattle.rp_deck.specs.rp_base.specs.declared.reply.Reply.{Reply}
+use Rattle.rp_deck.specs.rp_base.specs.declared.reply.Reply.TheVariants as replies
 use Rattle.rp_deck.specs.ScriptLines.{declared_at}
 use Rattle.rp_deck_declarations.specs.Declaring.{on_line}
 use Rattle.rp_deck_declarations.specs.ScriptNames.{DeclaredNames}

@@ -3,10 +3,10 @@ use Rattle.std.specs.Prelude.{◌≡◌, ℕ, ◌+◌, Bool, false, nat_eq, List
 use Rattle.std.specs.Prelude.{map}
 use Rattle.std.specs.Prelude.{Option, Some, None, if◌then◌else◌}
 use Rattle.std.specs.List.{list_any}
-use Rattle.rp_base.specs.Action.{IsIndex, IsRightOperation, same_action}
-use Rattle.rp_base.specs.Sets.{Has}
-use Rattle.rp_base.specs.declared.action.Action.{Action}
-use Rattle.rp_base.specs.declared.action.Action.TheVariants as actions
+use Rattle.rp_deck.specs.rp_base.specs.Action.{IsIndex, IsRightOperation, same_action}
+use Rattle.rp_deck.specs.rp_base.specs.Sets.{Has}
+use Rattle.rp_deck.specs.rp_base.specs.declared.action.Action.{Action}
+use Rattle.rp_deck.specs.rp_base.specs.declared.action.Action.TheVariants as actions
 use Rattle.rp_deck.specs.ScriptLines.{LineCommand, CommandText, Take}
 use Rattle.rp_explore_deck.specs.declared.actions.PlannedAction.{PlannedAction}
 use Rattle.rp_orders.specs.rp_machine.specs.Replay.{number_for}

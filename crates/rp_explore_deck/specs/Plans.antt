@@ -1,7 +1,7 @@
 -- What the text of a deck means to `explore`: a plan, or the first bad line and its first reason.
 use Rattle.std.specs.Prelude.{ℕ, nat_lt, List, [], map, Result, Ok, Err, if◌then◌else◌}
-use Rattle.rp_base.specs.declared.fault.Fault.{Fault}
-use Rattle.rp_base.specs.declared.fault.Fault.TheVariants as faults
+use Rattle.rp_deck.specs.rp_base.specs.declared.fault.Fault.{Fault}
+use Rattle.rp_deck.specs.rp_base.specs.declared.fault.Fault.TheVariants as faults
 use Rattle.rp_deck.specs.DeckViews.{deck_text}
 use Rattle.rp_deck.specs.Meaning.{DeckText, texts_of, line_after, meaning_of}
 use Rattle.rp_deck.specs.declared.deck.Mode.TheVariants.{Live}

@@ -2,10 +2,11 @@
 use Rattle.std.specs.Prelude.{ℕ, zero, suc, ◌+◌, Bool, true, false, not, List, [], ◌∷◌, ◌++◌, codes}
 use Rattle.std.specs.Prelude.{slice_get, Result, Ok, Err, if◌then◌else◌}
 use Rattle.std.specs.Str.{bytes_eq}
-use Rattle.rp_base.specs.declared.action.Operation.{Operation}
-use Rattle.rp_base.specs.declared.action.Operation.TheVariants.{Function}
-use Rattle.rp_base.specs.declared.fault.DeckReason.{DeckReason}
-use Rattle.rp_base.specs.declared.fault.DeckReason.TheVariants.{UnknownWord, UnknownName, TooMany}
+use Rattle.rp_deck.specs.rp_base.specs.declared.action.Operation.{Operation}
+use Rattle.rp_deck.specs.rp_base.specs.declared.action.Operation.TheVariants.{Function}
+use Rattle.rp_deck.specs.rp_base.specs.declared.fault.DeckReason.{DeckReason}
+use Rattle.rp_deck.specs.rp_base.specs.declared.fault.DeckReason.TheVariants.{UnknownWord}
+use Rattle.rp_deck.specs.rp_base.specs.declared.fault.DeckReason.TheVariants.{UnknownName, TooMany}
 use Rattle.rp_deck.specs.ScriptLines.{declared_at}
 use Rattle.rp_deck_declarations.specs.DeclaredTexts.{ProgramText, Objects}
 use Rattle.rp_deck_declarations.specs.ScriptNames.{DeclaredNames}

@@ -2,12 +2,12 @@
 
 ghost use Rattle.std.specs.Prelude.{◌≡◌, ◌+◌, ◌^◌, ◌<◌, ◌≤◌, Some, [], All, length, map, IfOk, IfSome, OnOk};
 ghost use Rattle.std.specs.List.{list_any};
-ghost use Rattle.rp_base.specs.Action.{IsRight, same_action};
+ghost use Rattle.rp_deck.specs.rp_base.specs.Action.{IsRight, same_action};
 ghost use Rattle.rp_deck.specs.DeckViews.{line_command, command_text};
 ghost use Rattle.rp_orders.specs.Orders.{AreRight};
 ghost use Rattle.rp_explore_deck.specs.PlannedActions.{is_call_of, calls_among, action_asked, AsksRight, with_planned, planned_after, actions_of};
 
-use rp_base::{Action, NodeId, TaskId};
+use rp_deck::rp_base::{Action, NodeId, TaskId};
 use rp_deck::rp_model::{Event, Step};
 use rp_deck::{Command, Line};
 use std::alloc::{AllocError, Global};

@@ -1,7 +1,7 @@
 //! What follows from the definitions alone.
 
 ghost use Rattle.std.specs.Prelude.{ℕ, ◌≡◌, ◌≤◌, [], List, Ok, filter, not};
-ghost use Rattle.rp_base.specs.Sets.{Has};
+ghost use Rattle.rp_deck.specs.rp_base.specs.Sets.{Has};
 ghost use Rattle.rp_deck.specs.ScriptLines.{LineCommand};
 ghost use Rattle.rp_deck.specs.Meaning.{texts_of, line_after};
 ghost use Rattle.rp_explore_deck.specs.AddedLines.{Added, is_added, plain_text};

@@ -2,7 +2,7 @@
 
 ghost use Rattle.std.specs.Prelude.{◌≡◌, ◌+◌, ◌^◌, ◌<◌, [], length, map, option_map, IfOk, IfErr};
 ghost use Rattle.rp_words.specs.indexmap.specs.IndexMap.{values};
-ghost use Rattle.rp_base.specs.Action.{IsIndex, IsRightOperation};
+ghost use Rattle.rp_deck.specs.rp_base.specs.Action.{IsIndex, IsRightOperation};
 ghost use Rattle.rp_deck.specs.Meaning.{texts_of};
 ghost use Rattle.rp_deck.specs.ScriptLines.{declared_at};
 ghost use Rattle.rp_deck_declarations.specs.Declarations.{IsComplete};
@@ -19,8 +19,8 @@ ghost use Rattle.rp_words.specs.Reading.{Gives, Makes};
 ghost use Rattle.rp_words.specs.Tables.{find, key_names};
 ghost use Rattle.rp_words.specs.Words.{unread};
 
-use rp_base::{DeckReason, Fault, Operation, TaskId};
 use rp_deck::DeckProgram;
+use rp_deck::rp_base::{DeckReason, Fault, Operation, TaskId};
 use rp_deck_declarations::Declared;
 use rp_deck_declarations::rp_deck_objects::{OperationName, OperationNames};
 use rp_deck_declarations::rp_entry::{Function, of_index};

@@ -2,9 +2,9 @@
 use Rattle.std.proofs.Common.{◌≡◌, ◌<◌, ◌≤◌, ◌-◌, ℕ, ℤ, pos, Bool, true, false, cond, List, [], ◌∷◌, ◌++◌, length, Option, Some, None, unwrap_or, Vec, Global, refl, sym, ◌∙◌, ap, subst, arith, get_or-set_same, get_or-set_other, FitsSigned, w64}
 use Rattle.std.specs.FinMap.{get}
 use Rattle.std.proofs.lemmas.Bool.{false≢true}
-use Rattle.rp_base.specs.declared.reply.Reply.{Reply as Replies}
-use Rattle.rp_base.specs.declared.reply.Reply.TheVariants.{Value, ConstraintError, ProgramError}
-use Rattle.rp_base.specs.declared.reply.Answer.{Answer}
+use Rattle.rp_object.specs.rp_base.specs.declared.reply.Reply.{Reply as Replies}
+use Rattle.rp_object.specs.rp_base.specs.declared.reply.Reply.TheVariants.{Value, ConstraintError, ProgramError}
+use Rattle.rp_object.specs.rp_base.specs.declared.reply.Answer.{Answer}
 use Rattle.rp_body.specs.declared.statement.Stmt.{Stmt}
 use Rattle.rp_body.specs.declared.statement.Outcome.{Outcome}
 use Rattle.rp_body.specs.Store.{Store, bool_value}

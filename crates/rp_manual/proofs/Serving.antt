@@ -3,7 +3,7 @@ use Rattle.std.proofs.Common.{◌≡◌, ◌<◌, ◌-◌, inl, inr, ℕ, zero, 
 use Rattle.std.specs.Prelude.{slice_get}
 use Rattle.std.specs.FinMap.{get}
 use Rattle.std.proofs.lemmas.Bool.{cases_lt}
-use Rattle.rp_base.specs.declared.reply.Answer.{Answer}
+use Rattle.rp_object.specs.rp_base.specs.declared.reply.Answer.{Answer}
 use Rattle.rp_body.specs.declared.statement.Outcome.{Outcome}
 use Rattle.rp_body.specs.Store.{Store}
 use Rattle.rp_body.specs.Meaning.{body_effect}

@@ -2,8 +2,8 @@
 -- 9.5.3 and 11.4). A barrier is read from the components, and no test of the rules is used here.
 use Rattle.std.specs.Prelude.{◌≡◌, ◌≢◌, ◌<◌, ◌-◌, ℕ, ℤ, true, Option, Some, List, [], ◌∷◌, ◌++◌}
 use Rattle.std.specs.FinMap.{get}
-use Rattle.rp_base.specs.declared.reply.Reply.TheVariants.{Value, ConstraintError}
-use Rattle.rp_base.specs.declared.reply.Answer.{Answer}
+use Rattle.rp_object.specs.rp_base.specs.declared.reply.Reply.TheVariants.{Value, ConstraintError}
+use Rattle.rp_object.specs.rp_base.specs.declared.reply.Answer.{Answer}
 use Rattle.rp_body.specs.declared.statement.Stmt.{Stmt}
 use Rattle.rp_body.specs.declared.statement.Outcome.{Outcome}
 use Rattle.rp_body.specs.declared.statement.Outcome.TheVariants.{Out, Raised}

@@ -1,12 +1,14 @@
 -- The rules of a program's calls, timing events and interrupts, in words of their own (Ada Reference
 -- Manual, sections 9.5.3, C.3, D.3 and D.15).
 use Rattle.std.specs.Prelude.{◌≡◌, ◌≢◌, ℕ, ℤ, Option, Some, None, List, [], ◌∷◌}
-use Rattle.rp_base.specs.declared.action.Action.TheVariants.{Call}
-use Rattle.rp_base.specs.declared.action.Operation.{Operation}
-use Rattle.rp_base.specs.declared.action.Operation.TheVariants.{Function, Procedure, Entry}
-use Rattle.rp_base.specs.declared.action.Operation.TheVariants.{SetTimer, CancelTimer}
-use Rattle.rp_base.specs.declared.reply.Reply.{Reply}
-use Rattle.rp_base.specs.declared.reply.Answer.{Answer}
+use Rattle.rp_object.specs.rp_base.specs.declared.action.Action.TheVariants.{Call}
+use Rattle.rp_object.specs.rp_base.specs.declared.action.Operation.{Operation}
+use Rattle.rp_object.specs.rp_base.specs.declared.action.Operation.TheVariants.{Function, Procedure}
+use Rattle.rp_object.specs.rp_base.specs.declared.action.Operation.TheVariants.{Entry}
+use Rattle.rp_object.specs.rp_base.specs.declared.action.Operation.TheVariants.{SetTimer}
+use Rattle.rp_object.specs.rp_base.specs.declared.action.Operation.TheVariants.{CancelTimer}
+use Rattle.rp_object.specs.rp_base.specs.declared.reply.Reply.{Reply}
+use Rattle.rp_object.specs.rp_base.specs.declared.reply.Answer.{Answer}
 use Rattle.rp_entry.specs.declared.operations.Operations.{Operations}
 use Rattle.rp_entry.specs.declared.state.Waiting.{Waiting}
 use Rattle.rp_entry.specs.declared.state.CallOutcome.{CallOutcome}

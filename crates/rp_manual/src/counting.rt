@@ -2,11 +2,11 @@
 //! an interrupt's occurrences count upwards.
 
 ghost use Rattle.std.specs.Prelude.{◌≡◌, ◌<◌, ◌≤◌, ℕ, suc, ℤ, true, false, List, map};
-ghost use Rattle.rp_base.specs.Sets.{Has};
-ghost use Rattle.rp_base.specs.declared.action.Action.{Action};
-ghost use Rattle.rp_base.specs.declared.action.Action.TheVariants.{Noop, Call, Interrupt, Tick};
-ghost use Rattle.rp_base.specs.declared.action.Operation.{Operation};
-ghost use Rattle.rp_base.specs.declared.reply.Answer.{Answer};
+ghost use Rattle.rp_object.specs.rp_base.specs.Sets.{Has};
+ghost use Rattle.rp_object.specs.rp_base.specs.declared.action.Action.{Action};
+ghost use Rattle.rp_object.specs.rp_base.specs.declared.action.Action.TheVariants.{Noop, Call, Interrupt, Tick};
+ghost use Rattle.rp_object.specs.rp_base.specs.declared.action.Operation.{Operation};
+ghost use Rattle.rp_object.specs.rp_base.specs.declared.reply.Answer.{Answer};
 ghost use Rattle.rp_object.specs.rp_machine.specs.Calls.{CallName, calls_made, call_of};
 ghost use Rattle.rp_object.specs.rp_machine.specs.Replay.{counts, numbers_of, one_to};
 

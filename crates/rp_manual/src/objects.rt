@@ -5,8 +5,8 @@ ghost use Rattle.std.specs.Prelude.{◌≡◌, ℕ, ℤ, pos, ◌-◌, ◌<◌, 
 ghost use Rattle.std.specs.Int.{w64};
 ghost use Rattle.std.specs.declared.alloc.Global.{Global};
 ghost use Rattle.std.specs.FinMap.{get};
-ghost use Rattle.rp_base.specs.declared.reply.Reply.TheVariants.{Value, Truth, ConstraintError, ProgramError};
-ghost use Rattle.rp_base.specs.declared.reply.Answer.{Answer};
+ghost use Rattle.rp_object.specs.rp_base.specs.declared.reply.Reply.TheVariants.{Value, Truth, ConstraintError, ProgramError};
+ghost use Rattle.rp_object.specs.rp_base.specs.declared.reply.Answer.{Answer};
 ghost use Rattle.rp_body.specs.declared.expression.Expr.{Expr};
 ghost use Rattle.rp_body.specs.declared.expression.Cond.{Cond};
 ghost use Rattle.rp_body.specs.declared.statement.Stmt.{Stmt};

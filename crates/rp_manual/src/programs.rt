@@ -3,11 +3,11 @@
 
 ghost use Rattle.std.specs.Prelude.{◌≡◌, ◌≤◌, ◌<◌, ℕ, ℤ, pos, true, false, Option, Some, None, List, [], ◌∷◌, length};
 ghost use Rattle.std.specs.List.{All};
-ghost use Rattle.rp_base.specs.declared.action.Action.TheVariants.{Noop, Call, Interrupt};
-ghost use Rattle.rp_base.specs.declared.action.Operation.{Operation};
-ghost use Rattle.rp_base.specs.declared.action.Operation.TheVariants.{SetTimer, CancelTimer};
-ghost use Rattle.rp_base.specs.declared.reply.Reply.TheVariants.{Value, Truth, ProgramError, NoSuchOperation};
-ghost use Rattle.rp_base.specs.declared.reply.Answer.{Answer};
+ghost use Rattle.rp_object.specs.rp_base.specs.declared.action.Action.TheVariants.{Noop, Call, Interrupt};
+ghost use Rattle.rp_object.specs.rp_base.specs.declared.action.Operation.{Operation};
+ghost use Rattle.rp_object.specs.rp_base.specs.declared.action.Operation.TheVariants.{SetTimer, CancelTimer};
+ghost use Rattle.rp_object.specs.rp_base.specs.declared.reply.Reply.TheVariants.{Value, Truth, ProgramError, NoSuchOperation};
+ghost use Rattle.rp_object.specs.rp_base.specs.declared.reply.Answer.{Answer};
 ghost use Rattle.rp_entry.specs.declared.operations.Entry.{Entry};
 ghost use Rattle.rp_entry.specs.declared.state.Waiting.{Waiting};
 ghost use Rattle.rp_entry.specs.Operations.{of_index};

@@ -6,14 +6,14 @@ use Rattle.rp_base.specs.declared.placed.PlacedVote.{PlacedVote}
 use Rattle.rp_base.specs.declared.record.Rec.{Rec}
 use Rattle.rp_base.specs.declared.record.Rec.TheVariants.{Promised, Voted, Learned, PromisedRange}
 use Rattle.rp_base.specs.Ranges.{Range}
-use Rattle.rp_replica.specs.rp_codec.specs.Message.{Message}
-use Rattle.rp_replica.specs.rp_codec.specs.Reading.{◌>>=◌, Read, known, byte_at, kind_at, action_at, position_at, place_at, range_place_at, placed_vote_at, prepare_at, accept_at, decided_at, prepare_range_at, body_at, role_at, node_at, said_at, packet_at, all_of}
-use Rattle.rp_replica.specs.rp_codec.specs.RecordReading.{promised_at, voted_at, learned_at, promised_range_at, record_of_kind, record_at}
-use Rattle.rp_replica.specs.rp_codec.specs.Version.{version_of}
-use Rattle.rp_replica.specs.rp_codec.specs.declared.packet.Body.{Body}
-use Rattle.rp_replica.specs.rp_codec.specs.declared.packet.Body.TheVariants as bodies
-use Rattle.rp_replica.specs.rp_codec.specs.declared.packet.Party.TheVariants.{Node}
-use Rattle.rp_replica.specs.rp_codec.specs.declared.version.Version.{Version}
+use Rattle.rp_codec.specs.Message.{Message}
+use Rattle.rp_codec.specs.Reading.{◌>>=◌, Read, known, byte_at, kind_at, action_at, position_at, place_at, range_place_at, placed_vote_at, prepare_at, accept_at, decided_at, prepare_range_at, body_at, role_at, node_at, said_at, packet_at, all_of}
+use Rattle.rp_codec.specs.RecordReading.{promised_at, voted_at, learned_at, promised_range_at, record_of_kind, record_at}
+use Rattle.rp_codec.specs.Version.{version_of}
+use Rattle.rp_codec.specs.declared.packet.Body.{Body}
+use Rattle.rp_codec.specs.declared.packet.Body.TheVariants as bodies
+use Rattle.rp_codec.specs.declared.packet.Party.TheVariants.{Node}
+use Rattle.rp_codec.specs.declared.version.Version.{Version}
 use Rattle.rp_requests.specs.Tails.{is_short}
 
 not_long : (b : Bool) (m : Message) → is_short (if b then Ok m else Err Long) ≡ false

@@ -4,9 +4,9 @@ use Rattle.std.proofs.lemmas.List.{drop_at, drop_all}
 use Rattle.rp_base.specs.declared.fault.Fault.{Fault}
 use Rattle.rp_base.specs.declared.fault.Fault.TheVariants as faults
 use Rattle.rp_base.specs.declared.record.Rec.{Rec}
-use Rattle.rp_replica.specs.rp_codec.specs.Record.{record_text}
+use Rattle.rp_codec.specs.Record.{record_text}
 use Rattle.rp_replica.specs.rp_store.specs.Disk.{Disk}
-use Rattle.rp_replica.specs.rp_codec.specs.Message.{Message}
+use Rattle.rp_codec.specs.Message.{Message}
 use Rattle.rp_replica.specs.rp_model.specs.Parts.{Turn}
 use Rattle.rp_replica.specs.rp_model.specs.declared.effect.Dropped.{Dropped}
 use Rattle.rp_replica.specs.rp_outbox.specs.Packets.{ends_of, texts_of}

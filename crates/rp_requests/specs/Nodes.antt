@@ -10,7 +10,7 @@ use Rattle.rp_base.specs.declared.fault.Fault.{Fault}
 use Rattle.rp_base.specs.declared.fault.Fault.TheVariants as faults
 use Rattle.rp_base.specs.declared.record.Rec.{Rec}
 use Rattle.rp_base.specs.declared.reply.Answer.{Answer}
-use Rattle.rp_replica.specs.rp_codec.specs.Record.{record_text}
+use Rattle.rp_codec.specs.Record.{record_text}
 use Rattle.rp_replica.specs.rp_machine.specs.Asked.{last_number}
 use Rattle.rp_replica.specs.rp_machine.specs.Replay.{kept_of, replay_state}
 use Rattle.rp_replica.specs.rp_model.specs.Parts.{Turn}

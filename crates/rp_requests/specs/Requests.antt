@@ -5,7 +5,7 @@ use Rattle.std.specs.Int.{w16, w32, from_be_bytes}
 use Rattle.rp_base.specs.declared.fault.Fault.{Fault}
 use Rattle.rp_base.specs.Number.{in_range}
 use Rattle.rp_base.specs.Ranges.{Range, range_of}
-use Rattle.rp_replica.specs.rp_codec.specs.Reading.{all_of}
+use Rattle.rp_codec.specs.Reading.{all_of}
 use Rattle.rp_replica.specs.rp_model.specs.Effect.{NodeInput}
 use Rattle.rp_replica.specs.rp_model.specs.Effect as inputs
 use Rattle.rp_replica.specs.rp_rules.specs.Inputs.{given_by, packet_given, IsRightInput}

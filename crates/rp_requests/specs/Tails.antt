@@ -3,7 +3,7 @@ use Rattle.std.specs.Prelude.{Bool, true, false, ℕ, Result, Ok, Err, List, [],
 use Rattle.std.specs.Prelude.{if◌then◌else◌}
 use Rattle.rp_base.specs.declared.fault.PacketReason.{PacketReason}
 use Rattle.rp_base.specs.declared.fault.PacketReason.TheVariants.{Short, Long, Version, Kind, Field}
-use Rattle.rp_replica.specs.rp_codec.specs.RecordReading.{record_at}
+use Rattle.rp_codec.specs.RecordReading.{record_at}
 use Rattle.rp_requests.specs.declared.tail.Tail.{Tail}
 use Rattle.rp_requests.specs.declared.tail.Tail.TheVariants.{Nothing, Torn, Damaged}
 

@@ -8,14 +8,14 @@ use Rattle.rp_base.specs.declared.fault.Fault.TheVariants as faults
 use Rattle.rp_base.specs.declared.fault.Fault.{Fault}
 use Rattle.rp_base.specs.declared.fault.PacketReason.{PacketReason}
 use Rattle.rp_base.specs.declared.reply.Reply.{Reply}
-use Rattle.rp_replica.specs.rp_codec.specs.Decoding.{IsLongText}
-use Rattle.rp_replica.specs.rp_codec.specs.Message.{Message}
-use Rattle.rp_replica.specs.rp_codec.specs.Reading.{all_of}
-use Rattle.rp_replica.specs.rp_codec.specs.Text.{text_of, reply_text}
-use Rattle.rp_replica.specs.rp_codec.specs.declared.packet.Party.{Party}
-use Rattle.rp_replica.specs.rp_codec.specs.declared.packet.Party.TheVariants.{Node, Task, Audit}
-use Rattle.rp_replica.specs.rp_codec.specs.declared.packet.Body.{Body}
-use Rattle.rp_replica.specs.rp_codec.specs.declared.packet.Body.TheVariants as bodies
+use Rattle.rp_codec.specs.Decoding.{IsLongText}
+use Rattle.rp_codec.specs.Message.{Message}
+use Rattle.rp_codec.specs.Reading.{all_of}
+use Rattle.rp_codec.specs.Text.{text_of, reply_text}
+use Rattle.rp_codec.specs.declared.packet.Party.{Party}
+use Rattle.rp_codec.specs.declared.packet.Party.TheVariants.{Node, Task, Audit}
+use Rattle.rp_codec.specs.declared.packet.Body.{Body}
+use Rattle.rp_codec.specs.declared.packet.Body.TheVariants as bodies
 use Rattle.rp_tasks.specs.Calls.{Calls, refusal_of, with_call, with_reply}
 use Rattle.rp_requests.specs.declared.buffer.Lengths.{Lengths}
 use Rattle.rp_requests.specs.declared.refusal.Refusal.{Refusal}

@@ -1,13 +1,13 @@
 //! What a device holds after its whole records.
 
 ghost use Rattle.std.specs.Prelude.{◌≡◌, ◌∷◌, IfOk, is_some, true};
-ghost use Rattle.rp_replica.specs.rp_codec.specs.Reading.{all_of, ballot_at};
-ghost use Rattle.rp_replica.specs.rp_codec.specs.RecordReading.{record_at};
-ghost use Rattle.rp_replica.specs.rp_codec.specs.Version.{version_of};
+ghost use Rattle.rp_codec.specs.Reading.{all_of, ballot_at};
+ghost use Rattle.rp_codec.specs.RecordReading.{record_at};
+ghost use Rattle.rp_codec.specs.Version.{version_of};
 ghost use Rattle.rp_requests.specs.Tails.{is_short, tail_of};
 
 use rp_base::PacketReason;
-use rp_replica::rp_codec::decode;
+use rp_codec::decode;
 use std::alloc::{AllocError, Global};
 
 /// What a device holds after its whole records.
@@ -36,7 +36,7 @@ pub(crate) fn tail_of(alloc: Global, bytes: &[u8]) -> Result<Tail, AllocError>
 }
 
 /// Whether the bytes are the beginning of a record's text, and not all of it.
-#[tactic(auto, unfolding(rp_replica::rp_codec::specs::RecordReading::record_at))]
+#[tactic(auto, unfolding(rp_codec::specs::RecordReading::record_at))]
 fn begins_record(alloc: Global, bytes: &[u8]) -> Result<bool, AllocError>
     ensures { IfOk result (λ torn. torn ≡ is_short (record_at bytes.now)) }
 {
@@ -54,7 +54,7 @@ fn begins_record(alloc: Global, bytes: &[u8]) -> Result<bool, AllocError>
 
 /// Whether these are the beginning of the fields of a record of this kind, and not all of them. They
 /// are those of a packet: so a packet is made of them, unless there is but one.
-#[tactic(auto, unfolding(rp_replica::rp_codec::specs::RecordReading::record_at, rp_replica::rp_codec::specs::RecordReading::started_at))]
+#[tactic(auto, unfolding(rp_codec::specs::RecordReading::record_at, rp_codec::specs::RecordReading::started_at))]
 fn begins_fields(alloc: Global, version: u8, kind: u8, fields: &[u8]) -> Result<bool, AllocError>
     requires { is_some (version_of version) ≡ true }
     ensures { IfOk result (λ torn. torn
@@ -88,7 +88,7 @@ fn is_version(byte: u8) -> bool
 }
 
 /// Whether the bytes are the beginning of a ballot, and not all of it.
-#[tactic(auto, unfolding(rp_replica::rp_codec::specs::Reading::ballot_at, rp_replica::rp_codec::specs::Reading::number_at))]
+#[tactic(auto, unfolding(rp_codec::specs::Reading::ballot_at, rp_codec::specs::Reading::number_at))]
 fn begins_ballot(bytes: &[u8]) -> bool
     ensures { result ≡ is_short (ballot_at bytes.now) }
 {

@@ -5,9 +5,9 @@ ghost use Rattle.rp_base.specs.Action.{IsRight};
 ghost use Rattle.rp_base.specs.Calls.{next_call};
 ghost use Rattle.rp_base.specs.declared.fault.Fault.TheVariants as faults;
 ghost use Rattle.rp_base.specs.Number.{IsTask};
-ghost use Rattle.rp_replica.specs.rp_codec.specs.Message.{IsCallOf};
-ghost use Rattle.rp_replica.specs.rp_codec.specs.Text.{text_of, reply_text};
-ghost use Rattle.rp_replica.specs.rp_codec.specs.declared.packet.Party.TheVariants.{Task as TaskParty};
+ghost use Rattle.rp_codec.specs.Message.{IsCallOf};
+ghost use Rattle.rp_codec.specs.Text.{text_of, reply_text};
+ghost use Rattle.rp_codec.specs.declared.packet.Party.TheVariants.{Task as TaskParty};
 ghost use Rattle.rp_tasks.specs.Calls.{no_calls, task_after};
 ghost use Rattle.rp_requests.specs.Buffers.{IsPutInFront};
 ghost use Rattle.rp_requests.specs.TaskRequests.{task_asked, task_asked_of, IsRightTaskRequest, TakePacket};
@@ -18,7 +18,7 @@ use crate::buffer::{Lengths, put_short};
 use crate::refusal::Refusal;
 use crate::task_request::{TaskRequest, task_request_of};
 use rp_base::{Action, Fault, NodeId, Reply, TaskId};
-use rp_replica::rp_codec::{Body, Packet, Party, decode, text_of_packet};
+use rp_codec::{Body, Packet, Party, decode, text_of_packet};
 use rp_tasks::Stub;
 use std::alloc::Global;
 use std::marker::Model;
@@ -35,7 +35,7 @@ pub struct Task {
 
 impl Model for Task {
     ghost use Rattle.std.specs.Prelude.{◌≡◌, IfSome};
-    ghost use Rattle.rp_replica.specs.rp_codec.specs.Message.{IsCallBy};
+    ghost use Rattle.rp_codec.specs.Message.{IsCallBy};
     ghost use Rattle.rp_tasks.specs.Calls.{Calls};
 
     ghost Value = { Calls };

@@ -2,7 +2,7 @@ use Rattle.std.proofs.Common.{◌≡◌, ◌≤◌, map, Result, Err, ap, sym, s
 use Rattle.std.specs.Prelude.{IfErr}
 use Rattle.std.proofs.lemmas.List.{length-map}
 use Rattle.std.proofs.lemmas.Result.{err_from_is_err_and}
-use Rattle.rp_base.specs.declared.fault.Fault.{Fault}
+use Rattle.rp_deck.specs.rp_base.specs.declared.fault.Fault.{Fault}
 use Rattle.rp_deck.specs.Deck.{IsRightDeck}
 use Rattle.rp_deck.specs.DeckViews.{deck_text, line_command}
 use Rattle.rp_deck.specs.Live.{IsDeckFor}

@@ -1,7 +1,7 @@
 -- By what an action that counts has passed.
 use Rattle.std.proofs.Common.{◌≡◌, ℕ, suc, Bool, ◌&&◌, List, [], ◌∷◌, ◌++◌, refl, sym, ap, subst, ◌∙◌, inl, inr, arith, true, nat_eq}
 use Rattle.std.specs.Cmp.Lexicographic.{pointwise, bytes_decides}
-use Rattle.rp_base.specs.Sets.{Has}
+use Rattle.rp_object.specs.rp_base.specs.Sets.{Has}
 use Rattle.rp_object.specs.rp_machine.specs.Replay.{numbers_of, one_to, is_next_number, is_answered, all_answered}
 use Rattle.rp_object.specs.rp_machine.proofs.Calling.{both_true, all_true, answered, made_number, has_either, number_is_new}
 use Rattle.rp_object.specs.rp_machine.proofs.Numbering.{next_numbers}

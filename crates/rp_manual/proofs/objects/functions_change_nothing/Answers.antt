@@ -1,6 +1,6 @@
 -- By the cases of the action.
 use Rattle.std.proofs.Common.{◌∙◌, ap, Some, pos}
-use Rattle.rp_base.specs.declared.reply.Reply.{Reply as Replies}
+use Rattle.rp_object.specs.rp_base.specs.declared.reply.Reply.{Reply as Replies}
 use Rattle.rp_body.specs.Expressions.{value_of}
 use Rattle.rp_entry.specs.declared.operations.Function.TheVariants.{Value as Whole, Truth as Condition}
 use Rattle.rp_entry.specs.declared.state.CallOutcome.TheVariants.{Reply}

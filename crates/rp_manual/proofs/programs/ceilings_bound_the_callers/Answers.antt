@@ -1,6 +1,6 @@
 -- By the test of the ceiling.
 use Rattle.std.proofs.Common.{subst, sym}
-use Rattle.rp_base.specs.declared.reply.Reply.TheVariants.{ProgramError}
+use Rattle.rp_object.specs.rp_base.specs.declared.reply.Reply.TheVariants.{ProgramError}
 use Rattle.rp_object.specs.Program.{operations_of}
 use Rattle.rp_manual.proofs.Calling.{refused_with, above_ceiling, within_ceiling, request_of, of_task, call_result, is_call_of}
 use Rattle.rp_manual.proofs.programs.ceilings_bound_the_callers.Goals as goal

@@ -1,7 +1,7 @@
 -- By what is declared, and whether the timing event was set.
 use Rattle.std.proofs.Common.{Some, None, pos, true, false}
-use Rattle.rp_base.specs.declared.action.Operation.TheVariants.{SetTimer, CancelTimer}
-use Rattle.rp_base.specs.declared.reply.Reply.TheVariants.{Value, Truth}
+use Rattle.rp_object.specs.rp_base.specs.declared.action.Operation.TheVariants.{SetTimer, CancelTimer}
+use Rattle.rp_object.specs.rp_base.specs.declared.reply.Reply.TheVariants.{Value, Truth}
 use Rattle.rp_object.specs.Step.{called}
 use Rattle.rp_manual.proofs.Calling.{is_timer_of, sets_timer, cancels_timer}
 use Rattle.rp_manual.proofs.programs.timing_events_are_set_and_cancelled.Goals as goal

@@ -1,5 +1,5 @@
 -- By what is not declared.
-use Rattle.rp_base.specs.declared.reply.Reply.TheVariants.{NoSuchOperation}
+use Rattle.rp_object.specs.rp_base.specs.declared.reply.Reply.TheVariants.{NoSuchOperation}
 use Rattle.rp_manual.proofs.Calling.{refused_with, when_undeclared, not_declared}
 use Rattle.rp_manual.proofs.programs.what_is_not_declared_is_refused.Goals as goal
 

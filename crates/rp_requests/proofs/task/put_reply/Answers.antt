@@ -4,7 +4,7 @@ use Rattle.std.proofs.lemmas.Int.{to_z-of_z}
 use Rattle.std.specs.Int.{to_be_bytes, cast_unsigned}
 use mir.Val.{SFits}
 use Rattle.rp_base.specs.declared.reply.Reply.{Reply}
-use Rattle.rp_replica.specs.rp_codec.specs.Text.{number_text, reply_text}
+use Rattle.rp_codec.specs.Text.{number_text, reply_text}
 use Rattle.rp_requests.specs.Buffers.{IsPutInFront}
 use Rattle.rp_requests.proofs.task.put_reply.Goals as goal
 

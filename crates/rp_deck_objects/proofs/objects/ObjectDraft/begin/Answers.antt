@@ -1,6 +1,6 @@
 use Rattle.std.proofs.Common.{◌≡◌, false, sym, subst}
 use Rattle.rp_deck_bodies.specs.indexmap.specs.IndexMap.{values}
-use Rattle.rp_deck_bodies.specs.rp_words.specs.Tables.{is_declared, key_names}
+use Rattle.rp_words.specs.Tables.{is_declared, key_names}
 use Rattle.rp_deck_objects.proofs.objects.ObjectDraft.begin.Goals as goal
 
 pub returns-clause-object : goal.returns-clause-object

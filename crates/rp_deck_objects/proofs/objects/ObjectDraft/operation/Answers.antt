@@ -5,9 +5,9 @@ use Rattle.rp_object.specs.rp_entry.specs.declared.operations.Operations.{Operat
 use Rattle.rp_object.specs.Program.{has_operation}
 use Rattle.rp_deck_objects.specs.declared.names.OperationName.{OperationName}
 use Rattle.rp_deck_objects.specs.ObjectViews.{operation_of}
-use Rattle.rp_deck_bodies.specs.rp_words.specs.Tables.{find, key_names}
+use Rattle.rp_words.specs.Tables.{find, key_names}
 use Rattle.rp_deck_bodies.proofs.CountedLemmas.{found_holds}
-use Rattle.rp_deck_bodies.specs.rp_words.proofs.TablesLemmas.{found_is, found_itself}
+use Rattle.rp_words.proofs.TablesLemmas.{found_is, found_itself}
 use Rattle.rp_deck_objects.proofs.objects.ObjectDraft.operation.Goals as goal
 
 has_found : (name : List ℕ) (names : List (List ℕ)) (declared : List OperationName) (operations : Operations) (found : Option OperationName) → found ≡ find name names declared

@@ -1,7 +1,7 @@
 -- The step took effect, or nothing changed, since a device in memory does not fail.
 use Rattle.std.proofs.Common.{◌≡◌, ◌≤◌, List, Result, drop, length, subst, sym}
 use Rattle.rp_base.specs.declared.fault.Fault.{Fault}
-use Rattle.rp_replica.specs.rp_codec.specs.Message.{Message}
+use Rattle.rp_codec.specs.Message.{Message}
 use Rattle.rp_replica.specs.rp_model.specs.Parts.{Turn}
 use Rattle.rp_replica.specs.rp_outbox.specs.Packets.{Sending, ends_of, texts_of}
 use Rattle.rp_replica.specs.Inputs.{input_effect}

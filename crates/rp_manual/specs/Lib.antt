@@ -2,7 +2,7 @@ pub mod Expressions
 pub mod Statements
 pub mod ObjectRules
 pub mod ProgramRules
-pub use Rattle.rp_base
+pub use Rattle.rp_object.specs.rp_base
 pub use Rattle.rp_body
 pub use Rattle.rp_entry
 pub use Rattle.rp_object.specs.rp_machine

@@ -8,7 +8,7 @@ pub mod Tails
 pub mod TaskRequests
 pub mod Tasks
 pub use Rattle.rp_base
-pub use Rattle.rp_replica.specs.rp_codec
+pub use Rattle.rp_codec
 pub use Rattle.rp_replica.specs.rp_model
 pub use Rattle.rp_patience
 pub use Rattle.rp_replica.specs.rp_rules

@@ -6,7 +6,6 @@ use Rattle.atomic_table.specs.Seated.{TableId}
 use Rattle.atomic_table.specs.declared.owned.Table.{Table}
 use Rattle.atomic_table.specs.declared.shared.Seat.{Seat}
 use Rattle.rp_base.specs.Sets.{Has}
-use Rattle.rp_base.specs.declared.config.Config.{Config}
 use Rattle.rp_base.proofs.Members.{has_right}
 use Rattle.rp_codec.specs.Message.{Message, IsPacket, IsParty}
 use Rattle.rp_codec.specs.Text.{text_of}
@@ -14,13 +13,12 @@ use Rattle.rp_codec.specs.declared.packet.Party.{Party}
 use Rattle.rp_codec.specs.declared.packet.Party.TheVariants.{Node, Task, Audit}
 use Rattle.rp_model.specs.Effect.{Setting}
 use Rattle.rp_model.specs.rp_machine.specs.declared.machine.Machine.{Ghosts}
-use Rattle.rp_world.specs.rp_replica.specs.State.{ReplicaState}
 use Rattle.rp_boxes.specs.Looks.{IsWorldOf, HasWorld, WasSent}
 use Rattle.rp_boxes.specs.Moments.{WasFull, WasInUse, WasNotFull, WasPut, WasWord}
 use Rattle.rp_boxes.specs.Parts.{Part, View, actor_of, box_of, part_in, with_got, with_put}
 use Rattle.rp_boxes.specs.Plays.{IsPutBy, Sight, alone}
 use Rattle.rp_boxes.specs.Rule.{IsCarried, HasOwnPackets}
-use Rattle.rp_boxes.specs.Seats.{SeatState, IsAtTable, IsNodePlace, IsPut, IsSentText, table_setting}
+use Rattle.rp_boxes.specs.Seats.{SeatState, IsAtTable, IsPut, IsSentText, table_setting}
 use Rattle.rp_boxes.specs.declared.board.Known.{Known}
 use Rattle.rp_boxes.specs.declared.board.Law.{Law}
 use Rattle.rp_boxes.specs.declared.board.Setup.{Setup}
@@ -56,10 +54,6 @@ at_after table k old new part at same sees fills takes own =
       own = own;
     } in
     subst (IsAtTable table new.table_id k) (sym sees) here
-
-pub node_stays : {S : Type 0} (config : Config) (begin : S) (number : ℕ) (replica : ReplicaState S) (part part' : Part) → part'.role ≡ part.role
-    → IsNodePlace config begin number replica part → IsNodePlace config begin number replica part'
-node_stays config begin number replica part part' same sits = record { member = sits.member; node = sits.node; is = same ∙ sits.is; represents = sits.represents }
 
 -- ---- parties
 

@@ -72,7 +72,7 @@ abbrev pub IsSeated : {M D P : Type 0} → (P → M) → Inside M D P → Type 0
 IsSeated begin inside =
     let shared = (arc_value inside.board).shared in
     IsAtTable shared.table_id inside.place.table_id inside.node inside.place.me
-    × IsNodePlace shared.key.config (begin shared.key.program.value) inside.node inside.replica (part_in inside.place.me.0)
+    × IsNodePlace shared.key.config (begin shared.key.program.value) inside.node inside.replica (part_in inside.place.me.0).role
 
 -- A step of a node's seat: the seat, what is so of it, and the input with what the node is given.
 pub record NodeStep {M P : Type 0} (machine : Ghosts M P) (D : Type 0) : Type 0 where
@@ -103,7 +103,7 @@ module _ {M D P : Type 0} {machine : Ghosts M P} (at : NodeStep machine D) where
   abbrev old : ReplicaState M
   old = inside.replica
 
-  abbrev sits : IsNodePlace key.config (machine.begin key.program.value) number old before
+  abbrev sits : IsNodePlace key.config (machine.begin key.program.value) number old before.role
   sits = at.seated.1
 
   abbrev s : Setting M
@@ -291,7 +291,7 @@ module _ {M D P : Type 0} {machine : Ghosts M P} (at : NodeStep machine D) where
     abbrev IsSeatedNow : Type 0
     IsSeatedNow =
         IsAtTable (arc_value inside.board).shared.table_id place.table_id number place.me
-        × IsNodePlace key.config (machine.begin key.program.value) number new (part_in place.me.0)
+        × IsNodePlace key.config (machine.begin key.program.value) number new (part_in place.me.0).role
 
     -- what is known of the part that the place now knows
     abbrev IsKnown : (Board M P → Part → Type 0) → Board M P → Type 0

@@ -67,7 +67,7 @@ node_role k least most =
 
 -- a replica that is fresh is the node that its place knows
 pub fresh_place : {S : Type 0} (config : Config) (begin : S) (number : ℕ) (replica : ReplicaState S) (me : Sight) → 1 ≤ number → number ≤ config.nodes → config.nodes ≤ 7
-    → me ≡ alone number (first_part number) → RunsAs (member_of number config begin) replica fresh_node → IsNodePlace config begin number replica (part_in me.0)
+    → me ≡ alone number (first_part number) → RunsAs (member_of number config begin) replica fresh_node → IsNodePlace config begin number replica (part_in me.0).role
 fresh_place config begin number replica me least most seven is runs = record {
   member = (least, most);
   node = fresh_node;
@@ -79,12 +79,12 @@ fresh_place config begin number replica me least most seven is runs = record {
 pub node_at_first : {M P : Type 0} (begin : P → M) (found board : Board M P) (place : Place) (node : ℕ) (replica : ReplicaState M) (config : Config) (program : P) → found ≡ board → place.table_id ≡ board.shared.table_id
     → IsSized board.shared.table_id → board.shared.key.config ≡ config → program ≡ board.shared.key.program.value → IsRightConfig config → 1 ≤ node → node ≤ config.nodes → place.me ≡ alone node (first_part node)
     → RunsAs (member_of node config (begin program)) replica fresh_node
-    → IsAtTable found.shared.table_id place.table_id node place.me × IsNodePlace found.shared.key.config (begin found.shared.key.program.value) node replica (part_in place.me.0)
+    → IsAtTable found.shared.table_id place.table_id node place.me × IsNodePlace found.shared.key.config (begin found.shared.key.program.value) node replica (part_in place.me.0).role
 node_at_first {M} {P} begin found board place node replica config program is same sized configured begun right least most knows runs =
-    let seated : IsNodePlace board.shared.key.config (begin board.shared.key.program.value) node replica (part_in place.me.0) =
-    subst (λ (z : Config × P). IsNodePlace z.0 (begin z.1) node replica (part_in place.me.0)) (λ i. (sym configured i, begun i))
+    let seated : IsNodePlace board.shared.key.config (begin board.shared.key.program.value) node replica (part_in place.me.0).role =
+    subst (λ (z : Config × P). IsNodePlace z.0 (begin z.1) node replica (part_in place.me.0).role) (λ i. (sym configured i, begun i))
     (fresh_place config (begin program) node replica place.me least most right.nodes.1 knows runs) in
-    subst (λ (b : Board M P). IsAtTable b.shared.table_id place.table_id node place.me × IsNodePlace b.shared.key.config (begin b.shared.key.program.value) node replica (part_in place.me.0)) (sym is)
+    subst (λ (b : Board M P). IsAtTable b.shared.table_id place.table_id node place.me × IsNodePlace b.shared.key.config (begin b.shared.key.program.value) node replica (part_in place.me.0).role) (sym is)
     (at_first board.shared.table_id place.table_id node place.me same sized (omega (arith, most, right.nodes.1)) knows, seated)
 
 -- ---- one more seat

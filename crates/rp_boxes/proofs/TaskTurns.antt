@@ -33,7 +33,7 @@ use Rattle.rp_boxes.specs.Plays.{Sight, IsEventNoted}
 use Rattle.rp_boxes.specs.Seats.{SeatState, IsAtTable, table_setting}
 use Rattle.rp_boxes.specs.Steps.{HasEvent}
 use Rattle.rp_boxes.specs.declared.task_seat.TaskSeat.TheInside.{Inside}
-use Rattle.rp_boxes.specs.TaskSeats.{IsTaskSeat, asked_of, DescribesPackets, IsTaskTurn, IsNoTaskTurn, reply_effect, IsReplyTurn}
+use Rattle.rp_boxes.specs.TaskSeats.{IsTaskPlace, asked_of, DescribesPackets, IsTaskTurn, IsNoTaskTurn, reply_effect, IsReplyTurn}
 use Rattle.rp_boxes.proofs.SeatBoxes.{Board, Place, at_after}
 
 -- ---- the result of an input
@@ -109,7 +109,7 @@ abbrev pub IsSeated : {M P : Type 0} → Inside M P → Type 0
 IsSeated inside =
     let shared = (arc_value inside.board).shared in
     IsAtTable shared.table_id inside.place.table_id (7 + inside.number) inside.place.me
-    × IsTaskSeat inside.number shared.key.config inside.config inside.task (part_in inside.place.me.0)
+    × IsTaskPlace inside.number shared.key.config inside.config inside.task (part_in inside.place.me.0).role
 
 -- An input of a task's seat: the seat, what is so of it, and the input with its result at the task.
 pub record TaskEvent (M P : Type 0) : Type 0 where
@@ -131,7 +131,7 @@ state inside = state_at inside inside.place
 
 pub refused_state : {M P : Type 0} (inside : Inside M P) → IsSeated inside → (input : TaskInput) (fault : Fault) → task_effect (state inside).setup.config inside.number inside.task.part input ≡ Err fault
     → IsNoTaskTurn (state inside) input (state inside) fault
-refused_state inside seated input fault results = record { unchanged = refl; task = inside.task.part; was = seated.1.place.is; why = inr results }
+refused_state inside seated input fault results = record { unchanged = refl; task = inside.task.part; was = seated.1.is; why = inr results }
 
 -- A task's seat is to submit this call.
 pub record Submission (M P : Type 0) : Type 0 where
@@ -173,7 +173,7 @@ module _ {M P : Type 0} (event : TaskEvent M P) where
   known = part_in inside.place.me.0
 
   pub no_memory_state : IsNoTaskTurn (state inside) event.input (state inside) OutOfMemory
-  no_memory_state = record { unchanged = refl; task = inside.task.part; was = event.seated.1.place.is; why = inl (refl, event.done, event.results) }
+  no_memory_state = record { unchanged = refl; task = inside.task.part; was = event.seated.1.is; why = inl (refl, event.done, event.results) }
 
   -- the task became this, and sent these packets
   module _ (now : TaskPart) (sends : List Message) (part_is : now ≡ event.done.part) (sends_are : sends ≡ event.done.sends) where
@@ -184,7 +184,7 @@ module _ {M P : Type 0} (event : TaskEvent M P) where
     pub task_event : (machine : Ghosts M P) (found : Board M P) → found ≡ arc_value inside.board → IsTaskInput known.got inside.number event.input
         → HasEvent (table_setting machine found.shared.key) (7 + inside.number) known (BecomesPart known now sends)
     task_event machine found same given =
-        let range = subst IsTask event.seated.1.named event.seated.1.place.task in
+        let range = subst IsTask event.seated.1.named event.seated.1.task in
         subst (λ (board : Board M P). HasEvent (table_setting machine board.shared.key) (7 + inside.number) known (BecomesPart known now sends)) (sym same) (
           part_after known (OfTask event.done.part) event.done.sends,
           inr (
@@ -193,7 +193,7 @@ module _ {M P : Type 0} (event : TaskEvent M P) where
             record {
               task = range;
               part = inside.task.part;
-              was = event.seated.1.place.is;
+              was = event.seated.1.is;
               input = event.input;
               given = given;
               done = event.done;
@@ -212,11 +212,12 @@ module _ {M P : Type 0} (event : TaskEvent M P) where
 
     pub seat_after : new.task ≡ inside.task.task → WaitsForOwn inside.number new.part
         → IsAtTable (arc_value inside.board).shared.table_id place.table_id (7 + inside.number) place.me
-        × IsTaskSeat inside.number (arc_value inside.board).shared.key.config inside.config new (part_in place.me.0)
+        × IsTaskPlace inside.number (arc_value inside.board).shared.key.config inside.config new (part_in place.me.0).role
     seat_after stays waits = (
       at_after (arc_value inside.board).shared.table_id (7 + inside.number) inside.place place t.part event.seated.0 same t.is (ap (λ (p : Part). p.fills) t.picked) (ap (λ (p : Part). p.takes) t.picked) t.own,
       record {
-        place = record { task = subst IsTask (sym stays) event.seated.1.place.task; is = ap (λ (p : Part). p.role) sees };
+        task = subst IsTask (sym stays) event.seated.1.task;
+        is = ap (λ (p : Part). p.role) sees;
         named = stays ∙ event.seated.1.named;
         shared = event.seated.1.shared;
         waits = waits;
@@ -230,7 +231,7 @@ module _ {M P : Type 0} (event : TaskEvent M P) where
       pub asked_state : (sent : Sent) → DescribesPackets sent sends → IsTaskTurn (state inside) event.input (state_at inside place) sent
       asked_state sent describes = record {
         task = inside.task.part;
-        was = event.seated.1.place.is;
+        was = event.seated.1.is;
         done = event.done;
         results = event.results;
         after = after_is;
@@ -244,7 +245,7 @@ module _ {M P : Type 0} (event : TaskEvent M P) where
         got = got;
         text = text;
         task = inside.task.part;
-        was = event.seated.1.place.is;
+        was = event.seated.1.is;
         done = event.done;
         results = ap (task_effect (state inside).setup.config inside.number inside.task.part) (sym takes) ∙ event.results;
         after = after_is;
@@ -257,13 +258,3 @@ module _ {M P : Type 0} (event : TaskEvent M P) where
 pub at_fault : {A : Type 0} (Q : Fault → Type 0) (fault : Fault) (r : Result A Fault) → IsErrAnd r (λ e. e ≡ fault) → Q fault → IfErr r Q
 at_fault Q fault (Ok stated) is q = tt
 at_fault Q fault (Err other) is q = subst Q (sym is) q
-
--- the seat where only a box was stepped on
-pub task_stays : (number : ℕ) (config mine : Config) (caller : Caller) (part part' : Part) → part'.role ≡ part.role
-    → IsTaskSeat number config mine caller part → IsTaskSeat number config mine caller part'
-task_stays number config mine caller part part' same sits = record {
-  place = record { task = sits.place.task; is = same ∙ sits.place.is };
-  named = sits.named;
-  shared = sits.shared;
-  waits = sits.waits;
-}

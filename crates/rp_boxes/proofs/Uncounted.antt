@@ -18,7 +18,7 @@ same_running : (a b : Running) → Some a ≡ Some b → a ≡ b
 same_running a b e = cc
 
 module _ {S P : Type 0} (next : S → Action → S) (answers : S → Action → List Answer) (begin : P → S) (seat : SeatState P) (replica : ReplicaState S)
-    (place : IsNodePlace seat.setup.config (begin seat.setup.program) seat.setup.number replica seat.part) where
+    (place : IsNodePlace seat.setup.config (begin seat.setup.program) seat.setup.number replica seat.part.role) where
   abbrev member : Member S
   member = member_of seat.setup.number seat.setup.config (begin seat.setup.program)
 

@@ -5,7 +5,7 @@ use Rattle.std.specs.Prelude.{List, [], ◌∷◌}
 use Rattle.std.specs.Prelude.{length}
 use Rattle.atomic_table.specs.Seated.{TableId}
 use Rattle.rp_base.specs.Ranges.{IsRange}
-use Rattle.rp_base.specs.Number.{IsNode, IsPosition, IsTask}
+use Rattle.rp_base.specs.Number.{IsNode, IsPosition}
 use Rattle.rp_base.specs.Records.{applied_of}
 use Rattle.rp_base.specs.Sets.{Has}
 use Rattle.rp_base.specs.declared.action.Action.{Action}
@@ -32,10 +32,9 @@ use Rattle.rp_world.specs.rp_rules.specs.declared.input.Input.TheVariants.{Recei
 use Rattle.rp_world.specs.rp_rules.specs.declared.input.Input.TheVariants.{Interrupt}
 use Rattle.rp_world.specs.rp_rules.specs.declared.input.Input.TheVariants.{Tick, Report, Ask}
 use Rattle.rp_world.specs.rp_replica.specs.declared.sent.Sent.{Sent}
-use Rattle.rp_world.specs.Callers.{Caller}
 use Rattle.rp_world.specs.Nodes.{member_of, RepresentsWhile, DescribesSent, IsLight}
 use Rattle.rp_boxes.specs.declared.board.Setup.{Setup}
-use Rattle.rp_boxes.specs.Parts.{Part, OfNode, OfTask, part_in, part_after, with_put, with_got}
+use Rattle.rp_boxes.specs.Parts.{Part, Role, OfNode, part_in, part_after, with_put, with_got}
 use Rattle.rp_boxes.specs.Rule.{HasOwnPackets}
 use Rattle.rp_boxes.specs.Plays.{Sight, IsSized, alone}
 use Rattle.rp_boxes.specs.Steps.{IsCutStep}
@@ -76,18 +75,13 @@ pub record IsAtTable (table mine : TableId) (actor : ℕ) (me : Sight) : Type 0 
   pub takes : (part_in me.0).takes ≡ []
   pub own : HasOwnPackets actor (part_in me.0)
 
--- The replica is the node that the seat knows; if its device failed, that node is stopped.
+-- The replica is the node of this role; if its device failed, that node is stopped.
 pub record IsNodePlace {S : Type 0} (config : Config) (begin : S) (number : ℕ)
-    (replica : ReplicaState S) (part : Part) : Type 0 where
+    (replica : ReplicaState S) (role : Role) : Type 0 where
   pub member : IsMember config.nodes number
   pub node : NodePart
-  pub is : part.role ≡ OfNode node
+  pub is : role ≡ OfNode node
   pub represents : RepresentsWhile (member_of number config begin) replica node replica.failed
-
--- The stub is the task that the seat knows.
-pub record IsTaskPlace (caller : Caller) (part : Part) : Type 0 where
-  pub task : IsTask caller.task
-  pub is : part.role ≡ OfTask caller.part
 
 -- ---- inputs
 

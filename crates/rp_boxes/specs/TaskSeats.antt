@@ -1,6 +1,7 @@
 -- The results of the calls of a task's seat.
 use Rattle.std.specs.Prelude.{◌≡◌, ◌⊎◌, ℕ, suc, Option, Some, None, Ok, Err, List, [], ◌∷◌, length}
 use Rattle.std.specs.Prelude.{slice_get}
+use Rattle.rp_base.specs.Number.{IsTask}
 use Rattle.rp_base.specs.Sets.{Has}
 use Rattle.rp_base.specs.declared.action.Action.{Action}
 use Rattle.rp_base.specs.declared.config.Config.{Config}
@@ -21,14 +22,15 @@ use Rattle.rp_agreement.specs.Inputs.{WaitsForOwn}
 use Rattle.rp_world.specs.rp_outbox.specs.Packets.{texts_of}
 use Rattle.rp_world.specs.rp_replica.specs.declared.sent.Sent.{Sent}
 use Rattle.rp_world.specs.Callers.{Caller}
-use Rattle.rp_boxes.specs.Parts.{Part, OfTask, task_of, part_after}
-use Rattle.rp_boxes.specs.Seats.{SeatState, IsTaskPlace}
+use Rattle.rp_boxes.specs.Parts.{Part, Role, OfTask, task_of, part_after}
+use Rattle.rp_boxes.specs.Seats.{SeatState}
 
--- The seat of the task with this number: it knows what all nodes share, and waits only for a valid
--- call of its own.
-pub record IsTaskSeat (number : ℕ) (config mine : Config) (caller : Caller) (part : Part)
+-- The stub is the task of this role, which has this number, knows what all nodes share, and waits
+-- only for a valid call of its own.
+pub record IsTaskPlace (number : ℕ) (config mine : Config) (caller : Caller) (role : Role)
     : Type 0 where
-  pub place : IsTaskPlace caller part
+  pub task : IsTask caller.task
+  pub is : role ≡ OfTask caller.part
   pub named : caller.task ≡ number
   pub shared : mine ≡ config
   pub waits : WaitsForOwn number caller.part

@@ -1,14 +1,16 @@
 //! The atomic step that counts an event of an actor.
 
-ghost use Rattle.std.specs.Prelude.{◌≡◌, ◌<◌};
-ghost use Rattle.rp_boxes.specs.Parts.{part_in};
-ghost use Rattle.rp_boxes.specs.Plays.{IsSized, IsEventNoted, alone};
-ghost use Rattle.rp_boxes.specs.Seats.{table_setting};
+ghost use Rattle.std.specs.Prelude.{◌≡◌};
+ghost use Rattle.rp_boxes.specs.Parts.{actor_of, part_in};
+ghost use Rattle.rp_boxes.specs.Plays.{IsEventNoted};
+ghost use Rattle.rp_boxes.specs.Seats.{IsAtTable, table_setting};
 ghost use Rattle.rp_boxes.specs.Steps.{HasEvent};
 
+use crate::actors::actor_of;
 use crate::board::{Known, Place, Slots};
 use crate::laws::events_keep;
 use atomic_table::Play;
+use rp_codec::Party;
 use rp_model::rp_machine::Machine;
 use std::marker::{Brand, PhantomData};
 
@@ -35,18 +37,22 @@ impl<J: Fact> Play<Option<Vec<u8>>, Known> for Turns<J> {
     ghost then = { λ step old found new. IsEventNoted J.says (actor_in old.0) new };
 }
 
-/// Counts an event of the actor whose part the place knows. The fact that the caller chose holds of
-/// the new part.
-pub(crate) fn note<M: Machine, J: Fact>(slots: &Slots<M>, place: &mut Place, actor: usize)
-    requires table { place.old.table_id ≡ slots.now.table_id }
-    requires sized { IsSized slots.now.table_id }
-    requires actor { actor < 16 }
-    requires place { place.old.me ≡ alone actor (part_in place.old.me.0) }
-    requires event { HasEvent (table_setting M.Machine slots.now.key) actor
+/// Counts an event of an actor, whose part the place knows as it was before. The caller chooses a
+/// fact that holds of the part after the event. The fact may name what the call is given, so the
+/// caller gives what the event was, and what made it, though no code reads them.
+pub(crate) fn note<M: Machine, E, J: Fact>(
+    slots: &Slots<M>,
+    place: &mut Place,
+    actor: Party,
+    event: &E,
+)
+    requires place { IsAtTable slots.now.table_id place.old.table_id (actor_of actor) place.old.me }
+    requires event { HasEvent (table_setting M.Machine slots.now.key) (actor_of actor)
         (part_in place.old.me.0) J.says }
     ensures table { place.new.table_id ≡ place.old.table_id }
-    ensures noted { IsEventNoted J.says actor place.new.me }
+    ensures noted { IsEventNoted J.says (actor_of actor) place.new.me }
 {
     events_keep::<M>();
-    slots.fetch_add::<Turns<J>>(place, 256 + actor, 1);
+    let word = 256 + actor_of(actor);
+    slots.fetch_add::<Turns<J>>(place, word, 1);
 }

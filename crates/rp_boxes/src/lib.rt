@@ -8,8 +8,6 @@
 //! - `boxes`: the steps at a box: its sender fills it, its receiver empties it
 //! - `actors`: the numbers of the actors at the table
 //! - `input`: the numbers that a node or a task is given are within their ranges
-//! - `node_turns`: counts a node's turn
-//! - `task_events`: counts a task's events
 //! - `look`: a look at the table: what follows from a seat's knowledge about all that happened
 //! - `node_seat`: the seat of a node
 //! - `task_seat`: the seat of a task
@@ -32,9 +30,7 @@ mod input;
 mod laws;
 mod look;
 mod node_seat;
-mod node_turns;
 mod spares;
-mod task_events;
 mod task_seat;
 mod together;
 

@@ -15,8 +15,8 @@ ghost use Rattle.rp_boxes.specs.Seats.{IsGot, IsTurn, IsCutTurn, IsLightTurn, Is
 use crate::actors::{actor_of, receiver};
 use crate::board::{Board, Place};
 use crate::boxes::{empty, fill};
+use crate::events::note;
 use crate::input::keeps_ranges;
-use crate::node_turns::{note_stop, note_turn};
 use crate::spares::{keep, keep_left, spare_buffer};
 use rp_base::{Fault, NodeId, Position};
 use rp_codec::Party;
@@ -63,7 +63,7 @@ impl<M: Machine, D: Device> Model for NodeSeat<M, D> {
         (arc_value s.board).shared.table_id s.place.table_id s.node s.place.me
         × IsNodePlace (arc_value s.board).shared.key.config
         (M.begin (arc_value s.board).shared.key.program.value) s.node s.replica
-        (part_in s.place.me.0) };
+        (part_in s.place.me.0).role };
 }
 
 impl<M: Machine, D: Device> NodeSeat<M, D> {
@@ -94,30 +94,20 @@ impl<M: Machine, D: Device> NodeSeat<M, D> {
         if self.replica.has_failed() {
             return Err(Fault::Failed);
         }
+        let node = Party::Node(self.node);
         let buffer = spare_buffer(&mut self.spares, alloc);
         match self.replica.turn_with(alloc, buffer, &mut self.ends, input) {
             Ok(sent) => {
-                note_turn::<M, D, Brand>(
-                    &self.board.shared,
-                    &mut self.place,
-                    self.node,
-                    &self.replica,
-                    input,
-                    &sent,
-                );
+                let event = (&self.replica, input, &sent);
+                note::<M, _, Brand>(&self.board.shared, &mut self.place, node, &event);
                 Ok(sent)
             }
             Err(fault) => {
                 if !self.replica.has_failed() {
                     return Err(fault);
                 }
-                note_stop::<M, D, Brand>(
-                    &self.board.shared,
-                    &mut self.place,
-                    self.node,
-                    &self.replica,
-                    input,
-                );
+                let event = (&self.replica, input);
+                note::<M, _, Brand>(&self.board.shared, &mut self.place, node, &event);
                 Err(fault)
             }
         }

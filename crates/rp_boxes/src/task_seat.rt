@@ -19,11 +19,11 @@ ghost use Rattle.rp_boxes.specs.TaskSeats.{asked_of, DescribesPackets, reply_eff
 use crate::actors::{actor_of, receiver};
 use crate::board::{Board, Place};
 use crate::boxes::{empty, fill};
+use crate::events::note;
 use crate::input::node_keeps_range;
 use crate::laws::order_laws;
 use crate::look::look;
 use crate::spares::{keep, keep_left, spare_buffer};
-use crate::task_events::{note_asking, note_reply};
 use rp_agreement::tasks_send_right_packets;
 use rp_base::{Action, Answer, Config, Fault, NodeId, Operation, Reply, TaskId};
 use rp_codec::{Party, encode_onto};
@@ -54,7 +54,7 @@ impl<M: Machine> Model for TaskSeat<M> {
     ghost use Rattle.std.specs.Arc.{arc_value};
     ghost use Rattle.rp_boxes.specs.Parts.{part_in};
     ghost use Rattle.rp_boxes.specs.Seats.{SeatState, IsAtTable};
-    ghost use Rattle.rp_boxes.specs.TaskSeats.{IsTaskSeat};
+    ghost use Rattle.rp_boxes.specs.TaskSeats.{IsTaskPlace};
 
     ghost Value = { SeatState M.Program };
 
@@ -71,8 +71,8 @@ impl<M: Machine> Model for TaskSeat<M> {
 
     ghost invariant = { λ s. IsAtTable (arc_value s.board).shared.table_id s.place.table_id
         (7 + s.number) s.place.me
-        × IsTaskSeat s.number (arc_value s.board).shared.key.config s.config s.task
-        (part_in s.place.me.0) };
+        × IsTaskPlace s.number (arc_value s.board).shared.key.config s.config s.task
+        (part_in s.place.me.0).role };
 }
 
 impl<M: Machine> TaskSeat<M> {
@@ -101,14 +101,9 @@ impl<M: Machine> TaskSeat<M> {
         let buffer = spare_buffer(&mut self.spares, alloc);
         let sent = asking(buffer, self.number, node, &call)?;
         self.task.call(object, operation, arg);
-        note_asking::<M, Brand>(
-            &self.board.shared,
-            &mut self.place,
-            self.number,
-            &self.task,
-            node,
-            &call,
-        );
+        let event = (&self.task, self.number, node, call);
+        let task = Party::Task(self.number);
+        note::<M, _, Brand>(&self.board.shared, &mut self.place, task, &event);
         Ok(sent)
     }
 
@@ -126,14 +121,9 @@ impl<M: Machine> TaskSeat<M> {
         let call = self.task.outstanding();
         let buffer = spare_buffer(&mut self.spares, alloc);
         let sent = asking(buffer, self.number, node, &call)?;
-        note_asking::<M, Brand>(
-            &self.board.shared,
-            &mut self.place,
-            self.number,
-            &self.task,
-            node,
-            &call,
-        );
+        let event = (&self.task, self.number, node, call);
+        let task = Party::Task(self.number);
+        note::<M, _, Brand>(&self.board.shared, &mut self.place, task, &event);
         Ok(sent)
     }
 
@@ -159,7 +149,8 @@ impl<M: Machine> TaskSeat<M> {
         order_laws::<M>();
         let stated = decode_reply(alloc, packet)?;
         let taken = take(&mut self.task, stated)?;
-        note_reply::<M, Brand>(&self.board.shared, &mut self.place, self.number, &self.task);
+        let task = Party::Task(self.number);
+        note::<M, _, Brand>(&self.board.shared, &mut self.place, task, &self.task);
         look::<M, Brand>(&self.board.shared, &mut self.place);
         Ok(taken)
     }

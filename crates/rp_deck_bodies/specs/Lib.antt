@@ -6,3 +6,4 @@ pub mod Counted
 pub mod BodyLimits
 pub mod NodeReads
 pub use Rattle.rp_words.specs.indexmap
+pub use Rattle.rp_words

@@ -14,7 +14,8 @@ use Rattle.rp_object.specs.rp_body.specs.declared.components.Ranged.{Ranged}
 use Rattle.rp_object.specs.declared.program.Profile.{Profile}
 use Rattle.rp_object.specs.declared.program.Profile.TheVariants.{Ravenscar, Jorvik}
 use Rattle.rp_words.specs.Lines.{LineText}
-use Rattle.rp_words.specs.Reading.{◌>>=◌, some_or, unless, room, word_at, end_at}
+use Rattle.rp_words.specs.Reading.{◌>>=◌, some_or, unless, room, word_at}
+use Rattle.rp_words.specs.Reading.{end_at}
 use Rattle.rp_words.specs.Reading.{name_at, new_name_at, integer_at, number_at}
 use Rattle.rp_words.specs.Tables.{is_declared}
 use Rattle.rp_words.specs.Words.{truth_named, is_at_end}

@@ -6,6 +6,7 @@ pub mod Turning
 pub mod Opening
 pub mod Committing
 pub mod Cutting
+pub use Rattle.rp_codec
 pub use Rattle.rp_rules.specs.rp_learner
 pub use Rattle.rp_model.specs.rp_machine
 pub use Rattle.rp_model

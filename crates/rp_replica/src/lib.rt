@@ -36,6 +36,7 @@ pub use cut::NotCut;
 pub use laws::{opening_is_a_restart, texts_are_packets, turns_are_effects};
 pub use opening::Opening;
 pub use replica::Replica;
+pub use rp_codec;
 pub use rp_model;
 pub use rp_model::rp_machine;
 pub use rp_outbox;

@@ -1,9 +1,9 @@
 -- The seat gets the packet that was in the box, or stays as it is.
-use Rattle.std.proofs.Common.{◌∙◌}
+use Rattle.std.proofs.Common.{sym, subst, ◌∙◌}
 use Rattle.std.specs.Arc.{arc_value}
 use Rattle.rp_codec.specs.declared.packet.Party.TheVariants.{Node}
-use Rattle.rp_boxes.specs.Parts.{part_in}
-use Rattle.rp_boxes.proofs.SeatBoxes.{BoxStep, box_step, fetched_at, same_role, node_stays, sent_state, missed_state}
+use Rattle.rp_boxes.specs.Seats.{IsNodePlace}
+use Rattle.rp_boxes.proofs.SeatBoxes.{BoxStep, box_step, fetched_at, same_role, sent_state, missed_state}
 use Rattle.rp_boxes.proofs.node_seat.NodeSeat.fetch.Given as given
 use Rattle.rp_boxes.proofs.node_seat.NodeSeat.fetch.Goals as goal
 use Rattle.rp_boxes.proofs.node_seat.NodeSeat.fetch.Goals.{After-empty}
@@ -19,8 +19,7 @@ invariant_of-self g c =
     let at = step g (goal.at.invariant_of-self g c).After-empty in
     let key = (arc_value c.self.inside.board).shared.key in (
       fetched_at at c.actor_of.result c.empty.result c.empty.ensures.none c.empty.ensures.some,
-      node_stays key.config (g.M.Machine.begin key.program.value) c.self.inside.node c.self.inside.replica (part_in c.self.inside.place.me.0) (part_in c.empty.new.place.me.0)
-          (same_role at c.actor_of.result c.empty.result c.empty.ensures.none c.empty.ensures.some) c.self.invariant.1,
+      subst (IsNodePlace key.config (g.M.Machine.begin key.program.value) c.self.inside.node c.self.inside.replica) (sym (same_role at c.actor_of.result c.empty.result c.empty.ensures.none c.empty.ensures.some)) c.self.invariant.1,
     )
 
 pub returns-clause-sent : goal.returns-clause-sent

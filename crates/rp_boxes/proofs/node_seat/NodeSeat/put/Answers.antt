@@ -3,8 +3,8 @@ use Rattle.std.proofs.Common.{sym, ap, subst, ◌∙◌}
 use Rattle.std.specs.Arc.{arc_value}
 use Rattle.rp_codec.specs.declared.packet.Party.TheVariants.{Node}
 use Rattle.rp_boxes.specs.Parts.{Part, part_in}
-use Rattle.rp_boxes.specs.Seats.{SeatState, IsPut, IsSentText}
-use Rattle.rp_boxes.proofs.SeatBoxes.{PutStep, after, box_step, carries, node_stays, put_at, put_seat, put_state, used_state}
+use Rattle.rp_boxes.specs.Seats.{SeatState, IsNodePlace, IsPut, IsSentText}
+use Rattle.rp_boxes.proofs.SeatBoxes.{PutStep, after, box_step, carries, put_at, put_seat, put_state, used_state}
 use Rattle.rp_boxes.proofs.node_seat.NodeSeat.put.Given as given
 use Rattle.rp_boxes.proofs.node_seat.NodeSeat.put.Goals as goal
 use Rattle.rp_boxes.proofs.node_seat.NodeSeat.put.Goals.{After-fill}
@@ -32,8 +32,7 @@ invariant_of-self g c =
     let key = (arc_value c.self.inside.board).shared.key in
     let put = c.in-Ok.ensures.put in (
       put_at (puts g (goal.at.invariant_of-self g c).After-fill) put,
-      node_stays key.config (g.M.Machine.begin key.program.value) c.self.inside.node c.self.inside.replica (part_in c.self.inside.place.me.0) (part_in c.fill.new.place.me.0)
-          (ap (λ (p : Part). p.role) put.is) c.self.invariant.1,
+      subst (IsNodePlace key.config (g.M.Machine.begin key.program.value) c.self.inside.node c.self.inside.replica) (sym (ap (λ (p : Part). p.role) put.is)) c.self.invariant.1,
     )
 
 pub returns-in-Ok-clause-put : goal.returns-in-Ok-clause-put

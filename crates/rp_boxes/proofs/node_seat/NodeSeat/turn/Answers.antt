@@ -25,22 +25,22 @@ returns-then-has_failed-clause-err g c =
     inr (subst (λ (seat : SeatState g.row.M-Program.Denot). IsNoTurn m.next m.answers m.begin seat c.args.input.now seat _) c.self.view_is
     (was_stopped (step g (goal.at.returns-then-has_failed-clause-err g c).After-has_failed) (sym c.has_failed.ensures ∙ c.if-has_failed.true)))
 
-pub note_turn-requires-clause-event : goal.note_turn-requires-clause-event
-note_turn-requires-clause-event g c =
-    has_stepped (step g (goal.at.note_turn-requires-clause-event g c).After-has_failed) (sym c.has_failed.ensures ∙ c.if-has_failed.false) c.turn_with.new.self c.in-Ok.sent c.in-Ok.ensures.answer _ c.deref.ensures
+pub note-requires-clause-event : goal.note-requires-clause-event
+note-requires-clause-event g c =
+    has_stepped (step g (goal.at.note-requires-clause-event g c).After-has_failed) (sym c.has_failed.ensures ∙ c.if-has_failed.false) c.turn_with.new.self c.in-Ok.sent c.in-Ok.ensures.answer _ c.deref.ensures
 
 pub invariant_of-self : goal.invariant_of-self
 invariant_of-self g c =
-    stepped_seat (step g (goal.at.invariant_of-self g c).After-has_failed) c.note_turn.new.place c.note_turn.ensures.table c.turn_with.new.self _ c.deref.ensures c.in-Ok.sent c.note_turn.ensures.noted
+    stepped_seat (step g (goal.at.invariant_of-self g c).After-has_failed) c.note.new.place c.note.ensures.table c.turn_with.new.self _ c.deref.ensures c.in-Ok.sent c.note.ensures.noted
 
-pub note_stop-requires-clause-event : goal.note_stop-requires-clause-event
-note_stop-requires-clause-event g c =
-    stopped_event (step g (goal.at.note_stop-requires-clause-event g c).After-has_failed) (sym c.has_failed.ensures ∙ c.if-has_failed.false) c.turn_with.new.self c.in-Err.fault c.in-Err.ensures.answer
+pub note-requires-in-Err-clause-event : goal.note-requires-in-Err-clause-event
+note-requires-in-Err-clause-event g c =
+    stopped_event (step g (goal.at.note-requires-in-Err-clause-event g c).After-has_failed) (sym c.has_failed.ensures ∙ c.if-has_failed.false) c.turn_with.new.self c.in-Err.fault c.in-Err.ensures.answer
     (sym c.has_failed-in-Err.ensures ∙ c.if-not-has_failed.false) _ c.deref-in-Err.ensures
 
 pub invariant_of-self-in-Err : goal.invariant_of-self-in-Err
 invariant_of-self-in-Err g c =
-    stopped_seat (step g (goal.at.invariant_of-self-in-Err g c).After-has_failed) c.note_stop.new.place c.note_stop.ensures.table c.turn_with.new.self _ c.deref-in-Err.ensures c.note_stop.ensures.noted
+    stopped_seat (step g (goal.at.invariant_of-self-in-Err g c).After-has_failed) c.note-in-Err.new.place c.note-in-Err.ensures.table c.turn_with.new.self _ c.deref-in-Err.ensures c.note-in-Err.ensures.noted
 
 pub returns-then-not-has_failed-clause-err : goal.returns-then-not-has_failed-clause-err
 returns-then-not-has_failed-clause-err g c =
@@ -54,18 +54,18 @@ pub returns-else-not-has_failed-clause-err : goal.returns-else-not-has_failed-cl
 returns-else-not-has_failed-clause-err g c =
     let m = g.M.Machine in
     let at = step g (goal.at.returns-else-not-has_failed-clause-err g c).After-has_failed in
-    let place = c.note_stop.new.place in
+    let place = c.note-in-Err.new.place in
     inl (subst (λ (seat : SeatState g.row.M-Program.Denot). IsCutTurn m.next m.answers m.begin seat c.args.input.now (seat_state at place.table_id c.turn_with.new.self.disk.failures (part_in place.me.0)) c.in-Err.fault) c.self.view_is
-    (stopped_state at place c.note_stop.ensures.table c.turn_with.new.self _ c.deref-in-Err.ensures c.note_stop.ensures.noted
+    (stopped_state at place c.note-in-Err.ensures.table c.turn_with.new.self _ c.deref-in-Err.ensures c.note-in-Err.ensures.noted
     (sym c.has_failed.ensures ∙ c.if-has_failed.false) c.in-Err.fault c.in-Err.ensures.answer (sym c.has_failed-in-Err.ensures ∙ c.if-not-has_failed.false)))
 
 pub returns-in-Ok-clause-ok : goal.returns-in-Ok-clause-ok
 returns-in-Ok-clause-ok g c =
     let m = g.M.Machine in
     let at = step g (goal.at.returns-in-Ok-clause-ok g c).After-has_failed in
-    let place = c.note_turn.new.place in
+    let place = c.note.new.place in
     subst (λ (seat : SeatState g.row.M-Program.Denot). IsTurn m.next m.answers m.begin seat c.args.input.now (seat_state at place.table_id c.turn_with.new.self.disk.failures (part_in place.me.0)) c.in-Ok.sent) c.self.view_is
-    (stepped_state at place c.note_turn.ensures.table c.turn_with.new.self _ c.deref.ensures c.in-Ok.sent c.note_turn.ensures.noted (sym c.has_failed.ensures ∙ c.if-has_failed.false) c.in-Ok.ensures.answer)
+    (stepped_state at place c.note.ensures.table c.turn_with.new.self _ c.deref.ensures c.in-Ok.sent c.note.ensures.noted (sym c.has_failed.ensures ∙ c.if-has_failed.false) c.in-Ok.ensures.answer)
 
 pub returns-then-has_failed-clause-certain : goal.returns-then-has_failed-clause-certain
 returns-then-has_failed-clause-certain g c = λ light.

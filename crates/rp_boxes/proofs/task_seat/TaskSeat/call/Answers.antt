@@ -91,9 +91,9 @@ call-requires-clause-operation g c =
     let at = (goal.at.call-requires-clause-operation g c).In_ok-next in
     (subst IsRight (made g at).0 (own g at).1).3
 
-pub note_asking-requires-clause-event : goal.note_asking-requires-clause-event
-note_asking-requires-clause-event g c =
-    let at = goal.at.note_asking-requires-clause-event g c in
+pub note-requires-clause-event : goal.note-requires-clause-event
+note-requires-clause-event g c =
+    let at = goal.at.note-requires-clause-event g c in
     let e = event g at.In_ok-next in
     task_event e c.call.new.self.part e.done.sends (waits g at.After-call (made g at.In_ok-next).0) refl g.M.Machine _ c.deref.ensures (is_given g at.In_ok-next)
 
@@ -101,12 +101,12 @@ pub invariant_of-self-2 : goal.invariant_of-self-2
 invariant_of-self-2 g c =
     let at = goal.at.invariant_of-self-2 g c in
     let e = event g at.In_ok-next in
-    seat_after e c.note_asking.new.place c.note_asking.ensures.table c.call.new.self e.done.sends c.note_asking.ensures.noted (ap (λ (k : Caller). k.task) c.call.ensures)
+    seat_after e c.note.new.place c.note.ensures.table c.call.new.self e.done.sends c.note.ensures.noted (ap (λ (k : Caller). k.task) c.call.ensures)
     (waits_for_one c.self.inside.number c.self.inside.task.part c.call.new.self.part (call g at.In_ok-next) (waits g at.After-call (made g at.In_ok-next).0) (own g at.In_ok-next))
 
 pub returns-clause-ok : goal.returns-clause-ok
 returns-clause-ok g c =
     let at = goal.at.returns-clause-ok g c in
     let e = event g at.In_ok-next in
-    subst (λ (old : SeatState g.row.M-Program.Denot). IsTaskTurn old e.input (state_at c.self.inside c.note_asking.new.place) c.in_ok-sent.sent) c.self.view_is
-    (asked_state e c.note_asking.new.place c.note_asking.ensures.table c.call.new.self e.done.sends c.note_asking.ensures.noted (waits g at.After-call (made g at.In_ok-next).0) refl c.in_ok-sent.sent c.in_ok-sent.ensures)
+    subst (λ (old : SeatState g.row.M-Program.Denot). IsTaskTurn old e.input (state_at c.self.inside c.note.new.place) c.in_ok-sent.sent) c.self.view_is
+    (asked_state e c.note.new.place c.note.ensures.table c.call.new.self e.done.sends c.note.ensures.noted (waits g at.After-call (made g at.In_ok-next).0) refl c.in_ok-sent.sent c.in_ok-sent.ensures)

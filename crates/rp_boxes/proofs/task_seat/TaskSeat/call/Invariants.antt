@@ -4,7 +4,7 @@ use Rattle.rp_boxes.specs.TaskSeats.{asked_of}
 use Rattle.rp_boxes.proofs.TaskTurns.{BecomesPart}
 use Rattle.rp_boxes.proofs.task_seat.TaskSeat.call.Given as goal
 
-abbrev pub ghosts-note_asking : goal.ghosts-note_asking
-ghosts-note_asking g a = record {
-  says = BecomesPart (part_in a.place.now.me.0) a.task.now.part (asked_of a.number a.node a.call.now);
+abbrev pub ghosts-note : goal.ghosts-note
+ghosts-note g a = record {
+  says = BecomesPart (part_in a.place.now.me.0) a.event.now.0.now.part (asked_of a.event.now.1 a.event.now.2 a.event.now.3);
 }

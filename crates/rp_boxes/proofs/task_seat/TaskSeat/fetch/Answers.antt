@@ -1,9 +1,9 @@
 -- The seat gets the packet that was in the box, or stays as it is.
+use Rattle.std.proofs.Common.{sym, subst}
 use Rattle.std.specs.Arc.{arc_value}
 use Rattle.rp_codec.specs.declared.packet.Party.TheVariants.{Task}
-use Rattle.rp_boxes.specs.Parts.{part_in}
+use Rattle.rp_boxes.specs.TaskSeats.{IsTaskPlace}
 use Rattle.rp_boxes.proofs.SeatBoxes.{BoxStep, box_step, fetched_at, same_role, sent_state, missed_state}
-use Rattle.rp_boxes.proofs.TaskTurns.{task_stays}
 use Rattle.rp_boxes.proofs.task_seat.TaskSeat.fetch.Given as given
 use Rattle.rp_boxes.proofs.task_seat.TaskSeat.fetch.Goals as goal
 use Rattle.rp_boxes.proofs.task_seat.TaskSeat.fetch.Goals.{After-empty}
@@ -18,8 +18,7 @@ pub invariant_of-self : goal.invariant_of-self
 invariant_of-self g c =
     let at = step g (goal.at.invariant_of-self g c).After-empty in (
       fetched_at at c.actor_of.result c.empty.result c.empty.ensures.none c.empty.ensures.some,
-      task_stays c.self.inside.number (arc_value c.self.inside.board).shared.key.config c.self.inside.config c.self.inside.task (part_in c.self.inside.place.me.0) (part_in c.empty.new.place.me.0)
-          (same_role at c.actor_of.result c.empty.result c.empty.ensures.none c.empty.ensures.some) c.self.invariant.1,
+      subst (IsTaskPlace c.self.inside.number (arc_value c.self.inside.board).shared.key.config c.self.inside.config c.self.inside.task) (sym (same_role at c.actor_of.result c.empty.result c.empty.ensures.none c.empty.ensures.some)) c.self.invariant.1,
     )
 
 pub returns-clause-sent : goal.returns-clause-sent

@@ -4,8 +4,8 @@ use Rattle.std.specs.Arc.{arc_value}
 use Rattle.rp_codec.specs.declared.packet.Party.TheVariants.{Task}
 use Rattle.rp_boxes.specs.Parts.{Part, part_in}
 use Rattle.rp_boxes.specs.Seats.{SeatState, IsPut, IsSentText}
+use Rattle.rp_boxes.specs.TaskSeats.{IsTaskPlace}
 use Rattle.rp_boxes.proofs.SeatBoxes.{PutStep, after, box_step, carries, put_at, put_seat, put_state, used_state}
-use Rattle.rp_boxes.proofs.TaskTurns.{task_stays}
 use Rattle.rp_boxes.proofs.task_seat.TaskSeat.put.Given as given
 use Rattle.rp_boxes.proofs.task_seat.TaskSeat.put.Goals as goal
 use Rattle.rp_boxes.proofs.task_seat.TaskSeat.put.Goals.{After-fill}
@@ -31,8 +31,7 @@ pub invariant_of-self : goal.invariant_of-self
 invariant_of-self g c =
     let put = c.in-Ok.ensures.put in (
       put_at (puts g (goal.at.invariant_of-self g c).After-fill) put,
-      task_stays c.self.inside.number (arc_value c.self.inside.board).shared.key.config c.self.inside.config c.self.inside.task (part_in c.self.inside.place.me.0) (part_in c.fill.new.place.me.0)
-          (ap (λ (p : Part). p.role) put.is) c.self.invariant.1,
+      subst (IsTaskPlace c.self.inside.number (arc_value c.self.inside.board).shared.key.config c.self.inside.config c.self.inside.task) (sym (ap (λ (p : Part). p.role) put.is)) c.self.invariant.1,
     )
 
 pub returns-in-Ok-clause-put : goal.returns-in-Ok-clause-put

@@ -35,7 +35,7 @@ module _ (g : given.Over) (c : In_ok-taken g) where
   is_given : IsTaskInput (state c.self.inside).part.got c.self.inside.number event.input
   is_given =
       let right = c.self.invariant.0.own.got got.0 got.1 in
-      (got.1, same_party got.0.to (parties.Task c.self.inside.number) right.0.ranges.to (subst IsTask c.self.invariant.1.named c.self.invariant.1.place.task) right.1)
+      (got.1, same_party got.0.to (parties.Task c.self.inside.number) right.0.ranges.to (subst IsTask c.self.invariant.1.named c.self.invariant.1.task) right.1)
 
   now : c.take.new.task.part ≡ event.done.part
   now = ap (λ (k : Caller). k.part) c.in_ok-taken.ensures.part ∙ ap (λ (k : ℕ). (reply_effect k c.self.inside.task.part c.in_ok-stated.stated).part) c.self.invariant.1.named
@@ -46,9 +46,9 @@ module _ (g : given.Over) (c : In_ok-taken g) where
   quiet : [] ≡ event.done.sends
   quiet = sym (reply_quiet c.self.inside.number c.self.inside.task.part c.in_ok-stated.stated)
 
-pub note_reply-requires-clause-event : goal.note_reply-requires-clause-event
-note_reply-requires-clause-event g c =
-    let at = (goal.at.note_reply-requires-clause-event g c).In_ok-taken in
+pub note-requires-clause-event : goal.note-requires-clause-event
+note-requires-clause-event g c =
+    let at = (goal.at.note-requires-clause-event g c).In_ok-taken in
     task_event (event g at) c.take.new.task.part [] (now g at) (quiet g at) g.M.Machine _ c.deref.ensures (is_given g at)
 
 pub look-requires-clause-follows : goal.look-requires-clause-follows
@@ -59,16 +59,16 @@ returns-clause-ok g c =
     let at = (goal.at.returns-clause-ok g c).In_ok-taken in
     let place = c.look.new.place in
     let new = c.take.new.task in
-    let noted = subst (IsEventNoted (BecomesPart (part_in c.self.inside.place.me.0) new.part []) (7 + c.self.inside.number)) (sym c.look.ensures.place) c.note_reply.ensures.noted in
+    let noted = subst (IsEventNoted (BecomesPart (part_in c.self.inside.place.me.0) new.part []) (7 + c.self.inside.number)) (sym c.look.ensures.place) c.note.ensures.noted in
     subst (λ (seat : SeatState g.row.M-Program.Denot). IsReplyTurn seat c.args.packet.now (state_at c.self.inside place) c.in_ok-taken.taken) c.self.view_is
-    (replied_state (event g at) place (c.look.ensures.table ∙ c.note_reply.ensures.table) new [] noted (now g at) (quiet g at) (got g at).0 c.args.packet.now c.in_ok-taken.taken refl (got g at).1 (got g at).2 (taken g at))
+    (replied_state (event g at) place (c.look.ensures.table ∙ c.note.ensures.table) new [] noted (now g at) (quiet g at) (got g at).0 c.args.packet.now c.in_ok-taken.taken refl (got g at).1 (got g at).2 (taken g at))
 
 pub returns-clause-stated : goal.returns-clause-stated
 returns-clause-stated g c =
     let m = g.M.Machine in
     let seat = state_at c.self.inside c.look.new.place in
     let key = c.deref-2.result.now.shared.key in
-    let me = c.note_reply.new.place.me in
-    let here : me ≡ alone (7 + seat.setup.number) (part_in me.0) = subst (λ (sight : Sight). sight ≡ alone (7 + seat.setup.number) (part_in sight.0)) (sym c.note_reply.ensures.noted.is) refl in
+    let me = c.note.new.place.me in
+    let here : me ≡ alone (7 + seat.setup.number) (part_in me.0) = subst (λ (sight : Sight). sight ≡ alone (7 + seat.setup.number) (part_in sight.0)) (sym c.note.ensures.noted.is) refl in
     one_order m.next m.answers m.begin seat (table_setting m key) me (ap (λ board. table_setting m board.shared.key) c.deref-2.ensures)
     (here ∙ ap (λ (sight : Sight). alone (7 + seat.setup.number) (part_in sight.0)) (sym c.look.ensures.place)) c.look.ensures.picked (c.order_laws.ensures seat.setup.config seat.setup.program)

@@ -6,10 +6,8 @@ use Rattle.rp_boxes.specs.Seats.{table_setting}
 use Rattle.rp_boxes.proofs.TaskTurns.{BecomesPart}
 use Rattle.rp_boxes.proofs.task_seat.TaskSeat.reply.Given as goal
 
-abbrev pub ghosts-note_reply : goal.ghosts-note_reply
-ghosts-note_reply g a = record {
-  says = BecomesPart (part_in a.place.now.me.0) a.task.now.part [];
-}
+abbrev pub ghosts-note : goal.ghosts-note
+ghosts-note g a = record { says = BecomesPart (part_in a.place.now.me.0) a.event.now.part [] }
 
 abbrev pub ghosts-look : goal.ghosts-look
 ghosts-look g a = record { says = λ part. HasWorld (table_setting g.M.Machine a.slots.now.key) a.place.now.me.0 }

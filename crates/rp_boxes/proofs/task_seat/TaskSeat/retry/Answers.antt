@@ -39,16 +39,16 @@ returns-in_err-sent-clause-err g c =
     subst (λ (seat : SeatState g.row.M-Program.Denot). IfErr c.from_residual.result (λ e. IsNoTaskTurn seat at.input (state c.self.inside) e)) c.self.view_is
     (at_fault (IsNoTaskTurn (state c.self.inside) at.input (state c.self.inside)) OutOfMemory c.from_residual.result c.from_residual.ensures.1 (no_memory_state at))
 
-pub note_asking-requires-clause-event : goal.note_asking-requires-clause-event
-note_asking-requires-clause-event g c =
+pub note-requires-clause-event : goal.note-requires-clause-event
+note-requires-clause-event g c =
     let asked = asked_of c.self.inside.number c.args.node in
-    task_event (event g (goal.at.note_asking-requires-clause-event g c).Else-get-self) c.self.inside.task.part (asked c.outstanding-call.result) refl
+    task_event (event g (goal.at.note-requires-clause-event g c).Else-get-self) c.self.inside.task.part (asked c.outstanding-call.result) refl
     (ap asked c.outstanding-call.ensures) g.M.Machine _ c.deref.ensures c.get.ensures.in_range
 
 pub returns-clause-ok : goal.returns-clause-ok
 returns-clause-ok g c =
     let at = event g (goal.at.returns-clause-ok g c).Else-get-self in
     let asked = asked_of c.self.inside.number c.args.node in
-    subst (λ (seat : SeatState g.row.M-Program.Denot). IsTaskTurn seat at.input (state_at c.self.inside c.note_asking.new.place) c.in_ok-sent.sent) c.self.view_is
-    (asked_state at c.note_asking.new.place c.note_asking.ensures.table c.self.inside.task (asked c.outstanding-call.result) c.note_asking.ensures.noted refl (ap asked c.outstanding-call.ensures)
+    subst (λ (seat : SeatState g.row.M-Program.Denot). IsTaskTurn seat at.input (state_at c.self.inside c.note.new.place) c.in_ok-sent.sent) c.self.view_is
+    (asked_state at c.note.new.place c.note.ensures.table c.self.inside.task (asked c.outstanding-call.result) c.note.ensures.noted refl (ap asked c.outstanding-call.ensures)
     c.in_ok-sent.sent c.in_ok-sent.ensures)

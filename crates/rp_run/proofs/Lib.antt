@@ -5,7 +5,6 @@ mod Tracing
 pub mod Refusing
 pub mod LeastUnsettled
 mod Histories
-mod ItemTexts
 mod Acting
 mod Showing
 mod Recounting

@@ -1,7 +1,7 @@
 mod PrintedNames
 pub mod Among
 pub mod NextNumbers
-mod Tracing
+pub mod Tracing
 pub mod Refusing
 pub mod LeastUnsettled
 mod Histories

@@ -83,17 +83,20 @@ module _ {S : Type 0} (s : RunSetting S) (node : ℕ) where
   running_text count records None printed = absurd (cc)
   running_text count records (Some running) printed = ap (λ (n : ℕ). line n ++ image_of records) (sym printed)
 
+  running_part : (count : ℕ) (part : NodePart) → IsQueryAnswer (Ok count) Counts (Some part) → items_text (part_items s node (Some part)) ≡ line count ++ image_of part.records
+  running_part count part printed = append-nil (item_text (state_item s node part.records part.running)) ∙ running_text count part.records part.running printed
+
   -- it begins with the number of actions
   pub begins_by_count : (count : ℕ) (part : Option NodePart) → IsQueryAnswer (Ok count) Counts part → (rest : List ℕ) × (items_text (part_items s node part) ≡ line count ++ rest)
   begins_by_count count None printed = absurd (cc)
-  begins_by_count count (Some part) printed = (image_of part.records, append-nil (item_text (state_item s node part.records part.running)) ∙ running_text count part.records part.running printed)
+  begins_by_count count (Some part) printed = (image_of part.records, running_part count part printed)
 
   -- and goes on with the image
   pub whole_text : (count : ℕ) (text : Vec ℕ Global) (part : Option NodePart) → IsQueryAnswer (Ok count) Counts part → IsQueryAnswerUnlessMemory (Ok text) Shows part
       → items_text (part_items s node part) ≡ line count ++ text.items
   whole_text count text part printed (inl memory) = let none = memory.0 in absurd (cc)
   whole_text count text None printed (inr shown) = absurd (cc)
-  whole_text count text (Some part) printed (inr shown) = (begins_by_count count (Some part) printed).1 ∙ ap (λ (l : List ℕ). line count ++ l) (sym (shown_image part.records part.running shown))
+  whole_text count text (Some part) printed (inr shown) = running_part count part printed ∙ ap (λ (l : List ℕ). line count ++ l) (sym (shown_image part.records part.running shown))
     where
       shown_image : (records : List Rec) (running : Option Running) → IsRunningQueryAnswer (Ok text) Shows records running → text.items ≡ image_of records
       shown_image records None is = absurd (cc)

@@ -9,12 +9,13 @@ use Rattle.rp_output.specs.FaultMessage.{with_line_feed}
 use Rattle.rp_run.specs.Items.{Note, note_line, notes_text}
 use Rattle.rp_run.specs.Output.{trace_notes}
 
-drop_at : {A : Type 0} (xs : List A) (i : ℕ) (x : A) → slice_get xs i ≡ Some x → drop i xs ≡ x ∷ drop (suc i) xs
+-- the item at a place, and those after it
+pub drop_at : {A : Type 0} (xs : List A) (i : ℕ) (x : A) → slice_get xs i ≡ Some x → drop i xs ≡ x ∷ drop (suc i) xs
 drop_at [] i x here = absurd (cc)
 drop_at (y ∷ ys) zero x here = let same : y ≡ x = cc in ap (λ z. z ∷ ys) same
 drop_at (y ∷ ys) (suc i) x here = drop_at ys i x here
 
-drop_none_at : {A : Type 0} (xs : List A) (i : ℕ) → slice_get xs i ≡ None → (drop i xs ≡ []) × (drop (suc i) xs ≡ [])
+pub drop_none_at : {A : Type 0} (xs : List A) (i : ℕ) → slice_get xs i ≡ None → (drop i xs ≡ []) × (drop (suc i) xs ≡ [])
 drop_none_at [] i none = (drop_all i [] (omega arith), drop_all (suc i) [] (omega arith))
 drop_none_at (x ∷ xs) zero none = absurd (cc)
 drop_none_at (x ∷ xs) (suc i) none = drop_none_at xs i none

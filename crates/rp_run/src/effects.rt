@@ -289,10 +289,10 @@ pub(crate) fn print_taken<W: Write>(
         (items_text (taken_items (names_of tasks.now) taken)) result }
     ensures fault { IfErr result IsRunFault }
 {
-    if let Some(answer) = taken {
-        print_reply(alloc, tasks, answer, writer)?;
+    match taken {
+        Some(answer) => print_reply(alloc, tasks, answer, writer),
+        None => Ok(()),
     }
-    Ok(())
 }
 
 /// Prints a reply under the name of its task.

@@ -9,7 +9,7 @@ use Rattle.rp_acceptor.specs.declared.comparison.Comparison.{Comparison}
 use Rattle.rp_acceptor.specs.declared.comparison.Comparison.TheVariants.{Above, Below, Equal}
 use Rattle.rp_acceptor.specs.Comparing.{not_above, compared, compared_at, followed_by, combined, Bound, compared_bounds}
 use Rattle.rp_acceptor.specs.Slots.{Kept, nothing_kept, bound_of, kept_at, kept_in_page, bounds_from}
-use Rattle.rp_acceptor.specs.Levels.{Level, ballot_at, ballot_before}
+use Rattle.rp_acceptor.specs.Levels.{Level, holding_ballot, ballot_before}
 use Rattle.rp_acceptor.proofs.Splitting.{ballot_by}
 
 -- ---- part by part
@@ -127,22 +127,22 @@ compared_flat b bound first (suc n) =
 
 -- the bounds of a stretch in which one level holds
 pub stretch_ballot : (levels : List Level) (b position next count : ℕ) → AllWithin (λ s. s.from < position + 1) levels 0 count → AllWithin (λ s. next ≤ s.from) levels count (length levels)
-    → compared (ballot_at levels) b (range_with_len position (next - position)) ≡ compared (λ i. ballot_before 0 levels count) b (range_with_len position (next - position))
+    → compared (holding_ballot levels) b (range_with_len position (next - position)) ≡ compared (λ i. ballot_before 0 levels count) b (range_with_len position (next - position))
 stretch_ballot levels b position next count below above =
-    compared_same (ballot_at levels) (λ i. ballot_before 0 levels count) b position (next - position) (λ i from within.
+    compared_same (holding_ballot levels) (λ i. ballot_before 0 levels count) b position (next - position) (λ i from within.
     ballot_by 0 levels i count (λ k d low high. let early = below k d low high in omega (arith, early, from)) (λ k d low high. let late = above k d low high in omega (arith, late, from, within)))
 
 -- what was found before a stretch, with what the stretch has and what the rest has
 pub stretch_next : (levels : List Level) (b position next end count : ℕ) (found here all : Comparison) → position ≤ next → next ≤ end
     → AllWithin (λ s. s.from < position + 1) levels 0 count → AllWithin (λ s. next ≤ s.from) levels count (length levels)
     → here ≡ compared (λ i. ballot_before 0 levels count) b (range_with_len position (next - position))
-    → followed_by found (compared (ballot_at levels) b (range_with_len position (end - position))) ≡ all
-    → followed_by (followed_by found here) (compared (ballot_at levels) b (range_with_len next (end - next))) ≡ all
+    → followed_by found (compared (holding_ballot levels) b (range_with_len position (end - position))) ≡ all
+    → followed_by (followed_by found here) (compared (holding_ballot levels) b (range_with_len next (end - next))) ≡ all
 stretch_next levels b position next end count found here all up most below above is so_far =
-    followed_again found here (compared (ballot_at levels) b (range_with_len next (end - next)))
-    ∙ ap (λ (c : Comparison). followed_by found (followed_by c (compared (ballot_at levels) b (range_with_len next (end - next)))))
+    followed_again found here (compared (holding_ballot levels) b (range_with_len next (end - next)))
+    ∙ ap (λ (c : Comparison). followed_by found (followed_by c (compared (holding_ballot levels) b (range_with_len next (end - next)))))
     (is ∙ sym (stretch_ballot levels b position next count below above))
-    ∙ ap (followed_by found) (sym (compared_parts (ballot_at levels) b position (next - position) (end - next) next (end - position) (omega (arith, up, most)) (omega (arith, up))))
+    ∙ ap (followed_by found) (sym (compared_parts (holding_ballot levels) b position (next - position) (end - next) next (end - position) (omega (arith, up, most)) (omega (arith, up))))
     ∙ so_far
 
 -- ---- with the greater of two bounds

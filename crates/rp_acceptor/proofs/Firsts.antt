@@ -13,7 +13,7 @@ use Rattle.rp_base.specs.Records.{bound_at, last_vote_at}
 use Rattle.rp_base.specs.Sets.{Has}
 use Rattle.rp_base.specs.Voting.{vote_answer}
 use Rattle.rp_acceptor.specs.First.{IsFirstPromise, IsFirstVote}
-use Rattle.rp_acceptor.specs.Levels.{Level, ballot_at}
+use Rattle.rp_acceptor.specs.Levels.{Level, holding_ballot}
 use Rattle.rp_acceptor.specs.Noted.{Noted, reserves, reserves_vote}
 use Rattle.rp_acceptor.specs.Slots.{Kept, kept_at, kept_of, bound_of, HasSlot, HasFirstBound, HasMore, AreKept}
 use Rattle.rp_acceptor.proofs.Keeping.{kept_both, kept_vote}
@@ -56,8 +56,8 @@ module _ (levels : List Level) (pages : List (List Kept)) (noted : Noted) (i : �
 
     pub bound_there : bound_at noted.records i ≡ bound
     bound_there =
-        let alone : max (ballot_at levels i) (bound_of (record { promised = is.promised; last = None })) ≡ max (ballot_at levels i) is.promised = omega arith in
-        sym (kept.bounds i) ∙ ap (λ (k : Kept). max (ballot_at levels i) (bound_of k)) same ∙ alone ∙ sym is.greater
+        let alone : max (holding_ballot levels i) (bound_of (record { promised = is.promised; last = None })) ≡ max (holding_ballot levels i) is.promised = omega arith in
+        sym (kept.bounds i) ∙ ap (λ (k : Kept). max (holding_ballot levels i) (bound_of k)) same ∙ alone ∙ sym is.greater
 
     -- a ballot above it is promised
     pub first_promise : (b : ℕ) → bound < b → IsFirstPromise noted.records i b
@@ -84,7 +84,7 @@ module _ (levels : List Level) (pages : List (List Kept)) (noted : Noted) (i : �
   place_without_vote : HasSlot pages (i - 1) → last_vote_at noted.records i ≡ None → (bound : ℕ) × HasFirstBound levels pages i bound
   place_without_vote there none =
       let alone : ℕ = (kept_at noted.records i).promised in (
-        max (ballot_at levels i) alone,
+        max (holding_ballot levels i) alone,
         record {
           promised = alone;
           kept = record { there = there; kept = kept_there ∙ ap (λ (last : Option Vote). record { promised = alone; last = last }) none };

@@ -6,8 +6,8 @@ use Rattle.rp_base.specs.Sets.{Has}
 use Rattle.rp_base.specs.Ranges.{Range, end_of}
 use Rattle.rp_base.proofs.Members.{has_left, has_right, has_split}
 use Rattle.rp_acceptor.specs.Noted.{Noted, HasRoom, reserves, reserves_vote, reserves_range, reserves_for, notes}
-use Rattle.rp_acceptor.specs.Levels.{Level, ballot_at, HasLevel}
-use Rattle.rp_acceptor.specs.Slots.{Kept, bound_of, kept_at, HasEnds, stretch_in, promise_at, single_in, with_record, kept_of, page_at, HasSlot, HasMore, AreBounds, HaveEnds, AreKept}
+use Rattle.rp_acceptor.specs.Levels.{Level, holding_ballot, HasLevel}
+use Rattle.rp_acceptor.specs.Slots.{Kept, bound_of, kept_at, HasEnds, stretch_in, ballot_promised, single_in, with_record, kept_of, page_at, HasSlot, HasMore, AreBounds, HaveEnds, AreKept}
 use Rattle.rp_acceptor.proofs.Noting.{records_kept, bounds_noted}
 use Rattle.rp_acceptor.proofs.Pages.{pages_more, pages_noted}
 
@@ -37,12 +37,12 @@ ends_still : (before after : List Level) (ranges : List Range) → ((i : ℕ) �
 ends_still before after ranges keeps ends = λ range h. let both = ends range h in (keeps range.first both.0, keeps (end_of range) both.1)
 
 -- the same bounds by other levels
-bounds_still : (before after : List Level) (records : List Rec) → ((i : ℕ) → ballot_at after i ≡ ballot_at before i) → AreBounds before records → AreBounds after records
+bounds_still : (before after : List Level) (records : List Rec) → ((i : ℕ) → holding_ballot after i ≡ holding_ballot before i) → AreBounds before records → AreBounds after records
 bounds_still before after records same are = λ i. ap (λ (n : ℕ). max n (bound_of (kept_at records i))) (same i) ∙ are i
 
 -- a record is noted
 pub kept_noted : (levels after : List Level) (pages pages' : List (List Kept)) (noted : Noted) (rec : Rec)
-    → ((i : ℕ) → ballot_at after i ≡ max (ballot_at levels i) (promise_at i (stretch_in rec))) → ((i : ℕ) → HasLevel levels i → HasLevel after i)
+    → ((i : ℕ) → holding_ballot after i ≡ max (holding_ballot levels i) (ballot_promised i (stretch_in rec))) → ((i : ℕ) → HasLevel levels i → HasLevel after i)
     → ((n : ℕ) → length (page_at pages' n) ≡ length (page_at pages n)) → ((index : ℕ) → kept_of pages' index ≡ with_record (index + 1) rec (kept_of pages index))
     → AreKept levels pages noted → AreKept after pages' (notes noted rec)
 kept_noted levels after pages pages' noted rec raised keeps same written kept = record {
@@ -54,7 +54,7 @@ kept_noted levels after pages pages' noted rec raised keeps same written kept = 
 }
 
 -- other levels, of which none is gone, keep the same
-pub kept_split : (levels after : List Level) (pages : List (List Kept)) (noted : Noted) → ((i : ℕ) → ballot_at after i ≡ ballot_at levels i) → ((i : ℕ) → HasLevel levels i → HasLevel after i)
+pub kept_split : (levels after : List Level) (pages : List (List Kept)) (noted : Noted) → ((i : ℕ) → holding_ballot after i ≡ holding_ballot levels i) → ((i : ℕ) → HasLevel levels i → HasLevel after i)
     → AreKept levels pages noted → AreKept after pages noted
 kept_split levels after pages noted same keeps kept = record {
   bounds = bounds_still levels after noted.records same kept.bounds;

@@ -11,8 +11,8 @@ use Rattle.rp_base.specs.declared.record.Rec.TheVariants.{Started, Promised, Vot
 use Rattle.rp_base.specs.Sets.{Has}
 use Rattle.rp_base.specs.Records.{bound_in, bound_at, highest, vote_in, last_vote_at}
 use Rattle.rp_base.proofs.MoreRecords.{bound_push, last_push}
-use Rattle.rp_acceptor.specs.Levels.{Level, ballot_at}
-use Rattle.rp_acceptor.specs.Slots.{Kept, ballot_of_vote, stretch_in, promise_at, promise_in, promised_at, kept_at, with_record, single_in, AreBounds, KeepsRecords}
+use Rattle.rp_acceptor.specs.Levels.{Level, holding_ballot}
+use Rattle.rp_acceptor.specs.Slots.{Kept, ballot_of_vote, stretch_in, ballot_promised, promise_in, promised_at, kept_at, with_record, single_in, AreBounds, KeepsRecords}
 
 bound_more : (records : List Rec) (rec : Rec) (i : ℕ) → bound_at (records ++ rec ∷ []) i ≡ max (bound_at records i) (bound_in i rec)
 bound_more records rec i = let h = bound_push records rec i in omega (arith, h)
@@ -87,7 +87,7 @@ range_promise : (n : ℕ) → n ≡ max n (max 0 0)
 range_promise n = omega arith
 
 -- a record's bound is that of its promise, for a range or alone, or that of its vote
-bound_of_record : (i : ℕ) (rec : Rec) → bound_in i rec ≡ max (promise_at i (stretch_in rec)) (max (promise_in i rec) (ballot_of_vote (vote_in i rec)))
+bound_of_record : (i : ℕ) (rec : Rec) → bound_in i rec ≡ max (ballot_promised i (stretch_in rec)) (max (promise_in i rec) (ballot_of_vote (vote_in i rec)))
 bound_of_record i (Started ballot) = refl
 bound_of_record i (Promised position ballot) = one_promise (bound_in i (Promised position ballot))
 bound_of_record i (Voted position ballot action) = one_vote (nat_eq position i) ballot (cast ballot action) refl
@@ -103,7 +103,7 @@ higher_ballot (Some v) (Some w) =
     elim (leb_tells (suc v.ballot) w.ballot) [ inl lt ↦ rw lt.0 (omega (arith, lt.1)) | inr ge ↦ rw ge.0 (omega (arith, ge.1)) ]
 
 -- the levels with the promise noted, if the record is one for a range
-pub bounds_noted : (before after : List Level) (records : List Rec) (rec : Rec) → ((i : ℕ) → ballot_at after i ≡ max (ballot_at before i) (promise_at i (stretch_in rec)))
+pub bounds_noted : (before after : List Level) (records : List Rec) (rec : Rec) → ((i : ℕ) → holding_ballot after i ≡ max (holding_ballot before i) (ballot_promised i (stretch_in rec)))
     → AreBounds before records → AreBounds after (records ++ rec ∷ [])
 bounds_noted before after records rec raised are = λ i.
     let last : ballot_of_vote (last_vote_at (records ++ rec ∷ []) i) ≡ max (ballot_of_vote (last_vote_at records i)) (ballot_of_vote (vote_in i rec)) =

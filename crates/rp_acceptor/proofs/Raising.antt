@@ -4,7 +4,7 @@ use Rattle.std.specs.Prelude.{slice_index_or}
 use Rattle.std.specs.List.{AllWithin}
 use Rattle.std.proofs.lemmas.List.{get_or-map, get_or_default, length-map, map-append, take-append-drop}
 use Rattle.std.proofs.lemmas.Bool.Decides.{leb_tells}
-use Rattle.rp_acceptor.specs.Levels.{Level, IsRising, ballot_after, ballot_at, HasLevel, is_between, raised_at, raised_level}
+use Rattle.rp_acceptor.specs.Levels.{Level, IsRising, ballot_after, holding_ballot, HasLevel, is_between, raised_at, raised_level}
 
 none : Level
 none = record { from = 0; ballot = 0 }
@@ -147,7 +147,7 @@ raised_above first end b before low (level ∷ rest) i rises above are has ends 
 
 -- where a level begins at each end, raising the levels raises the ballots that hold
 pub raising_raises : (first end b : ℕ) (levels : List Level) → IsRising levels → first < end → HasLevel levels first → HasLevel levels end
-    → (i : ℕ) → ballot_at (map (raised_level first end b) levels) i ≡ raised_at first end b i (ballot_at levels i)
+    → (i : ℕ) → holding_ballot (map (raised_level first end b) levels) i ≡ raised_at first end b i (holding_ballot levels i)
 raising_raises first end b levels rising rises has ends i =
     let are : IsFrom 0 levels = from_rising 0 levels rising (λ some. omega arith) in
     elim (leb_tells first i) [

@@ -33,8 +33,8 @@ ballot_after before (level ∷ rest) i =
     if nat_le level.from i then ballot_after level.ballot rest i else before
 
 -- the ballot that holds at a position, or 0
-abbrev pub ballot_at : List Level → ℕ → ℕ
-ballot_at levels i = ballot_after 0 levels i
+abbrev pub holding_ballot : List Level → ℕ → ℕ
+holding_ballot levels i = ballot_after 0 levels i
 
 -- the ballot of the last of this many levels, where another holds before the first
 abbrev pub ballot_before : ℕ → List Level → ℕ → ℕ

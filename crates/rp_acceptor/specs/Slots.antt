@@ -13,7 +13,7 @@ use Rattle.rp_base.specs.Ranges.{Range, end_of, positions_of}
 use Rattle.rp_base.specs.Records.{bound_at, highest, vote_in, last_vote_at}
 use Rattle.rp_acceptor.specs.Comparing.{Bound, compared, compared_bounds}
 use Rattle.rp_acceptor.specs.Noted.{Noted}
-use Rattle.rp_acceptor.specs.Levels.{Level, ballot_at, HasLevel, is_between}
+use Rattle.rp_acceptor.specs.Levels.{Level, holding_ballot, HasLevel, is_between}
 
 -- ---- promises for ranges
 
@@ -33,9 +33,9 @@ stretch_in (PromisedRange range ballot) =
     Some (record { first = range.first; end = end_of range; ballot = ballot })
 
 -- the ballot that it promises at a position, or 0
-abbrev pub promise_at : ℕ → Option Stretch → ℕ
-promise_at i None = 0
-promise_at i (Some stretch) = if is_between stretch.first stretch.end i then stretch.ballot else 0
+abbrev pub ballot_promised : ℕ → Option Stretch → ℕ
+ballot_promised i None = 0
+ballot_promised i (Some stretch) = if is_between stretch.first stretch.end i then stretch.ballot else 0
 
 -- a level begins at each of its ends
 abbrev pub HasEnds : List Level → Option Stretch → Type 0
@@ -181,12 +181,12 @@ pub record HasFirstBound (levels : List Level) (pages : List (List Kept)) (i bou
     : Type 0 where
   pub promised : ℕ
   pub kept : HasNoVote pages (i - 1) promised
-  pub greater : bound ≡ max (ballot_at levels i) promised
+  pub greater : bound ≡ max (holding_ballot levels i) promised
 
 -- the bound at each position is the greatest of what the levels promise and of what is kept there
 abbrev pub AreBounds : List Level → List Rec → Type 0
 AreBounds levels records =
-    (i : ℕ) → max (ballot_at levels i) (bound_of (kept_at records i)) ≡ bound_at records i
+    (i : ℕ) → max (holding_ballot levels i) (bound_of (kept_at records i)) ≡ bound_at records i
 
 -- a level begins at each end of the ranges that were reserved
 abbrev pub HaveEnds : List Level → List Range → Type 0

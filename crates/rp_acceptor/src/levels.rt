@@ -6,8 +6,8 @@ ghost use Rattle.std.specs.List.{range_with_len};
 ghost use Rattle.rp_base.specs.Ballot.{number_of};
 ghost use Rattle.rp_base.specs.Ranges.{end_of, positions_of};
 ghost use Rattle.rp_acceptor.specs.Comparing.{compared};
-ghost use Rattle.rp_acceptor.specs.Levels.{Level, IsPromised, IsRising, IsCountBelow, ballot_at, ballot_before, begins_at, HasLevel, raised_at, raised_level};
-ghost use Rattle.rp_acceptor.specs.Slots.{stretch_in, promise_at, HasEnds};
+ghost use Rattle.rp_acceptor.specs.Levels.{Level, IsPromised, IsRising, IsCountBelow, holding_ballot, ballot_before, begins_at, HasLevel, raised_at, raised_level};
+ghost use Rattle.rp_acceptor.specs.Slots.{stretch_in, ballot_promised, HasEnds};
 
 use crate::comparison::Comparison;
 use crate::slot::{ballot_of, stretch_in};
@@ -83,7 +83,7 @@ impl Levels {
     #[inline(always)]
     pub fn number(&self, position: usize) -> u64
         requires { position < 2 ^ 32 }
-        ensures value { result ≡ ballot_at self.now position }
+        ensures value { result ≡ holding_ballot self.now position }
         ensures promised { IsPromised result }
     {
         if self.levels.is_empty() {
@@ -95,7 +95,7 @@ impl Levels {
 
     /// How the ballot compares with those that hold at the positions of a range.
     pub fn compare(&self, range: PositionRange, ballot: Ballot) -> Comparison
-        ensures { result ≡ compared (ballot_at self.now) ballot (positions_of range) }
+        ensures { result ≡ compared (holding_ballot self.now) ballot (positions_of range) }
     {
         compare(&self.levels, range, ballot)
     }
@@ -103,7 +103,7 @@ impl Levels {
     /// Splits the level that holds at a position there: a level then begins there, and each
     /// position keeps its ballot.
     pub fn split(&mut self, position: usize) -> Result<(), AllocError>
-        ensures same { (i : ℕ) → ballot_at self.new i ≡ ballot_at self.old i }
+        ensures same { (i : ℕ) → holding_ballot self.new i ≡ holding_ballot self.old i }
         ensures keeps { (i : ℕ) → HasLevel self.old i → HasLevel self.new i }
         ensures begins { OnOk result (HasLevel self.new position) }
         ensures full { OnErr result (¬ HasLevel self.old position) }
@@ -116,8 +116,8 @@ impl Levels {
     pub fn raise(&mut self, first: usize, end: usize, ballot: Ballot)
         requires ends { HasLevel self.old first × HasLevel self.old end }
         requires rises { first < end }
-        ensures raised { (i : ℕ) → ballot_at self.new i
-            ≡ raised_at first end ballot i (ballot_at self.old i) }
+        ensures raised { (i : ℕ) → holding_ballot self.new i
+            ≡ raised_at first end ballot i (holding_ballot self.old i) }
         ensures keeps { (i : ℕ) → HasLevel self.old i → HasLevel self.new i }
     {
         raise(&mut self.levels, first, end, ballot);
@@ -187,7 +187,7 @@ fn number_before(levels: &[Level], count: usize) -> u64
 /// the first position it looks at each level once.
 fn compare(levels: &[Level], range: PositionRange, ballot: Ballot) -> Comparison
     requires { IsRising levels.now }
-    ensures { result ≡ compared (ballot_at levels.now) ballot (positions_of range) }
+    ensures { result ≡ compared (holding_ballot levels.now) ballot (positions_of range) }
 {
     let end = range.end() as usize;
     let mut position = usize::from(range.first().get());
@@ -237,7 +237,7 @@ fn begins_at(levels: &[Level], index: usize, position: usize) -> bool
 fn split(levels: &mut Vec<Level>, position: usize) -> Result<(), AllocError>
     requires { IsRising levels.old.items }
     ensures rising { IsRising levels.new.items }
-    ensures same { (i : ℕ) → ballot_at levels.new.items i ≡ ballot_at levels.old.items i }
+    ensures same { (i : ℕ) → holding_ballot levels.new.items i ≡ holding_ballot levels.old.items i }
     ensures keeps { (i : ℕ) → HasLevel levels.old.items i → HasLevel levels.new.items i }
     ensures begins { OnOk result (HasLevel levels.new.items position) }
     ensures full { OnErr result (¬ HasLevel levels.old.items position) }
@@ -269,7 +269,7 @@ fn raise(levels: &mut Vec<Level>, first: usize, end: usize, ballot: Ballot)
 /// Splits the levels that hold at two positions there, if there is memory. Each position keeps its
 /// ballot.
 pub fn split_ends(levels: &mut Levels, first: usize, end: usize) -> Result<(), AllocError>
-    ensures same { (i : ℕ) → ballot_at levels.new i ≡ ballot_at levels.old i }
+    ensures same { (i : ℕ) → holding_ballot levels.new i ≡ holding_ballot levels.old i }
     ensures keeps { (i : ℕ) → HasLevel levels.old i → HasLevel levels.new i }
     ensures ends { OnOk result (HasLevel levels.new first × HasLevel levels.new end) }
     ensures full { OnErr result (¬ (HasLevel levels.old first × HasLevel levels.old end)) }
@@ -282,8 +282,8 @@ pub fn split_ends(levels: &mut Levels, first: usize, end: usize) -> Result<(), A
 #[inline(always)]
 pub fn raise_promised(levels: &mut Levels, rec: &Rec)
     requires { HasEnds levels.old (stretch_in rec.now) }
-    ensures raised { (i : ℕ) → ballot_at levels.new i
-        ≡ max (ballot_at levels.old i) (promise_at i (stretch_in rec.now)) }
+    ensures raised { (i : ℕ) → holding_ballot levels.new i
+        ≡ max (holding_ballot levels.old i) (ballot_promised i (stretch_in rec.now)) }
     ensures keeps { (i : ℕ) → HasLevel levels.old i → HasLevel levels.new i }
 {
     if let Some(stretch) = stretch_in(rec) {

@@ -27,11 +27,11 @@ reserved_words =
     codes "use" ∷ codes "when" ∷ codes "while" ∷ codes "with" ∷ codes "xor" ∷ []
 
 -- one of these is the name, whatever the case of their letters
-unfoldable pub is_among : List ℕ → List (List ℕ) → Bool
-is_among name names = list_any (λ other. str_eq_ignore_ascii_case name other) names
+unfoldable pub is_among_in_any_case : List ℕ → List (List ℕ) → Bool
+is_among_in_any_case name names = list_any (λ other. str_eq_ignore_ascii_case name other) names
 
 unfoldable pub is_reserved : List ℕ → Bool
-is_reserved name = is_among name reserved_words
+is_reserved name = is_among_in_any_case name reserved_words
 
 -- an underscore is last, or another follows it
 abbrev pub is_stray : ℕ → List ℕ → Bool
@@ -46,7 +46,7 @@ abbrev pub reason_of : List ℕ → List (List ℕ) → Option NameReason
 reason_of name later =
     if is_reserved name then Some Reserved
     else if has_stray_underscore name then Some Underscore
-    else if is_among name later then Some Case
+    else if is_among_in_any_case name later then Some Case
     else None
 
 -- a name that is none of Ada, and why

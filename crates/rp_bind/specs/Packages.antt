@@ -17,7 +17,7 @@ use Rattle.rp_bind.specs.declared.lines.Kind.{Kind}
 use Rattle.rp_bind.specs.declared.lines.Kind.TheVariants.{Value, Truth, Procedure, Entry}
 use Rattle.rp_bind.specs.declared.lines.Language.{Language}
 use Rattle.rp_bind.specs.declared.lines.Language.TheVariants.{Ada, C}
-use Rattle.rp_bind.specs.Texts.{object_head, object_end, operation_lines, task_line}
+use Rattle.rp_bind.specs.Texts.{object_head, object_end, operation_lines, task_constant}
 
 -- what is before the tasks, between them and the objects, and after the objects
 abbrev pub head : Language → List ℕ
@@ -56,7 +56,7 @@ module _ {Z : Type 0} where
   -- the tasks, numbered from 1 in declared order
   abbrev pub tasks_text : Language → List (String Z) → List ℕ
   tasks_text language tasks =
-      numbered (λ number name. task_line language (string_bytes name) number) 1 tasks
+      numbered (λ number name. task_constant language (string_bytes name) number) 1 tasks
 
   -- what is before the objects
   abbrev pub text_before_objects : Language → List (String Z) → List ℕ

@@ -6,10 +6,10 @@ use Rattle.rp_bind.specs.declared.lines.Language.{Language}
 use Rattle.rp_bind.specs.declared.lines.Language.TheVariants.{Ada, C}
 
 -- the number of a task
-abbrev pub task_line : Language → List ℕ → ℕ → List ℕ
-task_line Ada name number =
+abbrev pub task_constant : Language → List ℕ → ℕ → List ℕ
+task_constant Ada name number =
     codes "      " ++ (name ++ (codes " : constant := " ++ (decimal number ++ codes ";\n")))
-task_line C name number =
+task_constant C name number =
     codes "  task__" ++ (name ++ (codes " = " ++ (decimal number ++ codes ",\n")))
 
 -- what begins an object, and what ends it

@@ -1,7 +1,7 @@
 //! The lines of packages.
 
 ghost use Rattle.std.specs.Prelude.{Some};
-ghost use Rattle.rp_bind.specs.Texts.{inline_body, inline_function, inline_head, object_end, object_head, operation_lines, subprogram, task_line};
+ghost use Rattle.rp_bind.specs.Texts.{inline_body, inline_function, inline_head, object_end, object_head, operation_lines, subprogram, task_constant};
 
 use std::fmt;
 
@@ -38,7 +38,7 @@ pub struct TaskLine<'a> {
 }
 
 impl fmt::Display for TaskLine<'_> {
-    ghost output = { λ l. Some (task_line l.task.language l.task.name.now l.task.number) };
+    ghost output = { λ l. Some (task_constant l.task.language l.task.name.now l.task.number) };
 
     fn fmt<W: fmt::Write>(&self, f: &mut fmt::Formatter<W>) -> fmt::Result {
         let Party { name, number, .. } = self.task;

@@ -3,7 +3,7 @@
 ghost use Rattle.std.specs.Prelude.{◌≡◌, map, option_map, string_bytes, Some};
 ghost use Rattle.std.specs.List.{list_any};
 ghost use Rattle.std.specs.Str.{str_eq_ignore_ascii_case};
-ghost use Rattle.rp_bind.specs.Names.{bad_line, bad_name_text, first_bad, has_stray_underscore, is_among, is_reserved, is_stray, reason_of};
+ghost use Rattle.rp_bind.specs.Names.{bad_line, bad_name_text, first_bad, has_stray_underscore, is_among_in_any_case, is_reserved, is_stray, reason_of};
 
 use std::fmt;
 
@@ -165,7 +165,7 @@ fn is_word_among(name: &str, words: &[&str]) -> bool
 
 /// Whether one of these is the name, whatever the case of their letters.
 fn is_among(name: &str, names: &[String]) -> bool
-    ensures { result ≡ is_among name.now (map string_bytes names.now) }
+    ensures { result ≡ is_among_in_any_case name.now (map string_bytes names.now) }
 {
     is_like_one(name, names)
 }

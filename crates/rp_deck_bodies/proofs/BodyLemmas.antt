@@ -5,11 +5,11 @@ use Rattle.std.specs.Prelude.{is_some, option_map, slice_get}
 use Rattle.rp_body.specs.declared.statement.Stmt.{Stmt}
 use Rattle.rp_deck_bodies.specs.declared.statements.OpenIf.{OpenIf}
 use Rattle.rp_deck_bodies.specs.Bodies.{BodyText, Empty, OpenIfText, OpenBodyText, may_turn, with_else_at, with_else, closed_at, closed, If, first_part, second_part}
-use Rattle.rp_deck_bodies.specs.BodyViews.{in_order, and_then, body_text, if_text, within}
+use Rattle.rp_deck_bodies.specs.BodyViews.{with_statements, and_then, body_text, if_text, within}
 
 -- ---- a statement more
 
-last_after : (xs : List Stmt) (s : Stmt) (before : BodyText) → in_order (map and_then (xs ++ s ∷ [])) before ≡ and_then s (in_order (map and_then xs) before)
+last_after : (xs : List Stmt) (s : Stmt) (before : BodyText) → with_statements (map and_then (xs ++ s ∷ [])) before ≡ and_then s (with_statements (map and_then xs) before)
 last_after [] s before = refl
 last_after (x ∷ xs) s before = last_after xs s (and_then x before)
 

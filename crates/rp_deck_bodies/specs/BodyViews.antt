@@ -11,9 +11,9 @@ use Rattle.rp_deck_bodies.specs.Bodies.{OpenBodyText}
 use Rattle.rp_deck_bodies.specs.ExpressionViews.{expr_text, cond_text}
 
 -- some statements after others, where each one is given as what it adds
-abbrev pub in_order : List (BodyText → BodyText) → BodyText → BodyText
-in_order [] before = before
-in_order (statement ∷ rest) before = in_order rest (statement before)
+abbrev pub with_statements : List (BodyText → BodyText) → BodyText → BodyText
+with_statements [] before = before
+with_statements (statement ∷ rest) before = with_statements rest (statement before)
 
 -- what one statement adds, where each statement in it is given as what it adds itself
 abbrev pub added_by : Stmt-F (BodyText → BodyText) → BodyText → BodyText
@@ -21,14 +21,14 @@ added_by (Stmt-F.Set name expr) before = Set before name (expr_text expr)
 added_by (Stmt-F.Put name cond) before = Put before name (cond_text cond)
 added_by (Stmt-F.Out expr) before = Out before (expr_text expr)
 added_by (Stmt-F.If cond first second) before =
-    If before (cond_text cond) (in_order first.items Empty) (in_order second.items Empty)
+    If before (cond_text cond) (with_statements first.items Empty) (with_statements second.items Empty)
 
 -- a statement after others
 abbrev pub and_then : Stmt → BodyText → BodyText
 and_then = fold-Stmt (BodyText → BodyText) added_by
 
 abbrev pub body_text : List Stmt → BodyText
-body_text body = in_order (map and_then body) Empty
+body_text body = with_statements (map and_then body) Empty
 
 -- the statements before an `else`, where there was one
 abbrev pub part_text : Option (Vec Stmt Global) → Option BodyText

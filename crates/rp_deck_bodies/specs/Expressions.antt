@@ -66,8 +66,8 @@ abbrev pub NodeReader : Type 0 → Type 0
 NodeReader X = ℕ → List ℕ → Result (X × ℕ × List ℕ) DeckReason
 
 -- the word of one node more
-unfoldable pub node_at : NodeReader (List ℕ)
-node_at left words = do
+unfoldable pub next_node_read : NodeReader (List ℕ)
+next_node_read left words = do
   word ← word_at words
   more ← unless BadExpression (left == 0)
   Ok (word.0, left - 1, word.1)
@@ -93,10 +93,10 @@ two_at part make left words = do
 -- at most so deep: the word of a node, and what from reads after it, each part one less deep
 unfoldable pub tree_at : {X : Type 0} → (NodeReader X → List ℕ → NodeReader X) → ℕ → NodeReader X
 tree_at from zero left words = do
-  node ← node_at left words
+  node ← next_node_read left words
   Err BadExpression
 tree_at from (suc depth) left words = do
-  node ← node_at left words
+  node ← next_node_read left words
   from (tree_at from depth) node.0 node.1 node.2
 
 -- at most 32 nodes, and no word after them

@@ -5,7 +5,7 @@ ghost use Rattle.rp_body.specs.Check.{expr_nodes, cond_nodes, expr_fits, cond_fi
 ghost use Rattle.rp_deck_bodies.specs.Counted.{IsCounted, WhereCounted};
 ghost use Rattle.rp_words.specs.indexmap.specs.IndexMap.{values};
 ghost use Rattle.rp_deck_bodies.specs.ExpressionViews.{expr_text, cond_text};
-ghost use Rattle.rp_deck_bodies.specs.Expressions.{expression_words, component_of, int_of, bool_of, node_at, expr_from, expr_line, cond_of, cond_from, cond_line};
+ghost use Rattle.rp_deck_bodies.specs.Expressions.{expression_words, component_of, int_of, bool_of, next_node_read, expr_from, expr_line, cond_of, cond_from, cond_line};
 ghost use Rattle.rp_words.specs.Reading.{Gives, Makes};
 ghost use Rattle.rp_words.specs.Tables.{is_declared, find, key_names};
 ghost use Rattle.rp_words.specs.Words.{begins_as_number, unread};
@@ -166,10 +166,10 @@ impl<'w, 'n> Nodes<'w, 'n> {
     }
 
     /// The word of the next node.
-    #[tactic(auto, unfolding(crate::specs::Expressions::node_at))]
+    #[tactic(auto, unfolding(crate::specs::Expressions::next_node_read))]
     fn next(&mut self) -> Result<&'w [u8], DeckReason>
         ensures read { Gives (λ word. (word.now, self.new.left, unread self.new.words)) result
-            (node_at self.old.left (unread self.old.words)) }
+            (next_node_read self.old.left (unread self.old.words)) }
         ensures names { self.new.names ≡ self.old.names }
         ensures left { OnOk result (self.new.left + 1 ≡ self.old.left) }
     {

@@ -17,7 +17,7 @@ use Rattle.rp_object.specs.rp_body.specs.Meaning.{Effect, then_do, assigned, eff
 use Rattle.rp_object.specs.rp_body.specs.Meaning as meaning
 use Rattle.rp_deck_bodies.specs.Bodies.{BodyText}
 use Rattle.rp_deck_bodies.specs.Bodies as bodies
-use Rattle.rp_deck_bodies.specs.BodyViews.{in_order, and_then, added_by, body_text}
+use Rattle.rp_deck_bodies.specs.BodyViews.{with_statements, and_then, added_by, body_text}
 use Rattle.rp_deck_bodies.specs.Expressions.{ExprText, CondText}
 use Rattle.rp_deck_bodies.specs.Expressions as texts
 use Rattle.rp_deck_bodies.specs.ExpressionViews.{expr_text, cond_text}
@@ -90,7 +90,7 @@ abbrev Adds : ℤ → Stmt → Type 0
 Adds arg statement = (before : BodyText) (store : Store) (out : ℤ) → effect_as arg (and_then statement before) store out ≡ then_do (effect_as arg before store out) (effect_of arg statement)
 
 each_adds : (arg : ℤ) (body : List ((s : Stmt) × Adds arg s)) (before : BodyText) (store : Store) (out : ℤ)
-    → effect_as arg (in_order (map and_then (map (λ e. e.0) body)) before) store out ≡ then_do (effect_as arg before store out) (meaning.in_order (map (effect_of arg) (map (λ e. e.0) body)))
+    → effect_as arg (with_statements (map and_then (map (λ e. e.0) body)) before) store out ≡ then_do (effect_as arg before store out) (meaning.in_order (map (effect_of arg) (map (λ e. e.0) body)))
 each_adds arg [] before store out = nothing_more (effect_as arg before store out)
 each_adds arg (e ∷ rest) before store out =
     let others = meaning.in_order (map (effect_of arg) (map (λ e. e.0) rest)) in
@@ -113,7 +113,7 @@ statement_adds arg = ind-Stmt (Adds arg) (λ x y is before store out.
     ∙ ap (λ (e : Effect). then_do (effect_as arg before store out) e) (sym (fold-roll-Stmt Effect (effect_of_step arg) x)))
 
 adds : (arg : ℤ) (body : List Stmt) (before : BodyText) (store : Store) (out : ℤ)
-    → effect_as arg (in_order (map and_then body) before) store out ≡ then_do (effect_as arg before store out) (effects_of arg body)
+    → effect_as arg (with_statements (map and_then body) before) store out ≡ then_do (effect_as arg before store out) (effects_of arg body)
 adds arg [] before store out = nothing_more (effect_as arg before store out)
 adds arg (s ∷ rest) before store out =
     adds arg rest (and_then s before) store out ∙ ap (λ (r : Store × Outcome). then_do r (effects_of arg rest)) (statement_adds arg s before store out) ∙ one_by_one (effect_as arg before store out) (effect_of arg s) (effects_of arg rest)

@@ -13,7 +13,7 @@ use Rattle.std.proofs.lemmas.Slice.Eq.{bytes_eq-Decides}
 use Rattle.rp_deck.specs.rp_base.specs.declared.fault.DeckReason.{DeckReason}
 use Rattle.rp_deck_declarations.specs.rp_deck_bodies.specs.declared.names.Component.{Component}
 use Rattle.rp_deck_declarations.specs.rp_deck_bodies.specs.declared.names.Component.TheVariants as components
-use Rattle.rp_deck_declarations.specs.rp_deck_bodies.specs.Expressions.{NodeReader, ExprText, Number, Arg, Out, Int, Add, Sub, CondText, Constant, Named, Less, LessOrEqual, Equal, Not, And, Or, component_of, int_of, bool_of, node_at, two_at, one_at, tree_at, tree_line, expr_from, expr_at, expr_line, cond_of, cond_from, cond_at, cond_line, cond_word_named, expression_words}
+use Rattle.rp_deck_declarations.specs.rp_deck_bodies.specs.Expressions.{NodeReader, ExprText, Number, Arg, Out, Int, Add, Sub, CondText, Constant, Named, Less, LessOrEqual, Equal, Not, And, Or, component_of, int_of, bool_of, next_node_read, two_at, one_at, tree_at, tree_line, expr_from, expr_at, expr_line, cond_of, cond_from, cond_at, cond_line, cond_word_named, expression_words}
 use Rattle.rp_deck_text.specs.ExpressionTexts.{is_int, is_bool, component_name, expr_nodes, cond_nodes, HasOne, AreComponents, expr_words, truth_word, cond_words, IsExprOf, IsCondOf}
 use Rattle.rp_words.specs.Reading.{◌>>=◌}
 use Rattle.rp_deck_text.specs.ScriptText.{spaced, is_distinct}
@@ -109,8 +109,8 @@ signed_begins (negsuc n) fits = refl
 some_left : (left : ℕ) → 1 ≤ left → (left == 0) ≡ false
 some_left left some = grind (arith, nat_tests)
 
-node_back : (left : ℕ) (word : List ℕ) (words : List (List ℕ)) → is_solid word ≡ true → 1 ≤ left → node_at left (spaced (word ∷ words)) ≡ Ok (word, left - 1, spaced words)
-unfolding node_at
+node_back : (left : ℕ) (word : List ℕ) (words : List (List ℕ)) → is_solid word ≡ true → 1 ≤ left → next_node_read left (spaced (word ∷ words)) ≡ Ok (word, left - 1, spaced words)
+unfolding next_node_read
 node_back left word words solid some = rw (word_back word words solid, some_left left some) refl
 
 two_back : {X Y : Type 0} (part : NodeReader X) (make : X → X → Y) (left n m : ℕ) (one two more : List (List ℕ)) (a b : X)

@@ -5,17 +5,17 @@ use Rattle.std.proofs.Common.{ap₂, ◌∙◌, subst, inl, inr, arith}
 use Rattle.std.proofs.lemmas.Bool.{leb-true}
 use Rattle.std.proofs.lemmas.List.{append_cancel_left, append_cancel_right}
 use Rattle.std.proofs.lemmas.Fmt.{decimal_injective}
-use Rattle.rp_store.specs.rp_base.specs.Action.{IsRight}
-use Rattle.rp_store.specs.rp_base.specs.Right.{IsReply}
-use Rattle.rp_store.specs.rp_base.specs.Sets.{Has}
-use Rattle.rp_store.specs.rp_base.specs.declared.action.Action.{Action}
-use Rattle.rp_store.specs.rp_base.specs.declared.action.Action.TheVariants.{Noop, Call, Interrupt, Tick}
-use Rattle.rp_store.specs.rp_base.specs.declared.action.Operation.{Operation}
-use Rattle.rp_store.specs.rp_base.specs.declared.action.Operation.TheVariants.{Function, Procedure, Entry}
-use Rattle.rp_store.specs.rp_base.specs.declared.action.Operation.TheVariants.{SetTimer, CancelTimer}
-use Rattle.rp_store.specs.rp_base.specs.declared.reply.Answer.{Answer}
-use Rattle.rp_store.specs.rp_base.specs.declared.reply.Reply.{Reply}
-use Rattle.rp_store.specs.rp_base.specs.declared.reply.Reply.TheVariants.{Value, NoSuchOperation}
+use Rattle.rp_base.specs.Action.{IsRight}
+use Rattle.rp_base.specs.Right.{IsReply}
+use Rattle.rp_base.specs.Sets.{Has}
+use Rattle.rp_base.specs.declared.action.Action.{Action}
+use Rattle.rp_base.specs.declared.action.Action.TheVariants.{Noop, Call, Interrupt, Tick}
+use Rattle.rp_base.specs.declared.action.Operation.{Operation}
+use Rattle.rp_base.specs.declared.action.Operation.TheVariants.{Function, Procedure, Entry}
+use Rattle.rp_base.specs.declared.action.Operation.TheVariants.{SetTimer, CancelTimer}
+use Rattle.rp_base.specs.declared.reply.Answer.{Answer}
+use Rattle.rp_base.specs.declared.reply.Reply.{Reply}
+use Rattle.rp_base.specs.declared.reply.Reply.TheVariants.{Value, NoSuchOperation}
 use Rattle.rp_machine.specs.Calls.{MayApply, AccountsFor}
 use Rattle.rp_machine.proofs.AtOnce.{none_answered, own_answered}
 use Rattle.rp_examples.specs.Counter.{begun, increased, after_add, called, counter_next}

@@ -2,18 +2,14 @@
 -- ours).
 use Rattle.std.specs.Prelude.{◌≡◌, ℕ, ◌+◌, ◌≤◌, ◌==◌, nat_le, ℤ, pos, negsuc, Option, Some, None}
 use Rattle.std.specs.Prelude.{List, [], ◌∷◌, ◌++◌, if◌then◌else◌, decimal, codes}
-use Rattle.rp_store.specs.rp_base.specs.declared.action.Action.{Action}
-use Rattle.rp_store.specs.rp_base.specs.declared.action.Action.TheVariants.{Noop, Call, Interrupt}
-use Rattle.rp_store.specs.rp_base.specs.declared.action.Action.TheVariants.{Tick}
-use Rattle.rp_store.specs.rp_base.specs.declared.action.Operation.{Operation}
-use Rattle.rp_store.specs.rp_base.specs.declared.action.Operation.TheVariants.{Function, Procedure}
-use Rattle.rp_store.specs.rp_base.specs.declared.action.Operation.TheVariants.{Entry}
-use Rattle.rp_store.specs.rp_base.specs.declared.action.Operation.TheVariants.{SetTimer}
-use Rattle.rp_store.specs.rp_base.specs.declared.action.Operation.TheVariants.{CancelTimer}
-use Rattle.rp_store.specs.rp_base.specs.declared.reply.Reply.{Reply}
-use Rattle.rp_store.specs.rp_base.specs.declared.reply.Reply.TheVariants.{Value, ConstraintError}
-use Rattle.rp_store.specs.rp_base.specs.declared.reply.Reply.TheVariants.{NoSuchOperation}
-use Rattle.rp_store.specs.rp_base.specs.declared.reply.Answer.{Answer}
+use Rattle.rp_base.specs.declared.action.Action.{Action}
+use Rattle.rp_base.specs.declared.action.Action.TheVariants.{Noop, Call, Interrupt, Tick}
+use Rattle.rp_base.specs.declared.action.Operation.{Operation}
+use Rattle.rp_base.specs.declared.action.Operation.TheVariants.{Function, Procedure, Entry}
+use Rattle.rp_base.specs.declared.action.Operation.TheVariants.{SetTimer, CancelTimer}
+use Rattle.rp_base.specs.declared.reply.Reply.{Reply}
+use Rattle.rp_base.specs.declared.reply.Reply.TheVariants.{Value, ConstraintError, NoSuchOperation}
+use Rattle.rp_base.specs.declared.reply.Answer.{Answer}
 use Rattle.rp_examples.specs.declared.counter.BoundedCounter.{BoundedCounter}
 use Rattle.rp_examples.specs.declared.program.CounterProgram.{CounterProgram}
 

@@ -4,8 +4,8 @@ ghost use Rattle.std.specs.Prelude.{◌≡◌, []};
 ghost use Rattle.rp_examples.specs.Counter.{begun, with_count, increased, called, counter_next, counter_answers, counter_image, IsCounterOf};
 
 use crate::program::CounterProgram;
+use rp_base::{Action, Answer, Answers, Operation, Reply};
 use rp_machine::Machine;
-use rp_store::rp_base::{Action, Answer, Answers, Operation, Reply};
 use std::alloc::{AllocError, Global};
 
 /// A counter from 0 to a bound: the program's one object, whatever object a call names. Its

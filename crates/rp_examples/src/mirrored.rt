@@ -4,7 +4,7 @@ ghost use Rattle.std.specs.Prelude.{◌≡◌, suc, is_ok, IfErr, if◌then◌el
 ghost use Rattle.rp_store.specs.Disk.{empty_disk};
 ghost use Rattle.rp_examples.specs.Mirrored.{HoldTheSame, copies_left, is_left};
 
-use rp_store::rp_base::Fault;
+use rp_base::Fault;
 use rp_store::{Count, CutDevice, Device};
 use std::alloc::Global;
 use std::marker::Model;

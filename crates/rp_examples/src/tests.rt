@@ -2,8 +2,8 @@ ghost use Rattle.std.specs.Prelude.{◌≡◌};
 ghost use Rattle.rp_store.specs.Disk.{empty_disk};
 
 use crate::{BoundedCounter, CounterProgram, MirroredDevice};
+use rp_base::{Action, Answers, Ballot, Operation, Rec, Reply, TaskId};
 use rp_machine::Machine;
-use rp_store::rp_base::{Action, Answers, Ballot, Operation, Rec, Reply, TaskId};
 use rp_store::{Device, DeviceCall, FailDevice, MemDevice, Store};
 use std::alloc::Global;
 use std::test::*;

@@ -18,8 +18,8 @@ use Rattle.rp_model.specs.rp_codec.proofs.Decoded.{whole_again}
 use Rattle.rp_model.specs.Effect as nodes
 use Rattle.rp_model.specs.Effect.{NodeInput}
 use Rattle.rp_world.specs.rp_rules.specs.Inputs.{packet_given}
-use Rattle.rp_requests.specs.Requests.{Asked, Step, Applied, Image, LastAnswer, Left, Pending, Counted, given, lead_asked, interrupt_asked, tick_asked, report_asked, range_if, range_asked, counted_asked, question_asked, asked_by, asked_of, ask_asked}
-use Rattle.rp_requests.specs.TaskRequests.{TaskAsked, MakeCall, SendAgain, TakePacket, operation_at, is_party, arg_at, call_with, call_if, call_asked, again_asked, task_asked_by, task_asked_of}
+use Rattle.rp_requests.specs.Requests.{Asked, Step, Applied, Image, LastAnswer, Left, Pending, Counted, given, lead_asked, interrupt_asked, tick_asked, report_asked, range_if, range_asked, counted_asked, question_asked, asked_of_kind, asked_of, ask_asked}
+use Rattle.rp_requests.specs.TaskRequests.{TaskAsked, MakeCall, SendAgain, TakePacket, operation_numbered, is_party, arg_at, call_with, call_if, call_asked, again_asked, task_asked_by, task_asked_of}
 use Rattle.rp_pending.specs.Pending.{MayCome}
 use Rattle.rp_installations.specs.Moves.{AreBytes, WasHandedOn, node_receives_byte, task_receives_byte}
 
@@ -163,7 +163,7 @@ arrives_sent handed sent operands all has m read =
     subst (λ (x : Message). Has x sent) same found.1
 
 pub may_come : (handed : List (List ℕ)) (sent : List Message) (request : List ℕ) → AllTexts handed sent → AreBytes request → WasHandedOn handed node_receives_byte request → ComesIf sent (asked_of request)
-unfolding asked_of asked_by
+unfolding asked_of asked_of_kind
 may_come handed sent [] all bytes arrived = none_comes sent
 may_come handed sent (kind ∷ operands) all bytes arrived =
     let rest : AreBytes operands = λ byte has. bytes byte (inr has) in
@@ -237,8 +237,8 @@ module _ (sent : List Message) where
   call_right (a ∷ b ∷ []) bytes = tt
   call_right (a ∷ b ∷ c ∷ []) bytes = tt
   call_right (node ∷ object ∷ kind ∷ index ∷ arg) bytes =
-      if_right (is_party node) (call_if node object (operation_at kind index) (arg_at arg)) None
-      (λ party. call_right_if node object (operation_at kind index) (arg_at arg) (is_node_if node party) (arg_fits arg (λ byte has. bytes byte (inr (inr (inr (inr has)))))))
+      if_right (is_party node) (call_if node object (operation_numbered kind index) (arg_at arg)) None
+      (λ party. call_right_if node object (operation_numbered kind index) (arg_at arg) (is_node_if node party) (arg_fits arg (λ byte has. bytes byte (inr (inr (inr (inr has)))))))
       (λ _. tt)
 
   again_right : (operands : List ℕ) → IsRightAsked sent (again_asked operands)

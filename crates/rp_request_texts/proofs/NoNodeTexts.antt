@@ -5,7 +5,7 @@ use Rattle.std.specs.Int.{w32, from_be_bytes}
 use Rattle.std.proofs.lemmas.Bool.{ne_eqb}
 use Rattle.std.proofs.lemmas.Bool.Decides.{nat_tests}
 use Rattle.rp_requests.specs.rp_model.specs.Effect as inputs
-use Rattle.rp_requests.specs.Requests.{Asked, Applied, Image, LastAnswer, Left, Pending, Counted, given, question_asked, asked_by, asked_of}
+use Rattle.rp_requests.specs.Requests.{Asked, Applied, Image, LastAnswer, Left, Pending, Counted, given, question_asked, asked_of_kind, asked_of}
 
 -- a number that is 0 or above a bound is not from 1 to it
 pub outside : (n most : ℕ) → (n ≡ 0) ⊎ (most < n) → (nat_le 1 n && nat_le n most) ≡ false
@@ -17,14 +17,14 @@ outside n most (inr over) =
     ap (λ (b : Bool). nat_le 1 n && b) high ∙ elim (nat_le 1 n) as (λ b. (b && false) ≡ false) [ true ↦ refl | false ↦ refl ]
 
 pub lead : (operands : List ℕ) → length operands ≢ 0 → length operands ≢ 2 → asked_of (2 ∷ operands) ≡ None
-unfolding asked_of asked_by
+unfolding asked_of asked_of_kind
 lead [] some two = absurd (some refl)
 lead (a ∷ []) some two = refl
 lead (a ∷ b ∷ []) some two = absurd (two refl)
 lead (a ∷ b ∷ c ∷ rest) some two = refl
 
 pub interrupt : (operands : List ℕ) → length operands ≢ 5 → asked_of (3 ∷ operands) ≡ None
-unfolding asked_of asked_by
+unfolding asked_of asked_of_kind
 interrupt [] other = refl
 interrupt (a ∷ []) other = refl
 interrupt (a ∷ b ∷ []) other = refl
@@ -34,7 +34,7 @@ interrupt (a ∷ b ∷ c ∷ d ∷ e ∷ []) other = absurd (other refl)
 interrupt (a ∷ b ∷ c ∷ d ∷ e ∷ f ∷ rest) other = refl
 
 pub tick : (operands : List ℕ) → length operands ≢ 4 → asked_of (4 ∷ operands) ≡ None
-unfolding asked_of asked_by
+unfolding asked_of asked_of_kind
 tick [] other = refl
 tick (a ∷ []) other = refl
 tick (a ∷ b ∷ []) other = refl
@@ -43,14 +43,14 @@ tick (a ∷ b ∷ c ∷ d ∷ []) other = absurd (other refl)
 tick (a ∷ b ∷ c ∷ d ∷ e ∷ rest) other = refl
 
 pub report : (operands : List ℕ) → length operands ≢ 2 → asked_of (5 ∷ operands) ≡ None
-unfolding asked_of asked_by
+unfolding asked_of asked_of_kind
 report [] other = refl
 report (a ∷ []) other = refl
 report (a ∷ b ∷ []) other = absurd (other refl)
 report (a ∷ b ∷ c ∷ rest) other = refl
 
 pub range : (operands : List ℕ) → length operands ≢ 3 → asked_of (6 ∷ operands) ≡ None
-unfolding asked_of asked_by
+unfolding asked_of asked_of_kind
 range [] other = refl
 range (a ∷ []) other = refl
 range (a ∷ b ∷ []) other = refl
@@ -58,29 +58,29 @@ range (a ∷ b ∷ c ∷ []) other = absurd (other refl)
 range (a ∷ b ∷ c ∷ d ∷ rest) other = refl
 
 pub ask : (operands : List ℕ) → length operands ≢ 1 → asked_of (7 ∷ operands) ≡ None
-unfolding asked_of asked_by
+unfolding asked_of asked_of_kind
 ask [] other = refl
 ask (a ∷ []) other = absurd (other refl)
 ask (a ∷ b ∷ rest) other = refl
 
 pub counted : (operands : List ℕ) → length operands ≢ 1 → asked_of (21 ∷ operands) ≡ None
-unfolding asked_of asked_by
+unfolding asked_of asked_of_kind
 counted [] other = refl
 counted (a ∷ []) other = absurd (other refl)
 counted (a ∷ b ∷ rest) other = refl
 
 pub source : (number a b c d : ℕ) → (number ≡ 0) ⊎ (8 < number) → asked_of (3 ∷ number ∷ a ∷ b ∷ c ∷ d ∷ []) ≡ None
-unfolding asked_of asked_by
+unfolding asked_of asked_of_kind
 source number a b c d none =
     let occurrence : ℕ = from_be_bytes w32 (a ∷ b ∷ c ∷ d ∷ []) in
     ap (λ (t : Bool). cond {A = Option Asked} (t && nat_le 1 occurrence) (given (inputs.NodeInput.Interrupt number occurrence)) None) (outside number 8 none)
 
 pub node : (number : ℕ) → (number ≡ 0) ⊎ (7 < number) → asked_of (7 ∷ number ∷ []) ≡ None
-unfolding asked_of asked_by
+unfolding asked_of asked_of_kind
 node number none = ap (λ (t : Bool). cond {A = Option Asked} t (given (inputs.NodeInput.Ask number)) None) (outside number 7 none)
 
 pub task : (number : ℕ) → (number ≡ 0) ⊎ (8 < number) → asked_of (21 ∷ number ∷ []) ≡ None
-unfolding asked_of asked_by
+unfolding asked_of asked_of_kind
 task number none = ap (λ (t : Bool). cond {A = Option Asked} t (Some (Counted number)) None) (outside number 8 none)
 
 -- no bytes ask for nothing
@@ -105,7 +105,7 @@ module _ (kind : ℕ) where
 
   -- the other kinds are passed over
   passes : (operands : List ℕ) → ((n : ℕ) → 1 ≤ n → n ≤ 7 → (kind == n) ≡ false) → (kind == 21) ≡ false → asked_of (kind ∷ operands) ≡ question_asked kind operands
-  unfolding asked_of asked_by
+  unfolding asked_of asked_of_kind
   passes operands apart last = simp (apart 1 (omega arith) (omega arith), apart 2 (omega arith) (omega arith), apart 3 (omega arith) (omega arith), apart 4 (omega arith) (omega arith), apart 5 (omega arith) (omega arith), apart 6 (omega arith) (omega arith), apart 7 (omega arith) (omega arith), last)
 
 pub kinds : (kind : ℕ) → (kind ≡ 0) ⊎ ((7 < kind) × (kind < 16)) ⊎ (21 < kind) → (operands : List ℕ) → asked_of (kind ∷ operands) ≡ None

@@ -4,7 +4,7 @@ use Rattle.std.specs.Prelude.{◌==◌}
 use Rattle.std.specs.Int.{w64, from_be_bytes, cast_signed}
 use Rattle.std.proofs.lemmas.Bool.{ne_eqb}
 use Rattle.rp_requests.specs.rp_base.specs.declared.action.Operation.{Operation}
-use Rattle.rp_requests.specs.TaskRequests.{TaskAsked, operation_at, is_party, arg_at, call_if, task_asked_by, task_asked_of}
+use Rattle.rp_requests.specs.TaskRequests.{TaskAsked, operation_numbered, is_party, arg_at, call_if, task_asked_by, task_asked_of}
 use Rattle.rp_request_texts.proofs.NoNodeTexts.{outside}
 
 pub empty_is : task_asked_of [] ≡ None
@@ -40,9 +40,9 @@ unfolding task_asked_of task_asked_by
 node number [] none = refl
 node number (a ∷ []) none = refl
 node number (a ∷ b ∷ []) none = refl
-node number (object ∷ kind ∷ index ∷ arg) none = ap (λ b. when b (call_if number object (operation_at kind index) (arg_at arg))) (outside number 7 none)
+node number (object ∷ kind ∷ index ∷ arg) none = ap (λ b. when b (call_if number object (operation_numbered kind index) (arg_at arg))) (outside number 7 none)
 
-no_operation : (kind index : ℕ) → (kind ≡ 0) ⊎ (5 < kind) → operation_at kind index ≡ None
+no_operation : (kind index : ℕ) → (kind ≡ 0) ⊎ (5 < kind) → operation_numbered kind index ≡ None
 no_operation kind index none = simp (is_not 1 (omega arith) (omega arith), is_not 2 (omega arith) (omega arith), is_not 3 (omega arith) (omega arith), is_not 4 (omega arith) (omega arith), is_not 5 (omega arith) (omega arith))
   where
     apart : (n : ℕ) → 1 ≤ n → n ≤ 5 → kind ≡ n → (kind ≡ 0) ⊎ (5 < kind) → ⊥
@@ -67,5 +67,5 @@ no_call number object (Some operation) = refl
 pub argument : (number object kind index : ℕ) (arg : List ℕ) → length arg ≢ 8 → task_asked_of (1 ∷ number ∷ object ∷ kind ∷ index ∷ arg) ≡ None
 unfolding task_asked_of task_asked_by
 argument number object kind index arg other =
-    ap (λ found. when (is_party number) (call_if number object (operation_at kind index) found)) (no_argument arg other)
-    ∙ ap (when (is_party number)) (no_call number object (operation_at kind index)) ∙ both_ways (is_party number)
+    ap (λ found. when (is_party number) (call_if number object (operation_numbered kind index) found)) (no_argument arg other)
+    ∙ ap (when (is_party number)) (no_call number object (operation_numbered kind index)) ∙ both_ways (is_party number)

@@ -16,7 +16,7 @@ use Rattle.rp_requests.specs.rp_codec.proofs.Decoded.{whole_again}
 use Rattle.rp_requests.specs.rp_model.specs.Effect.{NodeInput}
 use Rattle.rp_requests.specs.rp_model.specs.Effect as inputs
 use Rattle.rp_requests.specs.rp_rules.specs.Inputs.{packet_given}
-use Rattle.rp_requests.specs.Requests.{Asked, Step, Applied, Image, LastAnswer, Left, given, lead_at, interrupt_at, tick_asked, report_from, range_if, range_from, ask_to, asked_by, asked_of, Pending, Counted}
+use Rattle.rp_requests.specs.Requests.{Asked, Step, Applied, Image, LastAnswer, Left, given, lead_at, interrupt_if_right, tick_asked, report_from, range_if, range_from, ask_to, asked_of_kind, asked_of, Pending, Counted}
 use Rattle.rp_request_texts.specs.Texts.{step_text, FitsStep, applied_text, image_text, last_answer_text, left_text, pending_text, counted_text}
 
 -- ---- tests
@@ -40,9 +40,9 @@ lead_is position right =
     ap lead_at (from_be_bytes-to_be_bytes_2 position right.1)
     ∙ ap (λ b. cond {A = Option Asked} b (given (inputs.NodeInput.Lead (Some position))) None) (from_one position right.0)
 
-interrupt_is : (source occurrence : ℕ) → IsIndex source → IsCount occurrence → interrupt_at source (from_be_bytes w32 (to_be_bytes w32 occurrence)) ≡ given (inputs.NodeInput.Interrupt source occurrence)
+interrupt_is : (source occurrence : ℕ) → IsIndex source → IsCount occurrence → interrupt_if_right source (from_be_bytes w32 (to_be_bytes w32 occurrence)) ≡ given (inputs.NodeInput.Interrupt source occurrence)
 interrupt_is source occurrence right counts =
-    ap (interrupt_at source) (from_be_bytes-to_be_bytes_4 occurrence counts.1)
+    ap (interrupt_if_right source) (from_be_bytes-to_be_bytes_4 occurrence counts.1)
     ∙ ap (λ b. cond {A = Option Asked} b (given (inputs.NodeInput.Interrupt source occurrence)) None)
     (both (nat_le 1 source && nat_le source 8) (nat_le 1 occurrence) (both (nat_le 1 source) (nat_le source 8) (from_one source right.0) (up_to source 8 right.1)) (from_one occurrence counts.0))
 
@@ -75,7 +75,7 @@ ask_is node right =
 -- ---- requests
 
 pub steps : (input : NodeInput) → FitsStep input → asked_of (step_text input) ≡ Some (Step (Ok input))
-unfolding asked_of asked_by
+unfolding asked_of asked_of_kind
 steps (inputs.NodeInput.Receive message) right = ap (λ (r : Result Message PacketReason). Some (Step (packet_given r))) (whole_again message right)
 steps (inputs.NodeInput.Lead None) right = refl
 steps (inputs.NodeInput.Lead (Some position)) right = lead_is position right
@@ -86,30 +86,30 @@ steps (inputs.NodeInput.LeadRange first count) right = range_asked_is first coun
 steps (inputs.NodeInput.Ask node) right = ask_is node right
 
 pub no_packet : (bytes : List ℕ) (reason : PacketReason) → all_of bytes ≡ Err reason → asked_of (1 ∷ bytes) ≡ Some (Step (Err (BadPacket reason)))
-unfolding asked_of asked_by
+unfolding asked_of asked_of_kind
 no_packet bytes reason none = ap (λ (r : Result Message PacketReason). Some (Step (packet_given r))) none
 
 pub applied_is : asked_of applied_text ≡ Some Applied
-unfolding asked_of asked_by
+unfolding asked_of asked_of_kind
 applied_is = refl
 
 pub image_is : asked_of image_text ≡ Some Image
-unfolding asked_of asked_by
+unfolding asked_of asked_of_kind
 image_is = refl
 
 pub last_is : asked_of last_answer_text ≡ Some LastAnswer
-unfolding asked_of asked_by
+unfolding asked_of asked_of_kind
 last_is = refl
 
 pub left_is : asked_of left_text ≡ Some Left
-unfolding asked_of asked_by
+unfolding asked_of asked_of_kind
 left_is = refl
 
 pub pending_is : asked_of pending_text ≡ Some Pending
-unfolding asked_of asked_by
+unfolding asked_of asked_of_kind
 pending_is = refl
 
 pub counted_is : (task : ℕ) → IsTask task → asked_of (counted_text task) ≡ Some (Counted task)
-unfolding asked_of asked_by
+unfolding asked_of asked_of_kind
 counted_is task right =
     ap (λ b. cond {A = Option Asked} b (Some (Counted task)) None) (both (nat_le 1 task) (nat_le task 8) (from_one task right.0) (up_to task 8 right.1))

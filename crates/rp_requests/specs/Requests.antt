@@ -55,14 +55,14 @@ lead_asked [] = given (inputs.NodeInput.Lead None)
 lead_asked (high ∷ low ∷ []) = lead_at (from_be_bytes w16 (high ∷ low ∷ []))
 lead_asked _ = None
 
-abbrev pub interrupt_at : ℕ → ℕ → Option Asked
-interrupt_at source occurrence =
+abbrev pub interrupt_if_right : ℕ → ℕ → Option Asked
+interrupt_if_right source occurrence =
     if nat_le 1 source && nat_le source 8 && nat_le 1 occurrence
     then given (inputs.NodeInput.Interrupt source occurrence) else None
 
 abbrev pub interrupt_asked : List ℕ → Option Asked
 interrupt_asked (source ∷ a ∷ b ∷ c ∷ d ∷ []) =
-    interrupt_at source (from_be_bytes w32 (a ∷ b ∷ c ∷ d ∷ []))
+    interrupt_if_right source (from_be_bytes w32 (a ∷ b ∷ c ∷ d ∷ []))
 interrupt_asked _ = None
 
 abbrev pub tick_asked : List ℕ → Option Asked
@@ -110,8 +110,8 @@ question_asked kind [] =
 question_asked kind _ = None
 
 -- what is asked for, if anything, by the byte of the request's kind and its operands
-unfoldable pub asked_by : ℕ → List ℕ → Option Asked
-asked_by kind operands =
+unfoldable pub asked_of_kind : ℕ → List ℕ → Option Asked
+asked_of_kind kind operands =
     if kind == 1 then Some (Step (packet_given (all_of operands)))
     else if kind == 2 then lead_asked operands
     else if kind == 3 then interrupt_asked operands
@@ -124,4 +124,4 @@ asked_by kind operands =
 
 unfoldable pub asked_of : List ℕ → Option Asked
 asked_of [] = None
-asked_of (kind ∷ operands) = asked_by kind operands
+asked_of (kind ∷ operands) = asked_of_kind kind operands

@@ -28,8 +28,8 @@ IsRightTaskRequest (requests.Call node object operation arg) =
 IsRightTaskRequest (requests.Again node) = Unit {0}
 IsRightTaskRequest (requests.Receive packet) = Unit {0}
 
-abbrev pub operation_at : ℕ → ℕ → Option Operation
-operation_at kind index =
+abbrev pub operation_numbered : ℕ → ℕ → Option Operation
+operation_numbered kind index =
     if kind == 1 then Some (Function index)
     else if kind == 2 then Some (Procedure index)
     else if kind == 3 then Some (Entry index)
@@ -55,7 +55,7 @@ call_if node object (Some operation) arg = call_with node object operation arg
 
 abbrev pub call_asked : List ℕ → Option TaskAsked
 call_asked (node ∷ object ∷ kind ∷ index ∷ arg) =
-    if is_party node then call_if node object (operation_at kind index) (arg_at arg) else None
+    if is_party node then call_if node object (operation_numbered kind index) (arg_at arg) else None
 call_asked _ = None
 
 abbrev pub again_asked : List ℕ → Option TaskAsked

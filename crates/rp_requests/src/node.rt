@@ -136,7 +136,7 @@ impl<M: Machine> Node<M> {
     }
 
     /// Answers the request that brings a packet, as `call`, by the packet alone.
-    #[tactic(auto, unfolding(crate::specs::Requests::asked_of, crate::specs::Requests::asked_by))]
+    #[tactic(auto, unfolding(crate::specs::Requests::asked_of, crate::specs::Requests::asked_of_kind))]
     pub fn receive(
         &mut self,
         alloc: Global,

@@ -29,7 +29,7 @@ pub(crate) enum Request<'a> {
 }
 
 /// The request that the bytes are, or `None`.
-#[tactic(auto, unfolding(crate::specs::Requests::asked_of, crate::specs::Requests::asked_by))]
+#[tactic(auto, unfolding(crate::specs::Requests::asked_of, crate::specs::Requests::asked_of_kind))]
 pub(crate) fn request_of(bytes: &[u8]) -> Option<Request<'_>>
     ensures asked { option_map asked result ≡ asked_of bytes.now }
     ensures right { IfSome result IsRightRequest }

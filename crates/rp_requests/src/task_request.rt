@@ -3,7 +3,7 @@
 
 ghost use Rattle.std.specs.Prelude.{◌≡◌, ◌≤◌, IfSome, option_map};
 ghost use Rattle.rp_base.specs.Action.{IsIndex, IsRightOperation};
-ghost use Rattle.rp_requests.specs.TaskRequests.{task_asked, task_asked_of, arg_at, call_asked, again_asked, operation_at, IsRightTaskRequest};
+ghost use Rattle.rp_requests.specs.TaskRequests.{task_asked, task_asked_of, arg_at, call_asked, again_asked, operation_numbered, IsRightTaskRequest};
 
 use rp_base::{MOST_OBJECTS, NodeId, Operation};
 
@@ -82,7 +82,7 @@ fn arg_of(bytes: &[u8]) -> Option<i64>
 
 /// The operation of this kind and index.
 fn operation_of(kind: u8, index: u8) -> Option<Operation>
-    ensures { result ≡ operation_at kind index }
+    ensures { result ≡ operation_numbered kind index }
 {
     match kind {
         1 => Some(Operation::Function(index)),

@@ -6,7 +6,7 @@ use Rattle.std.proofs.lemmas.List.{get_or_default}
 use Rattle.rp_base.specs.Ranges.{end_of, positions_of}
 use Rattle.rp_acceptor.specs.declared.comparison.Comparison.{Comparison}
 use Rattle.rp_acceptor.specs.Comparing.{compared, followed_by}
-use Rattle.rp_acceptor.specs.Levels.{Level, ballot_at, ballot_before}
+use Rattle.rp_acceptor.specs.Levels.{Level, holding_ballot, ballot_before}
 use Rattle.rp_acceptor.proofs.Comparing.{stretch_ballot, stretch_next}
 use Rattle.rp_acceptor.proofs.levels.compare.Goals.{then-loop-count-test+else-from-end, else-loop-count-test}
 use Rattle.rp_acceptor.proofs.levels.compare.Goals as goal
@@ -42,8 +42,8 @@ loop-count-preserved c =
             omega (arith, last, here d)
       ];
       above = λ k d from short. later k d (omega (arith, from)) short;
-      so_far = ap (λ (x : Comparison). followed_by x (compared (ballot_at levels) b (range_with_len next (end_of range - next)))) c.followed_by-found.ensures
-          ∙ stretch_next levels b position next (end_of range) count c.loop-count.found c.compare_stretch.result (compared (ballot_at levels) b (positions_of range)) up most is.below later
+      so_far = ap (λ (x : Comparison). followed_by x (compared (holding_ballot levels) b (range_with_len next (end_of range - next)))) c.followed_by-found.ensures
+          ∙ stretch_next levels b position next (end_of range) count c.loop-count.found c.compare_stretch.result (compared (holding_ballot levels) b (positions_of range)) up most is.below later
           (c.compare_stretch.ensures ∙ ap (λ (h : ℕ). compared (λ i. h) b (range_with_len position (next - position))) c.ballot_before-held.ensures) is.so_far;
     }
 

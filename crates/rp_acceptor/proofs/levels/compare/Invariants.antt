@@ -2,7 +2,7 @@ use Rattle.std.proofs.Common.{◌≡◌, ◌+◌, ◌-◌, ◌<◌, ◌≤◌, l
 use Rattle.std.specs.List.{AllWithin, range_with_len}
 use Rattle.rp_base.specs.Ranges.{end_of, positions_of}
 use Rattle.rp_acceptor.specs.Comparing.{compared, followed_by}
-use Rattle.rp_acceptor.specs.Levels.{ballot_at}
+use Rattle.rp_acceptor.specs.Levels.{holding_ballot}
 use Rattle.rp_acceptor.proofs.levels.compare.Given as goal
 
 -- the levels up to the count begin at the position or below, the others there or above, and what was found up to
@@ -14,8 +14,8 @@ invariant-loop-count l = record {
   last : l.position ≤ end_of l.range;
   below : AllWithin (λ s. s.from < l.position + 1) l.levels 0 l.count;
   above : AllWithin (λ s. l.position ≤ s.from) l.levels l.count (length l.levels);
-  so_far : followed_by l.found (compared (ballot_at l.levels) l.ballot (range_with_len l.position (end_of l.range - l.position)))
-      ≡ compared (ballot_at l.levels) l.ballot (positions_of l.range);
+  so_far : followed_by l.found (compared (holding_ballot l.levels) l.ballot (range_with_len l.position (end_of l.range - l.position)))
+      ≡ compared (holding_ballot l.levels) l.ballot (positions_of l.range);
 }
 
 abbrev pub decreases-loop-count : goal.decreases-loop-count

@@ -1,7 +1,7 @@
 use Rattle.std.proofs.Common.{◌≡◌, ◌<◌, ◌≤◌, ℕ, List, length, sym, ap, subst, ◌∙◌}
 use Rattle.std.specs.Prelude.{slice_get}
 use Rattle.std.specs.List.{AllWithin}
-use Rattle.rp_acceptor.specs.Levels.{Level, IsRising, ballot_at, begins_at, ballot_before, HasLevel}
+use Rattle.rp_acceptor.specs.Levels.{Level, IsRising, holding_ballot, begins_at, ballot_before, HasLevel}
 use Rattle.rp_acceptor.proofs.Pages.{on_err}
 use Rattle.rp_acceptor.proofs.Splitting.{same_ballot, level_put, levels_stay, begun, begin_later, none_begins, rising_still}
 use Rattle.rp_acceptor.proofs.levels.split.Goals as goal
@@ -40,7 +40,7 @@ returns-in_ok-insert-clause-same c =
     let level : Level = record { from = c.args.position; ballot = c.number_before-ballot.result } in
     let ballot : level.ballot ≡ ballot_before 0 levels count =
     c.number_before-ballot.ensures.value ∙ ap (λ (l : List Level). ballot_before 0 l count) c.deref-then-not-begins_at.ensures.value in
-    λ i. ap (λ (l : List Level). ballot_at l i) c.in_ok-insert.ensures.items ∙ same_ballot 0 levels level count i (within at) ballot (below at) (later at)
+    λ i. ap (λ (l : List Level). holding_ballot l i) c.in_ok-insert.ensures.items ∙ same_ballot 0 levels level count i (within at) ballot (below at) (later at)
 
 pub returns-in_ok-insert-clause-keeps : goal.returns-in_ok-insert-clause-keeps
 returns-in_ok-insert-clause-keeps c = λ i has.

@@ -6,7 +6,7 @@ use Rattle.rp_acceptor.specs.declared.comparison.Comparison.{Comparison}
 use Rattle.rp_acceptor.specs.Comparing.{compared, combined}
 use Rattle.rp_acceptor.specs.Noted.{Noted}
 use Rattle.rp_acceptor.specs.Slots.{bound_of, kept_at, AreBoundsOf}
-use Rattle.rp_acceptor.specs.Levels.{ballot_at}
+use Rattle.rp_acceptor.specs.Levels.{holding_ballot}
 use Rattle.rp_acceptor.proofs.Comparing.{compared_same, combined_all}
 use Rattle.rp_acceptor.proofs.acceptor.Acceptor.compare.Goals as goal
 
@@ -22,7 +22,7 @@ returns c =
     let single : c.compare-single.result ≡ compared (λ i. bound_of (kept_at records i)) b (positions_of range) = c.compare-single.ensures ∙ are b some in
     c.combined.ensures
     ∙ ap (λ (x : Comparison). combined x c.compare-single.result) c.compare.ensures
-    ∙ ap (combined (compared (ballot_at levels) b (positions_of range))) single
-    ∙ combined_all (ballot_at levels) (λ i. bound_of (kept_at records i)) b range.first range.count
-    ∙ compared_same (λ i. max (ballot_at levels i) (bound_of (kept_at records i))) (bound_at records) b range.first range.count (λ i from within. c.self.invariant.bounds i)
+    ∙ ap (combined (compared (holding_ballot levels) b (positions_of range))) single
+    ∙ combined_all (holding_ballot levels) (λ i. bound_of (kept_at records i)) b range.first range.count
+    ∙ compared_same (λ i. max (holding_ballot levels i) (bound_of (kept_at records i))) (bound_at records) b range.first range.count (λ i from within. c.self.invariant.bounds i)
     ∙ ap (λ (n : Noted). compared (bound_at n.records) b (positions_of range)) c.self.view_is

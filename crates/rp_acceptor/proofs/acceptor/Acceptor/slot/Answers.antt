@@ -1,7 +1,7 @@
 use Rattle.std.proofs.Common.{◌≡◌, ℕ, max, List, ap, ◌∙◌, arith}
 use Rattle.rp_base.specs.Records.{bound_at}
 use Rattle.rp_acceptor.specs.Noted.{Noted}
-use Rattle.rp_acceptor.specs.Levels.{ballot_at}
+use Rattle.rp_acceptor.specs.Levels.{holding_ballot}
 use Rattle.rp_acceptor.specs.Slots.{Kept, nothing_kept, bound_of, kept_at, kept_of}
 use Rattle.rp_acceptor.proofs.acceptor.Acceptor.slot.Goals as goal
 
@@ -13,8 +13,8 @@ returns-in-Some-clause-bound c =
     ∙ c.self.invariant.kept.right c.index_of_position.result ∙ ap (kept_at c.self.inside.records) c.index_of_position.ensures in
     c.max.ensures
     ∙ ap (λ (n : ℕ). max c.number-promised.result n) c.bound_number.ensures.value
-    ∙ ap (λ (n : ℕ). max n (bound_of c.in-Some.kept.now)) (c.number-promised.ensures.value ∙ ap (ballot_at c.self.inside.levels) at)
-    ∙ ap (λ (k : Kept). max (ballot_at c.self.inside.levels c.args.position) (bound_of k)) kept
+    ∙ ap (λ (n : ℕ). max n (bound_of c.in-Some.kept.now)) (c.number-promised.ensures.value ∙ ap (holding_ballot c.self.inside.levels) at)
+    ∙ ap (λ (k : Kept). max (holding_ballot c.self.inside.levels c.args.position) (bound_of k)) kept
     ∙ c.self.invariant.bounds c.args.position
     ∙ ap (λ (n : Noted). bound_at n.records c.args.position) c.self.view_is
 
@@ -26,7 +26,7 @@ returns-in-None-clause-bound c =
     ∙ c.self.invariant.kept.right c.index_of_position.result ∙ ap (kept_at c.self.inside.records) c.index_of_position.ensures in
     let least : c.number-promised.result ≡ max c.number-promised.result (bound_of nothing_kept) = omega arith in
     least
-    ∙ ap (λ (n : ℕ). max n (bound_of nothing_kept)) (c.number-promised.ensures.value ∙ ap (ballot_at c.self.inside.levels) at)
-    ∙ ap (λ (k : Kept). max (ballot_at c.self.inside.levels c.args.position) (bound_of k)) none
+    ∙ ap (λ (n : ℕ). max n (bound_of nothing_kept)) (c.number-promised.ensures.value ∙ ap (holding_ballot c.self.inside.levels) at)
+    ∙ ap (λ (k : Kept). max (holding_ballot c.self.inside.levels c.args.position) (bound_of k)) none
     ∙ c.self.invariant.bounds c.args.position
     ∙ ap (λ (n : Noted). bound_at n.records c.args.position) c.self.view_is

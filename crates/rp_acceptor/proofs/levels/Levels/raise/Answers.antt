@@ -1,5 +1,5 @@
 use Rattle.std.proofs.Common.{List, sym, ap, subst, ◌∙◌}
-use Rattle.rp_acceptor.specs.Levels.{Level, IsRising, ballot_at, HasLevel, raised_at}
+use Rattle.rp_acceptor.specs.Levels.{Level, IsRising, holding_ballot, HasLevel, raised_at}
 use Rattle.rp_acceptor.proofs.Raising.{raising_raises, raised_rising, raised_levels}
 use Rattle.rp_acceptor.proofs.levels.Levels.raise.Goals as goal
 
@@ -9,11 +9,11 @@ invariant_of-self c =
 
 pub returns-clause-raised : goal.returns-clause-raised
 returns-clause-raised c = λ i.
-    ap (λ (l : List Level). ballot_at l i) c.raise.ensures
+    ap (λ (l : List Level). holding_ballot l i) c.raise.ensures
     ∙ raising_raises c.args.first c.args.end c.args.ballot c.self.inside.levels.items c.self.invariant c.requires.rises
     (subst (λ (l : List Level). HasLevel l c.args.first) (sym c.self.view_is) c.requires.ends.0)
     (subst (λ (l : List Level). HasLevel l c.args.end) (sym c.self.view_is) c.requires.ends.1) i
-    ∙ ap (λ (l : List Level). raised_at c.args.first c.args.end c.args.ballot i (ballot_at l i)) c.self.view_is
+    ∙ ap (λ (l : List Level). raised_at c.args.first c.args.end c.args.ballot i (holding_ballot l i)) c.self.view_is
 
 pub returns-clause-keeps : goal.returns-clause-keeps
 returns-clause-keeps c = λ i has.

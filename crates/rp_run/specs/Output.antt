@@ -26,7 +26,8 @@ use Rattle.rp_model.specs.Effect.{Setting}
 use Rattle.rp_model.specs.Events.{event_of}
 use Rattle.rp_model.specs.World.{World, Transition, opening_world, event_effect, part_at}
 use Rattle.rp_run.specs.Items.{Item, Called, Replied, Shown, Noted, Note, Sent, Opened}
-use Rattle.rp_run.specs.Items.{AlreadyRunning, PendingFull, Stopped, Refused, DrainLimit, items_text}
+use Rattle.rp_run.specs.Items.{AlreadyRunning, PendingFull, Stopped, Refused, DrainLimit}
+use Rattle.rp_run.specs.Items.{items_text}
 use Rattle.rp_output.specs.Trace.{task_name, party_text_of}
 use Rattle.rp_deck.specs.declared.deck.Command.{Command}
 use Rattle.rp_deck.specs.declared.deck.Command.TheVariants.{Take, Lose, Drain, Show}

@@ -22,20 +22,11 @@ use Rattle.rp_world.specs.Steps.{IsQueryAnswer, IsQueryAnswerUnlessMemory, IsRun
 use Rattle.rp_run.specs.rp_output.specs.FaultMessage.{with_line_feed}
 use Rattle.rp_run.specs.rp_output.specs.Printed.{applied_line_of, stopped_line_of}
 use Rattle.rp_run.specs.rp_output.specs.Trace.{party_text_of}
-use Rattle.rp_run.specs.Output.{RunSetting, part_text, state_text}
+use Rattle.rp_run.specs.Output.{RunSetting}
+use Rattle.rp_run.proofs.Tracing.{drop_at, drop_none_at}
 use Rattle.rp_details.specs.Details.{bound_line, device_lines, found_lines, known_lines, node_lines, nodes_lines, packets_lines, pending_line, running_lines, task_lines, tasks_lines, window_lines}
 
 -- ---- packets
-
-drop_at : {A : Type 0} (xs : List A) (i : ℕ) (x : A) → slice_get xs i ≡ Some x → drop i xs ≡ x ∷ drop (suc i) xs
-drop_at [] i x here = absurd (cc)
-drop_at (y ∷ ys) zero x here = let same : y ≡ x = cc in ap (λ z. z ∷ ys) same
-drop_at (y ∷ ys) (suc i) x here = drop_at ys i x here
-
-drop_none_at : {A : Type 0} (xs : List A) (i : ℕ) → slice_get xs i ≡ None → (drop i xs ≡ []) × (drop (suc i) xs ≡ [])
-drop_none_at [] i none = (drop_all i [] (omega arith), drop_all (suc i) [] (omega arith))
-drop_none_at (x ∷ xs) zero none = absurd (cc)
-drop_none_at (x ∷ xs) (suc i) none = drop_none_at xs i none
 
 module _ (names : List (List ℕ)) (sent : List Message) where
   at_place : (place : ℕ) (m : Option Message) → slice_get sent place ≡ m
@@ -76,37 +67,6 @@ module _ {S : Type 0} (s : RunSetting S) (world : World) where
   -- one node more
   pub nodes_more : (n : ℕ) → nodes_lines s world (n + 1) ≡ nodes_lines s world n ++ node_lines s (n + 1) (part_at world.nodes (n + 1))
   nodes_more n = rw (add-one n) (one_node_more n)
-
-module _ {S : Type 0} (s : RunSetting S) (node : ℕ) where
-  abbrev pub Counts : ℕ → List Rec → Type 0
-  Counts count records = count ≡ min (length (applied_of records)) (2 ^ 16 - 1)
-
-  abbrev pub Shows : Vec ℕ Global → List Rec → Type 0
-  Shows text records = text.items ≡ s.image (replay_state s.setting.next s.setting.answers s.setting.begin (applied_of records))
-
-  shown_running : (count : ℕ) (text : Vec ℕ Global) (records : List Rec) (running : Option Running) → IsRunningQueryAnswer (Ok count) Counts records running
-      → IsRunningQueryAnswer (Ok text) Shows records running → state_text s node records running ≡ with_line_feed (applied_line_of node count) ++ text.items
-  shown_running count text records None counted shown = absurd (cc)
-  shown_running count text records (Some running) counted shown =
-      ap (λ (n : ℕ). with_line_feed (applied_line_of node n) ++ s.image (replay_state s.setting.next s.setting.answers s.setting.begin (applied_of records))) (sym counted)
-      ∙ ap (λ (l : List ℕ). with_line_feed (applied_line_of node count) ++ l) (sym shown)
-
-  -- a node that runs is shown by its number of actions and by its image
-  pub shown_node : (count : ℕ) (text : Vec ℕ Global) (part : Option NodePart) → IsQueryAnswer (Ok count) Counts part → IsQueryAnswerUnlessMemory (Ok text) Shows part
-      → part_text s node part ≡ with_line_feed (applied_line_of node count) ++ text.items
-  shown_node count text part counted (inl memory) = let none = memory.0 in absurd (cc)
-  shown_node count text None counted (inr shown) = absurd (cc)
-  shown_node count text (Some part) counted (inr shown) = shown_running count text part.records part.running counted shown
-
-  stopped_state : (records : List Rec) (running : Option Running) → IsRunningQueryAnswer (Err NotRunning) Counts records running
-      → state_text s node records running ≡ with_line_feed (stopped_line_of node)
-  stopped_state records None counted = append-nil (with_line_feed (stopped_line_of node))
-  stopped_state records (Some running) counted = absurd counted
-
-  -- a node that is stopped
-  pub stopped_node : (part : Option NodePart) → IsQueryAnswer (Err NotRunning) Counts part → part_text s node part ≡ with_line_feed (stopped_line_of node)
-  stopped_node None counted = absurd (cc)
-  stopped_node (Some part) counted = stopped_state part.records part.running counted
 
 -- ---- what a node holds and knows
 

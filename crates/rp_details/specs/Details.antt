@@ -17,7 +17,8 @@ use Rattle.rp_world.specs.rp_model.specs.World.{World, part_at}
 use Rattle.rp_run.specs.rp_output.specs.FaultMessage.{with_line_feed}
 use Rattle.rp_run.specs.rp_output.specs.Printed.{reply_text_of}
 use Rattle.rp_run.specs.rp_output.specs.Trace.{message_line_of, party_text_of}
-use Rattle.rp_run.specs.Output.{RunSetting, part_text}
+use Rattle.rp_run.specs.Items.{items_text}
+use Rattle.rp_run.specs.Output.{RunSetting, part_items}
 use Rattle.rp_world.specs.Nodes.{stored_length}
 use Rattle.rp_details.specs.Fields.{action_words, asked_words, bound_words, fields_words}
 
@@ -78,7 +79,7 @@ known_lines most (Some part) = running_lines most part.records part.running
 -- a node: as `show` prints it, how many bytes its device holds, and its window and what is pending
 abbrev pub node_lines : {S : Type 0} → RunSetting S → ℕ → Option NodePart → List ℕ
 node_lines s node part =
-    part_text s node part
+    items_text (part_items s node part)
     ++ (device_lines part ++ known_lines s.setting.config.max_positions part)
 
 -- the lines of the nodes 1 to n

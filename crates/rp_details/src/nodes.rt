@@ -5,7 +5,8 @@ ghost use Rattle.rp_details.specs.Details.{device_lines, node_lines, nodes_lines
 ghost use Rattle.rp_world.specs.rp_model.specs.World.{part_at};
 ghost use Rattle.rp_run.specs.rp_output.specs.Printed.{node_line_of};
 ghost use Rattle.rp_run.specs.rp_output.specs.FaultMessage.{with_line_feed};
-ghost use Rattle.rp_run.specs.Output.{part_text};
+ghost use Rattle.rp_run.specs.Items.{items_text};
+ghost use Rattle.rp_run.specs.Output.{part_items};
 ghost use Rattle.rp_run.specs.Runs.{run_setting};
 
 use crate::known::add_known;
@@ -64,8 +65,9 @@ fn add_shown<M: Machine, D: CutDevice>(
     node: NodeId,
 ) -> Result<(), Fault>
     ensures { OnOk result (text.new.items ≡ text.old.items
-        ++ part_text (run_setting M.next M.answers M.begin M.image cluster.now options.now)
-        node (part_at cluster.now.world.nodes node)) }
+        ++ items_text (part_items
+        (run_setting M.next M.answers M.begin M.image cluster.now options.now)
+        node (part_at cluster.now.world.nodes node))) }
 {
     match cluster.applied(node) {
         Ok(applied) => {

@@ -1,11 +1,10 @@
 mod PrintedNames
 pub mod Among
 pub mod NextNumbers
-mod Tracing
+pub mod Tracing
 pub mod Refusing
 pub mod LeastUnsettled
 mod Histories
-mod ItemTexts
 mod Acting
 mod Showing
 mod Recounting

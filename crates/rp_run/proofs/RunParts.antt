@@ -4,32 +4,30 @@ use Rattle.std.specs.Prelude.{◌⊎◌, nat_eq, nat_le, slice_index_or}
 use Rattle.std.specs.Io.KnownBytes.{Appends}
 use Rattle.std.proofs.KnownBytes.{Appends-nil, Appends-trans}
 use Rattle.std.proofs.lemmas.List.{drop_more, drop_all}
+use Rattle.std.proofs.lemmas.List.Concat.{flat_map-append}
 use Rattle.std.proofs.lemmas.List.Folds.{list_any-append}
 use Rattle.std.proofs.lemmas.Bool.Decides.{nat_tests}
 use Rattle.rp_base.specs.declared.fault.Fault.{Fault}
 use Rattle.rp_base.specs.declared.fault.Fault.TheVariants.{NoSuchMessage}
-use Rattle.rp_base.specs.declared.reply.Answer.{Answer}
 use Rattle.rp_model.specs.rp_codec.specs.Message.{Message}
-use Rattle.rp_model.specs.declared.effect.Dropped.{Dropped}
 use Rattle.rp_model.specs.declared.effect.Effect.{Effect}
 use Rattle.rp_model.specs.declared.event.Event.{Event}
-use Rattle.rp_model.specs.declared.event.Event.TheVariants.{Node as NodeStep}
+use Rattle.rp_model.specs.declared.event.Event.TheVariants.{Submit, Again, Node as NodeStep, Cut, Stop, Restart}
 use Rattle.rp_model.specs.declared.event.Step.TheVariants.{Deliver}
 use Rattle.rp_model.specs.Events.{event_of}
 use Rattle.rp_model.specs.Growing.{Grows}
 use Rattle.rp_model.specs.World.{World, Transition, event_effect}
-use Rattle.rp_model.specs.Answers.{IsDone, IsRefused}
-use Rattle.rp_run.specs.Output.{RunSetting, Play, Said, opening_play, text_of_said, nothing_said, note_said, and_then, is_among, from_to, least_unsettled, settled_by, lost, traced_text, effect_text, transition_of, effect_said, event_said, drain_from, drained, command_said, script_said, nodes_text}
-use Rattle.rp_run.specs.Items.{Item, Note, Noted, Refused, DrainLimit, items_text, note_line}
+use Rattle.rp_model.specs.Answers.{Describes, IsDone, IsRefused}
+use Rattle.rp_run.specs.Output.{RunSetting, Play, Said, opening_play, text_of_said, nothing_said, note_said, and_then, is_among, from_to, least_unsettled, settled_by, called_by, lost, printed_items, transition_of, effect_said, event_said, drain_from, drained, command_said, script_said, nodes_items}
+use Rattle.rp_run.specs.Items.{Item, Note, Noted, Refused, DrainLimit, item_text, items_text, note_line, notes_text}
 use Rattle.rp_output.specs.Printed.{refused_line_of}
-use Rattle.rp_run.specs.Runs.{Follows, Says}
+use Rattle.rp_run.specs.Runs.{Follows, Says, described}
 use Rattle.rp_run.specs.Settled.{is_settled}
 use Rattle.rp_output.specs.FaultMessage.{with_line_feed}
 use Rattle.rp_output.specs.Stream.{Begins, Writes}
 use Rattle.rp_deck.specs.declared.deck.Command.TheVariants.{Show}
 use Rattle.rp_deck.specs.declared.deck.Line.{Line}
 use Rattle.rp_run.specs.declared.settled.Settled.{Settled}
-use Rattle.rp_run.proofs.ItemTexts.{items_text-append, item_text-one, transition_prints, nodes_print}
 use Rattle.rp_output.proofs.Writing.{begins_nothing, begins_longer, begins_after}
 
 -- what is said, by what is written
@@ -47,7 +45,7 @@ says_failed world settled old new said (Err fault) failed begun = begun
 pub note_written : (play : Play) (old new : Option (List ℕ)) (note : Note) (answer : Result Unit Fault)
     → Writes old new (with_line_feed (note_line note)) answer → Writes old new (text_of_said (note_said play note)) answer
 note_written play old new note answer printed =
-    subst (λ (t : List ℕ). Writes old new t answer) (sym (item_text-one (Noted (note ∷ [])) ∙ append-nil (with_line_feed (note_line note)))) printed
+    subst (λ (t : List ℕ). Writes old new t answer) (sym (append-nil (notes_text (note ∷ [])) ∙ append-nil (with_line_feed (note_line note)))) printed
 
 -- ---- so far, and what is left
 
@@ -80,12 +78,12 @@ module _ (world later : World) (settled after : Settled) (old middle new : Optio
   -- one thing more is written after what was
   written_too : (here : Said) → Appends middle new (text_of_said here) → Appends old new (items_text (so_far.said.items ++ here.items))
   written_too here written =
-      subst (λ (t : List ℕ). Appends old new t) (sym (items_text-append so_far.said.items here.items))
+      subst (λ (t : List ℕ). Appends old new t) (sym (flat_map-append item_text so_far.said.items here.items))
       (Appends-trans old middle new (text_of_said so_far.said) (text_of_said here) so_far.written written)
 
   begun_too : (here : Said) → Begins middle new (text_of_said here) → Begins old new (items_text (so_far.said.items ++ here.items))
   begun_too here begun =
-      subst (λ (t : List ℕ). Begins old new t) (sym (items_text-append so_far.said.items here.items))
+      subst (λ (t : List ℕ). Begins old new t) (sym (flat_map-append item_text so_far.said.items here.items))
       (begins_after old middle new (text_of_said so_far.said) (text_of_said here) so_far.written begun)
 
   -- one thing more
@@ -102,7 +100,7 @@ module _ (world later : World) (settled after : Settled) (old middle new : Optio
   pub fails : (here : Said) (further : Play → Said) → rest so_far.said.play ≡ and_then here further → Begins middle new (text_of_said here) → Begins old new (text_of_said whole)
   fails here further next begun =
       subst (λ (s : Said). Begins old new (text_of_said s)) (sym (following here further next))
-      (subst (λ (t : List ℕ). Begins old new t) (sym (items_text-append (so_far.said.items ++ here.items) (further here.play).items))
+      (subst (λ (t : List ℕ). Begins old new t) (sym (flat_map-append item_text (so_far.said.items ++ here.items) (further here.play).items))
       (begins_longer old new (items_text (so_far.said.items ++ here.items)) (text_of_said (further here.play)) (begun_too here begun)))
 
   -- the last thing
@@ -129,20 +127,22 @@ drop_front : {A : Type 0} (xs ys : List A) → drop (length xs) (xs ++ ys) ≡ y
 drop_front [] ys = refl
 drop_front (x ∷ xs) ys = drop_front xs ys
 
--- what is printed of an effect is what is printed of the transition
-stated_same : (traced : Bool) (names : List (List ℕ)) (event : Event) (before after sends : List Message) (first : ℕ)
-    (opened found : Option (ℕ × ℕ)) (dropped lacking : Dropped) (taken reply : Option Answer)
-    → first ≡ length before + 1 → after ≡ before ++ sends → opened ≡ found → dropped ≡ lacking → taken ≡ reply
-    → traced_text traced names first (drop (first - 1) after) ++ effect_text names after event opened dropped taken
-    ≡ traced_text traced names (length before + 1) sends ++ effect_text names after event found lacking reply
-stated_same traced names event before after sends first opened found dropped lacking taken reply is grown e1 e2 e3 =
-    let place : first - 1 ≡ length before = omega (arith, is) in
-    let packets : drop (first - 1) after ≡ sends = ap (λ (i : ℕ). drop i after) place ∙ ap (λ (l : List Message). drop (length before) l) grown ∙ drop_front before sends in
-    ap (λ (l : List Message). traced_text traced names first l ++ effect_text names after event opened dropped taken) packets
-    ∙ ap (λ (n : ℕ). traced_text traced names n sends ++ effect_text names after event opened dropped taken) is
-    ∙ ap (λ (o : Option (ℕ × ℕ)). traced_text traced names (length before + 1) sends ++ effect_text names after event o dropped taken) e1
-    ∙ ap (λ (d : Dropped). traced_text traced names (length before + 1) sends ++ effect_text names after event found d taken) e2
-    ∙ ap (λ (t : Option Answer). traced_text traced names (length before + 1) sends ++ effect_text names after event found lacking t) e3
+-- what an effect describes is the transition that happened
+described_is : (before after : World) (transition : Transition) (effect : Effect) → after ≡ transition.world → after.sent ≡ before.sent ++ transition.sends → Describes (length before.sent) transition effect
+    → described after effect ≡ transition
+described_is before after transition effect is grown describes =
+    let place : effect.first - 1 ≡ length before.sent = omega (arith, describes.first) in
+    let packets : drop (effect.first - 1) after.sent ≡ transition.sends =
+    ap (λ (i : ℕ). drop i after.sent) place ∙ ap (λ (l : List Message). drop (length before.sent) l) grown ∙ drop_front before.sent transition.sends in
+    rw (packets, describes.dropped, describes.taken, describes.opened, is) refl
+
+call_prints_nothing : (event : Event) (more : List Item) → items_text (called_by event ++ more) ≡ items_text more
+call_prints_nothing (Submit task node object operation arg) more = refl
+call_prints_nothing (Again task node) more = refl
+call_prints_nothing (NodeStep step) more = refl
+call_prints_nothing (Cut step kept) more = refl
+call_prints_nothing (Stop node) more = refl
+call_prints_nothing (Restart node) more = refl
 
 module _ {S : Type 0} (s : RunSetting S) (line : ℕ) (play : Play) (event : Event) (world : World) (settled : Settled) (follows : Follows world settled play) where
   event_is : event_said s line play event ≡ effect_said s line play event (transition_of s play.world event)
@@ -156,20 +156,17 @@ module _ {S : Type 0} (s : RunSetting S) (line : ℕ) (play : Play) (event : Eve
   pub happened : (later : World) (after : Settled) (effect : Effect) (old new : Option (List ℕ)) (answer : Result Unit Fault)
       → (done : IsDone s.setting world (event_of event) later effect) → Grows world done.transition
       → ((m : ℕ) → is_settled after m ≡ (is_among (settled_by event) m || is_settled settled m))
-      → Writes old new (traced_text s.traced s.names effect.first (drop (effect.first - 1) later.sent) ++ effect_text s.names later.sent event effect.opened effect.dropped effect.taken) answer
+      → Writes old new (items_text (printed_items s.traced s.names effect.first event (described later effect))) answer
       → Says later after old new (event_said s line play event) answer
   happened later after effect old new answer done grows settles printed =
       let transition = done.transition in
       let said : Said = effect_said s line play event (Ok transition) in
       let is : event_said s line play event ≡ said = at_play ∙ ap (λ (r : Result Transition Fault). effect_said s line play event r) done.resulted in
-      let prints = λ (w : World). transition_prints s w event transition in
       let grown : later.sent ≡ world.sent ++ transition.sends = ap (λ (w : World). w.sent) done.world ∙ grows.sent in
-      let text : traced_text s.traced s.names effect.first (drop (effect.first - 1) later.sent) ++ effect_text s.names later.sent event effect.opened effect.dropped effect.taken ≡ text_of_said said =
-      stated_same s.traced s.names event world.sent later.sent transition.sends effect.first effect.opened transition.opened effect.dropped transition.dropped effect.taken transition.taken
-      done.describes.first grown done.describes.opened done.describes.dropped done.describes.taken
-      ∙ ap (λ (l : List Message). traced_text s.traced s.names (length world.sent + 1) transition.sends ++ effect_text s.names l event transition.opened transition.dropped transition.taken) (ap (λ (w : World). w.sent) done.world)
-      ∙ ap (λ (w : World). traced_text s.traced s.names (length w.sent + 1) transition.sends ++ effect_text s.names transition.world.sent event transition.opened transition.dropped transition.taken) follows.world_is
-      ∙ sym (prints play.world) in
+      let text : items_text (printed_items s.traced s.names effect.first event (described later effect)) ≡ text_of_said said =
+      ap (λ (t : Transition). items_text (printed_items s.traced s.names effect.first event t)) (described_is world later transition effect done.world grown done.describes)
+      ∙ ap (λ (n : ℕ). items_text (printed_items s.traced s.names n event transition)) (done.describes.first ∙ ap (λ (w : World). length w.sent + 1) follows.world_is)
+      ∙ sym (call_prints_nothing event (printed_items s.traced s.names (length play.world.sent + 1) event transition)) in
       subst (λ (x : Said). Says later after old new x answer) (sym is)
       (says_by later after old new said answer
       (record {
@@ -323,9 +320,9 @@ module _ {S : Type 0} (s : RunSetting S) (line : ℕ) (play : Play) where
 -- ---- nodes that are shown
 
 pub says_shown : {S : Type 0} (s : RunSetting S) (most line : ℕ) (play : Play) (world : World) (settled : Settled) (old new : Option (List ℕ)) (nodes : ℕ) (answer : Result Unit Fault)
-    → s.setting.config.nodes ≡ nodes → Follows world settled play → Writes old new (nodes_text s world nodes) answer
+    → s.setting.config.nodes ≡ nodes → Follows world settled play → Writes old new (items_text (nodes_items s world nodes)) answer
     → Says world settled old new (command_said s most line play Show) answer
 says_shown s most line play world settled old new nodes answer same follows printed =
     says_by world settled old new (command_said s most line play Show) answer follows
-    (subst (λ (t : List ℕ). Writes old new t answer)
-    (ap (nodes_text s world) (sym same) ∙ ap (λ (w : World). nodes_text s w s.setting.config.nodes) follows.world_is ∙ sym (nodes_print s play.world s.setting.config.nodes)) printed)
+    (subst (λ (l : List Item). Writes old new (items_text l) answer)
+    (ap (nodes_items s world) (sym same) ∙ ap (λ (w : World). nodes_items s w s.setting.config.nodes) follows.world_is) printed)

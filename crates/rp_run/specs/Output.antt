@@ -26,11 +26,9 @@ use Rattle.rp_model.specs.Effect.{Setting}
 use Rattle.rp_model.specs.Events.{event_of}
 use Rattle.rp_model.specs.World.{World, Transition, opening_world, event_effect, part_at}
 use Rattle.rp_run.specs.Items.{Item, Called, Replied, Shown, Noted, Note, Sent, Opened}
-use Rattle.rp_run.specs.Items.{AlreadyRunning, PendingFull, Stopped, Refused, DrainLimit, item_text}
+use Rattle.rp_run.specs.Items.{AlreadyRunning, PendingFull, Stopped, Refused, DrainLimit}
 use Rattle.rp_run.specs.Items.{items_text}
-use Rattle.rp_output.specs.Printed.{opened_line_of, running_line_of, full_line_of}
-use Rattle.rp_output.specs.FaultMessage.{with_line_feed}
-use Rattle.rp_output.specs.Trace.{task_name, message_line_of, party_text_of}
+use Rattle.rp_output.specs.Trace.{task_name, party_text_of}
 use Rattle.rp_deck.specs.declared.deck.Command.{Command}
 use Rattle.rp_deck.specs.declared.deck.Command.TheVariants.{Take, Lose, Drain, Show}
 use Rattle.rp_deck.specs.declared.deck.Line.{Line}
@@ -124,20 +122,6 @@ lost line play first last =
 
 -- ---- the output of an event that happened
 
--- the line of a packet, if there is one of this number
-abbrev pub message_text : List (List ℕ) → ℕ → Option Message → List ℕ
-message_text names number None = []
-message_text names number (Some m) = with_line_feed (message_line_of names number m)
-
--- the lines of packets, numbered from this one on
-abbrev pub trace_text : List (List ℕ) → ℕ → List Message → List ℕ
-trace_text names number [] = []
-trace_text names number (m ∷ rest) =
-    with_line_feed (message_line_of names number m) ++ trace_text names (suc number) rest
-
-abbrev pub traced_text : Bool → List (List ℕ) → ℕ → List Message → List ℕ
-traced_text traced names number packets = if traced then trace_text names number packets else []
-
 -- the notes of packets, numbered from this one on
 abbrev pub trace_notes : List (List ℕ) → ℕ → List Message → List Note
 trace_notes names number [] = []
@@ -145,14 +129,11 @@ trace_notes names number (m ∷ rest) =
     Sent number (party_text_of names m.from) (party_text_of names m.to) m.body
     ∷ trace_notes names (suc number) rest
 
+-- the same, if packets are printed
 abbrev pub traced_notes : Bool → List (List ℕ) → ℕ → List Message → List Note
 traced_notes traced names number packets = if traced then trace_notes names number packets else []
 
--- the line of a restart: what the node found, or that it was running already
-abbrev pub restarted_text : ℕ → Option (ℕ × ℕ) → List ℕ
-restarted_text node None = with_line_feed (running_line_of node)
-restarted_text node (Some found) = with_line_feed (opened_line_of node found.0 found.1)
-
+-- the note of a restart: what the node found, or that it was running already
 abbrev pub restarted_note : ℕ → Option (ℕ × ℕ) → Note
 restarted_note node None = AlreadyRunning node
 restarted_note node (Some found) = Opened node found.0 found.1
@@ -164,14 +145,6 @@ opened_notes (Node step) opened = []
 opened_notes (Cut step kept) opened = []
 opened_notes (Stop node) opened = []
 opened_notes (Restart node) opened = restarted_note node opened ∷ []
-
-abbrev pub opened_text : Event → Option (ℕ × ℕ) → List ℕ
-opened_text (Submit task node object operation arg) opened = []
-opened_text (Again task node) opened = []
-opened_text (Node step) opened = []
-opened_text (Cut step kept) opened = []
-opened_text (Stop node) opened = []
-opened_text (Restart node) opened = restarted_text node opened
 
 -- a node starts again
 abbrev pub is_restart : Event → Bool
@@ -207,16 +180,6 @@ node_of_event sent (Cut step kept) = node_of_step sent step
 node_of_event sent (Stop node) = Some node
 node_of_event sent (Restart node) = Some node
 
-abbrev pub full_text : Option ℕ → List ℕ
-full_text None = []
-full_text (Some node) = with_line_feed (full_line_of node)
-
--- the line of a pending item for which this node has no place
-abbrev pub dropped_text : Option ℕ → Dropped → List ℕ
-dropped_text place No = []
-dropped_text place Full = full_text place
-dropped_text place Foreign = []
-
 abbrev pub is_full : Dropped → Bool
 is_full Full = true
 is_full _ = false
@@ -225,6 +188,7 @@ abbrev pub full_notes : Option ℕ → List Note
 full_notes None = []
 full_notes (Some node) = PendingFull node ∷ []
 
+-- the note of a pending item for which this node has no place
 abbrev pub dropped_notes : Option ℕ → Dropped → List Note
 dropped_notes place No = []
 dropped_notes place Full = full_notes place
@@ -249,25 +213,18 @@ abbrev pub taken_items : List (List ℕ) → Option Answer → List Item
 taken_items names None = []
 taken_items names (Some answer) = reply_item names answer ∷ []
 
-abbrev pub taken_text : List (List ℕ) → Option Answer → List ℕ
-taken_text names None = []
-taken_text names (Some answer) = item_text (reply_item names answer)
-
--- the lines of a restart and of a pending item that was dropped
-abbrev pub changed_text : List Message → Event → Option (ℕ × ℕ) → Dropped → List ℕ
-changed_text sent event opened dropped =
-    opened_text event opened ++ dropped_text (node_of_event sent event) dropped
-
+-- the notes of a restart and of a pending item that was dropped
 abbrev pub changed_notes : List Message → Event → Option (ℕ × ℕ) → Dropped → List Note
 changed_notes sent event opened dropped =
     opened_notes event opened ++ dropped_notes (node_of_event sent event) dropped
 
--- the same lines, and then that of a reply that was taken
-abbrev pub effect_text : List (List ℕ) → List Message → Event → Option (ℕ × ℕ) → Dropped
-    → Option Answer → List ℕ
-effect_text names sent event opened dropped taken =
-    opened_text event opened
-    ++ (dropped_text (node_of_event sent event) dropped ++ taken_text names taken)
+-- What is printed of an event that happened: the notes, packets first if they are printed, numbered
+-- from this one on, and the reply that is taken.
+abbrev pub printed_items : Bool → List (List ℕ) → ℕ → Event → Transition → List Item
+printed_items traced names first event transition =
+    Noted (traced_notes traced names first transition.sends
+    ++ changed_notes transition.world.sent event transition.opened transition.dropped)
+    ∷ taken_items names transition.taken
 
 -- ---- a run
 
@@ -276,14 +233,11 @@ module _ {S : Type 0} (s : RunSetting S) where
   abbrev pub transition_of : World → Event → Result Transition Fault
   transition_of world event = event_effect s.setting world (event_of event)
 
-  -- The items of an event that happened in a world: the call that is made, the notes, packets first
-  -- if they are printed, and the reply that is taken.
+  -- the items of an event that happened in a world: the call that is made, and what is printed
   abbrev pub transition_items : World → Event → Transition → List Item
   transition_items before event transition =
       called_by event
-      ++ Noted (traced_notes s.traced s.names (length before.sent + 1) transition.sends
-      ++ changed_notes transition.world.sent event transition.opened transition.dropped)
-      ∷ taken_items s.names transition.taken
+      ++ printed_items s.traced s.names (length before.sent + 1) event transition
 
   -- An event that happened is printed, and settles its messages. For a refused one the reason is
   -- printed, and the play does not change.
@@ -328,18 +282,6 @@ module _ {S : Type 0} (s : RunSetting S) where
   unfoldable pub nodes_items : World → ℕ → List Item
   nodes_items world count =
       flat_map (λ node. part_items node (part_at world.nodes node)) (one_to count)
-
-  -- the text of the item of a node with these records
-  abbrev pub state_text : ℕ → List Rec → Option Running → List ℕ
-  state_text node records running = item_text (state_item node records running)
-
-  abbrev pub part_text : ℕ → Option NodePart → List ℕ
-  part_text node None = []
-  part_text node (Some part) = state_text node part.records part.running
-
-  unfoldable pub nodes_text : World → ℕ → List ℕ
-  nodes_text world count =
-      flat_map (λ node. part_text node (part_at world.nodes node)) (one_to count)
 
   -- the result of a command in the line of this number, where a `drain` may deliver n messages
   abbrev pub command_said : ℕ → ℕ → Play → Command → Said

@@ -1,19 +1,18 @@
 -- The relation of a run in memory to a play, and what it writes.
-use Rattle.std.specs.Prelude.{◌≡◌, ℕ, ◌-◌, Option, Result, Ok, Err, List, ◌++◌, length, replicate}
+use Rattle.std.specs.Prelude.{◌≡◌, ℕ, ◌-◌, Option, Result, Ok, Err, List, length, replicate}
 use Rattle.std.specs.Prelude.{drop}
 use Rattle.std.specs.Io.KnownBytes.{Appends}
 use Rattle.rp_base.specs.declared.action.Action.{Action}
 use Rattle.rp_base.specs.declared.config.Config.{Config}
 use Rattle.rp_base.specs.declared.fault.Fault.{Fault}
 use Rattle.rp_base.specs.declared.reply.Answer.{Answer}
-use Rattle.rp_model.specs.rp_codec.specs.Message.{Message}
-use Rattle.rp_model.specs.World.{World, opening_world}
+use Rattle.rp_model.specs.World.{World, Transition, opening_world}
 use Rattle.rp_model.specs.declared.effect.Effect.{Effect}
 use Rattle.rp_model.specs.declared.event.Event.{Event}
 use Rattle.rp_world.specs.Steps.{ClusterState, cluster_setting}
+use Rattle.rp_run.specs.Items.{items_text}
 use Rattle.rp_run.specs.Output.{RunSetting, Play, Said, text_of_said, names_of, is_among}
-use Rattle.rp_run.specs.Output.{traced_text}
-use Rattle.rp_run.specs.Output.{effect_text}
+use Rattle.rp_run.specs.Output.{printed_items}
 use Rattle.rp_run.specs.Settled.{is_settled}
 use Rattle.rp_output.specs.Stream.{Begins}
 use Rattle.rp_run.specs.declared.options.RunOptions.{RunOptions}
@@ -37,12 +36,21 @@ opening_cluster config program = record {
   failures = replicate config.nodes 0;
 }
 
--- the text that is printed for an event with this effect, after these messages were sent
-abbrev pub printed_text : RunOptions → List Message → Event → Effect → List ℕ
-printed_text options sent event effect =
-    let names = names_of options.tasks.now in
-    traced_text options.traced names effect.first (drop (effect.first - 1) sent)
-    ++ effect_text names sent event effect.opened effect.dropped effect.taken
+-- the transition into this world that an effect describes
+abbrev pub described : World → Effect → Transition
+described world effect = record {
+  world = world;
+  sends = drop (effect.first - 1) world.sent;
+  dropped = effect.dropped;
+  taken = effect.taken;
+  opened = effect.opened;
+}
+
+-- the text that is printed for an event with this effect, which led to this world
+abbrev pub printed_text : RunOptions → World → Event → Effect → List ℕ
+printed_text options world event effect =
+    items_text (printed_items options.traced (names_of options.tasks.now) effect.first event
+    (described world effect))
 
 -- the cluster has n nodes, and eight tasks
 pub record HasParts {P : Type 0} (nodes : ℕ) (cluster : ClusterState P) : Type 0 where

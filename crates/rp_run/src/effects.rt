@@ -1,11 +1,11 @@
 //! Prints the parts of an event's effect.
 
-ghost use Rattle.std.specs.Prelude.{◌≡◌, ◌≤◌, ◌-◌, Some, drop, IfErr, IfOk};
+ghost use Rattle.std.specs.Prelude.{◌≡◌, ◌≤◌, ◌-◌, [], ◌∷◌, drop, option_to_list, IfErr, IfOk};
 ghost use Rattle.rp_model.specs.World.{part_at};
-ghost use Rattle.rp_run.specs.Output.{names_of, message_text, trace_text, traced_text, opened_text, full_text, dropped_text, is_restart, node_of_event, node_of_step, receiver_of, taken_text};
-ghost use Rattle.rp_output.specs.Trace.{task_name, party_text_of, message_line_of};
+ghost use Rattle.rp_run.specs.Items.{item_text, items_text, notes_text};
+ghost use Rattle.rp_run.specs.Output.{names_of, trace_notes, traced_notes, opened_notes, full_notes, dropped_notes, is_restart, node_of_event, node_of_step, receiver_of, reply_item, taken_items};
+ghost use Rattle.rp_output.specs.Trace.{task_name, party_text_of};
 ghost use Rattle.rp_output.specs.PartyText.{shown_party};
-ghost use Rattle.rp_output.specs.FaultMessage.{with_line_feed};
 ghost use Rattle.rp_output.specs.Stream.{Writes};
 ghost use Rattle.rp_output.specs.Faults.{IsRunFault};
 
@@ -35,8 +35,8 @@ pub(crate) fn print_trace<M: Machine, D: CutDevice, W: Write>(
 ) -> Result<(), Fault>
     requires { 1 ≤ first }
     ensures printed { Writes (W.contents writer.old) (W.contents writer.new)
-        (traced_text options.now.traced (names_of options.now.tasks.now) first
-        (drop (first - 1) cluster.now.world.sent)) result }
+        (notes_text (traced_notes options.now.traced (names_of options.now.tasks.now) first
+        (drop (first - 1) cluster.now.world.sent))) result }
     ensures fault { IfErr result IsRunFault }
 {
     if options.traced {
@@ -57,7 +57,8 @@ fn print_packets<M: Machine, D: CutDevice, W: Write>(
 ) -> Result<(), Fault>
     requires { 1 ≤ first }
     ensures printed { Writes (W.contents writer.old) (W.contents writer.new)
-        (trace_text (names_of tasks.now) first (drop (first - 1) cluster.now.world.sent)) result }
+        (notes_text (trace_notes (names_of tasks.now) first
+        (drop (first - 1) cluster.now.world.sent))) result }
     ensures fault { IfErr result IsRunFault }
 {
     for number in first..cluster.messages() + 1 {
@@ -75,8 +76,8 @@ fn print_message<M: Machine, D: CutDevice, W: Write>(
     writer: &mut W,
 ) -> Result<(), Fault>
     ensures printed { Writes (W.contents writer.old) (W.contents writer.new)
-        (message_text (names_of tasks.now) number
-        (part_at cluster.now.world.sent number)) result }
+        (notes_text (trace_notes (names_of tasks.now) number
+        (option_to_list (part_at cluster.now.world.sent number)))) result }
     ensures fault { IfErr result IsRunFault }
 {
     match sent_packet(alloc, cluster, number)? {
@@ -110,7 +111,7 @@ fn print_packet<W: Write>(
     writer: &mut W,
 ) -> Result<(), Fault>
     ensures printed { Writes (W.contents writer.old) (W.contents writer.new)
-        (with_line_feed (message_line_of (names_of tasks.now) number packet.now)) result }
+        (notes_text (trace_notes (names_of tasks.now) number (packet.now ∷ []))) result }
     ensures fault { IfErr result IsRunFault }
 {
     let line = TraceLine {
@@ -162,7 +163,7 @@ pub(crate) fn print_restart<W: Write>(
     writer: &mut W,
 ) -> Result<(), Fault>
     ensures printed { Writes (W.contents writer.old) (W.contents writer.new)
-        (opened_text event.now opened) result }
+        (notes_text (opened_notes event.now opened)) result }
     ensures fault { IfErr result IsRunFault }
 {
     let Event::Restart(node) = *event else {
@@ -190,7 +191,8 @@ pub(crate) fn print_dropped<M: Machine, D: CutDevice, W: Write>(
     writer: &mut W,
 ) -> Result<(), Fault>
     ensures printed { Writes (W.contents writer.old) (W.contents writer.new)
-        (dropped_text (node_of_event cluster.now.world.sent event.now) dropped) result }
+        (notes_text (dropped_notes (node_of_event cluster.now.world.sent event.now) dropped))
+        result }
     ensures fault { IfErr result IsRunFault }
 {
     match dropped {
@@ -208,7 +210,7 @@ fn print_full<M: Machine, D: CutDevice, W: Write>(
     writer: &mut W,
 ) -> Result<(), Fault>
     ensures printed { Writes (W.contents writer.old) (W.contents writer.new)
-        (full_text (node_of_event cluster.now.world.sent event.now)) result }
+        (notes_text (full_notes (node_of_event cluster.now.world.sent event.now))) result }
     ensures fault { IfErr result IsRunFault }
 {
     match node_of_event(alloc, cluster, event)? {
@@ -284,13 +286,13 @@ pub(crate) fn print_taken<W: Write>(
     writer: &mut W,
 ) -> Result<(), Fault>
     ensures printed { Writes (W.contents writer.old) (W.contents writer.new)
-        (taken_text (names_of tasks.now) taken) result }
+        (items_text (taken_items (names_of tasks.now) taken)) result }
     ensures fault { IfErr result IsRunFault }
 {
-    if let Some(answer) = taken {
-        print_reply(alloc, tasks, answer, writer)?;
+    match taken {
+        Some(answer) => print_reply(alloc, tasks, answer, writer),
+        None => Ok(()),
     }
-    Ok(())
 }
 
 /// Prints a reply under the name of its task.
@@ -302,7 +304,7 @@ pub fn print_reply<W: Write>(
     writer: &mut W,
 ) -> Result<(), Fault>
     ensures printed { Writes (W.contents writer.old) (W.contents writer.new)
-        (taken_text (names_of tasks.now) (Some answer)) result }
+        (item_text (reply_item (names_of tasks.now) answer)) result }
     ensures fault { IfErr result IsRunFault }
 {
     let line = ReplyLine {

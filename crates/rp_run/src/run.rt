@@ -3,7 +3,8 @@
 ghost use Rattle.std.specs.Prelude.{◌≡◌, ◌≤◌, ◌<◌, ◌^◌, ◌||◌, [], length, All, IfErr, OnOk};
 ghost use Rattle.rp_model.specs.World.{part_at};
 ghost use Rattle.rp_deck.specs.Script.{FitsIn, IsEventWithin};
-ghost use Rattle.rp_run.specs.Output.{Play, event_said, lost, drained, part_text, nodes_text, command_said, run_said, text_of_said, is_restart, is_full};
+ghost use Rattle.rp_run.specs.Items.{items_text};
+ghost use Rattle.rp_run.specs.Output.{Play, event_said, lost, drained, part_items, nodes_items, command_said, run_said, text_of_said, is_restart, is_full};
 ghost use Rattle.rp_run.specs.Runs.{run_setting, opening_cluster, printed_text, HasParts, Follows, Says};
 ghost use Rattle.rp_output.specs.Stream.{Writes};
 ghost use Rattle.rp_run.specs.Faults.{IsDeviceRunFault};
@@ -155,7 +156,7 @@ impl<M: Machine, D: CutDevice> Run<M, D> {
         requires first { 1 ≤ self.now.effect.first }
         requires restarts { restarts ≡ is_restart event.now }
         ensures printed { Writes (W.contents writer.old) (W.contents writer.new)
-            (printed_text options.now self.now.cluster.world.sent event.now self.now.effect)
+            (printed_text options.now self.now.cluster.world event.now self.now.effect)
             result }
         ensures fault { IfErr result IsRunFault }
     {
@@ -186,7 +187,7 @@ impl<M: Machine, D: CutDevice> Run<M, D> {
     ) -> Result<(), Fault>
         requires { 1 ≤ self.now.effect.first }
         ensures printed { Writes (W.contents writer.old) (W.contents writer.new)
-            (printed_text options.now self.now.cluster.world.sent event.now self.now.effect)
+            (printed_text options.now self.now.cluster.world event.now self.now.effect)
             result }
         ensures fault { IfErr result IsRunFault }
     {
@@ -258,8 +259,9 @@ impl<M: Machine, D: CutDevice> Run<M, D> {
     fn show<W: Write>(&self, options: &RunOptions<'_>, writer: &mut W) -> Result<(), Fault>
         requires { HasParts options.now.config.nodes self.now.cluster }
         ensures shown { Writes (W.contents writer.old) (W.contents writer.new)
-            (nodes_text (run_setting M.next M.answers M.begin M.image self.now.cluster options.now)
-            self.now.cluster.world options.now.config.nodes) result }
+            (items_text (nodes_items
+            (run_setting M.next M.answers M.begin M.image self.now.cluster options.now)
+            self.now.cluster.world options.now.config.nodes)) result }
         ensures fault { IfErr result IsRunFault }
     {
         for place in 0..options.config.nodes {
@@ -279,8 +281,9 @@ impl<M: Machine, D: CutDevice> Run<M, D> {
         requires parts { HasParts options.now.config.nodes self.now.cluster }
         requires node { node ≤ options.now.config.nodes }
         ensures shown { Writes (W.contents writer.old) (W.contents writer.new)
-            (part_text (run_setting M.next M.answers M.begin M.image self.now.cluster options.now)
-            node (part_at self.now.cluster.world.nodes node)) result }
+            (items_text (part_items
+            (run_setting M.next M.answers M.begin M.image self.now.cluster options.now)
+            node (part_at self.now.cluster.world.nodes node))) result }
         ensures fault { IfErr result IsRunFault }
     {
         match self.cluster.applied(node) {

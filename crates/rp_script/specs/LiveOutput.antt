@@ -2,14 +2,14 @@
 use Rattle.std.specs.Prelude.{ℕ, suc, Bool, List, [], ◌∷◌, ◌++◌, flat_map, if◌then◌else◌}
 use Rattle.rp_deck.specs.rp_base.specs.declared.reply.Answer.{Answer}
 use Rattle.rp_live.specs.declared.run.LiveOutcome.{LiveOutcome}
-use Rattle.rp_output.specs.Printed.{reply_line_of, applied_line_of, agreed_line}
+use Rattle.rp_output.specs.Printed.{applied_line_of, agreed_line}
 use Rattle.rp_output.specs.FaultMessage.{with_line_feed}
-use Rattle.rp_output.specs.Trace.{task_name}
+use Rattle.rp_run.specs.Items.{item_text}
+use Rattle.rp_run.specs.Output.{reply_item}
 
 -- the line of a reply, under the name of its task
 abbrev pub reply_text : List (List ℕ) → Answer → List ℕ
-reply_text names answer =
-    with_line_feed (reply_line_of (task_name names answer.task) answer.number answer.reply)
+reply_text names answer = item_text (reply_item names answer)
 
 -- the lines of replies in order
 abbrev pub replies_text : List (List ℕ) → List Answer → List ℕ

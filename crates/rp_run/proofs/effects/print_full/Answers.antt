@@ -1,5 +1,6 @@
-use Rattle.std.proofs.Common.{sym, ap, ◌∙◌}
-use Rattle.rp_run.specs.Output.{full_text}
+use Rattle.std.proofs.Common.{sym, ap, append-nil, ◌∙◌}
+use Rattle.rp_run.specs.Items.{notes_text}
+use Rattle.rp_run.specs.Output.{full_notes}
 use Rattle.rp_output.proofs.Writing.{writes_nothing, writes_same}
 use Rattle.rp_run.proofs.effects.print_full.Goals as goal
 
@@ -8,4 +9,4 @@ returns-in_err-node-clause-printed g c = writes_nothing _ _ c.from_residual.resu
 
 pub returns-in-Some-clause-printed : goal.returns-in-Some-clause-printed
 returns-in-Some-clause-printed g c =
-    writes_same _ _ _ _ c.print.result (ap full_text (sym c.in-Some.is ∙ c.in_ok-node.ensures.node)) c.print.ensures.printed
+    writes_same _ _ _ _ c.print.result (sym (append-nil _) ∙ ap (λ node. notes_text (full_notes node)) (sym c.in-Some.is ∙ c.in_ok-node.ensures.node)) c.print.ensures.printed

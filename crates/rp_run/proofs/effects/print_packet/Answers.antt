@@ -1,4 +1,4 @@
-use Rattle.std.proofs.Common.{List, ℕ, ap, ◌∙◌}
+use Rattle.std.proofs.Common.{List, ℕ, sym, ap, append-nil, ◌∙◌}
 use Rattle.rp_run.specs.Output.{names_of}
 use Rattle.rp_output.specs.FaultMessage.{with_line_feed}
 use Rattle.rp_output.specs.PartyText.{shown_party}
@@ -14,5 +14,6 @@ returns-clause-printed g c =
     writes_same _ _ _ _ c.print.result
     (ap (λ (l : List ℕ). with_line_feed (trace_line_of c.args.number l (shown_party c.party_text-2.result) c.body.result.now)) from
     ∙ ap (λ (l : List ℕ). with_line_feed (trace_line_of c.args.number (party_text_of names c.args.packet.now.from) l c.body.result.now)) to
-    ∙ ap (λ b. with_line_feed (trace_line_of c.args.number (party_text_of names c.args.packet.now.from) (party_text_of names c.args.packet.now.to) b)) c.body.ensures.value)
+    ∙ ap (λ b. with_line_feed (trace_line_of c.args.number (party_text_of names c.args.packet.now.from) (party_text_of names c.args.packet.now.to) b)) c.body.ensures.value
+    ∙ sym (append-nil _))
     c.print.ensures.printed

@@ -12,4 +12,4 @@ returns-in_err-print_taken-clause-printed g c =
     let options = c.args.options.now in
     let none = ap (λ (b : Bool). options.traced || (b || is_full self.effect.dropped)) (sym c.requires.restarts) ∙ sym c.prints_more.ensures ∙ c.if-prints_more.false in
     writes_failed _ _ _ c.from_residual-in_err-print_taken.result c.from_residual-in_err-print_taken.ensures.0
-    (subst (λ (text : List ℕ). Begins (g.W.Write.contents c.args.writer.now) (g.W.Write.contents c.print_taken.new.writer) text) (just_taken options self.cluster.world.sent c.args.event.now self.effect none) c.in_err-print_taken.ensures.printed)
+    (subst (λ (text : List ℕ). Begins (g.W.Write.contents c.args.writer.now) (g.W.Write.contents c.print_taken.new.writer) text) (just_taken options self.cluster.world c.args.event.now self.effect none) c.in_err-print_taken.ensures.printed)

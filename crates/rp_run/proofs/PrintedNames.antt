@@ -57,9 +57,9 @@ module _ {S : Type 0} (s : RunSetting S) (world : World) where
       let next : n + suc more ≡ n + more + 1 = omega arith in (
         before.0 ++ last,
         ap (λ (k : ℕ). items_text (nodes_items s world k)) next
-        ∙ nodes_more (n + more)
-        ∙ ap (λ (l : List ℕ). l ++ last) before.1
-        ∙ append_assoc (items_text (nodes_items s world n)) before.0 last,
+            ∙ nodes_more (n + more)
+            ∙ ap (λ (l : List ℕ). l ++ last) before.1
+            ∙ append_assoc (items_text (nodes_items s world n)) before.0 last,
       )
 
 -- ---- a node

@@ -1,6 +1,6 @@
 -- What a step at a box is for a seat.
-use Rattle.std.proofs.Common.{◌≡◌, ◌≢◌, ℕ, Option, Some, None, Vec, List, [], ◌∷◌, inl, refl, sym, ap, subst, ◌∙◌, arith}
-use Rattle.std.specs.Prelude.{IfSome, IfNone}
+use Rattle.std.proofs.Common.{◌≡◌, ◌≢◌, ℕ, Option, Some, None, Result, Ok, Err, Vec, List, [], ◌∷◌, inl, refl, sym, ap, subst, ◌∙◌, arith}
+use Rattle.std.specs.Prelude.{IfSome, IfNone, IfErr, OnOk}
 use Rattle.std.specs.declared.alloc.Global.{Global}
 use Rattle.atomic_table.specs.Seated.{TableId}
 use Rattle.atomic_table.specs.declared.owned.Table.{Table}
@@ -239,6 +239,15 @@ module _ {M P : Type 0} (puts : PutStep M P) where
       text = put.carried.text;
       after = λ i. seat_state puts.step (puts.step.same i) (put.is i);
     }
+
+  -- the place is still one that knows its actor, whose role stays
+  pub put_keeps : {A B : Type 0} (result : Result A B) → OnOk result (IsPutBy puts.step.actor puts.to puts.bytes (part puts.step) (new_part puts.step))
+      → IfErr result (λ back. puts.step.new.me ≡ puts.step.old.me) → IsAt puts.step × ((new_part puts.step).role ≡ (part puts.step).role)
+  put_keeps (Ok done) put stays = (put_at put, ap (λ (p : Part). p.role) put.is)
+  put_keeps (Err back) put stays = (
+    subst (λ (z : TableId × Sight). IsAtTable puts.step.board.shared.table_id z.0 (k puts.step) z.1) (λ i. (sym puts.step.same i, sym stays i)) puts.step.at,
+    ap (λ (seen : Sight). (part_in seen.0).role) stays,
+  )
 
   module _ (machine : Ghosts M P) where
     abbrev Shown : Type 0

@@ -10,6 +10,7 @@ ghost use Rattle.rp_boxes.specs.Seats.{IsFetched};
 use crate::actors::actor_of;
 use crate::board::{Board, Place};
 use crate::boxes::empty;
+use crate::seat::Fetch;
 use rp_codec::Party;
 use rp_model::rp_machine::Machine;
 use std::alloc::Global;
@@ -54,30 +55,30 @@ impl<M: Machine> Model for AuditSeat<M> {
 const AUDIT: usize = 0;
 
 impl<M: Machine> AuditSeat<M> {
-    /// Takes the packet out of the box from that party to the audit, and returns its text, or
-    /// `None` if the box is not full. That party has sent it.
-    pub fn fetch(&mut self, from: Party) -> Option<Vec<u8>>
-        // claim as NodeSeat::fetch
-        ensures some { IfSome result (λ text. IsFetched from Audit text.items self.old self.new) }
-        ensures sent { IfSome result (λ text. WasSent M.next M.answers M.begin from Audit
-            text.items self.new) }
-        ensures none { IfNone result (self.new ≡ self.old) }
-        ensures missed { IfNone result (WasNotFull M.next M.answers M.begin from Audit self.new) }
-    {
-        empty(
-            &self.board.shared,
-            &mut self.place,
-            actor_of(from),
-            AUDIT,
-            &mut self.spares,
-        )
-    }
-
     /// Each packet that the audit got is a valid one with the audit as its receiver. It does
     /// nothing: its contract is for the callers' proofs.
     pub(crate) fn packets_are_right(&self)
         ensures { HasOwnPackets 0 self.now.part }
     {
         let _ = &self.place;
+    }
+}
+
+impl<M: Machine> Fetch<M> for AuditSeat<M> {
+    ghost use Rattle.rp_codec.specs.declared.packet.Party.TheVariants.{Audit};
+
+    ghost state = { λ seat. seat };
+
+    ghost party = { λ number. Audit };
+
+    fn fetch(&mut self, from: Party) -> Option<Vec<u8>> {
+        let from = actor_of(from);
+        empty(
+            &self.board.shared,
+            &mut self.place,
+            from,
+            AUDIT,
+            &mut self.spares,
+        )
     }
 }

@@ -9,6 +9,7 @@
 //! - `actors`: the numbers of the actors at the table
 //! - `input`: the numbers that a node or a task is given are within their ranges
 //! - `look`: a look at the table: what follows from a seat's knowledge about all that happened
+//! - `seat`: what every seat does with its boxes: it fetches packets, and puts packets
 //! - `node_seat`: the seat of a node
 //! - `task_seat`: the seat of a task
 //! - `audit_seat`: the seat of the audit
@@ -30,6 +31,7 @@ mod input;
 mod laws;
 mod look;
 mod node_seat;
+mod seat;
 mod spares;
 mod task_seat;
 mod together;
@@ -41,4 +43,5 @@ pub use node_seat::NodeSeat;
 pub use rp_model;
 pub use rp_model::rp_machine;
 pub use rp_world::rp_store;
+pub use seat::{Fetch, Put};
 pub use task_seat::TaskSeat;

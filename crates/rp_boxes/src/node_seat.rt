@@ -14,10 +14,11 @@ ghost use Rattle.rp_boxes.specs.Seats.{IsGot, IsTurn, IsCutTurn, IsLightTurn, Is
 
 use crate::actors::{actor_of, receiver};
 use crate::board::{Board, Place};
-use crate::boxes::{empty, fill};
+use crate::boxes::{empty, put_between};
 use crate::events::note;
 use crate::input::keeps_ranges;
-use crate::spares::{keep, keep_left, spare_buffer};
+use crate::seat::{Fetch, Put};
+use crate::spares::{keep, spare_buffer};
 use rp_base::{Fault, NodeId, Position};
 use rp_codec::Party;
 use rp_model::rp_machine::Machine;
@@ -113,74 +114,6 @@ impl<M: Machine, D: Device> NodeSeat<M, D> {
         }
     }
 
-    /// Gives the seat a buffer for later packets, so that these need no new memory. The contents of
-    /// the buffer are discarded. A seat keeps at most eight buffers.
-    pub fn lend(&mut self, buffer: Vec<u8>)
-        ensures { self.new ≡ self.old }
-    {
-        keep(&mut self.spares, buffer);
-    }
-
-    /// An empty buffer: one that the seat keeps, or else a new one that has no memory yet.
-    pub fn buffer(&mut self, alloc: Global) -> Vec<u8>
-        ensures empty { result.items ≡ [] }
-        ensures unchanged { self.new ≡ self.old }
-    {
-        spare_buffer(&mut self.spares, alloc)
-    }
-
-    /// Puts a packet that a step of this seat sent, given as its text, into the box to its
-    /// receiver. If that box is not empty, the packet is given back. The seat keeps the buffer that
-    /// the receiver left there.
-    pub fn put(&mut self, packet: Vec<u8>) -> Result<(), Vec<u8>>
-        requires sent { IsSentText self.old.part packet.items }
-        // claim (put, full, back, unchanged, used): At Ok the packet is put: it went into the box
-        //   to its receiver, which holds it until the receiver takes it. Else it is given back
-        //   unchanged, the seat does not change, and the box was in use at a moment
-        ensures put { OnOk result (IsPut packet.items self.old self.new) }
-        ensures full { OnOk result (WasPut M.next M.answers M.begin (Node self.new.setup.number)
-            packet.items self.new) }
-        ensures back { IfErr result (λ back. back ≡ packet) }
-        ensures unchanged { IfErr result (λ back. self.new ≡ self.old) }
-        ensures used { IfErr result (λ back. WasInUse M.next M.answers M.begin
-            (Node self.new.setup.number) packet.items self.new) }
-    {
-        let to = receiver(packet.as_slice());
-        let node = usize::from(self.node.get());
-        match fill(&self.board.shared, &mut self.place, node, to, packet) {
-            Ok(left) => {
-                keep_left(&mut self.spares, left);
-                Ok(())
-            }
-            Err(packet) => Err(packet),
-        }
-    }
-
-    /// Takes the packet out of the box from that party to this seat, and returns its text, or
-    /// `None` if the box is not full. That party has sent it. If the seat keeps a buffer, it leaves
-    /// one in the box for that party's next packet.
-    pub fn fetch(&mut self, from: Party) -> Option<Vec<u8>>
-        // claim: A packet that a seat fetches is to this party and from the one asked, which has
-        //   sent it in a world that keeps the rule and has this seat's view; the seat has then got
-        //   it. `None` only if the box was not full
-        ensures some { IfSome result (λ text. IsFetched from (Node self.old.setup.number) text.items
-            self.old self.new) }
-        ensures sent { IfSome result (λ text. WasSent M.next M.answers M.begin from
-            (Node self.new.setup.number) text.items self.new) }
-        ensures none { IfNone result (self.new ≡ self.old) }
-        ensures missed { IfNone result (WasNotFull M.next M.answers M.begin from
-            (Node self.new.setup.number) self.new) }
-    {
-        let node = usize::from(self.node.get());
-        empty(
-            &self.board.shared,
-            &mut self.place,
-            actor_of(from),
-            node,
-            &mut self.spares,
-        )
-    }
-
     /// The number of the node.
     pub fn number(&self) -> NodeId
         ensures { result ≡ self.now.setup.number }
@@ -246,6 +179,54 @@ impl<M: Machine, D: Device> NodeSeat<M, D> {
             ⊎ IsNoTurn M.next M.answers M.begin self.old (Report first) self.new fault) }
     {
         self.turn(alloc, &Input::Report(first))
+    }
+}
+
+impl<M: Machine, D: Device> Fetch<M> for NodeSeat<M, D> {
+    ghost use Rattle.rp_codec.specs.declared.packet.Party.TheVariants.{Node};
+
+    ghost state = { λ seat. seat };
+
+    ghost party = { Node };
+
+    fn fetch(&mut self, from: Party) -> Option<Vec<u8>> {
+        let from = actor_of(from);
+        let node = usize::from(self.node.get());
+        empty(
+            &self.board.shared,
+            &mut self.place,
+            from,
+            node,
+            &mut self.spares,
+        )
+    }
+}
+
+impl<M: Machine, D: Device> Put<M> for NodeSeat<M, D> {
+    ghost use Rattle.rp_codec.specs.declared.packet.Party.TheVariants.{Node};
+
+    ghost state = { λ seat. seat };
+
+    ghost party = { Node };
+
+    fn put(&mut self, packet: Vec<u8>) -> Result<(), Vec<u8>> {
+        let to = receiver(packet.as_slice());
+        let node = usize::from(self.node.get());
+        put_between(
+            &self.board.shared,
+            &mut self.place,
+            (node, to),
+            packet,
+            &mut self.spares,
+        )
+    }
+
+    fn lend(&mut self, buffer: Vec<u8>) {
+        keep(&mut self.spares, buffer);
+    }
+
+    fn buffer(&mut self, alloc: Global) -> Vec<u8> {
+        spare_buffer(&mut self.spares, alloc)
     }
 }
 

@@ -18,12 +18,13 @@ ghost use Rattle.rp_boxes.specs.TaskSeats.{asked_of, DescribesPackets, reply_eff
 
 use crate::actors::{actor_of, receiver};
 use crate::board::{Board, Place};
-use crate::boxes::{empty, fill};
+use crate::boxes::{empty, put_between};
 use crate::events::note;
 use crate::input::node_keeps_range;
 use crate::laws::order_laws;
 use crate::look::look;
-use crate::spares::{keep, keep_left, spare_buffer};
+use crate::seat::{Fetch, Put};
+use crate::spares::{keep, spare_buffer};
 use rp_agreement::tasks_send_right_packets;
 use rp_base::{Action, Answer, Config, Fault, NodeId, Operation, Reply, TaskId};
 use rp_codec::{Party, encode_onto};
@@ -168,61 +169,53 @@ impl<M: Machine> TaskSeat<M> {
     {
         self.task.replies()
     }
+}
 
-    /// Puts a packet that a step of this seat sent, given as its text, into the box to its
-    /// receiver. If that box is not empty, the packet is given back. The seat keeps the buffer that
-    /// the receiver left there.
-    pub fn put(&mut self, packet: Vec<u8>) -> Result<(), Vec<u8>>
-        requires sent { IsSentText self.old.part packet.items }
-        // claim as NodeSeat::put
-        ensures put { OnOk result (IsPut packet.items self.old self.new) }
-        ensures full { OnOk result (WasPut M.next M.answers M.begin (parties.Task self.new.setup.number)
-            packet.items self.new) }
-        ensures back { IfErr result (λ back. back ≡ packet) }
-        ensures unchanged { IfErr result (λ back. self.new ≡ self.old) }
-        ensures used { IfErr result (λ back. WasInUse M.next M.answers M.begin
-            (parties.Task self.new.setup.number) packet.items self.new) }
-    {
-        let to = receiver(packet.as_slice());
-        let actor = actor_of(Party::Task(self.number));
-        match fill(&self.board.shared, &mut self.place, actor, to, packet) {
-            Ok(left) => {
-                keep_left(&mut self.spares, left);
-                Ok(())
-            }
-            Err(packet) => Err(packet),
-        }
-    }
+impl<M: Machine> Fetch<M> for TaskSeat<M> {
+    ghost use Rattle.rp_codec.specs.declared.packet.Party.TheVariants.{Task};
 
-    /// Gives the seat a buffer for later packets, so that these need no new memory. The contents of
-    /// the buffer are discarded. A seat keeps at most eight buffers.
-    pub fn lend(&mut self, buffer: Vec<u8>)
-        ensures { self.new ≡ self.old }
-    {
-        keep(&mut self.spares, buffer);
-    }
+    ghost state = { λ seat. seat };
 
-    /// Takes the packet out of the box from that party to this seat, and returns its text, or
-    /// `None` if the box is not full. That party has sent it. If the seat keeps a buffer, it leaves
-    /// one in the box for that party's next packet.
-    pub fn fetch(&mut self, from: Party) -> Option<Vec<u8>>
-        // claim as NodeSeat::fetch
-        ensures some { IfSome result (λ text. IsFetched from (parties.Task self.old.setup.number)
-            text.items self.old self.new) }
-        ensures sent { IfSome result (λ text. WasSent M.next M.answers M.begin from
-            (parties.Task self.new.setup.number) text.items self.new) }
-        ensures none { IfNone result (self.new ≡ self.old) }
-        ensures missed { IfNone result (WasNotFull M.next M.answers M.begin from
-            (parties.Task self.new.setup.number) self.new) }
-    {
-        let actor = actor_of(Party::Task(self.number));
+    ghost party = { Task };
+
+    fn fetch(&mut self, from: Party) -> Option<Vec<u8>> {
+        let from = actor_of(from);
+        let task = actor_of(Party::Task(self.number));
         empty(
             &self.board.shared,
             &mut self.place,
-            actor_of(from),
-            actor,
+            from,
+            task,
             &mut self.spares,
         )
+    }
+}
+
+impl<M: Machine> Put<M> for TaskSeat<M> {
+    ghost use Rattle.rp_codec.specs.declared.packet.Party.TheVariants.{Task};
+
+    ghost state = { λ seat. seat };
+
+    ghost party = { Task };
+
+    fn put(&mut self, packet: Vec<u8>) -> Result<(), Vec<u8>> {
+        let to = receiver(packet.as_slice());
+        let task = actor_of(Party::Task(self.number));
+        put_between(
+            &self.board.shared,
+            &mut self.place,
+            (task, to),
+            packet,
+            &mut self.spares,
+        )
+    }
+
+    fn lend(&mut self, buffer: Vec<u8>) {
+        keep(&mut self.spares, buffer);
+    }
+
+    fn buffer(&mut self, alloc: Global) -> Vec<u8> {
+        spare_buffer(&mut self.spares, alloc)
     }
 }
 

@@ -15,7 +15,7 @@ use crate::ends::node_ended;
 use rp_base::{Fault, NodeId, Position};
 use rp_boxes::rp_machine::Machine;
 use rp_boxes::rp_store::InfallibleDevice;
-use rp_boxes::{Audit, NodeSeat};
+use rp_boxes::{Audit, NodeSeat, Put};
 use rp_threads::NodeEnd;
 use rp_threads::rp_codec::{Party, one_text};
 use rp_threads::rp_replica::Sent;

@@ -5,7 +5,7 @@ ghost use Rattle.rp_codec.specs.declared.packet.Party.TheVariants.{Node};
 ghost use Rattle.rp_boxes.specs.Seats.{IsSentText};
 ghost use Rattle.rp_threads.specs.Turns.{AreSent, AreSentTexts, AreTextsOffered, AreTextsOfferedInPart, IsAllOffered, IsOfferedToBox, IsOfferedInPart};
 
-use rp_boxes::NodeSeat;
+use rp_boxes::{NodeSeat, Put};
 use rp_codec::{one_text, text_len};
 use rp_replica::Sent;
 use rp_replica::rp_machine::Machine;

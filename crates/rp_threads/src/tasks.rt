@@ -19,7 +19,7 @@ use crate::options::LoopOptions;
 use crate::rotation::node_in_turn;
 use crate::turns::take_fetched;
 use rp_base::{Fault, NodeId, Operation};
-use rp_boxes::TaskSeat;
+use rp_boxes::{Fetch, Put, TaskSeat};
 use rp_codec::Party;
 use rp_replica::Sent;
 use rp_replica::rp_machine::Machine;

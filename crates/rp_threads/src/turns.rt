@@ -10,7 +10,7 @@ ghost use Rattle.rp_threads.specs.Turns.{IsLost, turn_of, Works, Fails, IsEventB
 
 use crate::sends::put_all;
 use rp_base::Fault;
-use rp_boxes::NodeSeat;
+use rp_boxes::{Fetch, NodeSeat, Put};
 use rp_codec::Party;
 use rp_replica::Input;
 use rp_replica::rp_machine::Machine;

@@ -4,7 +4,7 @@ ghost use Rattle.rp_threads.specs.rp_boxes.specs.Audits.{IsGotReport};
 use crate::setup::{CONFIG, receive};
 use rp_threads::node_step;
 use rp_threads::rp_base::{Action, Fault, NodeId, Position};
-use rp_threads::rp_boxes::{Added, AllSeats, Audit, NodeSeat, seats};
+use rp_threads::rp_boxes::{Added, AllSeats, Audit, NodeSeat, Put, seats};
 use rp_threads::rp_codec::Party;
 use rp_threads::rp_machine::{Machine, Tally, TallyProgram};
 use rp_threads::rp_replica::Input;

@@ -4,7 +4,7 @@ ghost use Rattle.rp_threads.specs.rp_boxes.specs.Seats.{IsSentText};
 use crate::setup::{CONFIG, receive};
 use rp_threads::node_step;
 use rp_threads::rp_base::{Fault, NodeId, Operation, Position, TaskId};
-use rp_threads::rp_boxes::{AllSeats, NodeSeat, TaskSeat, seats};
+use rp_threads::rp_boxes::{AllSeats, Fetch, NodeSeat, Put, TaskSeat, seats};
 use rp_threads::rp_codec::Party;
 use rp_threads::rp_machine::{Machine, Tally, TallyProgram};
 use rp_threads::rp_replica::{Input, Sent};

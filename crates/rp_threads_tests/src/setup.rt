@@ -1,6 +1,6 @@
 use rp_threads::node_step;
 use rp_threads::rp_base::{Config, Fault};
-use rp_threads::rp_boxes::NodeSeat;
+use rp_threads::rp_boxes::{Fetch, NodeSeat};
 use rp_threads::rp_codec::Party;
 use rp_threads::rp_machine::Machine;
 use rp_threads::rp_replica::Input;

@@ -1,6 +1,6 @@
 use crate::setup::CONFIG;
 use rp_threads::rp_base::{Fault, NodeId, Operation, TaskId};
-use rp_threads::rp_boxes::{AllSeats, seats};
+use rp_threads::rp_boxes::{AllSeats, Fetch, seats};
 use rp_threads::rp_codec::Party;
 use rp_threads::rp_machine::{Machine, Tally, TallyProgram};
 use rp_threads::rp_replica::Input;

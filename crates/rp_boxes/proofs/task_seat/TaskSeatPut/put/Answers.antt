@@ -1,12 +1,12 @@
 -- The packet is one that the seat sent, so its text names its receiver.
-use Rattle.std.proofs.Common.{◌+◌, sym, ap, subst, ◌∙◌}
+use Rattle.std.proofs.Common.{◌+◌, sym, subst, ◌∙◌}
 use Rattle.std.proofs.lemmas.Result.{IfErr-weaker}
 use Rattle.std.specs.Arc.{arc_value}
 use Rattle.rp_codec.specs.declared.packet.Party.TheVariants.{Task}
-use Rattle.rp_boxes.specs.Parts.{Part, part_in}
-use Rattle.rp_boxes.specs.Seats.{SeatState, IsPut, IsSentText}
+use Rattle.rp_boxes.specs.Parts.{part_in}
+use Rattle.rp_boxes.specs.Seats.{SeatState, IsSentText}
 use Rattle.rp_boxes.specs.TaskSeats.{IsTaskPlace}
-use Rattle.rp_boxes.proofs.SeatBoxes.{PutStep, after, box_step, carries, put_keeps, put_seat, put_state, used_state}
+use Rattle.rp_boxes.proofs.SeatBoxes.{PutStep, box_step, carries, put_keeps, used_state}
 use Rattle.rp_boxes.proofs.task_seat.TaskSeatPut.put.Given as given
 use Rattle.rp_boxes.proofs.task_seat.TaskSeatPut.put.Goals as goal
 use Rattle.rp_boxes.proofs.task_seat.TaskSeatPut.put.Goals.{After-put_between}

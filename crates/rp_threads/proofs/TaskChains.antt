@@ -6,7 +6,6 @@ use Rattle.std.specs.Prelude.{IfSome}
 use Rattle.rp_base.specs.Action.{is_right}
 use Rattle.rp_base.specs.Calls.{are_exhausted, next_call}
 use Rattle.rp_base.specs.declared.action.Action.{Action}
-use Rattle.rp_base.specs.declared.config.Config.{Config}
 use Rattle.rp_base.specs.declared.fault.Fault.{Fault}
 use Rattle.rp_base.specs.declared.fault.Fault.TheVariants.{OutOfMemory, NumbersSpent, BadConfig}
 use Rattle.rp_base.specs.declared.reply.Answer.{Answer}

@@ -1,5 +1,5 @@
 -- The turns of a task's loop: it fetches from one node, takes what its link passes on, and asks.
-use Rattle.std.specs.Prelude.{◌≡◌, ◌⊎◌, ℕ, zero, suc, ◌+◌, ◌%◌, ◌/◌, ◌<◌, nat_eq, nat_lt}
+use Rattle.std.specs.Prelude.{◌≡◌, ◌⊎◌, ℕ, ◌+◌, ◌%◌, ◌/◌, ◌<◌, nat_eq, nat_lt}
 use Rattle.std.specs.Prelude.{Bool, true, false, ◌&&◌, ◌||◌, not, is_some, Option, Some, None}
 use Rattle.std.specs.Prelude.{List, length, slice_get, if◌then◌else◌}
 use Rattle.rp_base.specs.Action.{is_right}
@@ -9,7 +9,6 @@ use Rattle.rp_base.specs.declared.config.Config.{Config}
 use Rattle.rp_base.specs.declared.fault.Fault.{Fault}
 use Rattle.rp_base.specs.declared.fault.Fault.TheVariants.{OutOfMemory, NumbersSpent, BadConfig}
 use Rattle.rp_base.specs.declared.reply.Answer.{Answer}
-use Rattle.rp_codec.specs.declared.packet.Party.{Party}
 use Rattle.rp_codec.specs.declared.packet.Party.TheVariants.{Node, Task}
 use Rattle.rp_replica.specs.rp_model.specs.Tasks.{TaskInput, Submit, Again}
 use Rattle.rp_replica.specs.declared.sent.Sent.{Sent}

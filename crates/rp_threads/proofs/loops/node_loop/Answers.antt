@@ -1,6 +1,5 @@
 -- The link is empty at first, and its turns are those of the node.
 use Rattle.std.proofs.Common.{◌≡◌, ℕ, false, refl, sym, ap, subst, ◌∙◌}
-use Rattle.rp_base.specs.declared.fault.Fault.{Fault}
 use Rattle.rp_threads.specs.LoopTurns.{HasEnded}
 use Rattle.rp_threads.specs.Loops.{no_turns}
 use Rattle.rp_threads.specs.Rounds.{NodeAt, IsCountedTurn, IsUncountedTurn, node_party, node_rests, node_state}

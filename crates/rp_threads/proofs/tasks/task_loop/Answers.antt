@@ -1,6 +1,5 @@
 -- The link is empty and the task fresh at first, and its turns are those of the task.
 use Rattle.std.proofs.Common.{◌≡◌, ℕ, List, refl, sym, ap, subst, ◌∙◌}
-use Rattle.rp_base.specs.declared.fault.Fault.{Fault}
 use Rattle.rp_threads.specs.Tasks.{task_state, task_party}
 use Rattle.rp_threads.specs.TaskRounds.{IsTaskTurnOf, IsUnmadeTurn, has_all_replies, task_rests}
 use Rattle.rp_threads.specs.Threads.{IsTaskLooped}

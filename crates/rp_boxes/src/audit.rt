@@ -93,7 +93,7 @@ impl<M: Machine> Audit<M> {
     /// Takes the packet out of the box from that party to the audit, and returns its text, or
     /// `None` if the box is not full. It is a report, which that party has sent.
     pub fn fetch(&mut self, from: Party) -> Option<Vec<u8>>
-        // claim as NodeSeat::fetch
+        // claim as Fetch::fetch
         ensures some { IfSome result (λ text. IsFetched from parties.Audit text.items
             self.old.seat self.new.seat) }
         ensures sent { IfSome result (λ text. WasSent M.next M.answers M.begin from parties.Audit

@@ -1,0 +1,4 @@
+pub mod Rotating
+pub mod Reporting
+pub mod Passing
+pub mod Keys

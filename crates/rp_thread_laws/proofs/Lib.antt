@@ -2,3 +2,4 @@ pub mod Rotating
 pub mod Reporting
 pub mod Passing
 pub mod Keys
+pub mod Summing

@@ -1,6 +1,6 @@
 //! Whose box is emptied, who is asked, and who leads in which turn; and how turns are counted.
 
-ghost use Rattle.std.specs.Prelude.{◌≡◌, ◌≢◌, ◌⊎◌, ◌+◌, ◌*◌, ◌<◌, ℕ, suc, true, false, Some, None, List, [], ◌∷◌};
+ghost use Rattle.std.specs.Prelude.{◌≡◌, ◌≢◌, ◌+◌, ◌*◌, ◌<◌, ℕ, suc, true, false, Some, None, List, [], ◌∷◌};
 ghost use Rattle.rp_base.specs.Number.{IsUpTo, IsTask};
 ghost use Rattle.rp_threads.specs.rp_codec.specs.declared.packet.Party.TheVariants.{Node, Task};
 ghost use Rattle.rp_boxes.specs.rp_model.specs.Tasks.{Again};
@@ -33,7 +33,7 @@ pub fn a_task_asks_every_node()
 {}
 
 /// Each node is to lead in some turns, in no two that follow one another, and no two nodes equally
-/// often. In a live run a node makes just the turns in which it is not to lead.
+/// often. In a live run it skips these turns, and leads by its patience alone.
 pub fn each_node_leads_at_its_own_times()
     // claim (leads, rarely, apart): Node n is to lead within each 8 + n turns, and not in two that
     //   follow one another; of two nodes one is to lead in a turn in which the other is not
@@ -44,10 +44,12 @@ pub fn each_node_leads_at_its_own_times()
     ensures apart { (one other : ℕ) → one < other
         → is_to_lead one (8 + one) ≡ true
         → is_to_lead other (8 + one) ≡ false }
-    // claim (paced): In a live run a node skips a turn exactly if it is to lead in it by its number
-    ensures paced { (number turn : ℕ)
-        → ((paced number turn ≡ true) × (is_to_lead number turn ≡ false))
-        ⊎ ((paced number turn ≡ false) × (is_to_lead number turn ≡ true)) }
+    // claim (makes_turns, by_patience): In a live run a node makes one of two turns that follow one
+    //   another, and none in which it would lead by its number
+    ensures makes_turns { (number turn : ℕ)
+        → paced number turn ≡ false → paced number (suc turn) ≡ true }
+    ensures by_patience { (number turn : ℕ)
+        → paced number turn ≡ true → is_to_lead number turn ≡ false }
 {}
 
 /// Five turns: a packet is received, the node leads, a turn is skipped, one is idle, and the node leads

@@ -21,15 +21,15 @@ pub fn figures_are_sums<M: Machine, D: Device>()
         → (figures_of nodes tasks).asked ≡ within_64_bits (sum_by (λ end. end.made) tasks) }
     ensures answered { (nodes : List (NodeEnd M D M.Program)) (tasks : List (TaskEnd M M.Program))
         → (figures_of nodes tasks).answered ≡ within_64_bits (length (flat_map replies_at tasks)) }
-    // claim (lost, led): They say how many packets the loops of nodes and tasks count as lost, and in
+    // claim (lost, led): The figures of a run say how many packets its loops count as lost, and in
     //   how many turns nodes led
     ensures lost { (nodes : List (NodeEnd M D M.Program)) (tasks : List (TaskEnd M M.Program))
         → (figures_of nodes tasks).lost ≡ within_64_bits
         (sum_by (λ end. end.counts.lost) nodes + sum_by (λ end. end.lost) tasks) }
     ensures led { (nodes : List (NodeEnd M D M.Program)) (tasks : List (TaskEnd M M.Program))
         → (figures_of nodes tasks).led ≡ within_64_bits (sum_by (λ end. end.counts.led) nodes) }
-    // claim (no_later, last): The turn of the last reply is that of a task's last reply, and no task
-    //   has a later one
+    // claim (no_later, last): The turn of the last reply in the figures is that of a task's last
+    //   reply, and no task has a later one
     ensures no_later { (nodes : List (NodeEnd M D M.Program)) (tasks : List (TaskEnd M M.Program))
         → All (λ end. end.last_reply ≤ (figures_of nodes tasks).last_reply) tasks }
     ensures last { (nodes : List (NodeEnd M D M.Program)) (tasks : List (TaskEnd M M.Program))

@@ -1,5 +1,6 @@
 //! Laws of a program in threads: whose box is emptied and who is asked in which turn, what a link
-//! passes on, which calls, notes and figures a run has, and what the audit knows. No code that runs.
+//! passes on, which calls, notes and figures a run has, and what the audit knows. No code that
+//! runs.
 //!
 //! In reading order:
 //! - `turns`: whose box is emptied, who is asked, and who leads in which turn

@@ -14,8 +14,8 @@ ghost use Rattle.rp_live.specs.Events.{IsNoting};
 ghost use Rattle.rp_live.specs.Noted.{noted_by};
 
 /// An interrupt or a tick of a deck is noted before a run in threads by the node, and as the input,
-/// that the same event gives to a node of a world: a run in threads and one of a script mean the same
-/// by it.
+/// that the same event gives to a node of a world: a run in threads and one of a script mean the
+/// same by it.
 pub fn notes_are_those_of_the_model()
     // claim (noted): An interrupt or a tick is noted before a run by the node that takes it in the
     //   model, and as the same input

@@ -13,8 +13,8 @@ ghost use Rattle.rp_thread_laws.specs.Turns.{IsWithin, turned, counts_after};
 
 /// A node's loop looks into every box that a packet for its node can lie in, again and again.
 pub fn every_box_is_emptied()
-    // claim (nodes, tasks): A node's loop empties the box of each node within as many turns as there
-    //   are nodes, and one; and that of each of the eight tasks within eight times as many
+    // claim (nodes, tasks): Among n nodes, a node's loop empties the box of each node within each
+    //   n + 1 turns, and that of each of the eight tasks within eight times as many
     ensures nodes { (nodes first node : ℕ) → IsUpTo nodes node
         → IsWithin first (nodes + 1) (λ turn. sender_at nodes turn ≡ Node node) }
     ensures tasks { (nodes first task : ℕ) → IsTask task
@@ -23,8 +23,8 @@ pub fn every_box_is_emptied()
 
 /// A task gets packets from every node, and while it waits for a reply it asks every node.
 pub fn a_task_asks_every_node()
-    // claim (gets, asks): A task's loop empties the box of each node within as many turns as there are
-    //   nodes; while it waits, it asks each node once more within 16 times as many
+    // claim (gets, asks): Among n nodes, a task's loop empties the box of each node within each n
+    //   turns; while it waits, it asks each node again within each 16 n turns
     ensures gets { (nodes first node : ℕ) → IsUpTo nodes node
         → IsWithin first nodes (λ turn. node_at nodes turn ≡ node) }
     ensures asks { (nodes first node made : ℕ) (calls : List TaskCall) → IsUpTo nodes node
@@ -42,8 +42,7 @@ pub fn each_node_leads_at_its_own_times()
     ensures rarely { (number turn : ℕ)
         → is_to_lead number turn ≡ true → is_to_lead number (suc turn) ≡ false }
     ensures apart { (one other : ℕ) → one < other
-        → is_to_lead one (8 + one) ≡ true
-        → is_to_lead other (8 + one) ≡ false }
+        → (is_to_lead one (8 + one) ≡ true) × (is_to_lead other (8 + one) ≡ false) }
     // claim (makes_turns, by_patience): In a live run a node makes one of two turns that follow one
     //   another, and none in which it would lead by its number
     ensures makes_turns { (number turn : ℕ)
@@ -52,11 +51,11 @@ pub fn each_node_leads_at_its_own_times()
         → paced number turn ≡ true → is_to_lead number turn ≡ false }
 {}
 
-/// Five turns: a packet is received, the node leads, a turn is skipped, one is idle, and the node leads
-/// once more.
+/// Five turns: a packet is received, the node leads, a turn is skipped, one is idle, and the node
+/// leads once more.
 pub fn turns_count_by_their_kinds()
-    // claim: Worked: a loop's counts say how many turns of each kind it made, and how many packets these
-    //   lost at boxes
+    // claim: Worked: a loop's counts say how many turns of each kind it made, and how many packets
+    //   these lost at boxes
     ensures { counts_after
         (turned Received 2 ∷ turned Led 1 ∷ None ∷ turned Idle 0 ∷ turned Led 4 ∷ [])
         ≡ record { received = 1; led = 2; idle = 1; skipped = 1; lost = 7 } }

@@ -7,4 +7,5 @@
 mod demands;
 
 pub use demands::{AreNotAllTrue, AreTrue};
+pub use rp_explore;
 pub use rp_explore_deck;

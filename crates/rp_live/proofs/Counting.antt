@@ -1,7 +1,7 @@
 -- The calls of a task that count are the first of its calls.
 use Rattle.std.proofs.Common.{◌≡◌, ℕ, zero, suc, ◌+◌, Bool, true, false, Option, Some, List, [], ◌∷◌, ◌++◌, length, map, is_some, slice_get, inl, inr, sym, ap, subst, ◌∙◌, arith, append_assoc, length-append, if◌then◌else◌}
-use Rattle.rp_base.specs.Sets.{Has}
-use Rattle.rp_base.specs.declared.action.Action.{Action}
+use Rattle.rp_threads.specs.rp_base.specs.Sets.{Has}
+use Rattle.rp_threads.specs.rp_base.specs.declared.action.Action.{Action}
 use Rattle.rp_threads.specs.rp_codec.specs.Message.{Message}
 use Rattle.rp_threads.specs.rp_codec.specs.declared.packet.Body.TheVariants as bodies
 use Rattle.rp_boxes.specs.rp_machine.specs.Calls.{CallName, calls_of}

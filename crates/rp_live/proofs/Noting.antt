@@ -1,8 +1,8 @@
 -- What is noted leaves each seat its setup.
 use Rattle.std.proofs.Common.{◌≡◌, ℕ, zero, suc, ◌-◌, ◌<◌, Option, Some, None, List, [], ◌∷◌, length, set, get_or, slice_get, refl, sym, ap, subst, ◌∙◌, arith}
 use Rattle.std.specs.List.{AllZip}
-use Rattle.rp_base.specs.declared.action.Action.{Action}
-use Rattle.rp_base.specs.declared.reply.Answer.{Answer}
+use Rattle.rp_threads.specs.rp_base.specs.declared.action.Action.{Action}
+use Rattle.rp_threads.specs.rp_base.specs.declared.reply.Answer.{Answer}
 use Rattle.rp_boxes.specs.rp_model.specs.declared.event.Event.{Event}
 use Rattle.rp_boxes.specs.rp_rules.specs.declared.input.Input.{Input}
 use Rattle.rp_boxes.specs.Seats.{SeatState}

@@ -2,11 +2,11 @@
 use Rattle.std.proofs.Common.{◌≡◌, ◌≢◌, ◌⊎◌, ◌≤◌, ◌<◌, ◌+◌, ◌-◌, min, nat_lt, Bool, true, false, if◌then◌else◌, ℕ, zero, suc, Result, Ok, Err, List, [], ◌∷◌, ◌++◌, take, inl, inr, refl, sym, ap, subst, ◌∙◌, length, arith}
 use Rattle.std.proofs.lemmas.Grind.{common_steps}
 use Rattle.std.specs.Prelude.{IfErr, OnOk}
-use Rattle.rp_base.specs.declared.action.Action.{Action}
-use Rattle.rp_base.specs.declared.reply.Answer.{Answer}
-use Rattle.rp_base.specs.Records.{applied_of}
-use Rattle.rp_base.specs.Sets.{Has}
-use Rattle.rp_base.proofs.Members.{has_right}
+use Rattle.rp_threads.specs.rp_base.specs.declared.action.Action.{Action}
+use Rattle.rp_threads.specs.rp_base.specs.declared.reply.Answer.{Answer}
+use Rattle.rp_threads.specs.rp_base.specs.Records.{applied_of}
+use Rattle.rp_threads.specs.rp_base.specs.Sets.{Has}
+use Rattle.rp_threads.specs.rp_base.proofs.Members.{has_right}
 use Rattle.rp_threads.specs.rp_codec.specs.Message.{Message, IsPacket}
 use Rattle.rp_threads.specs.rp_codec.specs.Text.{text_of}
 use Rattle.rp_threads.specs.rp_codec.specs.declared.packet.Party.TheVariants.{Node}

@@ -1,10 +1,10 @@
 -- A node that runs, and no call of whose device fails, refuses notes and reports only when out of memory.
 use Rattle.std.proofs.Common.{◌≡◌, ◌⊎◌, ℕ, Option, Some, None, Result, Ok, Err, List, inl, inr, sym, subst, arith}
 use Rattle.std.specs.Prelude.{IsSome, IfErr, IsOkUnless}
-use Rattle.rp_base.specs.declared.action.Action.{Action}
-use Rattle.rp_base.specs.declared.fault.Fault.{Fault}
-use Rattle.rp_base.specs.declared.fault.Fault.TheVariants.{OutOfMemory}
-use Rattle.rp_base.specs.declared.reply.Answer.{Answer}
+use Rattle.rp_threads.specs.rp_base.specs.declared.action.Action.{Action}
+use Rattle.rp_threads.specs.rp_base.specs.declared.fault.Fault.{Fault}
+use Rattle.rp_threads.specs.rp_base.specs.declared.fault.Fault.TheVariants.{OutOfMemory}
+use Rattle.rp_threads.specs.rp_base.specs.declared.reply.Answer.{Answer}
 use Rattle.rp_boxes.specs.Seats.{SeatState, IsReason, IsCutTurn, IsNoTurn, setting_at}
 use Rattle.rp_boxes.specs.rp_model.specs.Effect.{Setting, NodeInput, Interrupt, Tick, Report, effect_while}
 use Rattle.rp_boxes.specs.rp_model.specs.Parts.{NodePart, Running}

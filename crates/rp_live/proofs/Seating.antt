@@ -4,12 +4,12 @@ use Rattle.std.proofs.lemmas.Grind.{common_steps}
 use Rattle.std.proofs.lemmas.List.{append_assoc, map-append}
 use Rattle.std.specs.List.{AllZip}
 use Rattle.std.specs.Prelude.{All, IfErr, IfSome, IsErrOf, IsOkUnless, slice_index}
-use Rattle.rp_base.specs.Sets.{Has}
-use Rattle.rp_base.specs.declared.fault.Fault.{Fault}
-use Rattle.rp_base.specs.declared.fault.Fault.TheVariants.{BadConfig, Device, OutOfMemory}
+use Rattle.rp_threads.specs.rp_base.specs.Sets.{Has}
+use Rattle.rp_threads.specs.rp_base.specs.declared.fault.Fault.{Fault}
+use Rattle.rp_threads.specs.rp_base.specs.declared.fault.Fault.TheVariants.{BadConfig, Device, OutOfMemory}
 use Rattle.rp_boxes.specs.rp_store.specs.Disk.{disk_of}
 use Rattle.rp_boxes.specs.atomic_table.specs.Seated.{TableId}
-use Rattle.rp_base.specs.declared.config.Config.{Config}
+use Rattle.rp_threads.specs.rp_base.specs.declared.config.Config.{Config}
 use Rattle.rp_boxes.specs.rp_model.specs.Parts.{fresh_node, fresh_task}
 use Rattle.rp_boxes.specs.FirstSeats.{AreFirstSeats, CanFail, IsResourceFault, first_seat}
 use Rattle.rp_boxes.specs.Parts.{OfNode, OfTask, OfAudit, first_role, fresh_part}

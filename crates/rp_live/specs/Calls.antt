@@ -1,6 +1,6 @@
 -- The calls of a task that count in the order of a run.
 use Rattle.std.specs.Prelude.{◌≡◌, ◌⊎◌, ℕ, suc, List, [], ◌∷◌, length}
-use Rattle.rp_base.specs.declared.action.Action.{Action}
+use Rattle.rp_threads.specs.rp_base.specs.declared.action.Action.{Action}
 use Rattle.rp_boxes.specs.rp_agreement.specs.Answered.{calls_by}
 use Rattle.rp_boxes.specs.rp_agreement.specs.Order.{IsPrefix}
 use Rattle.rp_threads.specs.Tasks.{call_after}

@@ -1,6 +1,6 @@
 -- How the loops of a run ended.
 use Rattle.std.specs.Prelude.{◌≡◌, ◌≢◌, Some, None}
-use Rattle.rp_base.specs.declared.fault.Fault.TheVariants.{OutOfMemory}
+use Rattle.rp_threads.specs.rp_base.specs.declared.fault.Fault.TheVariants.{OutOfMemory}
 use Rattle.rp_threads.specs.declared.loops.NodeEnd.{NodeEnd}
 use Rattle.rp_threads.specs.declared.tasks.TaskEnd.{TaskEnd}
 

@@ -8,3 +8,4 @@ pub mod Noted
 pub mod Calls
 pub mod Figures
 pub mod LiveOutcome
+pub use Rattle.rp_boxes.specs.rp_rules

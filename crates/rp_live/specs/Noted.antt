@@ -1,7 +1,7 @@
 -- What nodes note before they run.
 use Rattle.std.specs.Prelude.{◌≡◌, ℕ, zero, suc, ◌-◌, Option, Some, None, List, set, slice_get}
-use Rattle.rp_base.specs.declared.action.Action.{Action}
-use Rattle.rp_base.specs.declared.reply.Answer.{Answer}
+use Rattle.rp_threads.specs.rp_base.specs.declared.action.Action.{Action}
+use Rattle.rp_threads.specs.rp_base.specs.declared.reply.Answer.{Answer}
 use Rattle.rp_boxes.specs.rp_model.specs.declared.event.Event.{Event}
 use Rattle.rp_boxes.specs.rp_model.specs.declared.event.Event.TheVariants.{Submit, Again, Node, Cut}
 use Rattle.rp_boxes.specs.rp_model.specs.declared.event.Event.TheVariants.{Stop, Restart}

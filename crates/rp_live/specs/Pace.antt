@@ -1,6 +1,6 @@
 -- Which turns of a run a node takes; it skips the others.
 use Rattle.std.specs.Prelude.{ℕ, Bool, not, Option}
-use Rattle.rp_base.specs.declared.fault.Fault.{Fault}
+use Rattle.rp_threads.specs.rp_base.specs.declared.fault.Fault.{Fault}
 use Rattle.rp_threads.specs.rp_codec.specs.declared.packet.Party.{Party}
 use Rattle.rp_threads.specs.Loops.{is_to_lead}
 

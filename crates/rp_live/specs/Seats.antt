@@ -2,9 +2,9 @@
 use Rattle.std.specs.Prelude.{◌≡◌, ◌≢◌, ◌⊎◌, ◌≤◌, ◌<◌, ◌+◌, ℕ, zero, suc, min, Bool}
 use Rattle.std.specs.Prelude.{None, IfSome, List, [], length}
 use Rattle.std.specs.Prelude.{slice_get}
-use Rattle.rp_base.specs.Action.{IsIndex, IsCount}
-use Rattle.rp_base.specs.declared.action.Action.{Action}
-use Rattle.rp_base.specs.declared.reply.Answer.{Answer}
+use Rattle.rp_threads.specs.rp_base.specs.Action.{IsIndex, IsCount}
+use Rattle.rp_threads.specs.rp_base.specs.declared.action.Action.{Action}
+use Rattle.rp_threads.specs.rp_base.specs.declared.reply.Answer.{Answer}
 use Rattle.rp_threads.specs.rp_codec.specs.declared.packet.Party.TheVariants.{Node}
 use Rattle.rp_boxes.specs.Audits.{known_of}
 use Rattle.rp_boxes.specs.Seats.{SeatState, HasApplied, IsReport}

@@ -1,7 +1,7 @@
 //! A whole run.
 
 ghost use Rattle.std.specs.Prelude.{◌≡◌, ◌≤◌, All, length, IfOk, IfErr, IsOkUnless};
-ghost use Rattle.rp_base.specs.Config.{IsRightConfig};
+ghost use Rattle.rp_threads.specs.rp_base.specs.Config.{IsRightConfig};
 ghost use Rattle.rp_live.specs.Events.{IsLive};
 ghost use Rattle.rp_live.specs.LiveOutcome.{IsLiveRun, IsAudited};
 ghost use Rattle.rp_live.specs.Seats.{AreNumbered, IsEndOfRun, StillRuns};
@@ -14,11 +14,11 @@ use crate::pace::Pace;
 use crate::replies::replies_of;
 use crate::reports::{knows_all, read_logs};
 use crate::starts::{node_starts, seats_in_memory, task_starts};
-use rp_base::{Answer, Fault};
 use rp_boxes::rp_machine::Machine;
 use rp_boxes::rp_model::Event;
 use rp_boxes::rp_store::InfallibleDevice;
 use rp_boxes::{AllSeats, Audit, AuditSeat};
+use rp_threads::rp_base::{Answer, Fault};
 use rp_threads::{LoopOptions, NodeEnd, TaskEnd, run_threads};
 use std::alloc::Global;
 use std::sync::Wait;

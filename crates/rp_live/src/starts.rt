@@ -1,7 +1,7 @@
 //! Makes the seats, and makes those of nodes and tasks ready to run.
 
 ghost use Rattle.std.specs.Prelude.{◌≡◌, ℕ, List, map, filter_map, All, IfOk, IsOkUnless};
-ghost use Rattle.rp_base.specs.Config.{IsRightConfig};
+ghost use Rattle.rp_threads.specs.rp_base.specs.Config.{IsRightConfig};
 ghost use Rattle.rp_boxes.specs.FirstSeats.{AreSeats};
 ghost use Rattle.rp_threads.specs.rp_codec.specs.declared.packet.Party.TheVariants as parties;
 ghost use Rattle.rp_live.specs.Events.{call_by};
@@ -9,11 +9,11 @@ ghost use Rattle.rp_live.specs.Lines.{party_line};
 
 use crate::calls::calls_of;
 use crate::lines::line_for;
-use rp_base::{Config, Fault};
 use rp_boxes::rp_machine::Machine;
 use rp_boxes::rp_model::Event;
 use rp_boxes::rp_store::{Device, MemDevice};
 use rp_boxes::{AllSeats, NodeSeat, TaskSeat, seats};
+use rp_threads::rp_base::{Config, Fault};
 use rp_threads::rp_codec::Party;
 use rp_threads::{NodeStart, TaskStart};
 use std::alloc::Global;

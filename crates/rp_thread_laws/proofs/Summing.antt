@@ -4,7 +4,7 @@ use Rattle.std.specs.Prelude.{flat_map}
 use Rattle.std.specs.List.{sum_by}
 use Rattle.std.proofs.lemmas.Bool.{cases_lt}
 use Rattle.std.proofs.lemmas.List.Sums.{sum_by-cons}
-use Rattle.rp_base.specs.Sets.{Has}
+use Rattle.rp_threads.specs.rp_base.specs.Sets.{Has}
 use Rattle.rp_live.specs.Figures.{sum_from, greatest_from}
 
 module _ {A : Type 0} (f : A → ℕ) where

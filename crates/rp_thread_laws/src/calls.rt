@@ -1,10 +1,10 @@
 //! The calls of a task among the events of a run.
 
 ghost use Rattle.std.specs.Prelude.{◌≡◌, ◌≢◌, ℕ, ℤ, List, [], ◌∷◌, ◌++◌};
-ghost use Rattle.rp_base.specs.declared.action.Operation.{Operation};
-ghost use Rattle.rp_boxes.specs.rp_model.specs.declared.event.Event.{Event};
-ghost use Rattle.rp_boxes.specs.rp_model.specs.declared.event.Event.TheVariants.{Submit, Node};
-ghost use Rattle.rp_boxes.specs.rp_model.specs.declared.event.Step.{Step};
+ghost use Rattle.rp_threads.specs.rp_base.specs.declared.action.Operation.{Operation};
+ghost use Rattle.rp_threads.specs.rp_model.specs.declared.event.Event.{Event};
+ghost use Rattle.rp_threads.specs.rp_model.specs.declared.event.Event.TheVariants.{Submit, Node};
+ghost use Rattle.rp_threads.specs.rp_model.specs.declared.event.Step.{Step};
 ghost use Rattle.rp_live.specs.Events.{calls_at};
 
 /// Each call among the events is the next one of the task that it names, at its node, object and

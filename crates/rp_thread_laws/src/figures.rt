@@ -2,15 +2,15 @@
 
 ghost use Rattle.std.specs.Prelude.{◌≡◌, ◌+◌, ◌<◌, ◌≤◌, List, All, length, flat_map};
 ghost use Rattle.std.specs.List.{sum_by};
-ghost use Rattle.rp_base.specs.Sets.{Has};
+ghost use Rattle.rp_threads.specs.rp_base.specs.Sets.{Has};
 ghost use Rattle.rp_threads.specs.declared.loops.NodeEnd.{NodeEnd};
 ghost use Rattle.rp_threads.specs.declared.tasks.TaskEnd.{TaskEnd};
 ghost use Rattle.rp_live.specs.Figures.{figures_of};
 ghost use Rattle.rp_live.specs.LiveOutcome.{replies_at};
 ghost use Rattle.rp_thread_laws.specs.Figures.{within_64_bits};
 
-use rp_boxes::rp_machine::Machine;
-use rp_boxes::rp_store::Device;
+use rp_threads::rp_machine::Machine;
+use rp_threads::rp_store::Device;
 
 /// Each figure of a run is a sum over the ends of its loops, as far as 64 bits hold it; the turn of
 /// the last reply is the greatest of those of the tasks.

@@ -1,15 +1,15 @@
 //! The interrupts and ticks that nodes note before a run.
 
 ghost use Rattle.std.specs.Prelude.{◌≡◌, ℕ, ℤ, Ok, Some, None};
-ghost use Rattle.rp_base.specs.declared.action.Operation.{Operation};
-ghost use Rattle.rp_boxes.specs.rp_model.specs.Effect.{NodeInput};
-ghost use Rattle.rp_boxes.specs.rp_model.specs.Events.{step_of};
-ghost use Rattle.rp_boxes.specs.rp_model.specs.Parts.{NodePart};
-ghost use Rattle.rp_boxes.specs.rp_model.specs.World.{World, part_at, chosen, NodeTakes};
-ghost use Rattle.rp_boxes.specs.rp_model.specs.declared.event.Event.TheVariants.{Submit, Node};
-ghost use Rattle.rp_boxes.specs.rp_model.specs.declared.event.Step.{Step};
-ghost use Rattle.rp_boxes.specs.rp_rules.specs.Inputs.{given_by};
-ghost use Rattle.rp_boxes.specs.rp_rules.specs.declared.input.Input.{Input};
+ghost use Rattle.rp_threads.specs.rp_base.specs.declared.action.Operation.{Operation};
+ghost use Rattle.rp_threads.specs.rp_model.specs.Effect.{NodeInput};
+ghost use Rattle.rp_threads.specs.rp_model.specs.Events.{step_of};
+ghost use Rattle.rp_threads.specs.rp_model.specs.Parts.{NodePart};
+ghost use Rattle.rp_threads.specs.rp_model.specs.World.{World, part_at, chosen, NodeTakes};
+ghost use Rattle.rp_threads.specs.rp_model.specs.declared.event.Event.TheVariants.{Submit, Node};
+ghost use Rattle.rp_threads.specs.rp_model.specs.declared.event.Step.{Step};
+ghost use Rattle.rp_live.specs.rp_rules.specs.Inputs.{given_by};
+ghost use Rattle.rp_live.specs.rp_rules.specs.declared.input.Input.{Input};
 ghost use Rattle.rp_live.specs.Events.{IsNoting};
 ghost use Rattle.rp_live.specs.Noted.{noted_by};
 

@@ -1,11 +1,11 @@
 //! What the audit knows of a node, and the boxes.
 
 ghost use Rattle.std.specs.Prelude.{◌≡◌, ◌+◌, ◌-◌, ◌<◌, ◌≤◌, ℕ, max, List, length, take, drop};
-ghost use Rattle.rp_base.specs.declared.action.Action.{Action};
+ghost use Rattle.rp_threads.specs.rp_base.specs.declared.action.Action.{Action};
 ghost use Rattle.rp_threads.specs.rp_codec.specs.Message.{IsParty};
 ghost use Rattle.rp_threads.specs.rp_codec.specs.declared.packet.Party.{Party};
-ghost use Rattle.rp_boxes.specs.Parts.{actor_of, box_of};
-ghost use Rattle.rp_boxes.specs.Audits.{with_reported};
+ghost use Rattle.rp_threads.specs.rp_boxes.specs.Parts.{actor_of, box_of};
+ghost use Rattle.rp_threads.specs.rp_boxes.specs.Audits.{with_reported};
 
 /// The audit that knows the first m actions of an order, and gets n of them from position `first`
 /// on, knows all that it knew and all that was reported.

@@ -1,9 +1,9 @@
 //! Whose box is emptied, who is asked, and who leads in which turn; and how turns are counted.
 
 ghost use Rattle.std.specs.Prelude.{◌≡◌, ◌≢◌, ◌+◌, ◌*◌, ◌<◌, ℕ, suc, true, false, Some, None, List, [], ◌∷◌};
-ghost use Rattle.rp_base.specs.Number.{IsUpTo, IsTask};
+ghost use Rattle.rp_threads.specs.rp_base.specs.Number.{IsUpTo, IsTask};
 ghost use Rattle.rp_threads.specs.rp_codec.specs.declared.packet.Party.TheVariants.{Node, Task};
-ghost use Rattle.rp_boxes.specs.rp_model.specs.Tasks.{Again};
+ghost use Rattle.rp_threads.specs.rp_model.specs.Tasks.{Again};
 ghost use Rattle.rp_threads.specs.Loops.{sender_at, node_at, is_to_lead};
 ghost use Rattle.rp_threads.specs.TaskRounds.{asked_by};
 ghost use Rattle.rp_threads.specs.declared.tasks.TaskCall.{TaskCall};

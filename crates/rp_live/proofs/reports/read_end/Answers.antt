@@ -1,7 +1,7 @@
 -- The node still runs where its loop ended without a fault.
 use Rattle.std.proofs.Common.{◌≡◌, sym, subst}
-use Rattle.rp_base.specs.declared.fault.Fault.{Fault}
-use Rattle.rp_base.specs.declared.fault.Fault.TheVariants.{OutOfMemory}
+use Rattle.rp_threads.specs.rp_base.specs.declared.fault.Fault.{Fault}
+use Rattle.rp_threads.specs.rp_base.specs.declared.fault.Fault.TheVariants.{OutOfMemory}
 use Rattle.rp_boxes.specs.Seats.{SeatState}
 use Rattle.rp_boxes.proofs.TaskTurns.{at_fault}
 use Rattle.rp_threads.specs.Rounds.{Runs}

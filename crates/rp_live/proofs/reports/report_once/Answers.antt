@@ -3,7 +3,7 @@ use Rattle.std.proofs.Common.{ℕ, List, sym, ap, subst, ◌∙◌}
 use Rattle.rp_boxes.specs.Seats.{SeatSetup, SeatState}
 use Rattle.rp_threads.specs.rp_codec.specs.declared.packet.Party.TheVariants.{Node}
 use Rattle.rp_boxes.specs.Audits.{IsGotReport}
-use Rattle.rp_base.specs.declared.action.Action.{Action}
+use Rattle.rp_threads.specs.rp_base.specs.declared.action.Action.{Action}
 use Rattle.rp_live.specs.Seats.{KnowsMore, KnowsSameBut}
 use Rattle.rp_live.proofs.Reporting.{added_more, added_others, added_seat, only_reported}
 use Rattle.rp_live.proofs.reports.report_once.Goals as goal

@@ -4,7 +4,7 @@ use Rattle.std.proofs.lemmas.List.Elements.{filter_map-append}
 use Rattle.std.proofs.lemmas.Bool.{eq-eqb, ne_eqb}
 use Rattle.std.specs.List.{cons_option}
 use Rattle.std.specs.Prelude.{if◌then◌else◌}
-use Rattle.rp_boxes.specs.rp_model.specs.declared.event.Event.TheVariants.{Submit, Node}
+use Rattle.rp_threads.specs.rp_model.specs.declared.event.Event.TheVariants.{Submit, Node}
 use Rattle.rp_live.specs.Events.{call_by, calls_at}
 use Rattle.rp_thread_laws.proofs.calls.each_call_is_made_by_its_task.Goals as goal
 

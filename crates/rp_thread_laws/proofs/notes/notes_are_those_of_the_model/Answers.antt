@@ -1,16 +1,16 @@
 -- By the kinds of steps.
 use Rattle.std.proofs.Common.{◌≡◌, ℕ, Ok, Some, refl, ap}
-use Rattle.rp_boxes.specs.rp_model.specs.Effect.{NodeInput}
-use Rattle.rp_boxes.specs.rp_model.specs.Effect as nodes
-use Rattle.rp_boxes.specs.rp_model.specs.Events.{step_of}
-use Rattle.rp_boxes.specs.rp_model.specs.Parts.{NodePart}
-use Rattle.rp_boxes.specs.rp_model.specs.World.{World, part_at, chosen, commanded, NodeTakes}
-use Rattle.rp_boxes.specs.rp_model.specs.declared.event.Event.TheVariants.{Node}
-use Rattle.rp_boxes.specs.rp_model.specs.declared.event.Step.{Step}
-use Rattle.rp_boxes.specs.rp_model.specs.declared.event.Step.TheVariants.{Deliver, Lead, LeadRange, Interrupt, Tick, Report, Ask}
-use Rattle.rp_boxes.specs.rp_rules.specs.Inputs.{given_by}
-use Rattle.rp_boxes.specs.rp_rules.specs.declared.input.Input.{Input}
-use Rattle.rp_boxes.specs.rp_rules.specs.declared.input.Input.TheVariants as inputs
+use Rattle.rp_threads.specs.rp_model.specs.Effect.{NodeInput}
+use Rattle.rp_threads.specs.rp_model.specs.Effect as nodes
+use Rattle.rp_threads.specs.rp_model.specs.Events.{step_of}
+use Rattle.rp_threads.specs.rp_model.specs.Parts.{NodePart}
+use Rattle.rp_threads.specs.rp_model.specs.World.{World, part_at, chosen, commanded, NodeTakes}
+use Rattle.rp_threads.specs.rp_model.specs.declared.event.Event.TheVariants.{Node}
+use Rattle.rp_threads.specs.rp_model.specs.declared.event.Step.{Step}
+use Rattle.rp_threads.specs.rp_model.specs.declared.event.Step.TheVariants.{Deliver, Lead, LeadRange, Interrupt, Tick, Report, Ask}
+use Rattle.rp_live.specs.rp_rules.specs.Inputs.{given_by}
+use Rattle.rp_live.specs.rp_rules.specs.declared.input.Input.{Input}
+use Rattle.rp_live.specs.rp_rules.specs.declared.input.Input.TheVariants as inputs
 use Rattle.rp_live.specs.Events.{IsNoting}
 use Rattle.rp_live.specs.Noted.{noted_by}
 use Rattle.rp_thread_laws.proofs.notes.notes_are_those_of_the_model.Goals as goal

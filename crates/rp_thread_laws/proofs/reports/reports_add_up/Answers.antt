@@ -1,6 +1,6 @@
 -- What is kept before the report and what is reported follow one another in the order.
 use Rattle.std.proofs.Common.{◌+◌, ◌-◌, ◌++◌, take, drop, ap, ◌∙◌, arith}
-use Rattle.rp_boxes.specs.Audits.{longer_of}
+use Rattle.rp_threads.specs.rp_boxes.specs.Audits.{longer_of}
 use Rattle.rp_thread_laws.proofs.Reporting.{taken_on, taken_twice, longer}
 use Rattle.rp_thread_laws.proofs.reports.reports_add_up.Goals as goal
 

@@ -2,7 +2,7 @@
 use Rattle.std.proofs.Common.{◌≡◌, ℕ, ◌+◌, ◌-◌, ◌*◌, ◌/◌, ◌%◌, nat_eq, Option, Some, None, ap, ◌∙◌, arith}
 use Rattle.std.specs.Prelude.{if◌then◌else◌}
 use Rattle.std.proofs.Math.Nat.{mul-div_cancel_left, mul-mod_right}
-use Rattle.rp_boxes.specs.rp_model.specs.Tasks.{TaskInput, Again}
+use Rattle.rp_threads.specs.rp_model.specs.Tasks.{TaskInput, Again}
 use Rattle.rp_threads.specs.Loops.{node_at}
 use Rattle.rp_thread_laws.proofs.Rotating.{reached, rest_of}
 use Rattle.rp_thread_laws.proofs.turns.a_task_asks_every_node.Goals as goal

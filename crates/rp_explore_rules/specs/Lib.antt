@@ -1,3 +1,2 @@
 pub mod Rules
 pub use Rattle.rp_explore_deck
-pub use Rattle.rp_explore

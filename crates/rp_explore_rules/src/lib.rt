@@ -7,5 +7,4 @@
 mod demands;
 
 pub use demands::{AreNotAllTrue, AreTrue};
-pub use rp_explore;
 pub use rp_explore_deck;

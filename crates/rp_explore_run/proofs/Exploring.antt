@@ -3,7 +3,7 @@ use Rattle.std.proofs.Common.{◌≡◌, ℕ, List, Bor, length, map, max, subst
 use Rattle.std.specs.List.{AllZip}
 use Rattle.rp_script.specs.rp_base.specs.declared.action.Action.{Action}
 use Rattle.rp_script.specs.rp_base.specs.declared.reply.Answer.{Answer}
-use Rattle.rp_explore_rules.specs.rp_explore.specs.Explored.{Exploration}
+use Rattle.rp_explore.specs.Explored.{Exploration}
 use Rattle.rp_explore_rules.specs.rp_explore_deck.specs.declared.plan.Plan.{Plan}
 use Rattle.rp_explore_rules.specs.rp_explore_deck.specs.declared.rules.PlacedRule.{PlacedRule}
 use Rattle.rp_explore_rules.specs.rp_explore_deck.specs.declared.rules.Rule.{Rule}
@@ -15,7 +15,7 @@ use Rattle.rp_explore_run.specs.declared.answer.Printed.{Printed}
 use Rattle.rp_explore_run.specs.declared.explore.Asked.{Asked}
 use Rattle.rp_explore_run.specs.declared.findings.Judged.{Judged}
 use Rattle.rp_script.specs.rp_run.specs.Output.{names_of}
-use Rattle.rp_explore_rules.specs.rp_explore.specs.rp_orders.specs.declared.guard.Guard.{Guard}
+use Rattle.rp_explore.specs.rp_orders.specs.declared.guard.Guard.{Guard}
 
 module _ {S : Type 0} (next : S → Action → S) (answers : S → Action → List Answer) (begin : S) (image : S → List ℕ) (kept : Rule → S → Type 0) where
   -- a search, its rules judged and what is printed of them, by equal parts

@@ -2,7 +2,7 @@
 use Rattle.std.proofs.Common.{◌≡◌, ℕ, ◌+◌, ◌<◌, List, [], ◌∷◌, ◌++◌, get_or, length, take, arith, refl, sym, ap, ap₂, ◌∙◌, append_assoc}
 use Rattle.std.proofs.lemmas.List.{length-take-le, take_more}
 use Rattle.rp_script.specs.rp_base.specs.declared.reply.Answer.{Answer}
-use Rattle.rp_explore_rules.specs.rp_explore.specs.declared.giver.Giver.{Giver}
+use Rattle.rp_explore.specs.declared.giver.Giver.{Giver}
 use Rattle.rp_explore_run.specs.Findings.{found_by, given_of}
 use Rattle.rp_explore_run.specs.declared.findings.Found.{Found}
 

@@ -5,7 +5,7 @@ use Rattle.std.specs.List.{list_any}
 use Rattle.rp_script.specs.rp_base.specs.declared.action.Action.{Action}
 use Rattle.rp_script.specs.rp_base.specs.declared.reply.Answer.{Answer}
 use Rattle.rp_explore_rules.specs.rp_explore_deck.specs.declared.actions.PlannedAction.{PlannedAction}
-use Rattle.rp_explore_rules.specs.rp_explore.specs.Explored.{Exploration}
+use Rattle.rp_explore.specs.Explored.{Exploration}
 use Rattle.rp_explore_report.specs.Reports.{report_text_of}
 use Rattle.rp_explore_report.specs.declared.report.Report.{Report}
 use Rattle.rp_explore_run.specs.Findings.{IsReportOf, found_of}

@@ -16,11 +16,10 @@ use Rattle.rp_script.specs.rp_deck.specs.declared.deck.Line.{Line}
 use Rattle.rp_script.specs.rp_deck_declarations.specs.declared.deck_program.DeckProgram.{DeckProgram}
 use Rattle.rp_script.specs.rp_deck_declarations.specs.declared.deck_program.DeckProgram.TheVariants.{Tally}
 use Rattle.rp_script.specs.rp_deck_declarations.specs.declared.deck_program.DeckProgram.TheVariants.{Objects}
-use Rattle.rp_explore_rules.specs.rp_explore.specs.Explored.{Exploration, IsFirstGiver}
-use Rattle.rp_explore_rules.specs.rp_explore.specs.Explored.{IsFirstStuck, IsNeverStuck}
-use Rattle.rp_explore_rules.specs.rp_explore.specs.Explored.{greatest_length}
-use Rattle.rp_explore_rules.specs.rp_explore.specs.Listed.{AreDistinct, order_at}
-use Rattle.rp_explore_rules.specs.rp_explore.specs.declared.giver.Giver.{Giver}
+use Rattle.rp_explore.specs.Explored.{Exploration, IsFirstGiver, IsFirstStuck, IsNeverStuck}
+use Rattle.rp_explore.specs.Explored.{greatest_length}
+use Rattle.rp_explore.specs.Listed.{AreDistinct, order_at}
+use Rattle.rp_explore.specs.declared.giver.Giver.{Giver}
 use Rattle.rp_explore_rules.specs.rp_explore_deck.specs.Plans.{plan_of, plan_text}
 use Rattle.rp_explore_rules.specs.rp_explore_deck.specs.declared.plan.Plan.{Plan}
 use Rattle.rp_explore_rules.specs.rp_explore_deck.specs.declared.rules.Rule.{Rule}
@@ -36,9 +35,8 @@ use Rattle.rp_script.specs.rp_object.specs.Image.{objects_image}
 use Rattle.rp_script.specs.rp_object.specs.State.{first_state}
 use Rattle.rp_script.specs.rp_object.specs.Step.{objects_answers, objects_next}
 use Rattle.rp_order_deck.specs.Wanted.{text_lines}
-use Rattle.rp_explore_rules.specs.rp_explore.specs.rp_orders.specs.Orders.{AreClosed, IsFinal}
-use Rattle.rp_explore_rules.specs.rp_explore.specs.rp_orders.specs.Orders.{IsGiven}
-use Rattle.rp_explore_rules.specs.rp_explore.specs.rp_orders.specs.declared.guard.Guard.{Guard}
+use Rattle.rp_explore.specs.rp_orders.specs.Orders.{AreClosed, IsFinal, IsGiven}
+use Rattle.rp_explore.specs.rp_orders.specs.declared.guard.Guard.{Guard}
 use Rattle.rp_script.specs.rp_output.specs.Stream.{Begins}
 use Rattle.rp_script.specs.rp_run.specs.Output.{names_of}
 use Rattle.rp_script.specs.Faults.{IsBadDeck, IsProgramFault}

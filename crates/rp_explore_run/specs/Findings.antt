@@ -2,9 +2,9 @@
 use Rattle.std.specs.Prelude.{◌≡◌, ℕ, ◌-◌, Option, Some, None, List, [], ◌∷◌, ◌++◌, flat_map}
 use Rattle.std.specs.Prelude.{length, map, slice_index_or}
 use Rattle.rp_script.specs.rp_base.specs.declared.reply.Answer.{Answer}
-use Rattle.rp_explore_rules.specs.rp_explore.specs.Explored.{Exploration}
-use Rattle.rp_explore_rules.specs.rp_explore.specs.Listed.{order_at}
-use Rattle.rp_explore_rules.specs.rp_explore.specs.declared.giver.Giver.{Giver}
+use Rattle.rp_explore.specs.Explored.{Exploration}
+use Rattle.rp_explore.specs.Listed.{order_at}
+use Rattle.rp_explore.specs.declared.giver.Giver.{Giver}
 use Rattle.rp_explore_report.specs.declared.lines.Outcome.{Outcome}
 use Rattle.rp_explore_report.specs.declared.lines.Outcome.TheVariants.{Reply, Waits, Broken}
 use Rattle.rp_explore_report.specs.declared.report.Report.{Report}

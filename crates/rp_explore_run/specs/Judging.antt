@@ -3,8 +3,8 @@ use Rattle.std.specs.Prelude.{◌≡◌, ◌-◌, ℕ, Option, None, Bool, true,
 use Rattle.std.specs.Prelude.{slice_index_or, MatchOption}
 use Rattle.rp_script.specs.rp_base.specs.declared.action.Action.{Action}
 use Rattle.rp_script.specs.rp_base.specs.declared.reply.Answer.{Answer}
-use Rattle.rp_explore_rules.specs.rp_explore.specs.Explored.{Exploration}
-use Rattle.rp_explore_rules.specs.rp_explore.specs.Broken.{IsFirstBroken, IsNeverBroken, state_at}
+use Rattle.rp_explore.specs.Explored.{Exploration}
+use Rattle.rp_explore.specs.Broken.{IsFirstBroken, IsNeverBroken, state_at}
 use Rattle.rp_explore_rules.specs.rp_explore_deck.specs.declared.rules.PlacedRule.{PlacedRule}
 use Rattle.rp_explore_rules.specs.rp_explore_deck.specs.declared.rules.Rule.{Rule}
 use Rattle.rp_explore_rules.specs.rp_explore_deck.specs.declared.rules.Rule.TheVariants.{Never}

@@ -4,8 +4,8 @@ use Rattle.std.specs.Prelude.{string_bytes}
 use Rattle.rp_script.specs.rp_base.specs.declared.action.Action.{Action}
 use Rattle.rp_script.specs.rp_base.specs.declared.action.Action.TheVariants.{Noop}
 use Rattle.rp_script.specs.rp_base.specs.declared.reply.Answer.{Answer}
-use Rattle.rp_explore_rules.specs.rp_explore.specs.Explored.{Exploration}
-use Rattle.rp_explore_rules.specs.rp_explore.specs.Listed.{order_at}
+use Rattle.rp_explore.specs.Explored.{Exploration}
+use Rattle.rp_explore.specs.Listed.{order_at}
 use Rattle.rp_explore_report.specs.declared.lines.Outcome.{Outcome}
 use Rattle.rp_explore_report.specs.declared.lines.Outcome.TheVariants.{Reply, Waits, Broken}
 use Rattle.rp_explore_run.specs.declared.findings.Found.{Found}

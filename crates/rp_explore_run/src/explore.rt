@@ -9,13 +9,13 @@ ghost use Rattle.rp_script.specs.rp_machine.specs.TallyRule.{tally_answers, tall
 ghost use Rattle.rp_script.specs.rp_object.specs.Image.{objects_image};
 ghost use Rattle.rp_script.specs.rp_object.specs.State.{first_state};
 ghost use Rattle.rp_script.specs.rp_object.specs.Step.{objects_answers, objects_next};
-ghost use Rattle.rp_explore_rules.specs.rp_explore.specs.rp_orders.specs.Orders.{AreRight};
+ghost use Rattle.rp_explore.specs.rp_orders.specs.Orders.{AreRight};
 ghost use Rattle.rp_script.specs.rp_output.specs.Faults.{IsRunFault};
 
 use crate::answer::{ExploreRequest, Printed, Verdict, printed_of};
 use crate::judge::{judge_objects, judge_tally};
 use crate::shown::Searched;
-use rp_explore_rules::rp_explore::{Explored, explore};
+use rp_explore::{Explored, explore};
 use rp_explore_rules::rp_explore_deck::{PlacedRule, Plan, PlannedAction, read_plan};
 use rp_order_deck::{Source, lines_of};
 use rp_script::rp_base::{Action, Fault};

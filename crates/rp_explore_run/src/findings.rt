@@ -1,13 +1,13 @@
 //! What a search and its rules have to report.
 
 ghost use Rattle.std.specs.Prelude.{◌≡◌, ◌++◌, [], ◌∷◌, IfOk, length, map, max};
-ghost use Rattle.rp_explore_rules.specs.rp_explore.specs.rp_orders.specs.Orders.{AreRight};
+ghost use Rattle.rp_explore.specs.rp_orders.specs.Orders.{AreRight};
 ghost use Rattle.rp_script.specs.rp_machine.specs.Asked.{last_number};
-ghost use Rattle.rp_explore_rules.specs.rp_explore.specs.Listed.{order_at};
+ghost use Rattle.rp_explore.specs.Listed.{order_at};
 ghost use Rattle.rp_explore_run.specs.Findings.{IsReportOf, broken_by, broken_of, found_of, given_of, held_by, held_of, waits_at, waits_of};
 
+use rp_explore::Explored;
 use rp_explore_report::{FiguresLine, Outcome, Report};
-use rp_explore_rules::rp_explore::Explored;
 use rp_script::rp_base::{Action, MOST_TASKS, TaskId};
 use std::alloc::{AllocError, Global};
 

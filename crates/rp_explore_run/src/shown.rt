@@ -3,13 +3,13 @@
 ghost use Rattle.std.specs.Prelude.{◌≡◌, ◌++◌, IfOk, slice_index_or};
 ghost use Rattle.rp_script.specs.rp_base.specs.declared.action.Action.TheVariants.{Noop};
 ghost use Rattle.rp_script.specs.rp_machine.specs.Replay.{replay_state};
-ghost use Rattle.rp_explore_rules.specs.rp_explore.specs.rp_orders.specs.Orders.{AreRight};
+ghost use Rattle.rp_explore.specs.rp_orders.specs.Orders.{AreRight};
 ghost use Rattle.rp_script.specs.rp_run.specs.Output.{names_of};
 ghost use Rattle.rp_explore_run.specs.Shown.{IsShownBy, IsWanted, after_of};
 
 use crate::findings::{Found, order_at};
+use rp_explore::Explored;
 use rp_explore_report::{Outcome, task_name};
-use rp_explore_rules::rp_explore::Explored;
 use rp_order_deck::{Source, Wanted};
 use rp_script::indexmap::IndexMap;
 use rp_script::rp_base::{Action, Answers};

@@ -10,19 +10,19 @@ use Rattle.rp_body.specs.declared.statement.Outcome.{Outcome}
 use Rattle.rp_body.specs.Store.{Store, bool_value}
 use Rattle.rp_body.specs.Expressions.{fits_64}
 use Rattle.rp_body.specs.Meaning.{body_effect}
-use Rattle.rp_entry.specs.declared.operations.Function.{Function}
-use Rattle.rp_entry.specs.declared.operations.Entry.{Entry}
-use Rattle.rp_entry.specs.declared.operations.Operations.{Operations}
-use Rattle.rp_entry.specs.declared.state.Waiting.{Waiting}
-use Rattle.rp_entry.specs.declared.state.CallOutcome.{CallOutcome}
-use Rattle.rp_entry.specs.declared.state.CallOutcome.TheVariants.{Reply, Waits}
-use Rattle.rp_entry.specs.Operations.{of_index}
-use Rattle.rp_entry.specs.Queue.{State, IsOpen, queue_at}
-use Rattle.rp_entry.specs.Replies.{reply_of, function_reply}
-use Rattle.rp_entry.specs.Servicing.{Services}
-use Rattle.rp_entry.specs.Actions.{Runs, Acts, calls_function, calls_procedure, calls_entry, event, function, procedure, open_entry, closed_entry, full_queue, handler, no_function, no_procedure, no_entry, no_handler, with_caller}
-use Rattle.rp_entry.proofs.Acting.{missing, one_item}
-use Rattle.rp_entry.proofs.Queues.{index_there}
+use Rattle.rp_object.specs.rp_entry.specs.declared.operations.Function.{Function}
+use Rattle.rp_object.specs.rp_entry.specs.declared.operations.Entry.{Entry}
+use Rattle.rp_object.specs.rp_entry.specs.declared.operations.Operations.{Operations}
+use Rattle.rp_object.specs.rp_entry.specs.declared.state.Waiting.{Waiting}
+use Rattle.rp_object.specs.rp_entry.specs.declared.state.CallOutcome.{CallOutcome}
+use Rattle.rp_object.specs.rp_entry.specs.declared.state.CallOutcome.TheVariants.{Reply, Waits}
+use Rattle.rp_object.specs.rp_entry.specs.Operations.{of_index}
+use Rattle.rp_object.specs.rp_entry.specs.Queue.{State, IsOpen, queue_at}
+use Rattle.rp_object.specs.rp_entry.specs.Replies.{reply_of, function_reply}
+use Rattle.rp_object.specs.rp_entry.specs.Servicing.{Services}
+use Rattle.rp_object.specs.rp_entry.specs.Actions.{Runs, Acts, calls_function, calls_procedure, calls_entry, event, function, procedure, open_entry, closed_entry, full_queue, handler, no_function, no_procedure, no_entry, no_handler, with_caller}
+use Rattle.rp_object.specs.rp_entry.proofs.Acting.{missing, one_item}
+use Rattle.rp_object.specs.rp_entry.proofs.Queues.{index_there}
 use Rattle.rp_manual.proofs.Assigning.{fits_is, fits_from}
 use Rattle.rp_manual.specs.ObjectRules.{left_by, outcome_at_end, RunsForCaller, JoinsLast}
 

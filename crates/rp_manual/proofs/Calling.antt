@@ -7,16 +7,16 @@ use Rattle.rp_object.specs.rp_base.specs.declared.action.Operation.TheVariants.{
 use Rattle.rp_object.specs.rp_base.specs.declared.reply.Reply.{Reply as Replies}
 use Rattle.rp_object.specs.rp_base.specs.declared.reply.Reply.TheVariants.{Value, Truth, ProgramError, NoSuchOperation}
 use Rattle.rp_object.specs.rp_base.specs.declared.reply.Answer.{Answer}
-use Rattle.rp_entry.specs.declared.operations.Operations.{Operations}
-use Rattle.rp_entry.specs.declared.state.Waiting.{Waiting}
-use Rattle.rp_entry.specs.declared.state.CallOutcome.{CallOutcome}
-use Rattle.rp_entry.specs.declared.state.CallOutcome.TheVariants.{Reply, Waits}
-use Rattle.rp_entry.specs.Operations.{of_index}
-use Rattle.rp_entry.specs.Queue.{State}
-use Rattle.rp_entry.specs.Protected.{Protected}
-use Rattle.rp_entry.specs.Actions.{Request, Acts, calls_function, calls_procedure, calls_entry, event, function, procedure, open_entry, closed_entry, full_queue, handler, no_function, no_procedure, no_entry, no_handler}
-use Rattle.rp_entry.specs.Results.{acted}
-use Rattle.rp_entry.proofs.Results.{is_acted}
+use Rattle.rp_object.specs.rp_entry.specs.declared.operations.Operations.{Operations}
+use Rattle.rp_object.specs.rp_entry.specs.declared.state.Waiting.{Waiting}
+use Rattle.rp_object.specs.rp_entry.specs.declared.state.CallOutcome.{CallOutcome}
+use Rattle.rp_object.specs.rp_entry.specs.declared.state.CallOutcome.TheVariants.{Reply, Waits}
+use Rattle.rp_object.specs.rp_entry.specs.Operations.{of_index}
+use Rattle.rp_object.specs.rp_entry.specs.Queue.{State}
+use Rattle.rp_object.specs.rp_entry.specs.Protected.{Protected}
+use Rattle.rp_object.specs.rp_entry.specs.Actions.{Request, Acts, calls_function, calls_procedure, calls_entry, event, function, procedure, open_entry, closed_entry, full_queue, handler, no_function, no_procedure, no_entry, no_handler}
+use Rattle.rp_object.specs.rp_entry.specs.Results.{acted}
+use Rattle.rp_object.specs.rp_entry.proofs.Results.{is_acted}
 use Rattle.rp_object.specs.declared.program.Handler.{Handler}
 use Rattle.rp_object.specs.declared.program.TimingEvent.{TimingEvent}
 use Rattle.rp_object.specs.declared.program.ObjectDeclaration.{ObjectDeclaration}

@@ -7,17 +7,17 @@ use Rattle.rp_object.specs.rp_base.specs.declared.reply.Answer.{Answer}
 use Rattle.rp_body.specs.declared.statement.Outcome.{Outcome}
 use Rattle.rp_body.specs.Store.{Store}
 use Rattle.rp_body.specs.Meaning.{body_effect}
-use Rattle.rp_entry.specs.declared.operations.Entry.{Entry}
-use Rattle.rp_entry.specs.declared.operations.Operations.{Operations}
-use Rattle.rp_entry.specs.declared.state.Waiting.{Waiting}
-use Rattle.rp_entry.specs.declared.state.CallOutcome.{CallOutcome}
-use Rattle.rp_entry.specs.Operations.{of_index}
-use Rattle.rp_entry.specs.Queue.{State, IsReady, IsServiced, queue_at}
-use Rattle.rp_entry.specs.Replies.{reply_of}
-use Rattle.rp_entry.specs.Servicing.{Serves, Services, ends, goes_on}
-use Rattle.rp_entry.specs.Actions.{Request, Acts}
-use Rattle.rp_entry.proofs.Acting.{one_item}
-use Rattle.rp_entry.proofs.Queues.{index_there, place_there}
+use Rattle.rp_object.specs.rp_entry.specs.declared.operations.Entry.{Entry}
+use Rattle.rp_object.specs.rp_entry.specs.declared.operations.Operations.{Operations}
+use Rattle.rp_object.specs.rp_entry.specs.declared.state.Waiting.{Waiting}
+use Rattle.rp_object.specs.rp_entry.specs.declared.state.CallOutcome.{CallOutcome}
+use Rattle.rp_object.specs.rp_entry.specs.Operations.{of_index}
+use Rattle.rp_object.specs.rp_entry.specs.Queue.{State, IsReady, IsServiced, queue_at}
+use Rattle.rp_object.specs.rp_entry.specs.Replies.{reply_of}
+use Rattle.rp_object.specs.rp_entry.specs.Servicing.{Serves, Services, ends, goes_on}
+use Rattle.rp_object.specs.rp_entry.specs.Actions.{Request, Acts}
+use Rattle.rp_object.specs.rp_entry.proofs.Acting.{one_item}
+use Rattle.rp_object.specs.rp_entry.proofs.Queues.{index_there, place_there}
 use Rattle.rp_object.proofs.MachineLaws.Queues.{acts_serviced}
 use Rattle.rp_manual.specs.ObjectRules.{outcome_at_end, NobodyWaitsAtOpen, IsNextAt, IsFirstOpen, IsServedFirst}
 use Rattle.rp_manual.proofs.Acting.{opens, is_there}

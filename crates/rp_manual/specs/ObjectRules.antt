@@ -9,14 +9,14 @@ use Rattle.rp_body.specs.declared.statement.Outcome.{Outcome}
 use Rattle.rp_body.specs.declared.statement.Outcome.TheVariants.{Out, Raised}
 use Rattle.rp_body.specs.Store.{Store}
 use Rattle.rp_body.specs.Meaning.{body_effect}
-use Rattle.rp_entry.specs.declared.operations.Entry.{Entry}
-use Rattle.rp_entry.specs.declared.operations.Operations.{Operations}
-use Rattle.rp_entry.specs.declared.state.Waiting.{Waiting}
-use Rattle.rp_entry.specs.declared.state.CallOutcome.{CallOutcome}
-use Rattle.rp_entry.specs.declared.state.CallOutcome.TheVariants.{Reply}
-use Rattle.rp_entry.specs.Operations.{of_index}
-use Rattle.rp_entry.specs.Queue.{State, queue_at}
-use Rattle.rp_entry.specs.Servicing.{Services}
+use Rattle.rp_object.specs.rp_entry.specs.declared.operations.Entry.{Entry}
+use Rattle.rp_object.specs.rp_entry.specs.declared.operations.Operations.{Operations}
+use Rattle.rp_object.specs.rp_entry.specs.declared.state.Waiting.{Waiting}
+use Rattle.rp_object.specs.rp_entry.specs.declared.state.CallOutcome.{CallOutcome}
+use Rattle.rp_object.specs.rp_entry.specs.declared.state.CallOutcome.TheVariants.{Reply}
+use Rattle.rp_object.specs.rp_entry.specs.Operations.{of_index}
+use Rattle.rp_object.specs.rp_entry.specs.Queue.{State, queue_at}
+use Rattle.rp_object.specs.rp_entry.specs.Servicing.{Services}
 
 -- what a body leaves, and how it ends
 abbrev pub left_by : List Stmt → ℤ → State → Store

@@ -11,16 +11,16 @@ ghost use Rattle.rp_body.specs.declared.expression.Expr.{Expr};
 ghost use Rattle.rp_body.specs.declared.expression.Cond.{Cond};
 ghost use Rattle.rp_body.specs.declared.statement.Stmt.{Stmt};
 ghost use Rattle.rp_body.specs.Expressions.{value_of, truth_of};
-ghost use Rattle.rp_entry.specs.declared.operations.Function.TheVariants.{Value as Whole, Truth as Condition};
-ghost use Rattle.rp_entry.specs.declared.operations.Entry.{Entry};
-ghost use Rattle.rp_entry.specs.declared.operations.Operations.{Operations};
-ghost use Rattle.rp_entry.specs.declared.state.Waiting.{Waiting};
-ghost use Rattle.rp_entry.specs.declared.state.CallOutcome.{CallOutcome};
-ghost use Rattle.rp_entry.specs.declared.state.CallOutcome.TheVariants.{Reply, Waits};
-ghost use Rattle.rp_entry.specs.Operations.{of_index};
-ghost use Rattle.rp_entry.specs.Queue.{State, queue_at};
-ghost use Rattle.rp_entry.specs.Servicing.{Services};
-ghost use Rattle.rp_entry.specs.Actions.{Acts, Request, calls_function, calls_procedure, calls_entry, event};
+ghost use Rattle.rp_object.specs.rp_entry.specs.declared.operations.Function.TheVariants.{Value as Whole, Truth as Condition};
+ghost use Rattle.rp_object.specs.rp_entry.specs.declared.operations.Entry.{Entry};
+ghost use Rattle.rp_object.specs.rp_entry.specs.declared.operations.Operations.{Operations};
+ghost use Rattle.rp_object.specs.rp_entry.specs.declared.state.Waiting.{Waiting};
+ghost use Rattle.rp_object.specs.rp_entry.specs.declared.state.CallOutcome.{CallOutcome};
+ghost use Rattle.rp_object.specs.rp_entry.specs.declared.state.CallOutcome.TheVariants.{Reply, Waits};
+ghost use Rattle.rp_object.specs.rp_entry.specs.Operations.{of_index};
+ghost use Rattle.rp_object.specs.rp_entry.specs.Queue.{State, queue_at};
+ghost use Rattle.rp_object.specs.rp_entry.specs.Servicing.{Services};
+ghost use Rattle.rp_object.specs.rp_entry.specs.Actions.{Acts, Request, calls_function, calls_procedure, calls_entry, event};
 ghost use Rattle.rp_manual.specs.ObjectRules.{left_by, RunsForCaller, JoinsLast, NobodyWaitsAtOpen, IsNextAt, IsFirstOpen, IsServedFirst};
 
 /// In a function the object is a constant: nothing changes and nobody is served. Its caller gets the

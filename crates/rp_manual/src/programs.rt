@@ -8,12 +8,12 @@ ghost use Rattle.rp_object.specs.rp_base.specs.declared.action.Operation.{Operat
 ghost use Rattle.rp_object.specs.rp_base.specs.declared.action.Operation.TheVariants.{SetTimer, CancelTimer};
 ghost use Rattle.rp_object.specs.rp_base.specs.declared.reply.Reply.TheVariants.{Value, Truth, ProgramError, NoSuchOperation};
 ghost use Rattle.rp_object.specs.rp_base.specs.declared.reply.Answer.{Answer};
-ghost use Rattle.rp_entry.specs.declared.operations.Entry.{Entry};
-ghost use Rattle.rp_entry.specs.declared.state.Waiting.{Waiting};
-ghost use Rattle.rp_entry.specs.Operations.{of_index};
-ghost use Rattle.rp_entry.specs.Queue.{State};
-ghost use Rattle.rp_entry.specs.Protected.{Protected};
-ghost use Rattle.rp_entry.specs.Actions.{Request, Acts, event};
+ghost use Rattle.rp_object.specs.rp_entry.specs.declared.operations.Entry.{Entry};
+ghost use Rattle.rp_object.specs.rp_entry.specs.declared.state.Waiting.{Waiting};
+ghost use Rattle.rp_object.specs.rp_entry.specs.Operations.{of_index};
+ghost use Rattle.rp_object.specs.rp_entry.specs.Queue.{State};
+ghost use Rattle.rp_object.specs.rp_entry.specs.Protected.{Protected};
+ghost use Rattle.rp_object.specs.rp_entry.specs.Actions.{Request, Acts, event};
 ghost use Rattle.rp_object.specs.declared.program.Handler.{Handler};
 ghost use Rattle.rp_object.specs.declared.program.TimingEvent.{TimingEvent};
 ghost use Rattle.rp_object.specs.declared.program.ObjectDeclaration.{ObjectDeclaration};

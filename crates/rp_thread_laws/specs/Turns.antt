@@ -6,8 +6,8 @@ use Rattle.rp_threads.specs.declared.turns.Turn.{Turn}
 use Rattle.rp_threads.specs.declared.turns.TurnResult.{TurnResult}
 
 -- of the n turns from this one on one is such
-abbrev pub IsWithin : ℕ → ℕ → (ℕ → Type 0) → Type 0
-IsWithin first count Is = (turn : ℕ) × (first ≤ turn) × (turn < first + count) × Is turn
+abbrev pub IsAmongTurns : ℕ → ℕ → (ℕ → Type 0) → Type 0
+IsAmongTurns first count Is = (turn : ℕ) × (first ≤ turn) × (turn < first + count) × Is turn
 
 -- a turn of this kind that was made, of whose packets n are lost
 abbrev pub turned : Turn → ℕ → Option TurnResult

@@ -9,16 +9,16 @@ ghost use Rattle.rp_threads.specs.TaskRounds.{asked_by};
 ghost use Rattle.rp_threads.specs.declared.tasks.TaskCall.{TaskCall};
 ghost use Rattle.rp_threads.specs.declared.turns.Turn.TheVariants.{Received, Led, Idle};
 ghost use Rattle.rp_live.specs.Pace.{paced};
-ghost use Rattle.rp_thread_laws.specs.Turns.{IsWithin, turned, counts_after};
+ghost use Rattle.rp_thread_laws.specs.Turns.{IsAmongTurns, turned, counts_after};
 
 /// A node's loop looks into every box that a packet for its node can lie in, again and again.
 pub fn every_box_is_emptied()
     // claim (nodes, tasks): Among n nodes, a node's loop empties the box of each node within each
     //   n + 1 turns, and that of each of the eight tasks within eight times as many
     ensures nodes { (nodes first node : ℕ) → IsUpTo nodes node
-        → IsWithin first (nodes + 1) (λ turn. sender_at nodes turn ≡ Node node) }
+        → IsAmongTurns first (nodes + 1) (λ turn. sender_at nodes turn ≡ Node node) }
     ensures tasks { (nodes first task : ℕ) → IsTask task
-        → IsWithin first (8 * (nodes + 1)) (λ turn. sender_at nodes turn ≡ Task task) }
+        → IsAmongTurns first (8 * (nodes + 1)) (λ turn. sender_at nodes turn ≡ Task task) }
 {}
 
 /// A task gets packets from every node, and while it waits for a reply it asks every node.
@@ -26,9 +26,9 @@ pub fn a_task_asks_every_node()
     // claim (gets, asks): Among n nodes, a task's loop empties the box of each node within each n
     //   turns; while it waits, it asks each node again within each 16 n turns
     ensures gets { (nodes first node : ℕ) → IsUpTo nodes node
-        → IsWithin first nodes (λ turn. node_at nodes turn ≡ node) }
+        → IsAmongTurns first nodes (λ turn. node_at nodes turn ≡ node) }
     ensures asks { (nodes first node made : ℕ) (calls : List TaskCall) → IsUpTo nodes node
-        → IsWithin first (16 * nodes) (λ turn. asked_by true nodes calls made turn
+        → IsAmongTurns first (16 * nodes) (λ turn. asked_by true nodes calls made turn
         ≡ Some (Again node)) }
 {}
 
@@ -38,7 +38,7 @@ pub fn each_node_leads_at_its_own_times()
     // claim (leads, rarely, apart): Node n is to lead within each 8 + n turns, and not in two that
     //   follow one another; of two nodes one is to lead in a turn in which the other is not
     ensures leads { (number first : ℕ)
-        → IsWithin first (8 + number) (λ turn. is_to_lead number turn ≡ true) }
+        → IsAmongTurns first (8 + number) (λ turn. is_to_lead number turn ≡ true) }
     ensures rarely { (number turn : ℕ)
         → is_to_lead number turn ≡ true → is_to_lead number (suc turn) ≡ false }
     ensures apart { (one other : ℕ) → one < other

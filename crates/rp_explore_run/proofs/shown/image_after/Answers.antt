@@ -2,7 +2,7 @@
 use Rattle.std.proofs.Common.{subst, sym}
 use Rattle.rp_script.specs.rp_base.specs.Sets.{Has}
 use Rattle.rp_script.specs.rp_base.specs.declared.action.Action.{Action}
-use Rattle.rp_explore_rules.specs.rp_explore.proofs.Lists.{has_at}
+use Rattle.rp_explore.proofs.Lists.{has_at}
 use Rattle.rp_explore_run.proofs.shown.image_after.Goals as goal
 
 pub apply-requires : goal.apply-requires

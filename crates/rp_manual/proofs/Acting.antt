@@ -5,11 +5,11 @@ use Rattle.std.proofs.lemmas.Bool.{false≢true}
 use Rattle.rp_object.specs.rp_base.specs.declared.reply.Reply.{Reply as Replies}
 use Rattle.rp_object.specs.rp_base.specs.declared.reply.Reply.TheVariants.{Value, ConstraintError, ProgramError}
 use Rattle.rp_object.specs.rp_base.specs.declared.reply.Answer.{Answer}
-use Rattle.rp_body.specs.declared.statement.Stmt.{Stmt}
-use Rattle.rp_body.specs.declared.statement.Outcome.{Outcome}
-use Rattle.rp_body.specs.Store.{Store, bool_value}
-use Rattle.rp_body.specs.Expressions.{fits_64}
-use Rattle.rp_body.specs.Meaning.{body_effect}
+use Rattle.rp_object.specs.rp_body.specs.declared.statement.Stmt.{Stmt}
+use Rattle.rp_object.specs.rp_body.specs.declared.statement.Outcome.{Outcome}
+use Rattle.rp_object.specs.rp_body.specs.Store.{Store, bool_value}
+use Rattle.rp_object.specs.rp_body.specs.Expressions.{fits_64}
+use Rattle.rp_object.specs.rp_body.specs.Meaning.{body_effect}
 use Rattle.rp_object.specs.rp_entry.specs.declared.operations.Function.{Function}
 use Rattle.rp_object.specs.rp_entry.specs.declared.operations.Entry.{Entry}
 use Rattle.rp_object.specs.rp_entry.specs.declared.operations.Operations.{Operations}

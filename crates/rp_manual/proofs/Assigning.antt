@@ -7,20 +7,20 @@ use Rattle.std.specs.FinMap.{FinMap, get, insert, get-insert}
 use Rattle.std.proofs.lemmas.Cmp.{nat_cmp_total}
 use Rattle.std.proofs.lemmas.Bool.{ne_eqb}
 use Rattle.std.proofs.lemmas.Int.{ints}
-use Rattle.rp_body.specs.declared.components.Ranged.{Ranged}
+use Rattle.rp_object.specs.rp_body.specs.declared.components.Ranged.{Ranged}
 use Rattle.std.proofs.Common.{Vec, Global}
-use Rattle.rp_body.specs.declared.expression.Cond.{Cond}
-use Rattle.rp_body.specs.declared.statement.Stmt.{Stmt, roll-Stmt}
-use Rattle.rp_body.specs.declared.statement.Stmt.TheOpen.{Stmt-F}
-use Rattle.rp_body.specs.declared.statement.Stmt.TheVariants.{Set, Put, Out as PutOut, If, rolls-Set, rolls-Put, rolls-Out, rolls-If}
-use Rattle.rp_body.specs.declared.statement.Stmt.TheFolds.{fold-roll-Stmt, map-Stmt}
-use Rattle.rp_body.specs.declared.expression.Expr.{Expr}
-use Rattle.rp_body.specs.declared.statement.Outcome.{Outcome}
-use Rattle.rp_body.specs.declared.statement.Outcome.TheVariants.{Out, Raised}
-use Rattle.rp_body.specs.Store.{Store, is_within, with_found, with_int, with_bool}
-use Rattle.rp_body.specs.Expressions.{fits_64, value_of, truth_of}
-use Rattle.rp_body.specs.Meaning.{Effect, assigned, effect_of_step, effect_of, effects_of}
-use Rattle.rp_body.proofs.Outs.{fits_signed}
+use Rattle.rp_object.specs.rp_body.specs.declared.expression.Cond.{Cond}
+use Rattle.rp_object.specs.rp_body.specs.declared.statement.Stmt.{Stmt, roll-Stmt}
+use Rattle.rp_object.specs.rp_body.specs.declared.statement.Stmt.TheOpen.{Stmt-F}
+use Rattle.rp_object.specs.rp_body.specs.declared.statement.Stmt.TheVariants.{Set, Put, Out as PutOut, If, rolls-Set, rolls-Put, rolls-Out, rolls-If}
+use Rattle.rp_object.specs.rp_body.specs.declared.statement.Stmt.TheFolds.{fold-roll-Stmt, map-Stmt}
+use Rattle.rp_object.specs.rp_body.specs.declared.expression.Expr.{Expr}
+use Rattle.rp_object.specs.rp_body.specs.declared.statement.Outcome.{Outcome}
+use Rattle.rp_object.specs.rp_body.specs.declared.statement.Outcome.TheVariants.{Out, Raised}
+use Rattle.rp_object.specs.rp_body.specs.Store.{Store, is_within, with_found, with_int, with_bool}
+use Rattle.rp_object.specs.rp_body.specs.Expressions.{fits_64, value_of, truth_of}
+use Rattle.rp_object.specs.rp_body.specs.Meaning.{Effect, assigned, effect_of_step, effect_of, effects_of}
+use Rattle.rp_object.specs.rp_body.proofs.Outs.{fits_signed}
 use Rattle.rp_manual.specs.Statements.{Assigns, SetsBoolean}
 
 -- ---- a map with one value more

@@ -4,9 +4,9 @@ use Rattle.std.specs.Prelude.{slice_get}
 use Rattle.std.specs.FinMap.{get}
 use Rattle.std.proofs.lemmas.Bool.{cases_lt}
 use Rattle.rp_object.specs.rp_base.specs.declared.reply.Answer.{Answer}
-use Rattle.rp_body.specs.declared.statement.Outcome.{Outcome}
-use Rattle.rp_body.specs.Store.{Store}
-use Rattle.rp_body.specs.Meaning.{body_effect}
+use Rattle.rp_object.specs.rp_body.specs.declared.statement.Outcome.{Outcome}
+use Rattle.rp_object.specs.rp_body.specs.Store.{Store}
+use Rattle.rp_object.specs.rp_body.specs.Meaning.{body_effect}
 use Rattle.rp_object.specs.rp_entry.specs.declared.operations.Entry.{Entry}
 use Rattle.rp_object.specs.rp_entry.specs.declared.operations.Operations.{Operations}
 use Rattle.rp_object.specs.rp_entry.specs.declared.state.Waiting.{Waiting}

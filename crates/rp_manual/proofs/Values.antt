@@ -7,14 +7,14 @@ use Rattle.std.specs.Cmp.{signed_Decides}
 use Rattle.std.specs.FinMap.{get}
 use Rattle.std.proofs.lemmas.Int.{ints}
 use Rattle.std.proofs.lemmas.Bool.{false≢true}
-use Rattle.rp_body.specs.declared.components.Ranged.{Ranged}
-use Rattle.rp_body.specs.declared.expression.Expr.{Expr}
-use Rattle.rp_body.specs.declared.expression.Expr.TheVariants.{Number, Arg, Out, Int, Add', Sub'}
-use Rattle.rp_body.specs.declared.expression.Cond.{Cond}
-use Rattle.rp_body.specs.declared.expression.Cond.TheVariants.{Constant, Bool as Named, Less}
-use Rattle.rp_body.specs.declared.expression.Cond.TheVariants.{LessOrEqual, Equal, Not', And', Or'}
-use Rattle.rp_body.specs.Store.{Store}
-use Rattle.rp_body.specs.Expressions.{value_of, truth_of}
+use Rattle.rp_object.specs.rp_body.specs.declared.components.Ranged.{Ranged}
+use Rattle.rp_object.specs.rp_body.specs.declared.expression.Expr.{Expr}
+use Rattle.rp_object.specs.rp_body.specs.declared.expression.Expr.TheVariants.{Number, Arg, Out, Int, Add', Sub'}
+use Rattle.rp_object.specs.rp_body.specs.declared.expression.Cond.{Cond}
+use Rattle.rp_object.specs.rp_body.specs.declared.expression.Cond.TheVariants.{Constant, Bool as Named, Less}
+use Rattle.rp_object.specs.rp_body.specs.declared.expression.Cond.TheVariants.{LessOrEqual, Equal, Not', And', Or'}
+use Rattle.rp_object.specs.rp_body.specs.Store.{Store}
+use Rattle.rp_object.specs.rp_body.specs.Expressions.{value_of, truth_of}
 use Rattle.rp_manual.specs.Expressions.{HasValue, OfBoth, IsMet}
 
 -- ---- values

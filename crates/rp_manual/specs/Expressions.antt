@@ -2,12 +2,15 @@
 -- Manual, sections 4.5.1 to 4.5.3). No test and no operator of the meaning of bodies is used here.
 use Rattle.std.specs.Prelude.{◌≡◌, ◌⊎◌, ℤ, pos, ◌+ℤ◌, ◌-ℤ◌, ◌<ℤ◌, ◌≤ℤ◌, true, Some, MatchOption}
 use Rattle.std.specs.FinMap.{get}
-use Rattle.rp_body.specs.declared.expression.Expr.{Expr}
-use Rattle.rp_body.specs.declared.expression.Expr.TheVariants.{Number, Arg, Out, Int, Add', Sub'}
-use Rattle.rp_body.specs.declared.expression.Cond.{Cond}
-use Rattle.rp_body.specs.declared.expression.Cond.TheVariants.{Constant, Bool as Named, Less}
-use Rattle.rp_body.specs.declared.expression.Cond.TheVariants.{LessOrEqual, Equal, Not', And', Or'}
-use Rattle.rp_body.specs.Store.{Store}
+use Rattle.rp_object.specs.rp_body.specs.declared.expression.Expr.{Expr}
+use Rattle.rp_object.specs.rp_body.specs.declared.expression.Expr.TheVariants.{Number, Arg, Out}
+use Rattle.rp_object.specs.rp_body.specs.declared.expression.Expr.TheVariants.{Int, Add', Sub'}
+use Rattle.rp_object.specs.rp_body.specs.declared.expression.Cond.{Cond}
+use Rattle.rp_object.specs.rp_body.specs.declared.expression.Cond.TheVariants.{Constant}
+use Rattle.rp_object.specs.rp_body.specs.declared.expression.Cond.TheVariants.{Bool as Named, Less}
+use Rattle.rp_object.specs.rp_body.specs.declared.expression.Cond.TheVariants.{LessOrEqual, Equal}
+use Rattle.rp_object.specs.rp_body.specs.declared.expression.Cond.TheVariants.{Not', And', Or'}
+use Rattle.rp_object.specs.rp_body.specs.Store.{Store}
 
 -- the expression has this value at these components, this argument and this out value; a component
 -- that is not there counts as 0

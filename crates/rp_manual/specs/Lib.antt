@@ -3,7 +3,7 @@ pub mod Statements
 pub mod ObjectRules
 pub mod ProgramRules
 pub use Rattle.rp_object.specs.rp_base
-pub use Rattle.rp_body
+pub use Rattle.rp_object.specs.rp_body
 pub use Rattle.rp_object.specs.rp_entry
 pub use Rattle.rp_object.specs.rp_machine
 pub use Rattle.rp_object

@@ -12,11 +12,13 @@ use Rattle.rp_object.specs.rp_base.specs.declared.reply.Answer.{Answer}
 use Rattle.rp_object.specs.rp_entry.specs.declared.operations.Operations.{Operations}
 use Rattle.rp_object.specs.rp_entry.specs.declared.state.Waiting.{Waiting}
 use Rattle.rp_object.specs.rp_entry.specs.declared.state.CallOutcome.{CallOutcome}
-use Rattle.rp_object.specs.rp_entry.specs.declared.state.CallOutcome.TheVariants.{Reply as Replies, Waits}
+use Rattle.rp_object.specs.rp_entry.specs.declared.state.CallOutcome.TheVariants.{Reply as Replies}
+use Rattle.rp_object.specs.rp_entry.specs.declared.state.CallOutcome.TheVariants.{Waits}
 use Rattle.rp_object.specs.rp_entry.specs.Operations.{of_index}
 use Rattle.rp_object.specs.rp_entry.specs.Queue.{State}
 use Rattle.rp_object.specs.rp_entry.specs.Protected.{Protected}
-use Rattle.rp_object.specs.rp_entry.specs.Actions.{Request, Acts, calls_function, calls_procedure, calls_entry}
+use Rattle.rp_object.specs.rp_entry.specs.Actions.{Request, Acts, calls_function, calls_procedure}
+use Rattle.rp_object.specs.rp_entry.specs.Actions.{calls_entry}
 use Rattle.rp_object.specs.declared.program.ObjectDeclaration.{ObjectDeclaration}
 use Rattle.rp_object.specs.declared.program.TimingEvent.{TimingEvent}
 use Rattle.rp_object.specs.declared.program.Declarations.{Declarations}

@@ -1,8 +1,8 @@
 -- What a statement leaves (Ada Reference Manual, sections 5.2 and 5.3).
 use Rattle.std.specs.Prelude.{◌≡◌, ◌≢◌, ℕ, ℤ, Bool, Some}
 use Rattle.std.specs.FinMap.{get}
-use Rattle.rp_body.specs.declared.components.Ranged.{Ranged}
-use Rattle.rp_body.specs.Store.{Store}
+use Rattle.rp_object.specs.rp_body.specs.declared.components.Ranged.{Ranged}
+use Rattle.rp_object.specs.rp_body.specs.Store.{Store}
 
 -- The whole number of this name has this value, with its range as it was, and every other component
 -- is as it was.

@@ -5,15 +5,15 @@ ghost use Rattle.std.specs.Prelude.{◌≡◌, ◌⊎◌, ◌↔◌, ℕ, ℤ, p
 ghost use Rattle.std.specs.Int.{w64};
 ghost use Rattle.std.specs.declared.alloc.Global.{Global};
 ghost use Rattle.std.specs.FinMap.{get};
-ghost use Rattle.rp_body.specs.declared.components.Ranged.{Ranged};
-ghost use Rattle.rp_body.specs.declared.expression.Expr.{Expr};
-ghost use Rattle.rp_body.specs.declared.expression.Cond.{Cond};
-ghost use Rattle.rp_body.specs.declared.statement.Stmt.{Stmt};
-ghost use Rattle.rp_body.specs.declared.statement.Stmt.TheVariants.{Set, Put, Out as PutOut, If};
-ghost use Rattle.rp_body.specs.declared.statement.Outcome.TheVariants.{Out, Raised};
-ghost use Rattle.rp_body.specs.Store.{Store};
-ghost use Rattle.rp_body.specs.Expressions.{value_of, truth_of};
-ghost use Rattle.rp_body.specs.Meaning.{effect_of, effects_of, body_effect};
+ghost use Rattle.rp_object.specs.rp_body.specs.declared.components.Ranged.{Ranged};
+ghost use Rattle.rp_object.specs.rp_body.specs.declared.expression.Expr.{Expr};
+ghost use Rattle.rp_object.specs.rp_body.specs.declared.expression.Cond.{Cond};
+ghost use Rattle.rp_object.specs.rp_body.specs.declared.statement.Stmt.{Stmt};
+ghost use Rattle.rp_object.specs.rp_body.specs.declared.statement.Stmt.TheVariants.{Set, Put, Out as PutOut, If};
+ghost use Rattle.rp_object.specs.rp_body.specs.declared.statement.Outcome.TheVariants.{Out, Raised};
+ghost use Rattle.rp_object.specs.rp_body.specs.Store.{Store};
+ghost use Rattle.rp_object.specs.rp_body.specs.Expressions.{value_of, truth_of};
+ghost use Rattle.rp_object.specs.rp_body.specs.Meaning.{effect_of, effects_of, body_effect};
 ghost use Rattle.rp_manual.specs.Expressions.{HasValue, IsMet};
 ghost use Rattle.rp_manual.specs.Statements.{Assigns, SetsBoolean};
 

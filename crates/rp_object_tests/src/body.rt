@@ -1,7 +1,7 @@
 use crate::building::{
     add, and, boxed, components, expect_at, expect_eq, not, number_in, one, sub, two,
 };
-use rp_object::rp_body::*;
+use rp_body::*;
 use std::alloc::Global;
 use std::process::Abort;
 

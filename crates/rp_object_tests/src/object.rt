@@ -1,8 +1,8 @@
 use crate::building::{
     add, and, components, expect_answers, expect_eq, expect_image, one, task_of, two,
 };
+use rp_body::{Cond, Expr, Ranged, Stmt};
 use rp_object::rp_base::{Action, Answers, Operation, Reply};
-use rp_object::rp_body::{Cond, Expr, Ranged, Stmt};
 use rp_object::rp_entry::{Entry, Operations};
 use rp_object::rp_machine::Numbered;
 use rp_object::*;

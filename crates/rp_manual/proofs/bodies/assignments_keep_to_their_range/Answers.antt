@@ -1,9 +1,9 @@
 -- By what each statement does, and whether the value lies in the range.
 use Rattle.std.proofs.Common.{◌≡◌, ◌∙◌, subst, sym}
-use Rattle.rp_body.specs.declared.statement.Outcome.{Outcome}
-use Rattle.rp_body.specs.declared.statement.Outcome.TheVariants.{Out}
-use Rattle.rp_body.specs.Store.{Store}
-use Rattle.rp_body.specs.Expressions.{value_of, truth_of}
+use Rattle.rp_object.specs.rp_body.specs.declared.statement.Outcome.{Outcome}
+use Rattle.rp_object.specs.rp_body.specs.declared.statement.Outcome.TheVariants.{Out}
+use Rattle.rp_object.specs.rp_body.specs.Store.{Store}
+use Rattle.rp_object.specs.rp_body.specs.Expressions.{value_of, truth_of}
 use Rattle.rp_manual.specs.Statements.{Assigns, SetsBoolean}
 use Rattle.rp_manual.proofs.Assigning.{assigns, refuses, sets, puts_out, raises, effect-Set, effect-Put, effect-Out}
 use Rattle.rp_manual.proofs.bodies.assignments_keep_to_their_range.Goals as goal

@@ -1,6 +1,6 @@
 -- By what an `if` does.
 use Rattle.std.proofs.Common.{ap, ◌∙◌, cond}
-use Rattle.rp_body.specs.Meaning.{effects_of}
+use Rattle.rp_object.specs.rp_body.specs.Meaning.{effects_of}
 use Rattle.rp_manual.proofs.Assigning.{effect-If}
 use Rattle.rp_manual.proofs.bodies.conditions_choose.Goals as goal
 

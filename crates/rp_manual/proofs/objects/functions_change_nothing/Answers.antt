@@ -1,7 +1,7 @@
 -- By the cases of the action.
 use Rattle.std.proofs.Common.{◌∙◌, ap, Some, pos}
 use Rattle.rp_object.specs.rp_base.specs.declared.reply.Reply.{Reply as Replies}
-use Rattle.rp_body.specs.Expressions.{value_of}
+use Rattle.rp_object.specs.rp_body.specs.Expressions.{value_of}
 use Rattle.rp_object.specs.rp_entry.specs.declared.operations.Function.TheVariants.{Value as Whole, Truth as Condition}
 use Rattle.rp_object.specs.rp_entry.specs.declared.state.CallOutcome.TheVariants.{Reply}
 use Rattle.rp_manual.proofs.Acting.{constant, replies, value_replied, beyond_replied}

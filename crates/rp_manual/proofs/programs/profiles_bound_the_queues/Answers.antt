@@ -1,6 +1,6 @@
 -- By the declared object and the declared entry.
 use Rattle.std.proofs.Common.{◌≡◌, subst, arith}
-use Rattle.rp_body.specs.Store.{limits_of}
+use Rattle.rp_object.specs.rp_body.specs.Store.{limits_of}
 use Rattle.rp_object.specs.rp_entry.specs.declared.operations.Entry.{Entry}
 use Rattle.rp_object.specs.rp_entry.specs.Operations.{EntryFits}
 use Rattle.rp_object.specs.rp_entry.proofs.Naming.{all_at}

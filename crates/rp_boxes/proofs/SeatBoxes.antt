@@ -15,10 +15,10 @@ use Rattle.rp_model.specs.Effect.{Setting}
 use Rattle.rp_model.specs.rp_machine.specs.declared.machine.Machine.{Ghosts}
 use Rattle.rp_boxes.specs.Looks.{IsWorldOf, HasWorld, WasSent}
 use Rattle.rp_boxes.specs.Moments.{WasFull, WasInUse, WasNotFull, WasPut, WasWord}
-use Rattle.rp_boxes.specs.Parts.{Part, View, actor_of, box_of, part_in, with_got, with_put}
+use Rattle.rp_boxes.specs.Parts.{Part, Role, View, actor_of, box_of, part_in, with_got, with_put}
 use Rattle.rp_boxes.specs.Plays.{IsPutBy, Sight, alone}
 use Rattle.rp_boxes.specs.Rule.{IsCarried, HasOwnPackets}
-use Rattle.rp_boxes.specs.Seats.{SeatState, IsAtTable, IsPut, IsSentText, table_setting}
+use Rattle.rp_boxes.specs.Seats.{SeatSetup, SeatState, IsAtTable, IsFetched, IsPut, IsSentText, table_setting}
 use Rattle.rp_boxes.specs.declared.board.Known.{Known}
 use Rattle.rp_boxes.specs.declared.board.Law.{Law}
 use Rattle.rp_boxes.specs.declared.board.Setup.{Setup}
@@ -35,9 +35,9 @@ abbrev pub Place : Type 0
 Place = Seat (Option (Vec ℕ Global)) Known
 
 -- what a place sees that knows one actor, at the table as it is
-pub world_at : {M P : Type 0} (machine : Ghosts M P) (found board : Board M P) (me : Sight) (part : Part) (with : View → View) → found ≡ board → me ≡ alone 0 part
-    → HasWorld (table_setting machine found.shared.key) (with me.0) → HasWorld (table_setting machine board.shared.key) (with ((0, part) ∷ []))
-world_at {M} {P} machine found board me part with is knows seen =
+pub world_at : {M P : Type 0} (machine : Ghosts M P) (found board : Board M P) (k : ℕ) (me : Sight) (part : Part) (with : View → View) → found ≡ board → me ≡ alone k part
+    → HasWorld (table_setting machine found.shared.key) (with me.0) → HasWorld (table_setting machine board.shared.key) (with ((k, part) ∷ []))
+world_at {M} {P} machine found board k me part with is knows seen =
     subst (λ (z : Board M P × Sight). HasWorld (table_setting machine z.0.shared.key) (with z.1.0)) (λ i. (is i, knows i)) seen
 
 -- a seat that knows its actor's part anew, and holds no box as before
@@ -69,10 +69,19 @@ same_party Audit (Node m) one other same = absurd (omega (arith, other.0, same))
 same_party Audit (Task u) one other same = absurd (omega (arith, same))
 same_party Audit Audit one other same = refl
 
+-- ---- a seat whose actor's part changes
+
+abbrev pub seat_with : {P : Type 0} → Part → SeatState P → SeatState P
+seat_with part seat = record seat { part = part }
+
+-- and one whose device failed so often
+abbrev pub with_failures : {P : Type 0} → ℕ → SeatState P → SeatState P
+with_failures failures seat = record seat { failures = failures }
+
 -- ---- a step at a box
 
 -- The seat of a party steps at a box: the table, as it is and as the call finds it; the party, and its actor as the
--- code names it; the seat's number and the failures of its device; and its place before the step and after it.
+-- code names it; the seat's number; and its place before the step and after it.
 pub record BoxStep (M P : Type 0) : Type 0 where
   pub board : Board M P
   pub found : Board M P
@@ -81,16 +90,15 @@ pub record BoxStep (M P : Type 0) : Type 0 where
   pub actor : ℕ
   pub named : actor ≡ actor_of party
   pub number : ℕ
-  pub failures : ℕ
   pub old : Place
   pub new : Place
   pub at : IsAtTable board.shared.table_id old.table_id (actor_of party) old.me
   pub same : new.table_id ≡ old.table_id
 
 -- the same, by what a call finds
-abbrev pub box_step : {M P : Type 0} {found board : Board M P} {actor : ℕ} (party : Party) (number failures : ℕ) (old new : Place) → found ≡ board → actor ≡ actor_of party
+abbrev pub box_step : {M P : Type 0} {found board : Board M P} {actor : ℕ} (party : Party) (number : ℕ) (old new : Place) → found ≡ board → actor ≡ actor_of party
     → IsAtTable board.shared.table_id old.table_id (actor_of party) old.me → new.table_id ≡ old.table_id → BoxStep M P
-box_step {found = found} {board = board} {actor = actor} party number failures old new is named at same = record {
+box_step {found = found} {board = board} {actor = actor} party number old new is named at same = record {
   board = board;
   found = found;
   is = is;
@@ -98,7 +106,6 @@ box_step {found = found} {board = board} {actor = actor} party number failures o
   actor = actor;
   named = named;
   number = number;
-  failures = failures;
   old = old;
   new = new;
   at = at;
@@ -126,7 +133,7 @@ module _ {M P : Type 0} (step : BoxStep M P) where
       program = step.board.shared.key.program.value;
       number = step.number;
     };
-    failures = step.failures;
+    failures = 0;
     part = q;
   }
 
@@ -164,11 +171,6 @@ module _ {M P : Type 0} (step : BoxStep M P) where
     pub fetched_at : (found : Option (Vec ℕ Global)) → IfNone found (step.new.me ≡ step.old.me) → IfSome found (Finds x step.actor) → IsAt
     fetched_at None nothing some = subst (λ (z : TableId × Sight). IsAtTable step.board.shared.table_id z.0 k z.1) (λ i. (sym step.same i, sym nothing i)) step.at
     fetched_at (Some text) nothing some = got_at text (by_party (Some text) some)
-
-    -- what the actor is stays
-    pub same_role : (found : Option (Vec ℕ Global)) → IfNone found (step.new.me ≡ step.old.me) → IfSome found (Finds x step.actor) → new_part.role ≡ part.role
-    same_role None nothing some = ap (λ (seen : Sight). (part_in seen.0).role) nothing
-    same_role (Some text) nothing some = ap (λ (seen : Sight). (part_in seen.0).role) some.2
 
     module _ (machine : Ghosts M P) (from : Party) (other : x ≡ actor_of from) where
       was_sent : (text : Vec ℕ Global) → Finds x k text → HasWorld (here machine) step.new.me.0 → WasSent machine.next machine.answers machine.begin from step.party text.items after
@@ -240,14 +242,11 @@ module _ {M P : Type 0} (puts : PutStep M P) where
       after = λ i. seat_state puts.step (puts.step.same i) (put.is i);
     }
 
-  -- the place is still one that knows its actor, whose role stays
+  -- the place is still one that knows its actor
   pub put_keeps : {A B : Type 0} (result : Result A B) → OnOk result (IsPutBy puts.step.actor puts.to puts.bytes (part puts.step) (new_part puts.step))
-      → IfErr result (λ back. puts.step.new.me ≡ puts.step.old.me) → IsAt puts.step × ((new_part puts.step).role ≡ (part puts.step).role)
-  put_keeps (Ok done) put stays = (put_at put, ap (λ (p : Part). p.role) put.is)
-  put_keeps (Err back) put stays = (
-    subst (λ (z : TableId × Sight). IsAtTable puts.step.board.shared.table_id z.0 (k puts.step) z.1) (λ i. (sym puts.step.same i, sym stays i)) puts.step.at,
-    ap (λ (seen : Sight). (part_in seen.0).role) stays,
-  )
+      → IfErr result (λ back. puts.step.new.me ≡ puts.step.old.me) → IsAt puts.step
+  put_keeps (Ok done) put stays = put_at put
+  put_keeps (Err back) put stays = subst (λ (z : TableId × Sight). IsAtTable puts.step.board.shared.table_id z.0 (k puts.step) z.1) (λ i. (sym puts.step.same i, sym stays i)) puts.step.at
 
   module _ (machine : Ghosts M P) where
     abbrev Shown : Type 0
@@ -269,3 +268,15 @@ module _ {M P : Type 0} (puts : PutStep M P) where
     pub used_state : WasWord (here puts.step machine) puts.step.new.me.0 (box_of puts.step.actor puts.to) (λ word. word ≢ 0)
         → WasInUse machine.next machine.answers machine.begin puts.step.party puts.bytes (after puts.step)
     used_state used = record { packet = puts.sent.0; text = puts.sent.2; box = subst (λ (z : Shown). WasWord z.0 z.1.0 z.2 (λ word. word ≢ 0)) is_shown used }
+
+-- ---- what a step at a box leaves
+
+module _ {P : Type 0} (Q : SeatSetup P → Role → Type 0) (old new : SeatState P) (was : Q old.setup old.part.role) where
+  -- what is so of a seat by its setup and its actor's role stays so
+  pub fetched_stays : (from to : Party) (found : Option (Vec ℕ Global)) → IfSome found (λ text. IsFetched from to text.items old new) → IfNone found (new ≡ old) → Q new.setup new.part.role
+  fetched_stays from to None some none = subst (λ (seat : SeatState P). Q seat.setup seat.part.role) (sym none) was
+  fetched_stays from to (Some text) some none = subst (λ (seat : SeatState P). Q seat.setup seat.part.role) (sym some.after) was
+
+  pub put_stays : {A B : Type 0} (bytes : List ℕ) (result : Result A B) → OnOk result (IsPut bytes old new) → IfErr result (λ back. new ≡ old) → Q new.setup new.part.role
+  put_stays bytes (Ok done) put unchanged = subst (λ (seat : SeatState P). Q seat.setup seat.part.role) (sym put.after) was
+  put_stays bytes (Err back) put unchanged = subst (λ (seat : SeatState P). Q seat.setup seat.part.role) (sym unchanged) was

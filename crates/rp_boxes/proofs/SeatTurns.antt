@@ -1,8 +1,6 @@
 -- What a turn of a replica is for the seat of its node.
 use Rattle.std.specs.Prelude.{IsOk}
 use Rattle.std.proofs.Common.{◌≡◌, ◌⊎◌, ℕ, ◌<◌, true, false, Option, Some, None, Result, Ok, Err, List, [], inl, inr, refl, sym, ap, subst, ◌∙◌}
-use Rattle.std.specs.Arc.{arc_value}
-use Rattle.atomic_table.specs.Seated.{TableId}
 use Rattle.rp_base.specs.declared.fault.Fault.{Fault}
 use Rattle.rp_base.specs.declared.fault.Fault.TheVariants.{OutOfMemory, Device, Failed, NotRunning}
 use Rattle.rp_base.specs.declared.record.Rec.{Rec}
@@ -26,15 +24,12 @@ use Rattle.rp_world.specs.Nodes.{Member, member_of, RunsAs, RepresentsWhile, IsL
 use Rattle.rp_world.proofs.Light.{light_turn}
 use Rattle.rp_world.proofs.Represented.{represents, represents_failed, as_running, as_resting}
 use Rattle.rp_world.proofs.Turning.{same_effect, is_cut, taken, false_true}
-use Rattle.rp_boxes.specs.Parts.{Part, OfNode, part_in, part_after}
+use Rattle.rp_boxes.specs.Parts.{Part, OfNode, part_after}
 use Rattle.rp_boxes.specs.Rule.{HasOwnPackets}
-use Rattle.rp_boxes.specs.Plays.{Sight, IsEventNoted, alone}
-use Rattle.rp_boxes.specs.Seats.{SeatState, IsAtTable, IsNodePlace, HasInputRanges, IsGot, IsReason, IsTurn, IsCutTurn, IsLightTurn, IsNoTurn, table_setting}
+use Rattle.rp_boxes.specs.Seats.{SeatSetup, SeatState, IsNodeAt, IsNoted, HasInputRanges, IsGot, IsReason, IsTurn, IsCutTurn, IsLightTurn, IsNoTurn, setting_at}
 use Rattle.rp_boxes.specs.Steps.{IsEvent, HasEvent}
 use Rattle.rp_boxes.specs.CountedTurns.{HasStepped, HasStopped}
-use Rattle.rp_boxes.specs.declared.board.Setup.{Setup}
-use Rattle.rp_boxes.specs.declared.node_seat.NodeSeat.TheInside.{Inside}
-use Rattle.rp_boxes.proofs.SeatBoxes.{Board, Place, at_after}
+use Rattle.rp_boxes.proofs.SeatBoxes.{seat_with, with_failures}
 
 -- a record that is written is no failure
 written_failures : (written : Option Rec) (disk : Disk) → (with_text disk written).failures ≡ disk.failures
@@ -67,50 +62,46 @@ input_given texts k part (Ask to) own right ranges got = record { given = nodes.
 
 -- ---- the result
 
--- what is so of a node's seat
-abbrev pub IsSeated : {M D P : Type 0} → (P → M) → Inside M D P → Type 0
-IsSeated begin inside =
-    let shared = (arc_value inside.board).shared in
-    IsAtTable shared.table_id inside.place.table_id inside.node inside.place.me
-    × IsNodePlace shared.key.config (begin shared.key.program.value) inside.node inside.replica (part_in inside.place.me.0).role
-
--- A step of a node's seat: the seat, what is so of it, and the input with what the node is given.
-pub record NodeStep {M P : Type 0} (machine : Ghosts M P) (D : Type 0) : Type 0 where
-  pub inside : Inside M D P
-  pub seated : IsSeated machine.begin inside
+-- A step of a node's seat: the replica and its seat at the table, what is so of them, and the input with what the node
+-- is given.
+pub record NodeStep {M P : Type 0} (machine : Ghosts M P) : Type 0 where
+  pub replica : ReplicaState M
+  pub seated : SeatState P
+  pub sits : IsNodeAt machine.begin replica seated.setup seated.part.role
   pub input : Input
-  pub given : IsGiven (part_in inside.place.me.0) input
+  pub is : IsGiven seated.part input
 
-module _ {M D P : Type 0} {machine : Ghosts M P} (at : NodeStep machine D) where
-  abbrev inside : Inside M D P
-  inside = at.inside
-
+module _ {M P : Type 0} {machine : Ghosts M P} (at : NodeStep machine) where
   abbrev input : Input
   input = at.input
 
-  abbrev is : IsGiven (part_in at.inside.place.me.0) at.input
-  is = at.given
+  abbrev is : IsGiven at.seated.part at.input
+  is = at.is
 
-  abbrev key : Setup M P
-  key = (arc_value inside.board).shared.key
-
-  abbrev number : ℕ
-  number = inside.node
+  abbrev setup : SeatSetup P
+  setup = at.seated.setup
 
   abbrev before : Part
-  before = part_in inside.place.me.0
+  before = at.seated.part
 
   abbrev old : ReplicaState M
-  old = inside.replica
+  old = at.replica
 
-  abbrev sits : IsNodePlace key.config (machine.begin key.program.value) number old before.role
-  sits = at.seated.1
+  abbrev sits : IsNodeAt machine.begin old setup before.role
+  sits = at.sits
+
+  abbrev number : ℕ
+  number = setup.number
+
+  -- what the nodes share at the table of a seat
+  abbrev setting : SeatState P → Setting M
+  setting seat = setting_at machine.next machine.answers machine.begin seat
 
   abbrev s : Setting M
-  s = table_setting machine key
+  s = setting at.seated
 
   abbrev member : Member M
-  member = member_of number key.config (machine.begin key.program.value)
+  member = member_of number setup.config (machine.begin setup.program)
 
   -- the result of the input at the replica, and how its turn ends
   abbrev effect_here : Result Turn Fault
@@ -125,23 +116,19 @@ module _ {M D P : Type 0} {machine : Ghosts M P} (at : NodeStep machine D) where
   same_input : input_effect machine.next machine.answers old input ≡ replica_effect machine.next machine.answers old is.given
   same_input = ap (effect_if_given machine.next machine.answers old) is.gives
 
-  -- what is known once the turn is counted at the table, as a call finds it
-  abbrev Stepped : ReplicaState M → Sent → Board M P → Part → Type 0
-  Stepped new sent board = HasStepped (table_setting machine board.shared.key) number before input new sent
+  -- what is known once the turn is counted, of the seat as a call finds it
+  abbrev Stepped : ReplicaState M → Sent → SeatState P → Part → Type 0
+  Stepped new sent seat = HasStepped (setting seat) seat.setup.number seat.part input new sent
 
-  abbrev Stopped : ReplicaState M → Board M P → Part → Type 0
-  Stopped new board = HasStopped (table_setting machine board.shared.key) number before input new
+  abbrev Stopped : ReplicaState M → SeatState P → Part → Type 0
+  Stopped new seat = HasStopped (setting seat) seat.setup.number seat.part input new
 
-  abbrev Happens : (Board M P → Part → Type 0) → Board M P → Type 0
-  Happens knows board = HasEvent (table_setting machine board.shared.key) number before (knows board)
+  abbrev Happens : (SeatState P → Part → Type 0) → SeatState P → Type 0
+  Happens knows seat = HasEvent (setting seat) seat.setup.number seat.part (knows seat)
 
-  -- what the seat is to a contract, with this place
-  abbrev pub seat_state : TableId → ℕ → Part → SeatState P
-  seat_state table failures part = record { setup = record { table = table; config = key.config; program = key.program.value; number = number }; failures = failures; part = part }
-
-  -- as it is
+  -- the seat as a contract sees it
   abbrev seat : SeatState P
-  seat = seat_state inside.place.table_id old.disk.failures before
+  seat = with_failures old.disk.failures at.seated
 
   -- the step of its node
   abbrev step : Result (Done NodePart) Fault
@@ -192,11 +179,11 @@ module _ {M D P : Type 0} {machine : Ghosts M P} (at : NodeStep machine D) where
     results_so turn resulted = same_effect machine.next machine.answers member old sits.node runs is.given ∙ ap (turn_done_if sits.node) resulted
 
     -- the turn took effect
-    pub has_stepped : (sent : Sent) → Turned new sent → (found : Board M P) → found ≡ arc_value inside.board → Happens (Stepped new sent) found
-    has_stepped sent turns found shared =
+    pub has_stepped : (sent : Sent) → Turned new sent → (here : SeatState P) → here ≡ at.seated → Happens (Stepped new sent) here
+    has_stepped sent turns here same =
         let t = taken machine.next machine.answers member old sits.node runs is.given new sent effect_here refl
         (subst (λ (r : Result Turn Fault). TurnsIf r old new sent) same_input turns) in
-        subst (Happens (Stepped new sent)) (sym shared) (
+        subst (Happens (Stepped new sent)) (sym same) (
           part_after before (OfNode t.0.part) t.0.sends,
           inl (record { member = sits.member; part = sits.node; was = sits.is; input = is.given; given = is.is; done = t.0; results = inl t.1; is = refl }),
           record { given = is.given; gives = is.gives; node = sits.node; was = sits.is; done = t.0; results = t.1; represents = represents member new t.0.part t.2; describes = t.3; is = refl },
@@ -281,42 +268,37 @@ module _ {M D P : Type 0} {machine : Ghosts M P} (at : NodeStep machine D) where
     no_turn : (fault : Fault) → Ended new fault → new.failed ≡ false → (new ≡ old) × IsWhy fault
     no_turn fault stops works = elim (outcome fault stops) [ inl stopped ↦ absurd (false_true works stopped.0) | inr same ↦ same ]
 
-    pub stopped_event : (fault : Fault) → Ended new fault → new.failed ≡ true
-        → (found : Board M P) → found ≡ arc_value inside.board → Happens (Stopped new) found
-    stopped_event fault stops failed found shared = let h = has_stopped fault stops failed in subst (Happens (Stopped new)) (sym shared) (h.2, h.3, h.4)
+    pub stopped_event : (fault : Fault) → Ended new fault → new.failed ≡ true → (here : SeatState P) → here ≡ at.seated → Happens (Stopped new) here
+    stopped_event fault stops failed here same = let h = has_stopped fault stops failed in subst (Happens (Stopped new)) (sym same) (h.2, h.3, h.4)
 
   -- ---- the seat once a turn is counted
 
-  module _ (place : Place) (same : place.table_id ≡ inside.place.table_id) (new : ReplicaState M) (found : Board M P) (shared : found ≡ arc_value inside.board) where
+  module _ (here : SeatState P) (same : here ≡ at.seated) (new : ReplicaState M) (now : SeatState P) where
     abbrev IsSeatedNow : Type 0
-    IsSeatedNow =
-        IsAtTable (arc_value inside.board).shared.table_id place.table_id number place.me
-        × IsNodePlace key.config (machine.begin key.program.value) number new (part_in place.me.0).role
+    IsSeatedNow = IsNodeAt machine.begin new now.setup now.part.role
 
-    -- what is known of the part that the place now knows
-    abbrev IsKnown : (Board M P → Part → Type 0) → Board M P → Type 0
-    IsKnown knows board = IsEventNoted (knows board) number place.me
+    -- what is known of the part that the seat now knows
+    abbrev IsKnown : (SeatState P → Part → Type 0) → SeatState P → Type 0
+    IsKnown knows seat = IsNoted (knows seat) seat now
 
-    -- the place and the node of the part after an event
-    after_event : (part : NodePart) (sends : List Message) (q : Part) → q ≡ part_after before (OfNode part) sends → place.me ≡ alone number q → HasOwnPackets number q → RepresentsWhile member new part new.failed
-        → IsSeatedNow
-    after_event part sends q after sees own represents = (
-      at_after (arc_value inside.board).shared.table_id number inside.place place q at.seated.0 same sees (ap (λ (p : Part). p.fills) after) (ap (λ (p : Part). p.takes) after) own,
-      record { member = sits.member; node = part; is = ap (λ (seen : Sight). (part_in seen.0).role) sees ∙ ap (λ (p : Part). p.role) after; represents = represents },
-    )
+    -- the seat after an event
+    is_now : (q : Part) → now ≡ seat_with now.part at.seated → now.part ≡ q → now ≡ seat_with q at.seated
+    is_now q after part = after ∙ ap (λ (p : Part). seat_with p at.seated) part
 
-    new_state : (failures failures' : ℕ) → failures' ≡ failures → (q : Part) → place.me ≡ alone number q → seat_state place.table_id failures' (part_in place.me.0) ≡ seat_state inside.place.table_id failures q
-    new_state failures failures' stay q sees = λ i. seat_state (same i) (stay i) (part_in (sees i).0)
+    -- the node of the part after it
+    after_event : (part : NodePart) (sends : List Message) → now ≡ seat_with now.part at.seated → now.part ≡ part_after before (OfNode part) sends → RepresentsWhile member new part new.failed → IsSeatedNow
+    after_event part sends after is_part represents =
+        let sits_then : IsNodeAt machine.begin new setup (OfNode part) = record { member = sits.member; node = part; is = refl; represents = represents } in
+        subst (λ (z : SeatState P). IsNodeAt machine.begin new z.setup z.part.role) (sym (is_now (part_after before (OfNode part) sends) after is_part)) sits_then
 
-    module _ (sent : Sent) (noted : IsKnown (Stepped new sent) found) where
-      t : IsKnown (Stepped new sent) (arc_value inside.board)
-      t = subst (IsKnown (Stepped new sent)) shared noted
+    module _ (sent : Sent) (noted : IsKnown (Stepped new sent) here) where
+      t : IsKnown (Stepped new sent) at.seated
+      t = subst (IsKnown (Stepped new sent)) same noted
 
       pub stepped_seat : IsSeatedNow
-      stepped_seat = after_event t.picked.done.part t.picked.done.sends t.part t.picked.is t.is t.own t.picked.represents
+      stepped_seat = after_event t.picked.done.part t.picked.done.sends t.after t.picked.is t.picked.represents
 
-      pub stepped_state : old.failed ≡ false → Turned new sent
-          → IsTurn machine.next machine.answers machine.begin seat input (seat_state place.table_id new.disk.failures (part_in place.me.0)) sent
+      pub stepped_state : old.failed ≡ false → Turned new sent → IsTurn machine.next machine.answers machine.begin seat input (with_failures new.disk.failures now) sent
       stepped_state working turns = record {
         given = t.picked.given;
         gives = t.picked.gives;
@@ -324,19 +306,19 @@ module _ {M D P : Type 0} {machine : Ghosts M P} (at : NodeStep machine D) where
         was = t.picked.was;
         done = t.picked.done;
         results = t.picked.results;
-        after = new_state old.disk.failures new.disk.failures (failures_stay working new (input_effect machine.next machine.answers old input) sent turns) t.part t.is ∙ ap (seat_state inside.place.table_id old.disk.failures) t.picked.is;
+        after = λ i. with_failures (failures_stay working new (input_effect machine.next machine.answers old input) sent turns i) (is_now _ t.after t.picked.is i);
         describes = t.picked.describes;
       }
 
-    module _ (noted : IsKnown (Stopped new) found) where
-      cut : IsKnown (Stopped new) (arc_value inside.board)
-      cut = subst (IsKnown (Stopped new)) shared noted
+    module _ (noted : IsKnown (Stopped new) here) where
+      cut : IsKnown (Stopped new) at.seated
+      cut = subst (IsKnown (Stopped new)) same noted
 
       pub stopped_seat : IsSeatedNow
-      stopped_seat = after_event cut.picked.done.part cut.picked.done.sends cut.part cut.picked.is cut.is cut.own cut.picked.represents
+      stopped_seat = after_event cut.picked.done.part cut.picked.done.sends cut.after cut.picked.is cut.picked.represents
 
       pub stopped_state : (working : old.failed ≡ false) (fault : Fault) → Ended new fault → new.failed ≡ true
-          → IsCutTurn machine.next machine.answers machine.begin seat input (seat_state place.table_id new.disk.failures (part_in place.me.0)) fault
+          → IsCutTurn machine.next machine.answers machine.begin seat input (with_failures new.disk.failures now) fault
       stopped_state working fault stops failed = record {
         device = (has_stopped working new fault stops failed).0;
         failed = (has_stopped working new fault stops failed).1;
@@ -346,15 +328,15 @@ module _ {M D P : Type 0} {machine : Ghosts M P} (at : NodeStep machine D) where
         was = cut.picked.was;
         done = cut.picked.done;
         cut = cut.picked.cut;
-        after = new_state new.disk.failures new.disk.failures refl cut.part cut.is ∙ ap (seat_state inside.place.table_id new.disk.failures) cut.picked.is;
+        after = ap (with_failures new.disk.failures) (is_now _ cut.after cut.picked.is);
       }
 
   -- ---- the seat where nothing happened
 
   pub unstepped_state : (working : old.failed ≡ false) (new : ReplicaState M) (fault : Fault) → Ended new fault → new.failed ≡ false
-      → IsNoTurn machine.next machine.answers machine.begin seat input (seat_state inside.place.table_id new.disk.failures before) fault
+      → IsNoTurn machine.next machine.answers machine.begin seat input (with_failures new.disk.failures at.seated) fault
   unstepped_state working new fault stops works = record {
-    unchanged = ap (λ (h : ReplicaState M). seat_state inside.place.table_id h.disk.failures before) (no_turn working new fault stops works).0;
+    unchanged = ap (λ (h : ReplicaState M). with_failures h.disk.failures at.seated) (no_turn working new fault stops works).0;
     given = is.given;
     gives = is.gives;
     node = sits.node;

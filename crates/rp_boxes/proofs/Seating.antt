@@ -11,9 +11,8 @@ use Rattle.rp_world.proofs.Fresh.{one_more}
 use Rattle.rp_world.proofs.Represented.{represents}
 use Rattle.rp_boxes.specs.Parts.{Part, View, OfNode, OfTask, OfAudit, first_role, first_part, first_from, part_in}
 use Rattle.rp_boxes.specs.Plays.{Sight, IsSized, alone}
-use Rattle.rp_boxes.specs.Seats.{SeatState, IsAtTable, IsNodePlace}
+use Rattle.rp_boxes.specs.Seats.{SeatState, IsAtTable, IsNodeAt}
 use Rattle.rp_boxes.specs.FirstSeats.{AreFirstSeats, AreSeats, IsRest, Unseated, after_seats, others_in, first_seat}
-use Rattle.rp_boxes.proofs.SeatBoxes.{Board, Place}
 
 -- ---- the rest of the actors
 
@@ -65,27 +64,19 @@ node_role k least most =
     let below : nat_lt k 8 ≡ true = lt-ltb k 8 most in
     λ i. if above i then OfAudit else if below i then OfNode fresh_node else OfTask fresh_task
 
--- a replica that is fresh is the node that its place knows
-pub fresh_place : {S : Type 0} (config : Config) (begin : S) (number : ℕ) (replica : ReplicaState S) (me : Sight) → 1 ≤ number → number ≤ config.nodes → config.nodes ≤ 7
-    → me ≡ alone number (first_part number) → RunsAs (member_of number config begin) replica fresh_node → IsNodePlace config begin number replica (part_in me.0).role
-fresh_place config begin number replica me least most seven is runs = record {
-  member = (least, most);
-  node = fresh_node;
-  is = ap (λ (sight : Sight). (part_in sight.0).role) is ∙ node_role number least (omega (arith, most, seven));
-  represents = represents (member_of number config begin) replica fresh_node runs;
-}
-
--- so its seat is one at the table
-pub node_at_first : {M P : Type 0} (begin : P → M) (found board : Board M P) (place : Place) (node : ℕ) (replica : ReplicaState M) (config : Config) (program : P) → found ≡ board → place.table_id ≡ board.shared.table_id
-    → IsSized board.shared.table_id → board.shared.key.config ≡ config → program ≡ board.shared.key.program.value → IsRightConfig config → 1 ≤ node → node ≤ config.nodes → place.me ≡ alone node (first_part node)
-    → RunsAs (member_of node config (begin program)) replica fresh_node
-    → IsAtTable found.shared.table_id place.table_id node place.me × IsNodePlace found.shared.key.config (begin found.shared.key.program.value) node replica (part_in place.me.0).role
-node_at_first {M} {P} begin found board place node replica config program is same sized configured begun right least most knows runs =
-    let seated : IsNodePlace board.shared.key.config (begin board.shared.key.program.value) node replica (part_in place.me.0).role =
-    subst (λ (z : Config × P). IsNodePlace z.0 (begin z.1) node replica (part_in place.me.0).role) (λ i. (sym configured i, begun i))
-    (fresh_place config (begin program) node replica place.me least most right.nodes.1 knows runs) in
-    subst (λ (b : Board M P). IsAtTable b.shared.table_id place.table_id node place.me × IsNodePlace b.shared.key.config (begin b.shared.key.program.value) node replica (part_in place.me.0).role) (sym is)
-    (at_first board.shared.table_id place.table_id node place.me same sized (omega (arith, most, right.nodes.1)) knows, seated)
+-- a replica that is fresh is the node of its seat
+pub node_at_first : {S P : Type 0} (begin : P → S) (table : TableId) (config : Config) (program : P) (number : ℕ) (replica : ReplicaState S) → 1 ≤ number → number ≤ config.nodes → config.nodes ≤ 7
+    → RunsAs (member_of number config (begin program)) replica fresh_node
+    → (seat : SeatState P) → seat ≡ first_seat table config program number number 0 → IsNodeAt begin replica seat.setup seat.part.role
+node_at_first {P = P} begin table config program number replica least most seven runs seat is =
+    let first : SeatState P = first_seat table config program number number 0 in
+    let sits : IsNodeAt begin replica first.setup first.part.role = record {
+      member = (least, most);
+      node = fresh_node;
+      is = node_role number least (omega (arith, most, seven));
+      represents = represents (member_of number config (begin program)) replica fresh_node runs;
+    } in
+    subst (λ (z : SeatState P). IsNodeAt begin replica z.setup z.part.role) (sym is) sits
 
 -- ---- one more seat
 

@@ -71,12 +71,11 @@ module _ {S P : Type 0} (next : S → Action → S) (answers : S → Action → 
   abbrev its_setting : Setting S
   its_setting = setting_at next answers begin seat
 
-  pub one_order : (s : Setting S) (me : Sight) → s ≡ its_setting → me ≡ alone (7 + seat.setup.number) seat.part → HasWorld s me.0 → OrderLaws its_setting → HasOneOrder next answers begin seat
-  one_order s me same is seen laws =
+  pub one_order : HasWorld its_setting ((7 + seat.setup.number, seat.part) ∷ []) → OrderLaws its_setting → HasOneOrder next answers begin seat
+  one_order seen laws =
       let view = (7 + seat.setup.number, seat.part) ∷ [] in
-      let world : IsWorldOf its_setting view seen.0 = subst (λ (z : Setting S × Sight). IsWorldOf z.0 z.1.0 seen.0) (λ i. (same i, is i)) seen.1 in
       record {
         order = order_of seat.setup.config.nodes (all_sent seen.0 16);
-        of_world = world_order its_setting view seen.0 world laws;
-        task = of_order its_setting view seen.0 world seat.setup.number seat.part (inl refl) laws;
+        of_world = world_order its_setting view seen.0 seen.1 laws;
+        task = of_order its_setting view seen.0 seen.1 seat.setup.number seat.part (inl refl) laws;
       }

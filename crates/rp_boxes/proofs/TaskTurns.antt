@@ -1,7 +1,6 @@
 -- What an event of a task is for its seat.
 use Rattle.std.proofs.Common.{◌≡◌, ℕ, ◌+◌, ◌++◌, Bool, true, false, if◌then◌else◌, Option, Some, None, Result, Ok, Err, List, [], ◌∷◌, length, inl, inr, refl, sym, ap, subst, ◌∙◌}
 use Rattle.std.specs.Prelude.{ℤ, nat_lt, not, ◌||◌, IfErr, IsErrAnd}
-use Rattle.std.specs.Arc.{arc_value}
 use Rattle.rp_base.specs.Action.{is_right}
 use Rattle.rp_base.specs.Calls.{are_exhausted}
 use Rattle.rp_base.specs.Number.{IsTask}
@@ -28,13 +27,11 @@ use Rattle.rp_agreement.proofs.Lists.{some_same}
 use Rattle.rp_world.specs.rp_replica.specs.declared.sent.Sent.{Sent}
 use Rattle.rp_world.specs.Callers.{Caller}
 use Rattle.rp_world.specs.Going.{reply_in}
-use Rattle.rp_boxes.specs.Parts.{Part, OfTask, part_in, part_after}
-use Rattle.rp_boxes.specs.Plays.{Sight, IsEventNoted}
-use Rattle.rp_boxes.specs.Seats.{SeatState, IsAtTable, table_setting}
+use Rattle.rp_boxes.specs.Parts.{Part, Role, OfTask, part_after}
+use Rattle.rp_boxes.specs.Seats.{SeatSetup, SeatState, IsNoted, setting_at}
 use Rattle.rp_boxes.specs.Steps.{HasEvent}
-use Rattle.rp_boxes.specs.declared.task_seat.TaskSeat.TheInside.{Inside}
-use Rattle.rp_boxes.specs.TaskSeats.{IsTaskPlace, asked_of, DescribesPackets, IsTaskTurn, IsNoTaskTurn, reply_effect, IsReplyTurn}
-use Rattle.rp_boxes.proofs.SeatBoxes.{Board, Place, at_after}
+use Rattle.rp_boxes.specs.TaskSeats.{IsTaskAt, asked_of, DescribesPackets, IsTaskTurn, IsNoTaskTurn, reply_effect, IsReplyTurn}
+use Rattle.rp_boxes.proofs.SeatBoxes.{seat_with}
 
 -- ---- the result of an input
 
@@ -104,96 +101,82 @@ reply_quiet number part (Some stated) =
 abbrev pub BecomesPart : Part → TaskPart → List Message → Part → Type 0
 BecomesPart before task sends after = after ≡ part_after before (OfTask task) sends
 
--- what is so of a task's seat
-abbrev pub IsSeated : {M P : Type 0} → Inside M P → Type 0
-IsSeated inside =
-    let shared = (arc_value inside.board).shared in
-    IsAtTable shared.table_id inside.place.table_id (7 + inside.number) inside.place.me
-    × IsTaskPlace inside.number shared.key.config inside.config inside.task (part_in inside.place.me.0).role
-
--- An input of a task's seat: the seat, what is so of it, and the input with its result at the task.
-pub record TaskEvent (M P : Type 0) : Type 0 where
-  pub inside : Inside M P
-  pub seated : IsSeated inside
+-- An input of a task's seat: what the task knows all nodes to share, its stub and its seat at the table, what is so of
+-- them, and the input with its result at the task.
+pub record TaskEvent (P : Type 0) : Type 0 where
+  pub mine : Config
+  pub caller : Caller
+  pub seat : SeatState P
+  pub sits : IsTaskAt mine caller seat.setup seat.part.role
   pub input : TaskInput
   pub done : Done TaskPart
-  pub results : task_effect (arc_value inside.board).shared.key.config inside.number inside.task.part input ≡ Ok done
+  pub results : task_effect seat.setup.config seat.setup.number caller.part input ≡ Ok done
 
--- what the seat is to a contract, at a place
-abbrev pub state_at : {M P : Type 0} → Inside M P → Place → SeatState P
-state_at inside place =
-    let key = (arc_value inside.board).shared.key in
-    record { setup = record { table = place.table_id; config = key.config; program = key.program.value; number = inside.number }; failures = 0; part = part_in place.me.0 }
-
--- as it is
-abbrev pub state : {M P : Type 0} → Inside M P → SeatState P
-state inside = state_at inside inside.place
-
-pub refused_state : {M P : Type 0} (inside : Inside M P) → IsSeated inside → (input : TaskInput) (fault : Fault) → task_effect (state inside).setup.config inside.number inside.task.part input ≡ Err fault
-    → IsNoTaskTurn (state inside) input (state inside) fault
-refused_state inside seated input fault results = record { unchanged = refl; task = inside.task.part; was = seated.1.is; why = inr results }
+pub refused_state : {P : Type 0} (mine : Config) (caller : Caller) (seat : SeatState P) → IsTaskAt mine caller seat.setup seat.part.role → (input : TaskInput) (fault : Fault)
+    → task_effect seat.setup.config seat.setup.number caller.part input ≡ Err fault → IsNoTaskTurn seat input seat fault
+refused_state mine caller seat sits input fault results = record { unchanged = refl; task = caller.part; was = sits.is; why = inr results }
 
 -- A task's seat is to submit this call.
-pub record Submission (M P : Type 0) : Type 0 where
-  pub inside : Inside M P
-  pub seated : IsSeated inside
+pub record Submission (P : Type 0) : Type 0 where
+  pub mine : Config
+  pub caller : Caller
+  pub setup : SeatSetup P
+  pub role : Role
+  pub sits : IsTaskAt mine caller setup role
   pub node : ℕ
   pub object : ℕ
   pub operation : Operation
   pub arg : ℤ
 
-module _ {M P : Type 0} (s : Submission M P) where
+module _ {P : Type 0} (s : Submission P) where
   abbrev task : TaskPart
-  task = s.inside.task.part
+  task = s.caller.part
 
   abbrev pub submit : TaskInput
   submit = tasks.Submit s.node s.object s.operation s.arg
 
   abbrev pub its_next : ℤ → Action
-  its_next arg = next_call s.inside.task.task task s.object s.operation arg
+  its_next arg = next_call s.caller.task task s.object s.operation arg
 
   -- what the stub may call is the next call, and gives the result of the input
   abbrev pub IsSubmitted : Result Action Fault → Type 0
-  IsSubmitted r = IsMadeIf (its_next s.arg) r × (task_effect (state s.inside).setup.config s.inside.number task submit ≡ calls_if s.inside.number s.node task r)
+  IsSubmitted r = IsMadeIf (its_next s.arg) r × (task_effect s.setup.config s.setup.number task submit ≡ calls_if s.setup.number s.node task r)
 
-  pub submitted : {read : ℤ} {may : Result Action Fault} (r : Result Action Fault) → read ≡ s.arg → may ≡ may_call s.inside.config s.node task (its_next read) task.outstanding → may ≡ r → IsSubmitted r
+  pub submitted : {read : ℤ} {may : Result Action Fault} (r : Result Action Fault) → read ≡ s.arg → may ≡ may_call s.mine s.node task (its_next read) task.outstanding → may ≡ r → IsSubmitted r
   submitted r is found resulted =
-      let config = (state s.inside).setup.config in
+      let config = s.setup.config in
       let here : may_call config s.node task (its_next s.arg) task.outstanding ≡ r =
-      sym (found ∙ (λ i. may_call (s.seated.1.shared i) s.node task (its_next (is i)) task.outstanding)) ∙ resulted in (
+      sym (found ∙ (λ i. may_call (s.sits.shared i) s.node task (its_next (is i)) task.outstanding)) ∙ resulted in (
         subst (IsMadeIf (its_next s.arg)) here (made config s.node task (its_next s.arg) task.outstanding),
-        ap (calls_if s.inside.number s.node task) (subst (λ (k : ℕ). may_call config s.node task (next_call k task s.object s.operation s.arg) task.outstanding ≡ r) s.seated.1.named here),
+        ap (calls_if s.setup.number s.node task) (subst (λ (k : ℕ). may_call config s.node task (next_call k task s.object s.operation s.arg) task.outstanding ≡ r) s.sits.named here),
       )
 
-module _ {M P : Type 0} (event : TaskEvent M P) where
-  abbrev inside : Inside M P
-  inside = event.inside
+module _ {P : Type 0} (event : TaskEvent P) where
+  abbrev seat : SeatState P
+  seat = event.seat
 
-  abbrev known : Part
-  known = part_in inside.place.me.0
+  abbrev number : ℕ
+  number = event.seat.setup.number
 
-  pub no_memory_state : IsNoTaskTurn (state inside) event.input (state inside) OutOfMemory
-  no_memory_state = record { unchanged = refl; task = inside.task.part; was = event.seated.1.is; why = inl (refl, event.done, event.results) }
+  pub no_memory_state : IsNoTaskTurn seat event.input seat OutOfMemory
+  no_memory_state = record { unchanged = refl; task = event.caller.part; was = event.sits.is; why = inl (refl, event.done, event.results) }
 
-  -- the task became this, and sent these packets
-  module _ (now : TaskPart) (sends : List Message) (part_is : now ≡ event.done.part) (sends_are : sends ≡ event.done.sends) where
-    becomes : part_after known (OfTask event.done.part) event.done.sends ≡ part_after known (OfTask now) sends
-    becomes = λ i. part_after known (OfTask (sym part_is i)) (sym sends_are i)
-
+  -- the task became this, and sent these packets; the seat is as a call finds it
+  module _ (here : SeatState P) (same : here ≡ seat) (new : TaskPart) (sends : List Message) (part_is : new ≡ event.done.part) (sends_are : sends ≡ event.done.sends) where
     -- the event may be counted
-    pub task_event : (machine : Ghosts M P) (found : Board M P) → found ≡ arc_value inside.board → IsTaskInput known.got inside.number event.input
-        → HasEvent (table_setting machine found.shared.key) (7 + inside.number) known (BecomesPart known now sends)
-    task_event machine found same given =
-        let range = subst IsTask event.seated.1.named event.seated.1.task in
-        subst (λ (board : Board M P). HasEvent (table_setting machine board.shared.key) (7 + inside.number) known (BecomesPart known now sends)) (sym same) (
-          part_after known (OfTask event.done.part) event.done.sends,
+    pub task_event : {S : Type 0} (machine : Ghosts S P) → IsTaskInput seat.part.got number event.input
+        → HasEvent (setting_at machine.next machine.answers machine.begin here) (7 + here.setup.number) here.part (BecomesPart here.part new sends)
+    task_event machine given =
+        let range = subst IsTask event.sits.named event.sits.task in
+        subst (λ (z : SeatState P). HasEvent (setting_at machine.next machine.answers machine.begin z) (7 + z.setup.number) z.part (BecomesPart z.part new sends)) (sym same) (
+          part_after seat.part (OfTask event.done.part) event.done.sends,
           inr (
-            inside.number,
+            number,
             refl,
             record {
               task = range;
-              part = inside.task.part;
-              was = event.seated.1.is;
+              part = event.caller.part;
+              was = event.sits.is;
               input = event.input;
               given = given;
               done = event.done;
@@ -201,53 +184,50 @@ module _ {M P : Type 0} (event : TaskEvent M P) where
               is = refl;
             },
           ),
-          becomes,
+          λ i. part_after seat.part (OfTask (sym part_is i)) (sym sends_are i),
         )
 
   -- ---- once it is counted
 
-  module _ (place : Place) (same : place.table_id ≡ inside.place.table_id) (new : Caller) (sends : List Message) (t : IsEventNoted (BecomesPart known new.part sends) (7 + inside.number) place.me) where
-    sees : part_in place.me.0 ≡ part_after known (OfTask new.part) sends
-    sees = ap (λ (seen : Sight). part_in seen.0) t.is ∙ t.picked
+  module _ (here : SeatState P) (same : here ≡ seat) (new : Caller) (sends : List Message) (now : SeatState P) (noted : IsNoted (BecomesPart here.part new.part sends) here now) where
+    is_now : now ≡ seat_with (part_after seat.part (OfTask new.part) sends) seat
+    is_now = noted.after ∙ (ap (λ (p : Part). seat_with p here) noted.picked ∙ ap (λ (z : SeatState P). seat_with (part_after z.part (OfTask new.part) sends) z) same)
 
-    pub seat_after : new.task ≡ inside.task.task → WaitsForOwn inside.number new.part
-        → IsAtTable (arc_value inside.board).shared.table_id place.table_id (7 + inside.number) place.me
-        × IsTaskPlace inside.number (arc_value inside.board).shared.key.config inside.config new (part_in place.me.0).role
-    seat_after stays waits = (
-      at_after (arc_value inside.board).shared.table_id (7 + inside.number) inside.place place t.part event.seated.0 same t.is (ap (λ (p : Part). p.fills) t.picked) (ap (λ (p : Part). p.takes) t.picked) t.own,
-      record {
-        task = subst IsTask (sym stays) event.seated.1.task;
-        is = ap (λ (p : Part). p.role) sees;
-        named = stays ∙ event.seated.1.named;
-        shared = event.seated.1.shared;
-        waits = waits;
-      },
-    )
+    pub task_after : new.task ≡ event.caller.task → WaitsForOwn number new.part → IsTaskAt event.mine new now.setup now.part.role
+    task_after stays waits =
+        let sits_then : IsTaskAt event.mine new seat.setup (OfTask new.part) = record {
+          task = subst IsTask (sym stays) event.sits.task;
+          is = refl;
+          named = stays ∙ event.sits.named;
+          shared = event.sits.shared;
+          waits = waits;
+        } in
+        subst (λ (z : SeatState P). IsTaskAt event.mine new z.setup z.part.role) (sym is_now) sits_then
 
     module _ (part_is : new.part ≡ event.done.part) (sends_are : sends ≡ event.done.sends) where
-      after_is : state_at inside place ≡ record (state inside) { part = part_after known (OfTask event.done.part) event.done.sends }
-      after_is = λ i. record (state inside) { setup = record ((state inside).setup) { table = same i }; part = (sees ∙ sym (becomes new.part sends part_is sends_are)) i }
+      after_is : now ≡ seat_with (part_after seat.part (OfTask event.done.part) event.done.sends) seat
+      after_is = is_now ∙ (λ i. seat_with (part_after seat.part (OfTask (part_is i)) (sends_are i)) seat)
 
-      pub asked_state : (sent : Sent) → DescribesPackets sent sends → IsTaskTurn (state inside) event.input (state_at inside place) sent
+      pub asked_state : (sent : Sent) → DescribesPackets sent sends → IsTaskTurn seat event.input now sent
       asked_state sent describes = record {
-        task = inside.task.part;
-        was = event.seated.1.is;
+        task = event.caller.part;
+        was = event.sits.is;
         done = event.done;
         results = event.results;
         after = after_is;
         describes = subst (DescribesPackets sent) sends_are describes;
       }
 
-      pub replied_state : (m : Message) (bytes : List ℕ) (taken : Option Answer) → event.input ≡ tasks.Take m → Has m known.got → bytes ≡ text_of m → taken ≡ event.done.taken
-          → IsReplyTurn (state inside) bytes (state_at inside place) taken
+      pub replied_state : (m : Message) (bytes : List ℕ) (taken : Option Answer) → event.input ≡ tasks.Take m → Has m seat.part.got → bytes ≡ text_of m → taken ≡ event.done.taken
+          → IsReplyTurn seat bytes now taken
       replied_state m bytes taken takes got text stated = record {
         packet = m;
         got = got;
         text = text;
-        task = inside.task.part;
-        was = event.seated.1.is;
+        task = event.caller.part;
+        was = event.sits.is;
         done = event.done;
-        results = ap (task_effect (state inside).setup.config inside.number inside.task.part) (sym takes) ∙ event.results;
+        results = ap (task_effect seat.setup.config number event.caller.part) (sym takes) ∙ event.results;
         after = after_is;
         stated = stated;
       }

@@ -279,10 +279,10 @@ own_packets s parts world k small = record {
 
 -- an actor's word may count one event more, where the seat of that actor alone knows the result of the event
 pub turn_allows : {S : Type 0} (s : Setting S) → EventsKeep s → (slots id k : ℕ) (me : Sight) (says : Part → Type 0) → me ≡ alone k (part_in me.0) → HasEvent s k (part_in me.0) says
-    → Allows (Ruled s) slots id me (256 + k) (λ n. (n + 1) % 2 ^ 64) (λ found new. IsEventNoted says (actor_in me.0) new)
+    → Allows (Ruled s) slots id me (256 + k) (λ n. (n + 1) % 2 ^ 64) (λ found new. IsEventNoted says me.0 new)
 unfolding turned stepped
 turn_allows s keep slots id k me says is event =
-    subst (λ (sight : Sight). Allows (Ruled s) slots id sight (256 + k) (λ n. (n + 1) % 2 ^ 64) (λ found new. IsEventNoted says (actor_in sight.0) new)) (sym is)
+    subst (λ (sight : Sight). Allows (Ruled s) slots id sight (256 + k) (λ n. (n + 1) % 2 ^ 64) (λ found new. IsEventNoted says sight.0 new)) (sym is)
     (λ t r size here fits.
     let p' = event.0 in
     let after = turned s keep t r id k (part_in me.0) p' here event.1 in
@@ -294,6 +294,8 @@ turn_allows s keep slots id k me says is event =
       record {
         part = p';
         is = refl;
+        fills = ap (λ (q : Part). q.fills) (kept s keep t r id k (part_in me.0) p' here event.1).is;
+        takes = ap (λ (q : Part). q.takes) (kept s keep t r id k (part_in me.0) p' here event.1).is;
         own = subst (HasOwnPackets k) (value_here r.parts k p') own;
         picked = event.2;
       },

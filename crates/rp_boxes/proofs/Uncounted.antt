@@ -9,7 +9,7 @@ use Rattle.rp_world.specs.rp_replica.specs.State.{ReplicaState, part_of}
 use Rattle.rp_world.specs.rp_server.specs.Free.{has_uncounted}
 use Rattle.rp_world.specs.Nodes.{Member, RestsAs, RunsAs, RepresentsWhile, member_of}
 use Rattle.rp_boxes.specs.Parts.{Role, OfNode}
-use Rattle.rp_boxes.specs.Seats.{SeatState, IsNodePlace, HasUncounted}
+use Rattle.rp_boxes.specs.Seats.{SeatState, IsNodeAt, HasUncounted}
 
 same_node : (role : Role) (a b : NodePart) → role ≡ OfNode a → role ≡ OfNode b → a ≡ b
 same_node role a b is_a is_b = let e : OfNode a ≡ OfNode b = sym is_a ∙ is_b in cc
@@ -18,7 +18,7 @@ same_running : (a b : Running) → Some a ≡ Some b → a ≡ b
 same_running a b e = cc
 
 module _ {S P : Type 0} (next : S → Action → S) (answers : S → Action → List Answer) (begin : P → S) (seat : SeatState P) (replica : ReplicaState S)
-    (place : IsNodePlace seat.setup.config (begin seat.setup.program) seat.setup.number replica seat.part.role) where
+    (place : IsNodeAt begin replica seat.setup seat.part.role) where
   abbrev member : Member S
   member = member_of seat.setup.number seat.setup.config (begin seat.setup.program)
 

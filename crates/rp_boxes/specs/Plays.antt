@@ -5,7 +5,8 @@ use Rattle.atomic_table.specs.Table.{Me, rest}
 use Rattle.atomic_table.specs.Seated.{TableId}
 use Rattle.rp_base.specs.Sets.{Has}
 use Rattle.rp_codec.specs.Message.{Message}
-use Rattle.rp_boxes.specs.Parts.{Part, View, box_of, on_first, filling, emptying, emptied, with_put}
+use Rattle.rp_boxes.specs.Parts.{Part, View, actor_in, box_of, on_first, filling, emptying, emptied}
+use Rattle.rp_boxes.specs.Parts.{part_in, with_put}
 use Rattle.rp_boxes.specs.Rule.{Slot, IsCarried, IsVacant, HasOwnPackets}
 
 -- what a seat knows, and the slots that it has taken out
@@ -63,9 +64,12 @@ pub record IsPutBy (from to : ℕ) (bytes : List ℕ) (old new : Part) : Type 0 
 abbrev pub Cleared : Sight → Sight → Type 0
 Cleared old new = new ≡ (on_first emptied old.0, rest old.1)
 
--- an event of the actor happened, and this fact holds of its part
-pub record IsEventNoted (says : Part → Type 0) (k : ℕ) (new : Sight) : Type 0 where
+-- An event of the first actor of this view happened, which holds the boxes that it held, and this
+-- fact holds of its part.
+pub record IsEventNoted (says : Part → Type 0) (old : View) (new : Sight) : Type 0 where
   pub part : Part
-  pub is : new ≡ alone k part
-  pub own : HasOwnPackets k part
+  pub is : new ≡ alone (actor_in old) part
+  pub fills : part.fills ≡ (part_in old).fills
+  pub takes : part.takes ≡ (part_in old).takes
+  pub own : HasOwnPackets (actor_in old) part
   pub picked : says part

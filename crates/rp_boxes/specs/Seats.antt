@@ -75,13 +75,20 @@ pub record IsAtTable (table mine : TableId) (actor : ℕ) (me : Sight) : Type 0 
   pub takes : (part_in me.0).takes ≡ []
   pub own : HasOwnPackets actor (part_in me.0)
 
--- The replica is the node of this role; if its device failed, that node is stopped.
-pub record IsNodePlace {S : Type 0} (config : Config) (begin : S) (number : ℕ)
-    (replica : ReplicaState S) (role : Role) : Type 0 where
-  pub member : IsMember config.nodes number
+-- The replica is the node of a seat with this setup, of this role; if its device failed, that node
+-- is stopped.
+pub record IsNodeAt {S P : Type 0} (begin : P → S) (replica : ReplicaState S) (setup : SeatSetup P)
+    (role : Role) : Type 0 where
+  pub member : IsMember setup.config.nodes setup.number
   pub node : NodePart
   pub is : role ≡ OfNode node
-  pub represents : RepresentsWhile (member_of number config begin) replica node replica.failed
+  pub represents : RepresentsWhile (member_of setup.number setup.config (begin setup.program))
+      replica node replica.failed
+
+-- An event of the seat's party happened, and this fact holds of its part.
+pub record IsNoted {P : Type 0} (says : Part → Type 0) (old new : SeatState P) : Type 0 where
+  pub after : new ≡ record old { part = new.part }
+  pub picked : says new.part
 
 -- ---- inputs
 

@@ -23,17 +23,17 @@ use Rattle.rp_world.specs.rp_outbox.specs.Packets.{texts_of}
 use Rattle.rp_world.specs.rp_replica.specs.declared.sent.Sent.{Sent}
 use Rattle.rp_world.specs.Callers.{Caller}
 use Rattle.rp_boxes.specs.Parts.{Part, Role, OfTask, task_of, part_after}
-use Rattle.rp_boxes.specs.Seats.{SeatState}
+use Rattle.rp_boxes.specs.Seats.{SeatSetup, SeatState}
 
--- The stub is the task of this role, which has this number, knows what all nodes share, and waits
--- only for a valid call of its own.
-pub record IsTaskPlace (number : ℕ) (config mine : Config) (caller : Caller) (role : Role)
-    : Type 0 where
+-- The stub is the task of a seat with this setup, of this role; it knows what all nodes share, and
+-- waits only for a valid call of its own.
+pub record IsTaskAt {P : Type 0} (mine : Config) (caller : Caller) (setup : SeatSetup P)
+    (role : Role) : Type 0 where
   pub task : IsTask caller.task
   pub is : role ≡ OfTask caller.part
-  pub named : caller.task ≡ number
-  pub shared : mine ≡ config
-  pub waits : WaitsForOwn number caller.part
+  pub named : caller.task ≡ setup.number
+  pub shared : mine ≡ setup.config
+  pub waits : WaitsForOwn setup.number caller.part
 
 -- ---- calls
 

@@ -4,12 +4,13 @@ ghost use Rattle.std.specs.Prelude.{◌≡◌, ◌+◌, ◌≤◌, ◌<◌, ◌�
 ghost use Rattle.rp_base.specs.Config.{IsRightConfig};
 ghost use Rattle.rp_base.specs.declared.fault.Fault.TheVariants as faults;
 ghost use Rattle.rp_boxes.specs.FirstSeats.{AreFirstSeats, AreSeats, CanFail, IsFirstPlace, IsRest, IsResourceFault, after_seats, failures_of, first_in, first_seat, others_in};
-ghost use Rattle.rp_boxes.specs.Parts.{Part, View};
+ghost use Rattle.rp_boxes.specs.Parts.{Part, View, actor_of};
 ghost use Rattle.rp_boxes.specs.Plays.{IsSized};
 
-use crate::audit_seat::AuditSeat;
+use crate::actors::Sits;
 use crate::board::{Board, Known, Law, Place, Setup, Slots};
 use crate::node_seat::NodeSeat;
+use crate::seat::{AuditSeat, Seat};
 use crate::task_seat::TaskSeat;
 use atomic_table::{Split, Table};
 use rp_agreement::replies_follow_the_order;
@@ -147,16 +148,18 @@ impl<M: Machine> Unseated<M> {
         }
     }
 
-    /// The seat of the audit, which is the first actor.
-    fn audit(&mut self, alloc: Global) -> Result<AuditSeat<M>, AllocError>
-        requires { self.old.next ≡ 0 }
-        ensures ok { IfOk result (λ seat. seat
-            ≡ first_seat self.old.table self.old.config self.old.program 0 0 0) }
+    /// The seat of the next actor at the table.
+    fn seat<S: Sits>(&mut self, alloc: Global, number: S) -> Result<Seat<M, S>, AllocError>
+        requires next { self.old.next ≡ actor_of (S.party (S.number number)) }
+        requires within { self.old.next < 16 }
+        ensures ok { IfOk result (λ seat. seat ≡ first_seat self.old.table self.old.config
+            self.old.program (S.number number) self.old.next 0) }
         ensures rest { OnOk result (self.new ≡ after_seats 1 self.old) }
     {
         let board = Arc::try_clone(&self.board)?;
         let place = self.place();
-        Ok(AuditSeat {
+        Ok(Seat {
+            number,
             place,
             board,
             spares: Vec::new(alloc),
@@ -179,17 +182,14 @@ impl<M: Machine> Unseated<M> {
         ensures only { IfErr result IsResourceFault }
         ensures device { IsErrOf result Fault.Device → CanFail D.disk }
     {
-        let board = Arc::try_clone(&self.board)?;
+        let config = self.config;
         let node = NodeId::new(self.next as u8).unwrap();
-        match Replica::open(alloc, node, self.config, program, device) {
+        let seat = self.seat(alloc, node)?;
+        match Replica::open(alloc, node, config, program, device) {
             Ok(opening) => {
-                let place = self.place();
                 Ok(NodeSeat {
-                    node,
                     replica: opening.replica,
-                    place,
-                    board,
-                    spares: Vec::new(alloc),
+                    seat,
                     ends: Vec::new(alloc),
                 })
             }
@@ -229,15 +229,11 @@ impl<M: Machine> Unseated<M> {
             self.old.program task (7 + task) 0) }
         ensures rest { OnOk result (self.new ≡ after_seats 1 self.old) }
     {
-        let board = Arc::try_clone(&self.board)?;
-        let place = self.place();
+        let seat = self.seat(alloc, task)?;
         Ok(TaskSeat {
-            number: task,
             config: self.config,
             task: Task::new(alloc, task),
-            place,
-            board,
-            spares: Vec::new(alloc),
+            seat,
         })
     }
 
@@ -274,7 +270,7 @@ fn made<M: Machine, D: Device>(
     ensures device { IsErrOf result Fault.Device → CanFail D.disk }
 {
     let mut unseated = Unseated::<M>::new(alloc, config, program)?;
-    let audit = unseated.audit(alloc)?;
+    let audit = unseated.seat(alloc, ())?;
     let nodes = unseated.nodes(alloc, program, devices)?;
     unseated.skip_to(FIRST_TASK);
     let tasks = unseated.tasks(alloc)?;

@@ -11,9 +11,8 @@ ghost use Rattle.rp_boxes.specs.Moments.{WasNotFull};
 ghost use Rattle.rp_boxes.specs.OneOrder.{AreOfOneOrder, ShareOneOrder};
 ghost use Rattle.rp_boxes.specs.Seats.{IsFetched};
 
-use crate::audit_seat::AuditSeat;
 use crate::laws::order_laws;
-use crate::seat::Fetch;
+use crate::seat::{AuditSeat, Fetch};
 use crate::task_seat::TaskSeat;
 use rp_agreement::reports_follow_the_order;
 use rp_base::{Action, Fault, MOST_NODES, NodeId, Position};

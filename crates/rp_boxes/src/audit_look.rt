@@ -7,11 +7,12 @@ ghost use Rattle.rp_boxes.specs.Plays.{IsSized, alone};
 ghost use Rattle.rp_boxes.specs.Seats.{setting_at, table_setting};
 
 use crate::all_seats::split;
-use crate::audit_seat::AuditSeat;
 use crate::board::{Known, Place, Slots};
 use crate::look::look;
+use crate::seat::{AuditSeat, Seat};
 use crate::task_seat::TaskSeat;
 use atomic_table::Join;
+use rp_base::TaskId;
 use rp_model::rp_machine::Machine;
 use std::marker::Brand;
 
@@ -43,17 +44,7 @@ fn look_together<M: Machine>(slots: &Slots<M>, one: Place, other: Place) -> (Pla
     (first, both)
 }
 
-impl<M: Machine> AuditSeat<M> {
-    /// Looks at the table: there is a world that satisfies the rule and contains what the audit
-    /// knows.
-    pub(crate) fn look(&mut self)
-        ensures unchanged { self.new ≡ self.old }
-        ensures world { HasWorld (setting_at M.next M.answers M.begin self.old)
-            ((0, self.old.part) ∷ []) }
-    {
-        look::<M, Brand>(&self.board.shared, &mut self.place);
-    }
-
+impl<M: Machine> Seat<M, ()> {
     /// Looks at the table together with a task of the same table: one world contains what the two
     /// know.
     pub(crate) fn look_with_task(self, task: TaskSeat<M>) -> (AuditSeat<M>, TaskSeat<M>)
@@ -62,33 +53,43 @@ impl<M: Machine> AuditSeat<M> {
         ensures world { HasWorld (setting_at M.next M.answers M.begin task)
             ((7 + task.setup.number, task.part) ∷ (0, self.part) ∷ []) }
     {
-        let AuditSeat {
-            place,
-            board,
-            spares,
+        let TaskSeat { config, task, seat } = task;
+        let (audit, seat) = self.look_with_seat(seat);
+        (audit, TaskSeat { config, task, seat })
+    }
+
+    /// Looks at the table together with the seat of a task.
+    fn look_with_seat(self, seat: Seat<M, TaskId>) -> (AuditSeat<M>, Seat<M, TaskId>)
+        requires { self.setup.table ≡ seat.setup.table }
+        ensures same { (result.0 ≡ self) × (result.1 ≡ seat) }
+        ensures world { HasWorld (setting_at M.next M.answers M.begin seat)
+            ((7 + seat.setup.number, seat.part) ∷ (0, self.part) ∷ []) }
+    {
+        let Seat {
+            number: none,
+            place: own_place,
+            board: own_board,
+            spares: own_spares,
         } = self;
-        let TaskSeat {
+        let Seat {
             number,
-            config,
-            task,
-            place: task_place,
-            board: task_board,
-            spares: task_spares,
-        } = task;
-        let (task_place, place) = look_together::<M>(&task_board.shared, task_place, place);
-        let audit = AuditSeat {
+            place,
+            board,
+            spares,
+        } = seat;
+        let (place, own_place) = look_together::<M>(&board.shared, place, own_place);
+        let audit = Seat {
+            number: none,
+            place: own_place,
+            board: own_board,
+            spares: own_spares,
+        };
+        let seat = Seat {
+            number,
             place,
             board,
             spares,
         };
-        let task = TaskSeat {
-            number,
-            config,
-            task,
-            place: task_place,
-            board: task_board,
-            spares: task_spares,
-        };
-        (audit, task)
+        (audit, seat)
     }
 }

@@ -6,13 +6,13 @@
 //! - `events`: the atomic step that counts an event of an actor
 //! - `spares`: buffers that a seat keeps for later packets
 //! - `boxes`: the steps at a box: its sender fills it, its receiver empties it
-//! - `actors`: the numbers of the actors at the table
+//! - `actors`: who sits at the table, and the numbers of the actors there
 //! - `input`: the numbers that a node or a task is given are within their ranges
 //! - `look`: a look at the table: what follows from a seat's knowledge about all that happened
-//! - `seat`: what every seat does with its boxes: it fetches packets, and puts packets
+//! - `seat`: a seat at the table, and what every seat does with its boxes: it fetches packets, and
+//!   puts packets
 //! - `node_seat`: the seat of a node
 //! - `task_seat`: the seat of a task
-//! - `audit_seat`: the seat of the audit
 //! - `audit`: what the audit knows of the nodes
 //! - `audit_look`: the audit's seat looks at the table, alone or together with the seat of a task
 //! - `together`: all seats look at the table together, for the last time
@@ -23,7 +23,6 @@ mod actors;
 mod all_seats;
 mod audit;
 mod audit_look;
-mod audit_seat;
 mod board;
 mod boxes;
 mod events;
@@ -36,12 +35,12 @@ mod spares;
 mod task_seat;
 mod together;
 
+pub use actors::Sits;
 pub use all_seats::{AllSeats, seats};
 pub use audit::{Added, Audit};
-pub use audit_seat::AuditSeat;
 pub use node_seat::NodeSeat;
 pub use rp_model;
 pub use rp_model::rp_machine;
 pub use rp_world::rp_store;
-pub use seat::{Fetch, Put};
+pub use seat::{AuditSeat, Fetch, Put, Seat};
 pub use task_seat::TaskSeat;

@@ -12,13 +12,8 @@ ghost use Rattle.rp_boxes.specs.Looks.{WasSent};
 ghost use Rattle.rp_boxes.specs.Moments.{WasInUse, WasNotFull, WasPut};
 ghost use Rattle.rp_boxes.specs.Seats.{IsGot, IsTurn, IsCutTurn, IsLightTurn, IsNoTurn, IsSentText, IsPut, IsFetched, HasApplied, HasUncounted, IsRunning, IsStopped, IsReport};
 
-use crate::actors::{actor_of, receiver};
-use crate::board::{Board, Place};
-use crate::boxes::{empty, put_between};
-use crate::events::note;
 use crate::input::keeps_ranges;
-use crate::seat::{Fetch, Put};
-use crate::spares::{keep, spare_buffer};
+use crate::seat::{Fetch, Put, Seat};
 use rp_base::{Fault, NodeId, Position};
 use rp_codec::Party;
 use rp_model::rp_machine::Machine;
@@ -26,45 +21,25 @@ use rp_world::rp_replica::{Input, Replica, Sent, texts_are_packets};
 use rp_world::rp_store::{Device, InfallibleDevice};
 use std::alloc::Global;
 use std::marker::{Brand, Model};
-use std::sync::Arc;
 
-/// The seat of a node: the node itself, and its place at the table that all seats share. It may be
-/// moved to another thread, and none of its calls blocks.
+/// The seat of a node: the node itself, and its seat at the table that all share. It may be moved to
+/// another thread, and none of its calls blocks.
 #[derive(Drop)]
 pub struct NodeSeat<M: Machine, D: Device> {
-    pub(crate) node: NodeId,
     pub(crate) replica: Replica<M, D>,
-    pub(crate) place: Place,
-    pub(crate) board: Arc<Board<M>, Global>,
-    /// Buffers for later packets.
-    pub(crate) spares: Vec<Vec<u8>>,
+    pub(crate) seat: Seat<M, NodeId>,
     /// A buffer for the offsets at which the packets of a step end.
     pub(crate) ends: Vec<usize>,
 }
 
 impl<M: Machine, D: Device> Model for NodeSeat<M, D> {
-    ghost use Rattle.std.specs.Arc.{arc_value};
-    ghost use Rattle.rp_boxes.specs.Parts.{part_in};
-    ghost use Rattle.rp_boxes.specs.Seats.{SeatState, IsAtTable, IsNodePlace};
+    ghost use Rattle.rp_boxes.specs.Seats.{SeatState, IsNodeAt};
 
     ghost Value = { SeatState M.Program };
 
-    ghost view = { λ s. record {
-      setup = record {
-        table = s.place.table_id;
-        config = (arc_value s.board).shared.key.config;
-        program = (arc_value s.board).shared.key.program.value;
-        number = s.node;
-      };
-      failures = s.replica.disk.failures;
-      part = part_in s.place.me.0;
-    } };
+    ghost view = { λ s. record s.seat { failures = s.replica.disk.failures } };
 
-    ghost invariant = { λ s. IsAtTable
-        (arc_value s.board).shared.table_id s.place.table_id s.node s.place.me
-        × IsNodePlace (arc_value s.board).shared.key.config
-        (M.begin (arc_value s.board).shared.key.program.value) s.node s.replica
-        (part_in s.place.me.0).role };
+    ghost invariant = { λ s. IsNodeAt M.begin s.replica s.seat.setup s.seat.part.role };
 }
 
 impl<M: Machine, D: Device> NodeSeat<M, D> {
@@ -92,15 +67,15 @@ impl<M: Machine, D: Device> NodeSeat<M, D> {
     {
         keeps_ranges(input);
         texts_are_packets();
+        self.seat.packets_are_right();
         if self.replica.has_failed() {
             return Err(Fault::Failed);
         }
-        let node = Party::Node(self.node);
-        let buffer = spare_buffer(&mut self.spares, alloc);
+        let buffer = self.seat.buffer(alloc);
         match self.replica.turn_with(alloc, buffer, &mut self.ends, input) {
             Ok(sent) => {
                 let event = (&self.replica, input, &sent);
-                note::<M, _, Brand>(&self.board.shared, &mut self.place, node, &event);
+                self.seat.note::<_, Brand>(&event);
                 Ok(sent)
             }
             Err(fault) => {
@@ -108,7 +83,7 @@ impl<M: Machine, D: Device> NodeSeat<M, D> {
                     return Err(fault);
                 }
                 let event = (&self.replica, input);
-                note::<M, _, Brand>(&self.board.shared, &mut self.place, node, &event);
+                self.seat.note::<_, Brand>(&event);
                 Err(fault)
             }
         }
@@ -118,7 +93,7 @@ impl<M: Machine, D: Device> NodeSeat<M, D> {
     pub fn number(&self) -> NodeId
         ensures { result ≡ self.now.setup.number }
     {
-        self.node
+        self.seat.number()
     }
 
     /// All packets that the seat sent are right. It does nothing: its contract is for the callers'
@@ -126,7 +101,7 @@ impl<M: Machine, D: Device> NodeSeat<M, D> {
     pub fn sends_packets(&self)
         ensures { (m : Message) → Has m self.now.part.sent → IsPacket m }
     {
-        let _place = &self.place;
+        self.seat.packets_are_right();
     }
 
     /// How many actions the node has applied. `Failed` once its device has failed: then the node is
@@ -190,15 +165,7 @@ impl<M: Machine, D: Device> Fetch<M> for NodeSeat<M, D> {
     ghost party = { Node };
 
     fn fetch(&mut self, from: Party) -> Option<Vec<u8>> {
-        let from = actor_of(from);
-        let node = usize::from(self.node.get());
-        empty(
-            &self.board.shared,
-            &mut self.place,
-            from,
-            node,
-            &mut self.spares,
-        )
+        self.seat.fetch(from)
     }
 }
 
@@ -210,23 +177,15 @@ impl<M: Machine, D: Device> Put<M> for NodeSeat<M, D> {
     ghost party = { Node };
 
     fn put(&mut self, packet: Vec<u8>) -> Result<(), Vec<u8>> {
-        let to = receiver(packet.as_slice());
-        let node = usize::from(self.node.get());
-        put_between(
-            &self.board.shared,
-            &mut self.place,
-            (node, to),
-            packet,
-            &mut self.spares,
-        )
+        self.seat.put(packet)
     }
 
     fn lend(&mut self, buffer: Vec<u8>) {
-        keep(&mut self.spares, buffer);
+        self.seat.lend(buffer);
     }
 
     fn buffer(&mut self, alloc: Global) -> Vec<u8> {
-        spare_buffer(&mut self.spares, alloc)
+        self.seat.buffer(alloc)
     }
 }
 

@@ -16,15 +16,9 @@ ghost use Rattle.rp_boxes.specs.Seats.{IsFetched, IsGotText, IsPut, IsSentText};
 ghost use Rattle.rp_boxes.specs.TaskSeats.{IsTaskTurn, IsNoTaskTurn, IsReplyTurn};
 ghost use Rattle.rp_boxes.specs.TaskSeats.{asked_of, DescribesPackets, reply_effect};
 
-use crate::actors::{actor_of, receiver};
-use crate::board::{Board, Place};
-use crate::boxes::{empty, put_between};
-use crate::events::note;
 use crate::input::node_keeps_range;
 use crate::laws::order_laws;
-use crate::look::look;
-use crate::seat::{Fetch, Put};
-use crate::spares::{keep, spare_buffer};
+use crate::seat::{Fetch, Put, Seat};
 use rp_agreement::tasks_send_right_packets;
 use rp_base::{Action, Answer, Config, Fault, NodeId, Operation, Reply, TaskId};
 use rp_codec::{Party, encode_onto};
@@ -34,46 +28,26 @@ use rp_world::rp_replica::Sent;
 use rp_world::{Task, asks, decode_reply};
 use std::alloc::{AllocError, Global};
 use std::marker::{Brand, Model};
-use std::sync::Arc;
 
-/// The seat of a task: its calls and replies, and its place at the table that all seats share. It
-/// may be moved to another thread, and none of its calls blocks.
+/// The seat of a task: its calls and replies, and its seat at the table that all share. It may be
+/// moved to another thread, and none of its calls blocks.
 #[derive(Drop)]
 pub struct TaskSeat<M: Machine> {
-    pub(crate) number: TaskId,
     /// The configuration that all nodes share.
     pub(crate) config: Config,
     pub(crate) task: Task,
-    pub(crate) place: Place,
-    pub(crate) board: Arc<Board<M>, Global>,
-    /// Buffers for later packets.
-    pub(crate) spares: Vec<Vec<u8>>,
+    pub(crate) seat: Seat<M, TaskId>,
 }
 
 impl<M: Machine> Model for TaskSeat<M> {
-    ghost use Rattle.std.specs.Prelude.{◌+◌};
-    ghost use Rattle.std.specs.Arc.{arc_value};
-    ghost use Rattle.rp_boxes.specs.Parts.{part_in};
-    ghost use Rattle.rp_boxes.specs.Seats.{SeatState, IsAtTable};
-    ghost use Rattle.rp_boxes.specs.TaskSeats.{IsTaskPlace};
+    ghost use Rattle.rp_boxes.specs.Seats.{SeatState};
+    ghost use Rattle.rp_boxes.specs.TaskSeats.{IsTaskAt};
 
     ghost Value = { SeatState M.Program };
 
-    ghost view = { λ s. record {
-      setup = record {
-        table = s.place.table_id;
-        config = (arc_value s.board).shared.key.config;
-        program = (arc_value s.board).shared.key.program.value;
-        number = s.number;
-      };
-      failures = 0;
-      part = part_in s.place.me.0;
-    } };
+    ghost view = { λ s. s.seat };
 
-    ghost invariant = { λ s. IsAtTable (arc_value s.board).shared.table_id s.place.table_id
-        (7 + s.number) s.place.me
-        × IsTaskPlace s.number (arc_value s.board).shared.key.config s.config s.task
-        (part_in s.place.me.0).role };
+    ghost invariant = { λ s. IsTaskAt s.config s.task s.seat.setup s.seat.part.role };
 }
 
 impl<M: Machine> TaskSeat<M> {
@@ -99,12 +73,12 @@ impl<M: Machine> TaskSeat<M> {
         tasks_send_right_packets();
         node_keeps_range(node);
         let call = Some(self.task.next(self.config, node, object, operation, arg)?);
-        let buffer = spare_buffer(&mut self.spares, alloc);
-        let sent = asking(buffer, self.number, node, &call)?;
+        let number = self.seat.number();
+        let buffer = self.seat.buffer(alloc);
+        let sent = asking(buffer, number, node, &call)?;
         self.task.call(object, operation, arg);
-        let event = (&self.task, self.number, node, call);
-        let task = Party::Task(self.number);
-        note::<M, _, Brand>(&self.board.shared, &mut self.place, task, &event);
+        let event = (&self.task, number, node, call);
+        self.seat.note::<_, Brand>(&event);
         Ok(sent)
     }
 
@@ -120,11 +94,11 @@ impl<M: Machine> TaskSeat<M> {
             return Err(Fault::BadConfig);
         }
         let call = self.task.outstanding();
-        let buffer = spare_buffer(&mut self.spares, alloc);
-        let sent = asking(buffer, self.number, node, &call)?;
-        let event = (&self.task, self.number, node, call);
-        let task = Party::Task(self.number);
-        note::<M, _, Brand>(&self.board.shared, &mut self.place, task, &event);
+        let number = self.seat.number();
+        let buffer = self.seat.buffer(alloc);
+        let sent = asking(buffer, number, node, &call)?;
+        let event = (&self.task, number, node, call);
+        self.seat.note::<_, Brand>(&event);
         Ok(sent)
     }
 
@@ -149,10 +123,10 @@ impl<M: Machine> TaskSeat<M> {
     {
         order_laws::<M>();
         let stated = decode_reply(alloc, packet)?;
+        self.seat.packets_are_right();
         let taken = take(&mut self.task, stated)?;
-        let task = Party::Task(self.number);
-        note::<M, _, Brand>(&self.board.shared, &mut self.place, task, &self.task);
-        look::<M, Brand>(&self.board.shared, &mut self.place);
+        self.seat.note::<_, Brand>(&self.task);
+        self.seat.look();
         Ok(taken)
     }
 
@@ -160,7 +134,7 @@ impl<M: Machine> TaskSeat<M> {
     pub fn number(&self) -> TaskId
         ensures { result ≡ self.now.setup.number }
     {
-        self.number
+        self.seat.number()
     }
 
     /// The replies that the task took, in order.
@@ -179,15 +153,7 @@ impl<M: Machine> Fetch<M> for TaskSeat<M> {
     ghost party = { Task };
 
     fn fetch(&mut self, from: Party) -> Option<Vec<u8>> {
-        let from = actor_of(from);
-        let task = actor_of(Party::Task(self.number));
-        empty(
-            &self.board.shared,
-            &mut self.place,
-            from,
-            task,
-            &mut self.spares,
-        )
+        self.seat.fetch(from)
     }
 }
 
@@ -199,23 +165,15 @@ impl<M: Machine> Put<M> for TaskSeat<M> {
     ghost party = { Task };
 
     fn put(&mut self, packet: Vec<u8>) -> Result<(), Vec<u8>> {
-        let to = receiver(packet.as_slice());
-        let task = actor_of(Party::Task(self.number));
-        put_between(
-            &self.board.shared,
-            &mut self.place,
-            (task, to),
-            packet,
-            &mut self.spares,
-        )
+        self.seat.put(packet)
     }
 
     fn lend(&mut self, buffer: Vec<u8>) {
-        keep(&mut self.spares, buffer);
+        self.seat.lend(buffer);
     }
 
     fn buffer(&mut self, alloc: Global) -> Vec<u8> {
-        spare_buffer(&mut self.spares, alloc)
+        self.seat.buffer(alloc)
     }
 }
 

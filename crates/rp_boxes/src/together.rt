@@ -7,13 +7,14 @@ ghost use Rattle.rp_boxes.specs.Plays.{IsSized, alone};
 ghost use Rattle.rp_boxes.specs.Seats.{setting_at, table_setting};
 ghost use Rattle.rp_boxes.specs.Together.{AreTogether, of_node, of_task};
 
+use crate::actors::Sits;
 use crate::audit::Audit;
 use crate::audit_look::Both;
-use crate::audit_seat::AuditSeat;
 use crate::board::{Place, Slots};
 use crate::laws::order_laws;
 use crate::look::look;
 use crate::node_seat::NodeSeat;
+use crate::seat::Seat;
 use crate::task_seat::TaskSeat;
 use rp_agreement::{applied_lists_are_prefixes, reports_follow_the_order};
 use rp_model::rp_machine::Machine;
@@ -35,6 +36,18 @@ trait Leaves: Drop {
         ensures knows { result.me ≡ alone (known self).0 (known self).1 };
 }
 
+impl<M: Machine, S: Sits> Leaves for Seat<M, S> {
+    ghost use Rattle.rp_boxes.specs.Parts.{actor_of};
+
+    ghost at = { λ seat. seat.setup.table };
+
+    ghost known = { λ seat. (actor_of (S.party seat.setup.number), seat.part) };
+
+    fn into_place(self) -> Place {
+        self.place
+    }
+}
+
 impl<M: Machine, D: Device> Leaves for NodeSeat<M, D> {
     ghost use Rattle.rp_boxes.specs.Together.{of_node};
 
@@ -43,7 +56,7 @@ impl<M: Machine, D: Device> Leaves for NodeSeat<M, D> {
     ghost known = { of_node };
 
     fn into_place(self) -> Place {
-        self.place
+        self.seat.into_place()
     }
 }
 
@@ -55,7 +68,7 @@ impl<M: Machine> Leaves for TaskSeat<M> {
     ghost known = { of_task };
 
     fn into_place(self) -> Place {
-        self.place
+        self.seat.into_place()
     }
 }
 
@@ -104,7 +117,7 @@ fn look_as_one<M: Machine, D: Device>(
     look::<M, Brand>(slots, &mut all);
 }
 
-impl<M: Machine> AuditSeat<M> {
+impl<M: Machine> Seat<M, ()> {
     /// Looks at the table together with nodes and tasks of the same table: one world contains what
     /// all of them know.
     fn look_with<D: Device>(self, nodes: Vec<NodeSeat<M, D>>, tasks: Vec<TaskSeat<M>>)
@@ -113,7 +126,8 @@ impl<M: Machine> AuditSeat<M> {
         ensures { HasWorld (setting_at M.next M.answers M.begin self)
             (((0, self.part) ∷ map of_node nodes.items) ++ map of_task tasks.items) }
     {
-        let AuditSeat {
+        let Seat {
+            number: _none,
             place,
             board,
             spares: _spares,

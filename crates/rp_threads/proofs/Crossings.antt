@@ -8,6 +8,7 @@ use denote.Enum.Enum.{Sum, payload}
 use denote.Model.Local.{Parts}
 use denote.Model.Local as local
 use denote.Model.Marks.{tied_send}
+use denote.Param.{number}
 use denote.Param.Send.{IsSend, IsSync, AllSend, struct_send, recorded_send, sendable}
 use denote.Ref.{NamedLft}
 use denote.Struct.Declared.{shape}
@@ -44,6 +45,11 @@ use Rattle.rp_replica.specs.contracts.replica.Replica.TheInside as replica
 use Rattle.rp_tasks.specs.contracts.line.FaultLine as FaultLine
 use Rattle.rp_tasks.specs.contracts.line.FaultLine.TheInside as line
 use Rattle.rp_boxes.specs.rp_world.specs.contracts.task.Task as Task
+use Rattle.rp_base.specs.contracts.number.Id as Id
+use Rattle.rp_codec.specs.declared.packet.Party.TheVariants.{Node, Task}
+use Rattle.rp_boxes.specs.declared.actors.Sits as sits
+use Rattle.rp_boxes.specs.contracts.seat.Seat as Seat
+use Rattle.rp_boxes.specs.contracts.seat.Seat.TheInside as seat
 use Rattle.rp_boxes.specs.contracts.node_seat.NodeSeat as NodeSeat
 use Rattle.rp_boxes.specs.contracts.node_seat.NodeSeat.TheInside as node_seat
 use Rattle.rp_boxes.specs.contracts.task_seat.TaskSeat as TaskSeat
@@ -115,12 +121,25 @@ replica_inside M D P m d s t =
 pub replica_send : (M D P : RattleType) (m : machine.Ghosts M.Denot P.Denot) (d : device.Ghosts D.Denot) → IsSend M → IsSend D → IsSend (Replica.the_row M D P m d)
 replica_send M D P m d s t = let i = replica_inside M D P m d s t in search (sendable, i)
 
+-- ---- a seat at the table
+
+id_send : (N : RattleType) → IsSend (Id.the_row N)
+id_send N = search (crosses, sendable)
+
+seat_inside : (M S P : RattleType) (m : machine.Ghosts M.Denot P.Denot) (s : sits.Ghosts S.Denot) → IsSend M → IsSend S → IsSend (seat.the_row M S P m s)
+seat_inside M S P m s t u =
+    recorded_send (seat.the_field M S P m s).row _ _ (seat.the_type M S P m s).to_one (struct_send (shape (seat.the_type M S P m s))
+    (u, (search (crosses, sendable, place.the_send) depth 9, (search (crosses, sendable, shared.the_send, shared.the_sync, lease.the_send, lease.the_sync) depth 25, (search (crosses, sendable), tt)))))
+
+seat_send : (M S P : RattleType) (m : machine.Ghosts M.Denot P.Denot) (s : sits.Ghosts S.Denot) → IsSend M → IsSend S → IsSend (Seat.the_row M S P m s)
+seat_send M S P m s t u = let i = seat_inside M S P m s t u in search (sendable, i)
+
 -- ---- the seat of a node
 
 node_inside : (M D P : RattleType) (m : machine.Ghosts M.Denot P.Denot) (d : device.Ghosts D.Denot) → IsSend M → IsSend D → IsSend (node_seat.the_row M D P m d)
 node_inside M D P m d s t =
     recorded_send (node_seat.the_field M D P m d).row _ _ (node_seat.the_type M D P m d).to_one (struct_send (shape (node_seat.the_type M D P m d))
-    (search (crosses, sendable), (replica_send M D P m d s t, (search (crosses, sendable, place.the_send) depth 9, (search (crosses, sendable, shared.the_send, shared.the_sync, lease.the_send, lease.the_sync) depth 25, (search (crosses, sendable), (search (crosses, sendable), tt)))))))
+    (replica_send M D P m d s t, (seat_send M (Id.the_row (number 7)) P m (record { number = λ node. node; party = Node }) s (id_send (number 7)), (search (crosses, sendable), tt))))
 
 pub node_seat_send : (M D P : RattleType) (m : machine.Ghosts M.Denot P.Denot) (d : device.Ghosts D.Denot) → IsSend M → IsSend D → IsSend (NodeSeat.the_row M D P m d)
 node_seat_send M D P m d s t = let i = node_inside M D P m d s t in search (sendable, i)
@@ -133,7 +152,7 @@ task_send = search (crosses, sendable) depth 40 fits 20000
 task_inside : (M P : RattleType) (m : machine.Ghosts M.Denot P.Denot) → IsSend M → IsSend (task_seat.the_row M P m)
 task_inside M P m s =
     recorded_send (task_seat.the_field M P m).row _ _ (task_seat.the_type M P m).to_one (struct_send (shape (task_seat.the_type M P m))
-    (search (crosses, sendable), (search (crosses, sendable), (task_send, (search (crosses, sendable, place.the_send) depth 9, (search (crosses, sendable, shared.the_send, shared.the_sync, lease.the_send, lease.the_sync) depth 25, (search (crosses, sendable), tt)))))))
+    (search (crosses, sendable), (task_send, (seat_send M (Id.the_row (number 8)) P m (record { number = λ task. task; party = Task }) s (id_send (number 8)), tt))))
 
 pub task_seat_send : (M P : RattleType) (m : machine.Ghosts M.Denot P.Denot) → IsSend M → IsSend (TaskSeat.the_row M P m)
 task_seat_send M P m s = let i = task_inside M P m s in search (sendable, i)

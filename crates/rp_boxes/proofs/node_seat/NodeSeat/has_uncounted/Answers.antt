@@ -8,16 +8,16 @@ pub returns-then-not-has_failed-clause-some : goal.returns-then-not-has_failed-c
 returns-then-not-has_failed-clause-some g c is =
     let m = g.M.Machine in
     subst (HasUncounted m.next m.answers m.begin) c.self.view_is
-    (some_uncounted m.next m.answers m.begin _ c.self.inside.replica c.self.invariant.1 (sym c.has_failed.ensures ∙ c.if-not-has_failed.true) (sym c.has_uncounted.ensures ∙ is))
+    (some_uncounted m.next m.answers m.begin _ c.self.inside.replica c.self.invariant (sym c.has_failed.ensures ∙ c.if-not-has_failed.true) (sym c.has_uncounted.ensures ∙ is))
 
 pub returns-then-not-has_failed-clause-none : goal.returns-then-not-has_failed-clause-none
 returns-then-not-has_failed-clause-none g c is pending =
     let m = g.M.Machine in
-    none_counted m.next m.answers m.begin _ c.self.inside.replica c.self.invariant.1 (sym c.has_failed.ensures ∙ c.if-not-has_failed.true) (sym c.has_uncounted.ensures ∙ is)
+    none_counted m.next m.answers m.begin _ c.self.inside.replica c.self.invariant (sym c.has_failed.ensures ∙ c.if-not-has_failed.true) (sym c.has_uncounted.ensures ∙ is)
     (subst (HasUncounted m.next m.answers m.begin) (sym c.self.view_is) pending)
 
 pub returns-else-not-has_failed-clause-none : goal.returns-else-not-has_failed-clause-none
 returns-else-not-has_failed-clause-none g c is pending =
     let m = g.M.Machine in
-    none_failed m.next m.answers m.begin _ c.self.inside.replica c.self.invariant.1 (sym c.has_failed.ensures ∙ c.if-not-has_failed.false)
+    none_failed m.next m.answers m.begin _ c.self.inside.replica c.self.invariant (sym c.has_failed.ensures ∙ c.if-not-has_failed.false)
     (subst (HasUncounted m.next m.answers m.begin) (sym c.self.view_is) pending)

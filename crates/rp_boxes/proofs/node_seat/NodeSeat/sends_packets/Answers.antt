@@ -1,4 +1,4 @@
--- The seat's place keeps its own packets right.
+-- The seat's packets are right.
 use Rattle.std.proofs.Common.{subst}
 use Rattle.rp_base.specs.Sets.{Has}
 use Rattle.rp_codec.specs.Message.{IsPacket}
@@ -6,4 +6,4 @@ use Rattle.rp_boxes.specs.Seats.{SeatState}
 use Rattle.rp_boxes.proofs.node_seat.NodeSeat.sends_packets.Goals as goal
 
 pub returns : goal.returns
-returns g c m = subst (λ (seat_state : SeatState g.row.M-Program.Denot). Has m seat_state.part.sent → IsPacket m) c.self.view_is (λ has. (c.self.invariant.0.own.sent m has).0)
+returns g c m = subst (λ (seat_state : SeatState g.row.M-Program.Denot). Has m seat_state.part.sent → IsPacket m) c.self.view_is (λ has. (c.packets_are_right.ensures.sent m has).0)

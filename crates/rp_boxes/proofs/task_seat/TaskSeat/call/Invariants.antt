@@ -1,10 +1,7 @@
 -- What is said of the task's part once its call is counted.
-use Rattle.rp_boxes.specs.Parts.{part_in}
 use Rattle.rp_boxes.specs.TaskSeats.{asked_of}
 use Rattle.rp_boxes.proofs.TaskTurns.{BecomesPart}
 use Rattle.rp_boxes.proofs.task_seat.TaskSeat.call.Given as goal
 
 abbrev pub ghosts-note : goal.ghosts-note
-ghosts-note g a = record {
-  says = BecomesPart (part_in a.place.now.me.0) a.event.now.0.now.part (asked_of a.event.now.1 a.event.now.2 a.event.now.3);
-}
+ghosts-note g a = record { says = BecomesPart a.self.now.part a.event.now.0.now.part (asked_of a.event.now.1 a.event.now.2 a.event.now.3) }

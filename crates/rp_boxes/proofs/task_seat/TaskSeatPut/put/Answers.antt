@@ -1,37 +1,12 @@
--- The packet is one that the seat sent, so its text names its receiver.
-use Rattle.std.proofs.Common.{◌+◌, sym, subst, ◌∙◌}
-use Rattle.std.proofs.lemmas.Result.{IfErr-weaker}
-use Rattle.std.specs.Arc.{arc_value}
-use Rattle.rp_codec.specs.declared.packet.Party.TheVariants.{Task}
-use Rattle.rp_boxes.specs.Parts.{part_in}
+-- A task puts what its seat at the table put.
+use Rattle.std.proofs.Common.{sym, subst}
+use Rattle.rp_boxes.specs.TaskSeats.{IsTaskAt}
 use Rattle.rp_boxes.specs.Seats.{SeatState, IsSentText}
-use Rattle.rp_boxes.specs.TaskSeats.{IsTaskPlace}
-use Rattle.rp_boxes.proofs.SeatBoxes.{PutStep, box_step, carries, put_keeps, used_state}
-use Rattle.rp_boxes.proofs.task_seat.TaskSeatPut.put.Given as given
+use Rattle.rp_boxes.proofs.SeatBoxes.{put_stays}
 use Rattle.rp_boxes.proofs.task_seat.TaskSeatPut.put.Goals as goal
-use Rattle.rp_boxes.proofs.task_seat.TaskSeatPut.put.Goals.{After-put_between}
 
--- the step at the box
-abbrev puts : (g : given.Over) (c : After-put_between g) → PutStep g.row.M.Denot g.row.M-Program.Denot
-puts g c = record {
-  step = box_step (Task c.self.inside.number) c.self.inside.number 0 c.self.inside.place c.put_between.new.place c.deref.ensures c.actor_of-task.ensures.actor c.self.invariant.0 c.put_between.ensures.table;
-  bytes = c.args.packet.items;
-  to = c.receiver-to.result;
-  sent = subst (λ (seat : SeatState g.row.M-Program.Denot). IsSentText seat.part c.args.packet.items) (sym c.self.view_is) c.requires.sent;
-  receiver = λ m right is. c.receiver-to.ensures.named m right (c.as_slice.ensures.value ∙ is);
-  sees = c.put_between.ensures.place;
-}
-
-pub put_between-requires-clause-packet : goal.put_between-requires-clause-packet
-put_between-requires-clause-packet g c =
-    let sent = subst (λ (seat : SeatState g.row.M-Program.Denot). IsSentText seat.part c.args.packet.items) (sym c.self.view_is) c.requires.sent in
-    carries c.actor_of-task.result (7 + c.self.inside.number) c.receiver-to.result (part_in c.self.inside.place.me.0) c.args.packet.items c.actor_of-task.ensures.actor c.self.invariant.0.own sent
-    (λ m right is. c.receiver-to.ensures.named m right (c.as_slice.ensures.value ∙ is))
+pub put-requires : goal.put-requires
+put-requires g c = record { sent = subst (λ (seat : SeatState g.row.M-Program.Denot). IsSentText seat.part c.args.packet.items) (sym c.self.view_is) c.requires.sent }
 
 pub invariant_of-self : goal.invariant_of-self
-invariant_of-self g c =
-    let kept = put_keeps (puts g (goal.at.invariant_of-self g c).After-put_between) c.put_between.result c.put_between.ensures.put c.put_between.ensures.unchanged in
-    (kept.0, subst (IsTaskPlace c.self.inside.number (arc_value c.self.inside.board).shared.key.config c.self.inside.config c.self.inside.task) (sym kept.1) c.self.invariant.1)
-
-pub returns-clause-used : goal.returns-clause-used
-returns-clause-used g c = IfErr-weaker c.put_between.result _ _ (λ back. used_state (puts g (goal.at.returns-clause-used g c).After-put_between) g.M.Machine) c.put_between.ensures.used
+invariant_of-self g c = put_stays (IsTaskAt c.self.inside.config c.self.inside.task) c.self.inside.seat c.put.new.self c.self.invariant _ c.put.result c.put.ensures.put c.put.ensures.unchanged

@@ -1,9 +1,10 @@
--- The place knows the audit alone.
+-- The place knows one actor.
 use Rattle.std.proofs.Common.{[], ◌∷◌, subst}
 use Rattle.rp_boxes.specs.Looks.{HasWorld}
+use Rattle.rp_boxes.specs.Parts.{actor_of}
 use Rattle.rp_boxes.specs.Seats.{SeatState, setting_at}
 use Rattle.rp_boxes.proofs.SeatBoxes.{world_at}
-use Rattle.rp_boxes.proofs.audit_seat.AuditSeat.look.Goals as goal
+use Rattle.rp_boxes.proofs.seat.Seat.look.Goals as goal
 
 pub look-requires-clause-follows : goal.look-requires-clause-follows
 look-requires-clause-follows g c = λ parts world. (parts, world)
@@ -11,5 +12,5 @@ look-requires-clause-follows g c = λ parts world. (parts, world)
 pub returns-clause-world : goal.returns-clause-world
 returns-clause-world g c =
     let m = g.M.Machine in
-    subst (λ (seat : SeatState g.row.M-Program.Denot). HasWorld (setting_at m.next m.answers m.begin seat) ((0, seat.part) ∷ [])) c.self.view_is
-    (world_at m _ _ c.self.inside.place.me _ (λ v. v) c.deref.ensures c.self.invariant.0.place c.look.ensures.picked)
+    subst (λ (seat : SeatState g.row.M-Program.Denot). HasWorld (setting_at m.next m.answers m.begin seat) ((actor_of (g.S.Sits.party seat.setup.number), seat.part) ∷ [])) c.self.view_is
+    (world_at m _ _ _ c.self.inside.place.me _ (λ v. v) c.deref.ensures c.self.invariant.place c.look.ensures.picked)

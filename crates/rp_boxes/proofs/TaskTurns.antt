@@ -234,7 +234,7 @@ module _ {P : Type 0} (event : TaskEvent P) where
 
 -- ---- the seat where nothing happened
 
--- what holds at the fault that an answer is
-pub at_fault : {A : Type 0} (Q : Fault → Type 0) (fault : Fault) (r : Result A Fault) → IsErrAnd r (λ e. e ≡ fault) → Q fault → IfErr r Q
+-- what holds at the error that an answer is
+pub at_fault : {A E : Type 0} (Q : E → Type 0) (fault : E) (r : Result A E) → IsErrAnd r (λ e. e ≡ fault) → Q fault → IfErr r Q
 at_fault Q fault (Ok stated) is q = tt
 at_fault Q fault (Err other) is q = subst Q (sym is) q

@@ -17,7 +17,7 @@ ghost use Rattle.rp_boxes.specs.Seats.{table_setting};
 use crate::board::{Known, Place, Slots};
 use crate::events::Fact;
 use crate::look::look;
-use crate::spares::{keep_left, spare};
+use crate::spares::spare;
 use atomic_table::Play;
 use rp_model::rp_machine::Machine;
 use std::marker::{Brand, PhantomData};
@@ -169,41 +169,6 @@ pub(crate) fn fill<M: Machine>(
         return Err(packet);
     }
     Ok(deliver::<M, Brand>(slots, place, from, to, packet))
-}
-
-/// Puts a packet as `fill`, the way from one actor to another, and keeps the buffer that was in the
-/// box.
-pub(crate) fn put_between<M: Machine>(
-    slots: &Slots<M>,
-    place: &mut Place,
-    way: (usize, usize),
-    packet: Vec<u8>,
-    spares: &mut Vec<Vec<u8>>,
-) -> Result<(), Vec<u8>>
-    requires table { place.old.table_id ≡ slots.now.table_id }
-    requires sized { IsSized slots.now.table_id }
-    requires from { way.0 < 16 }
-    requires to { way.1 < 16 }
-    requires place { place.old.me ≡ alone way.0 (part_in place.old.me.0) }
-    requires free { (part_in place.old.me.0).fills ≡ [] }
-    requires packet { (m : Message) × Has m (part_in place.old.me.0).sent
-        × IsCarried way.0 way.1 packet.items m }
-    ensures table { place.new.table_id ≡ place.old.table_id }
-    ensures place { place.new.me ≡ alone way.0 (part_in place.new.me.0) }
-    ensures put { OnOk result (IsPutBy way.0 way.1 packet.items (part_in place.old.me.0)
-        (part_in place.new.me.0)) }
-    ensures full { OnOk result (WasFull (table_setting M.Machine slots.now.key) place.new.me.0
-        (box_of way.0 way.1) packet.items) }
-    ensures back { IfErr result (λ back. back ≡ packet) }
-    ensures unchanged { IfErr result (λ back. place.new.me ≡ place.old.me) }
-    ensures used { IfErr result
-        (λ back. WasWord (table_setting M.Machine slots.now.key) place.new.me.0 (box_of way.0 way.1)
-        (λ word. word ≢ 0)) }
-{
-    let (from, to) = way;
-    let left = fill(slots, place, from, to, packet)?;
-    keep_left(spares, left);
-    Ok(())
 }
 
 /// Claims the box from another actor if it is full, and returns whether it was. If it was not, the

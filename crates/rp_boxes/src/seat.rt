@@ -11,11 +11,11 @@ ghost use Rattle.rp_boxes.specs.Steps.{HasEvent};
 
 use crate::actors::{Sits, actor_of, receiver};
 use crate::board::{Board, Place};
-use crate::boxes::{empty, put_between};
+use crate::boxes::{empty, fill};
 use crate::events::{Fact, Turns};
 use crate::laws::events_keep;
 use crate::look::look;
-use crate::spares::{keep, spare_buffer};
+use crate::spares::{keep, keep_left, spare_buffer};
 use rp_codec::Party;
 use rp_model::rp_machine::Machine;
 use std::alloc::Global;
@@ -192,13 +192,9 @@ impl<M: Machine, S: Sits> Put<M> for Seat<M, S> {
     fn put(&mut self, packet: Vec<u8>) -> Result<(), Vec<u8>> {
         let to = receiver(packet.as_slice());
         let from = actor_of(self.number.sitting());
-        put_between(
-            &self.board.shared,
-            &mut self.place,
-            (from, to),
-            packet,
-            &mut self.spares,
-        )
+        let left = fill(&self.board.shared, &mut self.place, from, to, packet)?;
+        keep_left(&mut self.spares, left);
+        Ok(())
     }
 
     fn lend(&mut self, buffer: Vec<u8>) {

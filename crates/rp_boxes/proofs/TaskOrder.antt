@@ -15,7 +15,6 @@ use Rattle.rp_boxes.specs.Looks.{HasWorld, IsWorldOf}
 use Rattle.rp_boxes.specs.OneOrder.{HasOneOrder}
 use Rattle.rp_boxes.specs.OrderLaws.{OrderLaws}
 use Rattle.rp_boxes.specs.Parts.{Part, View, task_of}
-use Rattle.rp_boxes.specs.Plays.{Sight, alone}
 use Rattle.rp_boxes.specs.Rule.{node_among, task_among, all_sent}
 use Rattle.rp_boxes.specs.Seats.{SeatState, setting_at}
 use Rattle.rp_boxes.specs.TaskSeats.{IsOfOrder}

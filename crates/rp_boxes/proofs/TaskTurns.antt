@@ -20,7 +20,7 @@ use Rattle.rp_model.specs.rp_machine.specs.declared.machine.Machine.{Ghosts}
 use Rattle.rp_model.specs.Effect.{Done, goes_on_as}
 use Rattle.rp_model.specs.Parts.{TaskPart}
 use Rattle.rp_model.specs.Tasks as tasks
-use Rattle.rp_model.specs.Tasks.{TaskInput, asks, next_call, may_call, calls_if, asks_again, takes, takes_reply, task_hears, task_effect}
+use Rattle.rp_model.specs.Tasks.{TaskInput, asks, next_call, may_call, calls_if, asks_again, takes, task_hears, task_effect}
 use Rattle.rp_agreement.specs.Inputs.{IsTaskInput, WaitsForOwn}
 use Rattle.rp_agreement.specs.Sound.{IsCall}
 use Rattle.rp_agreement.proofs.Lists.{some_same}

@@ -10,12 +10,12 @@ use Rattle.rp_base.specs.Sets.{Has}
 use Rattle.rp_base.proofs.Members.{has_split, has_left, has_right}
 use Rattle.rp_codec.specs.Message.{Message}
 use Rattle.rp_model.specs.Effect as nodes
-use Rattle.rp_model.specs.Effect.{Setting, Done, NodeInput, node_effect, cut_effect}
+use Rattle.rp_model.specs.Effect.{Setting, NodeInput}
 use Rattle.rp_model.specs.Tasks as tasks
 use Rattle.rp_model.specs.Tasks.{TaskInput, task_effect}
 use Rattle.rp_model.specs.Parts.{NodePart, TaskPart}
 use Rattle.rp_agreement.specs.Inputs.{IsInput, IsTaskInput, NodeMoves, TaskMoves}
-use Rattle.rp_boxes.specs.Parts.{Part, View, Role, OfNode, OfTask, actor_in, actor_of, box_of, from_actor, node_of, task_of, part_after, part_in, to_actor}
+use Rattle.rp_boxes.specs.Parts.{Part, View, Role, OfNode, OfTask, actor_of, box_of, from_actor, node_of, task_of, part_after, part_in, to_actor}
 use Rattle.rp_boxes.specs.Rule.{Slot, IsGood, IsGoodAt, IsWorld, IsBox, IsCarriedOver, Ruled, HasOwnPackets, node_among, task_among, all_sent}
 use Rattle.rp_boxes.specs.Steps.{ResultsInPart, IsNodeEvent, IsTaskEvent, IsEvent, HasEvent}
 use Rattle.rp_boxes.specs.Laws.{EventsKeep}

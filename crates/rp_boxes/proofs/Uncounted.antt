@@ -1,5 +1,5 @@
 -- Whether something is pending at a seat's node that did not count yet.
-use Rattle.std.proofs.Common.{◌≡◌, Bool, true, false, Option, Some, None, List, refl, sym, ap, subst, ◌∙◌}
+use Rattle.std.proofs.Common.{◌≡◌, Bool, true, false, Some, None, List, refl, sym, ap, subst, ◌∙◌}
 use Rattle.rp_base.specs.Records.{applied_of}
 use Rattle.rp_base.specs.declared.action.Action.{Action}
 use Rattle.rp_base.specs.declared.reply.Answer.{Answer}

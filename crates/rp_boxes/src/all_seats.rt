@@ -8,7 +8,7 @@ ghost use Rattle.rp_boxes.specs.Parts.{Part, View, actor_of};
 ghost use Rattle.rp_boxes.specs.Plays.{IsSized};
 
 use crate::actors::Sits;
-use crate::board::{Board, Known, Law, Place, Setup, Slots};
+use crate::board::{Board, Known, Place, Setup, Slots};
 use crate::node_seat::NodeSeat;
 use crate::seat::{AuditSeat, Seat};
 use crate::task_seat::TaskSeat;
@@ -16,7 +16,7 @@ use atomic_table::{Split, Table};
 use rp_agreement::replies_follow_the_order;
 use rp_base::{Config, Fault, MOST_NODES, MOST_TASKS, NodeId, TaskId};
 use rp_model::rp_machine::Machine;
-use rp_world::rp_replica::{Opening, Replica};
+use rp_world::rp_replica::Replica;
 use rp_world::rp_store::Device;
 use rp_world::{Task, are_empty};
 use std::alloc::{AllocError, Global};

@@ -1,6 +1,6 @@
 //! The audit's seat looks at the table, alone or together with the seat of a task.
 
-ghost use Rattle.std.specs.Prelude.{◌≡◌, ◌+◌, ◌++◌, ◌∷◌, [], ℕ};
+ghost use Rattle.std.specs.Prelude.{◌≡◌, ◌+◌, ◌++◌, ◌∷◌, []};
 ghost use Rattle.rp_boxes.specs.Looks.{HasWorld};
 ghost use Rattle.rp_boxes.specs.Parts.{actor_in, part_in};
 ghost use Rattle.rp_boxes.specs.Plays.{IsSized, alone};

@@ -9,7 +9,7 @@ ghost use Rattle.rp_base.specs.Sets.{Has};
 ghost use Rattle.rp_codec.specs.Message.{Message};
 ghost use Rattle.rp_boxes.specs.Looks.{HasWorld};
 ghost use Rattle.rp_boxes.specs.Moments.{IsMoment, MayClaim, WasFull, WasWord};
-ghost use Rattle.rp_boxes.specs.Parts.{Part, View, box_of, emptying, filled, filling, part_in, with_got};
+ghost use Rattle.rp_boxes.specs.Parts.{View, box_of, emptying, filled, filling, part_in, with_got};
 ghost use Rattle.rp_boxes.specs.Plays.{IsPutBy, IsSized, alone, holding};
 ghost use Rattle.rp_boxes.specs.Rule.{IsCarried, IsVacant, Slot};
 ghost use Rattle.rp_boxes.specs.Seats.{table_setting};

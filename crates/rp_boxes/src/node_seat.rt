@@ -1,6 +1,6 @@
 //! The seat of a node.
 
-ghost use Rattle.std.specs.Prelude.{◌≡◌, ◌⊎◌, [], nat_lt, length, false, IfOk, IfErr, IfSome, IfNone, OnOk, IsOk, IsOkUnless, IsTrue};
+ghost use Rattle.std.specs.Prelude.{◌≡◌, ◌⊎◌, nat_lt, length, false, IfOk, IfErr, IsOk, IsOkUnless, IsTrue};
 ghost use Rattle.rp_base.specs.Sets.{Has};
 ghost use Rattle.rp_base.specs.declared.fault.Fault.TheVariants as faults;
 ghost use Rattle.rp_codec.specs.Message.{Message, IsPacket};
@@ -8,9 +8,7 @@ ghost use Rattle.rp_codec.specs.declared.packet.Party.TheVariants.{Node};
 ghost use Rattle.rp_model.specs.Parts.{Running};
 ghost use Rattle.rp_world.specs.rp_rules.specs.Inputs.{IsRightInput};
 ghost use Rattle.rp_world.specs.rp_rules.specs.declared.input.Input.TheVariants.{Report};
-ghost use Rattle.rp_boxes.specs.Looks.{WasSent};
-ghost use Rattle.rp_boxes.specs.Moments.{WasInUse, WasNotFull, WasPut};
-ghost use Rattle.rp_boxes.specs.Seats.{IsGot, IsTurn, IsCutTurn, IsLightTurn, IsNoTurn, IsSentText, IsPut, IsFetched, HasApplied, HasUncounted, IsRunning, IsStopped, IsReport};
+ghost use Rattle.rp_boxes.specs.Seats.{IsGot, IsTurn, IsCutTurn, IsLightTurn, IsNoTurn, HasApplied, HasUncounted, IsRunning, IsStopped, IsReport};
 
 use crate::input::keeps_ranges;
 use crate::seat::{Fetch, Put, Seat};

@@ -1,18 +1,13 @@
 //! The seat of a task.
 
-ghost use Rattle.std.specs.Prelude.{◌≡◌, [], IfOk, IfErr, IfSome, IfNone, OnOk, OnErr};
+ghost use Rattle.std.specs.Prelude.{◌≡◌, [], IfOk, IfErr, IfSome, OnErr};
 ghost use Rattle.rp_base.specs.Action.{IsRight};
-ghost use Rattle.rp_base.specs.Sets.{Has};
 ghost use Rattle.rp_base.specs.declared.fault.Fault.TheVariants.{OutOfMemory};
-ghost use Rattle.rp_codec.specs.Message.{Message, IsCallBy};
-ghost use Rattle.rp_codec.specs.Text.{text_of};
-ghost use Rattle.rp_codec.specs.declared.packet.Party.TheVariants as parties;
+ghost use Rattle.rp_codec.specs.Message.{IsCallBy};
 ghost use Rattle.rp_model.specs.Tasks.{Submit, Again};
-ghost use Rattle.rp_boxes.specs.Looks.{WasSent};
-ghost use Rattle.rp_boxes.specs.Moments.{WasInUse, WasNotFull, WasPut};
 ghost use Rattle.rp_boxes.specs.OneOrder.{HasOneOrder};
 ghost use Rattle.rp_boxes.specs.Parts.{task_of};
-ghost use Rattle.rp_boxes.specs.Seats.{IsFetched, IsGotText, IsPut, IsSentText};
+ghost use Rattle.rp_boxes.specs.Seats.{IsGotText};
 ghost use Rattle.rp_boxes.specs.TaskSeats.{IsTaskTurn, IsNoTaskTurn, IsReplyTurn};
 ghost use Rattle.rp_boxes.specs.TaskSeats.{asked_of, DescribesPackets, reply_effect};
 

@@ -1,6 +1,6 @@
 //! All seats look at the table together, for the last time.
 
-ghost use Rattle.std.specs.Prelude.{◌≡◌, ◌+◌, ◌++◌, ◌∷◌, [], ℕ, All, map};
+ghost use Rattle.std.specs.Prelude.{◌≡◌, ◌+◌, ◌++◌, ◌∷◌, ℕ, All, map};
 ghost use Rattle.rp_boxes.specs.Looks.{HasWorld};
 ghost use Rattle.rp_boxes.specs.Parts.{actor_in, part_in};
 ghost use Rattle.rp_boxes.specs.Plays.{IsSized, alone};

@@ -1,5 +1,5 @@
 -- A replica over an empty device is the node of its seat.
-use Rattle.std.proofs.Common.{◌≡◌, ℕ, sym, ap, ◌∙◌, arith}
+use Rattle.std.proofs.Common.{◌≡◌, sym, ap, ◌∙◌, arith}
 use Rattle.rp_world.specs.Nodes.{member_of}
 use Rattle.rp_world.proofs.Moving.{at_if}
 use Rattle.rp_world.proofs.Represented.{runs_fresh}

@@ -1,5 +1,5 @@
 -- The turn is one event of the node, a cut of it, or none.
-use Rattle.std.proofs.Common.{◌≡◌, true, false, Result, Err, inl, inr, sym, ap, subst, ◌∙◌}
+use Rattle.std.proofs.Common.{◌≡◌, true, false, Result, Err, inl, inr, sym, subst, ◌∙◌}
 use Rattle.rp_base.specs.declared.fault.Fault.{Fault}
 use Rattle.rp_world.specs.rp_replica.specs.declared.sent.Sent.{Sent}
 use Rattle.rp_boxes.specs.Seats.{SeatState, IsGot, IsTurn, IsCutTurn, IsLightTurn, IsNoTurn}

@@ -1,5 +1,4 @@
 -- A node gets what its seat at the table got.
-use Rattle.std.proofs.Common.{ap}
 use Rattle.rp_boxes.specs.Seats.{IsNodeAt}
 use Rattle.rp_boxes.proofs.SeatBoxes.{fetched_stays}
 use Rattle.rp_boxes.proofs.node_seat.NodeSeatFetch.fetch.Goals as goal

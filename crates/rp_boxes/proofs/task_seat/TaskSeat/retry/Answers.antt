@@ -1,8 +1,7 @@
 -- The question is one event of the task, or none.
-use Rattle.std.proofs.Common.{◌≡◌, ℕ, true, false, Option, refl, sym, ap, subst, ◌∙◌, arith}
+use Rattle.std.proofs.Common.{◌≡◌, true, false, refl, sym, ap, subst, arith}
 use Rattle.std.specs.Prelude.{nat_lt, IfErr}
 use Rattle.std.proofs.lemmas.Bool.{lt-ltb, le-ltb}
-use Rattle.rp_base.specs.declared.action.Action.{Action}
 use Rattle.rp_base.specs.declared.config.Config.{Config}
 use Rattle.rp_base.specs.declared.fault.Fault.TheVariants.{OutOfMemory, BadConfig}
 use Rattle.rp_model.specs.Tasks.{Again}

@@ -1,5 +1,4 @@
 -- A task gets what its seat at the table got.
-use Rattle.std.proofs.Common.{ap}
 use Rattle.rp_boxes.specs.TaskSeats.{IsTaskAt}
 use Rattle.rp_boxes.proofs.SeatBoxes.{fetched_stays}
 use Rattle.rp_boxes.proofs.task_seat.TaskSeatFetch.fetch.Goals as goal

@@ -1,5 +1,5 @@
 -- What a call or a report sent is one packet, and the bytes are its text.
-use Rattle.std.proofs.Common.{◌≡◌, ℕ, ℤ, Option, Some, None, Result, Ok, Err, List, [], ◌∷◌, ◌++◌, length, slice_index_or, refl, sym, ap, subst, ◌∙◌, append-nil, inl, arith}
+use Rattle.std.proofs.Common.{◌≡◌, ℕ, ℤ, Result, Ok, Err, List, [], ◌∷◌, ◌++◌, length, slice_index_or, refl, sym, ap, subst, ◌∙◌, append-nil, inl, arith}
 use Rattle.std.specs.Prelude.{IfOk}
 use Rattle.rp_threads.specs.atomic_table.specs.Seated.{TableId}
 use Rattle.rp_threads.specs.rp_base.specs.Records.{applied_of}

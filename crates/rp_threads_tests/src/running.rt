@@ -1,24 +1,24 @@
 //! Nodes and a task run, each in a thread.
 
-ghost use Rattle.std.specs.Prelude.{◌≡◌, ◌<◌, [], All, IfOk, IfSome, length, slice_get};
+ghost use Rattle.std.specs.Prelude.{◌≡◌, ◌<◌, [], All, IfSome, length, slice_get};
 ghost use Rattle.rp_threads.specs.rp_boxes.specs.Parts.{fresh_part, OfTask};
 ghost use Rattle.rp_threads.specs.rp_model.specs.Parts.{fresh_task};
 
-use crate::setup::CONFIG;
+use crate::setup::{all_seats, empty_devices, node, one_tally};
 use rp_threads::rp_base::{Fault, NodeId, Operation, Position};
-use rp_threads::rp_boxes::{Added, AllSeats, Audit, NodeSeat, TaskSeat, seats};
+use rp_threads::rp_boxes::{Added, Audit, NodeSeat, TaskSeat};
 use rp_threads::rp_codec::{Body, Party, decode, packet_len};
-use rp_threads::rp_machine::{Machine, Tally, TallyProgram};
+use rp_threads::rp_machine::{Machine, Tally};
 use rp_threads::rp_replica::Input;
 use rp_threads::rp_store::{Device, MemDevice};
 use rp_threads::rp_tasks::FaultLine;
 use rp_threads::{
-    Gate, LoopOptions, NodeEnd, NodeStart, TaskCall, TaskStart, node_step, run_threads,
+    Gate, LoopOptions, NodeEnd, NodeStart, TaskCall, TaskEnd, TaskStart, node_step, run_threads,
 };
 use std::alloc::Global;
+use std::process::Abort;
 use std::sync::Wait;
 use std::sync::atomic::{AtomicU64, Ordering};
-use std::test::Fail;
 use std::thread::Threads;
 
 /// How many turns each node and each task makes.
@@ -104,98 +104,113 @@ impl Gate for InStep {
 
 /// A node that is to start, whose link draws its random words from this seed.
 fn node_start<M: Machine, D: Device>(
+    rt: &impl Abort,
     alloc: Global,
     seat: NodeSeat<M, D>,
     seed: u8,
-) -> Result<NodeStart<M, D>, Fault>
-    ensures { IfOk result (λ start. start.line.held ≡ []) }
+) -> NodeStart<M, D>
+    ensures { result.line.held ≡ [] }
 {
-    let line = FaultLine::new(alloc, [seed; 32])?;
-    Ok(NodeStart { seat, line })
+    let line = FaultLine::new(alloc, [seed; 32]).expect(rt, "memory for the link");
+    NodeStart { seat, line }
 }
 
 /// The nodes that are to start.
 fn node_starts<M: Machine, D: Device>(
+    rt: &impl Abort,
     alloc: Global,
     seats: Vec<NodeSeat<M, D>>,
-) -> Result<Vec<NodeStart<M, D>>, Fault>
-    ensures count { IfOk result (λ starts. length starts.items ≡ length seats.items) }
-    ensures lines { IfOk result (λ starts. All (λ start. start.line.held ≡ []) starts.items) }
+) -> Vec<NodeStart<M, D>>
+    ensures count { length result.items ≡ length seats.items }
+    ensures lines { All (λ start. start.line.held ≡ []) result.items }
 {
     let mut starts = Vec::new(alloc);
     for seat in seats {
         let seed = seat.number().get();
-        starts.push(node_start(alloc, seat, seed)?)?;
+        let start = node_start(rt, alloc, seat, seed);
+        let Ok(()) = starts.push(start) else {
+            rt.panic("memory for the start");
+        };
     }
-    Ok(starts)
+    starts
 }
 
 /// A task that is to start: it calls procedure 1 of object 1 with 5, through node 1 first.
-fn task_start<M: Machine>(alloc: Global, seat: TaskSeat<M>) -> Result<TaskStart<M>, Fault>
-    ensures seat { IfOk result (λ start. start.seat ≡ seat) }
-    ensures line { IfOk result (λ start. start.line.held ≡ []) }
+fn task_start<M: Machine>(rt: &impl Abort, alloc: Global, seat: TaskSeat<M>) -> TaskStart<M>
+    ensures seat { result.seat ≡ seat }
+    ensures line { result.line.held ≡ [] }
 {
     let call = TaskCall {
-        node: NodeId::new(1).ok_or(Fault::BadConfig)?,
+        node: NodeId::first(),
         object: 1,
         operation: Operation::Procedure(1),
         arg: 5,
     };
-    Ok(TaskStart {
+    TaskStart {
         seat,
-        calls: Vec::from_slice(alloc, &[call])?,
-        line: FaultLine::new(alloc, [0; 32])?,
-    })
+        calls: Vec::from_slice(alloc, &[call]).expect(rt, "memory for the call"),
+        line: FaultLine::new(alloc, [0; 32]).expect(rt, "memory for the link"),
+    }
 }
 
 /// The list of only the first task, which is to start.
 fn task_starts<M: Machine>(
+    rt: &impl Abort,
     alloc: Global,
     seats: Vec<TaskSeat<M>>,
-) -> Result<Vec<TaskStart<M>>, Fault>
+) -> Vec<TaskStart<M>>
     requires some { 0 < length seats.items }
     requires fresh { IfSome (slice_get seats.items 0) (λ seat.
         seat.part ≡ fresh_part (OfTask fresh_task)) }
-    ensures lines { IfOk result (λ starts. All (λ start. start.line.held ≡ []) starts.items) }
-    ensures fresh { IfOk result (λ starts.
-        All (λ start. start.seat.part ≡ fresh_part (OfTask fresh_task)) starts.items) }
+    ensures lines { All (λ start. start.line.held ≡ []) result.items }
+    ensures fresh { All (λ start. start.seat.part ≡ fresh_part (OfTask fresh_task)) result.items }
 {
     let mut seats = seats;
-    let first = task_start(alloc, seats.remove(0))?;
+    let first = task_start(rt, alloc, seats.remove(0));
     let mut starts = Vec::new(alloc);
-    starts.push(first)?;
-    Ok(starts)
+    let Ok(()) = starts.push(first) else {
+        rt.panic("memory for the start");
+    };
+    starts
 }
 
 /// The audit fetches the report of a node, and adds it. Returns how many actions of the node are
 /// then known.
-fn hear<M: Machine>(audit: &mut Audit<M>, alloc: Global, node: NodeId) -> Result<u32, Fault> {
-    let Some(report) = audit.fetch(Party::Node(node)) else {
-        return Err(Fault::Io);
-    };
-    match audit.add(alloc, report.as_slice())? {
-        Added::Added { known, .. } => Ok(known),
-        Added::Gap { .. } => Err(Fault::Io),
+fn hear<M: Machine>(rt: &impl Abort, audit: &mut Audit<M>, alloc: Global, node: NodeId) -> u32 {
+    let report = audit.fetch(Party::Node(node)).expect(rt, "a report");
+    match audit
+        .add(alloc, report.as_slice())
+        .expect(rt, "memory for the report")
+    {
+        Added::Added { known, .. } => known,
+        Added::Gap { .. } => rt.panic("the report leaves a gap"),
     }
 }
 
 /// The ballot in which a node leads at a position, from the first packet of that step.
 fn led_in<M: Machine, D: Device>(
+    rt: &impl Abort,
     seat: &mut NodeSeat<M, D>,
     alloc: Global,
     position: u32,
-) -> Result<u64, Fault> {
-    let position = u16::try_from(position).map_err(|_| Fault::LogFull)?;
-    let sent = seat.turn(alloc, &Input::Lead(Position::new(position)))?;
-    let bytes = sent.bytes.as_slice();
-    let len = packet_len(bytes).ok_or(Fault::Io)?;
-    let first = bytes.get(..len).ok_or(Fault::Io)?;
-    let Ok(packet) = decode(alloc, first)? else {
-        return Err(Fault::Io);
-    };
-    match packet.body() {
-        Body::Prepare { ballot, .. } => Ok(ballot.get()),
-        _ => Err(Fault::Io),
+) -> u64 {
+    let position = u16::try_from(position).ok().expect(rt, "a position");
+    let sent = seat.turn(alloc, &Input::Lead(Position::new(position)));
+    ballot_of(
+        rt,
+        alloc,
+        sent.expect(rt, "the node leads").bytes.as_slice(),
+    )
+}
+
+/// The ballot of the first of these packets.
+fn ballot_of(rt: &impl Abort, alloc: Global, bytes: &[u8]) -> u64 {
+    let len = packet_len(bytes).expect(rt, "a packet");
+    let first = bytes.get(..len).expect(rt, "the first packet");
+    let packet = decode(alloc, first).expect(rt, "memory for the packet");
+    match packet.ok().expect(rt, "a valid packet").body() {
+        Body::Prepare { ballot, .. } => ballot.get(),
+        _ => rt.panic("the packet asks for no promise"),
     }
 }
 
@@ -210,39 +225,71 @@ struct NodeOutcome {
 
 /// A node reports to the audit.
 fn outcome_at<M: Machine, D: Device>(
+    rt: &impl Abort,
     end: &mut NodeEnd<M, D>,
     audit: &mut Audit<M>,
     alloc: Global,
-) -> Result<NodeOutcome, Fault> {
-    if let Some(fault) = end.fault {
-        return Err(fault);
-    }
-    let applied = end.seat.applied()?;
-    node_step(&mut end.seat, alloc, &Input::Report(Position::first()))?;
-    Ok(NodeOutcome {
+) -> NodeOutcome {
+    assert_eq!(rt; end.fault, None);
+    let applied = end.seat.applied().expect(rt, "a node that runs");
+    let report = node_step(&mut end.seat, alloc, &Input::Report(Position::first()));
+    report.expect(rt, "a report");
+    NodeOutcome {
         received: end.counts.received,
         skipped: end.counts.skipped,
         applied,
-        known: hear(audit, alloc, end.seat.number())?,
-    })
+        known: hear(rt, audit, alloc, end.seat.number()),
+    }
+}
+
+/// All nodes report to the audit.
+fn outcomes<M: Machine, D: Device>(
+    rt: &impl Abort,
+    ends: &mut [NodeEnd<M, D>],
+    audit: &mut Audit<M>,
+    alloc: Global,
+) -> Vec<NodeOutcome> {
+    let mut stated = Vec::new(alloc);
+    for end in ends.iter_mut() {
+        let outcome = outcome_at(rt, end, audit, alloc);
+        stated.push(outcome).expect(rt, "memory for an outcome");
+    }
+    stated
 }
 
 /// Whether the actions known of one node are a prefix of those of the other.
-fn begin<M: Machine>(audit: &Audit<M>, one: u8, other: u8) -> Result<bool, Fault> {
-    let one = audit.known(NodeId::new(one).ok_or(Fault::BadConfig)?);
-    let other = audit.known(NodeId::new(other).ok_or(Fault::BadConfig)?);
+fn begin<M: Machine>(rt: &impl Abort, audit: &Audit<M>, one: u8, other: u8) -> bool {
+    let one = audit.known(node(rt, one));
+    let other = audit.known(node(rt, other));
     let mut pairs = one.iter().zip(other.iter());
-    Ok(pairs.all(|(mine, theirs)| mine == theirs))
+    pairs.all(|(mine, theirs)| mine == theirs)
 }
 
 /// Whether the task has a reply, or still waits for it.
-fn asked<M: Machine>(task: &mut TaskSeat<M>, alloc: Global) -> Result<bool, Fault> {
+fn asked<M: Machine>(task: &mut TaskSeat<M>, alloc: Global) -> bool {
     if !task.replies().is_empty() {
-        return Ok(true);
+        return true;
     }
-    let node = NodeId::new(1).ok_or(Fault::BadConfig)?;
-    let further = task.call(alloc, node, 1, Operation::Procedure(1), 5);
-    Ok(matches!(further, Err(Fault::TaskBusy)))
+    let further = task.call(alloc, NodeId::first(), 1, Operation::Procedure(1), 5);
+    matches!(further, Err(Fault::TaskBusy))
+}
+
+/// How many calls the task made, and whether the last has a reply or waits for it.
+fn asked_by<M: Machine>(rt: &impl Abort, ends: &mut [TaskEnd<M>], alloc: Global) -> (usize, bool) {
+    let end = ends.first_mut().expect(rt, "task 1");
+    assert_eq!(rt; end.fault, None);
+    (end.made, asked(&mut end.seat, alloc))
+}
+
+/// The ballot in which node 1 leads at the position after those that it has applied.
+fn next_ballot<M: Machine, D: Device>(
+    rt: &impl Abort,
+    ends: &mut [NodeEnd<M, D>],
+    alloc: Global,
+) -> u64 {
+    let leader = ends.first_mut().expect(rt, "node 1");
+    let applied = leader.seat.applied().expect(rt, "a node that runs");
+    led_in(rt, &mut leader.seat, alloc, applied.wrapping_add(1))
 }
 
 /// The results after all threads have ended.
@@ -255,66 +302,78 @@ struct Outcome {
     ballot: u64,
 }
 
+/// What nodes and the task report after their turns.
+fn outcome_of<M: Machine, D: Device>(
+    rt: &impl Abort,
+    alloc: Global,
+    nodes: &mut [NodeEnd<M, D>],
+    tasks: &mut [TaskEnd<M>],
+    audit: &mut Audit<M>,
+) -> Outcome {
+    let stated = outcomes(rt, nodes, audit, alloc);
+    audit.look();
+    let (made, asked) = asked_by(rt, tasks, alloc);
+    Outcome {
+        nodes: stated,
+        agree: begin(rt, audit, 1, 2) && begin(rt, audit, 2, 3) && begin(rt, audit, 1, 3),
+        made,
+        asked,
+        ballot: next_ballot(rt, nodes, alloc),
+    }
+}
+
 /// Three nodes and the first task run in threads, and then report to the audit.
-fn run_three<R: Threads + Wait, M: Machine + Send, D: Device + Send, G: Gate + Sync>(
+fn run_three<R: Threads + Wait + Abort, M: Machine + Send, D: Device + Send, G: Gate + Sync>(
     rt: &R,
     alloc: Global,
     program: &M::Program,
     devices: Vec<D>,
     gate: &G,
-) -> Result<Outcome, Fault>
+) -> Outcome
 where
     M::Program: Send,
 {
-    let all: AllSeats<M, D> = seats(alloc, CONFIG, program, devices)?;
-    let nodes = node_starts(alloc, all.nodes)?;
-    let tasks = task_starts(alloc, all.tasks)?;
+    let all = all_seats::<R, M, D>(rt, alloc, program, devices);
+    let nodes = node_starts(rt, alloc, all.nodes);
+    let tasks = task_starts(rt, alloc, all.tasks);
     let options = LoopOptions {
         alloc,
         gate,
         turns: TURNS,
     };
-    let (mut nodes, mut tasks) = run_threads(rt, nodes, tasks, options)?;
+    let ends = run_threads(rt, nodes, tasks, options);
+    let (mut nodes, mut tasks) = ends.ok().expect(rt, "threads");
     let mut audit = Audit::new(alloc, all.audit);
-    let mut stated = Vec::new(alloc);
-    for index in 0..nodes.len() {
-        let end = nodes.get_mut(index).ok_or(Fault::BadConfig)?;
-        stated.push(outcome_at(end, &mut audit, alloc)?)?;
-    }
-    audit.look();
-    let agree = begin(&audit, 1, 2)? && begin(&audit, 2, 3)? && begin(&audit, 1, 3)?;
-    let leader = nodes.first_mut().ok_or(Fault::BadConfig)?;
-    let applied = leader.seat.applied()?;
-    let task = tasks.first_mut().ok_or(Fault::BadConfig)?;
-    if let Some(fault) = task.fault {
-        return Err(fault);
-    }
-    Ok(Outcome {
-        nodes: stated,
-        agree,
-        made: task.made,
-        asked: asked(&mut task.seat, alloc)?,
-        ballot: led_in(&mut leader.seat, alloc, applied.wrapping_add(1))?,
-    })
+    outcome_of(
+        rt,
+        alloc,
+        nodes.as_mut_slice(),
+        tasks.as_mut_slice(),
+        &mut audit,
+    )
 }
 
-#[test]
-fn three_nodes_and_a_task_run_in_threads(rt: HostRuntime) -> Result<(), Fail> {
-    let alloc = rt.alloc();
-    let program = TallyProgram::new(1).ok_or("one object")?;
-    let devices = MemDevice::several(alloc, CONFIG.nodes)?;
-    let gate = InStep::new();
-    let stated = run_three::<_, Tally, MemDevice, _>(&rt, alloc, &program, devices, &gate)?;
-    assert_eq!(rt; gate.late.load(Ordering::SeqCst), 0);
-    assert_eq!(rt; stated.nodes.len(), 3);
-    for node in &stated.nodes {
+/// Each node received packets, skipped no turn, and reported all that it had applied.
+fn expect_reported(rt: &impl Abort, nodes: &[NodeOutcome]) {
+    assert_eq!(rt; nodes.len(), 3);
+    for node in nodes {
         assert_eq!(rt; node.skipped, 0);
         assert!(rt; node.received > 0);
         assert!(rt; node.known >= node.applied);
     }
+}
+
+#[test]
+fn three_nodes_and_a_task_run_in_threads(rt: HostRuntime) {
+    let alloc = rt.alloc();
+    let gate = InStep::new();
+    let devices = empty_devices(&rt, alloc);
+    let program = one_tally(&rt);
+    let stated = run_three::<_, Tally, MemDevice, _>(&rt, alloc, &program, devices, &gate);
+    assert_eq!(rt; gate.late.load(Ordering::SeqCst), 0);
+    expect_reported(&rt, stated.nodes.as_slice());
     assert!(rt; stated.agree);
     assert_eq!(rt; stated.made, 1);
     assert!(rt; stated.asked);
     assert!(rt; stated.ballot > 9);
-    Ok(())
 }

@@ -1,28 +1,36 @@
-ghost use Rattle.std.specs.Prelude.{IfOk};
 ghost use Rattle.rp_threads.specs.rp_boxes.specs.Seats.{IsSentText};
 
-use crate::setup::{CONFIG, receive};
+use crate::setup::{all_seats, empty_devices, expect_packet, one_tally, receive, receive_each};
 use rp_threads::node_step;
-use rp_threads::rp_base::{Fault, NodeId, Operation, Position, TaskId};
-use rp_threads::rp_boxes::{AllSeats, Fetch, NodeSeat, Put, TaskSeat, seats};
+use rp_threads::rp_base::{NodeId, Operation, Position, TaskId};
+use rp_threads::rp_boxes::{AllSeats, Fetch, NodeSeat, Put, TaskSeat};
 use rp_threads::rp_codec::Party;
-use rp_threads::rp_machine::{Machine, Tally, TallyProgram};
-use rp_threads::rp_replica::{Input, Sent};
+use rp_threads::rp_machine::{Machine, Tally};
+use rp_threads::rp_replica::Input;
 use rp_threads::rp_store::{Device, MemDevice};
 use std::alloc::Global;
-use std::test::Fail;
+use std::process::Abort;
 
 /// Task 1 calls node 1 for the first time: procedure 1 of object 1 with 5.
 const CALL: [u8; 21] = [
     2, 1, 17, 1, 1, 1, 0, 0, 0, 1, 1, 2, 1, 0, 0, 0, 0, 0, 0, 0, 5,
 ];
 
-/// The first task's first call, to node 1.
-fn first_call<M: Machine>(task: &mut TaskSeat<M>, alloc: Global) -> Result<Sent, Fault>
-    ensures { IfOk result (λ sent. IsSentText task.new.part sent.bytes.items) }
+/// The packet of the first task's first call, to node 1.
+fn first_call<M: Machine>(rt: &impl Abort, task: &mut TaskSeat<M>, alloc: Global) -> Vec<u8>
+    ensures { IsSentText task.new.part result.items }
 {
-    let node = NodeId::new(1).ok_or(Fault::BadConfig)?;
-    task.call(alloc, node, 1, Operation::Procedure(1), 5)
+    let sent = task.call(alloc, NodeId::first(), 1, Operation::Procedure(1), 5);
+    sent.expect(rt, "the first call").bytes
+}
+
+/// The first task puts its first call into the box to node 1, and the packet once more. Returns
+/// what the second put gives back.
+fn put_both<M: Machine>(rt: &impl Abort, task: &mut TaskSeat<M>, alloc: Global) -> Option<Vec<u8>> {
+    let packet = first_call(rt, task, alloc);
+    let copy = packet.clone().expect(rt, "memory for the copy");
+    task.put(packet).ok().expect(rt, "an empty box");
+    task.put(copy).err()
 }
 
 /// What was found of the box from the task to node 1.
@@ -34,68 +42,86 @@ struct Boxed {
     second: Option<Vec<u8>>,
 }
 
-/// Puts a packet and its copy. Returns the copy if it is not put.
-fn put_both<M: Machine>(
-    task: &mut TaskSeat<M>,
-    packet: Vec<u8>,
-    copy: Vec<u8>,
-) -> Result<Option<Vec<u8>>, Fault>
-    requires packet { IsSentText task.old.part packet.items }
-    requires copy { IsSentText task.old.part copy.items }
-{
-    let Ok(()) = task.put(packet) else {
-        return Err(Fault::Io);
-    };
-    Ok(task.put(copy).err())
-}
-
 /// A packet is put twice into one box, which is then emptied twice.
-fn put_twice<M: Machine, D: Device>(
+fn put_twice<R: Abort, M: Machine, D: Device>(
+    rt: &R,
     alloc: Global,
     program: &M::Program,
     devices: Vec<D>,
-) -> Result<Boxed, Fault> {
-    let mut all: AllSeats<M, D> = seats(alloc, CONFIG, program, devices)?;
-    let from = Party::Task(TaskId::new(1).ok_or(Fault::BadConfig)?);
-    let task = all.tasks.first_mut().ok_or(Fault::BadConfig)?;
-    let packet = first_call(task, alloc)?.bytes;
-    let copy = packet.clone()?;
-    let back = put_both(task, packet, copy)?;
-    let node = all.nodes.first_mut().ok_or(Fault::BadConfig)?;
-    Ok(Boxed {
+) -> Boxed {
+    let mut all = all_seats::<R, M, D>(rt, alloc, program, devices);
+    let back = put_both(rt, all.tasks.first_mut().expect(rt, "task 1"), alloc);
+    let node = all.nodes.first_mut().expect(rt, "node 1");
+    Boxed {
         back,
-        first: node.fetch(from),
-        second: node.fetch(from),
-    })
+        first: node.fetch(Party::Task(TaskId::first())),
+        second: node.fetch(Party::Task(TaskId::first())),
+    }
 }
 
 #[test]
-fn a_full_box_gives_a_packet_back(rt: HostRuntime) -> Result<(), Fail> {
+fn a_full_box_gives_a_packet_back(rt: HostRuntime) {
     let alloc = rt.alloc();
-    let program = TallyProgram::new(1).ok_or("one object")?;
-    let devices = MemDevice::several(alloc, CONFIG.nodes)?;
-    let boxed = put_twice::<Tally, MemDevice>(alloc, &program, devices)?;
-    let back = boxed.back.ok_or("the second put is given back")?;
-    assert_eq!(rt; back.as_slice(), CALL.as_slice());
-    let first = boxed.first.ok_or("the first fetch gets it")?;
-    assert_eq!(rt; first.as_slice(), CALL.as_slice());
+    let devices = empty_devices(&rt, alloc);
+    let boxed = put_twice::<_, Tally, MemDevice>(&rt, alloc, &one_tally(&rt), devices);
+    expect_packet(&rt, boxed.back, &CALL);
+    expect_packet(&rt, boxed.first, &CALL);
     assert!(rt; boxed.second.is_none());
-    Ok(())
 }
 
 /// The node receives the packets in its boxes from the first task and from the nodes, one from
 /// each.
-fn receive_all<M: Machine, D: Device>(
-    seat: &mut NodeSeat<M, D>,
-    alloc: Global,
-) -> Result<(), Fault> {
-    let task = TaskId::new(1).ok_or(Fault::BadConfig)?;
-    receive(seat, alloc, Party::Task(task))?;
-    for number in 1..4u8 {
-        let node = NodeId::new(number).ok_or(Fault::BadConfig)?;
-        receive(seat, alloc, Party::Node(node))?;
+fn receive_all<M: Machine, D: Device>(rt: &impl Abort, seat: &mut NodeSeat<M, D>, alloc: Global) {
+    receive(rt, seat, alloc, Party::Task(TaskId::first()));
+    receive_each(rt, seat, alloc);
+}
+
+/// The first task's first call goes into the box to node 1.
+fn calls<M: Machine>(rt: &impl Abort, task: &mut TaskSeat<M>, alloc: Global) {
+    let packet = first_call(rt, task, alloc);
+    task.put(packet).ok().expect(rt, "an empty box");
+}
+
+/// Each node receives the packets in its boxes.
+fn go_round<M: Machine, D: Device>(rt: &impl Abort, nodes: &mut [NodeSeat<M, D>], alloc: Global) {
+    for seat in nodes.iter_mut() {
+        receive_all(rt, seat, alloc);
     }
-    Ok(())
+}
+
+/// Node 1 receives the call and leads, and all nodes receive their packets until none is left.
+fn decide<M: Machine, D: Device>(rt: &impl Abort, nodes: &mut [NodeSeat<M, D>], alloc: Global) {
+    let leader = nodes.first_mut().expect(rt, "node 1");
+    receive_all(rt, leader, alloc);
+    node_step(leader, alloc, &Input::Lead(None)).expect(rt, "node 1 leads");
+    for _ in 0..8 {
+        go_round(rt, nodes, alloc);
+    }
+}
+
+/// How many actions each node has applied.
+fn applied_by<M: Machine, D: Device>(
+    rt: &impl Abort,
+    nodes: &[NodeSeat<M, D>],
+    alloc: Global,
+) -> Vec<u32> {
+    let mut applied = Vec::new(alloc);
+    for seat in nodes {
+        let count = seat.applied().expect(rt, "a node that runs");
+        applied.push(count).expect(rt, "memory for a number");
+    }
+    applied
+}
+
+/// What node 1 reports.
+fn report_of<M: Machine, D: Device>(
+    rt: &impl Abort,
+    nodes: &mut [NodeSeat<M, D>],
+    alloc: Global,
+) -> Vec<u8> {
+    let leader = nodes.first_mut().expect(rt, "node 1");
+    let sent = leader.report(alloc, Position::first());
+    sent.expect(rt, "a report").bytes
 }
 
 /// What the seats report after one call.
@@ -107,55 +133,45 @@ struct Outcome {
 }
 
 /// The first task calls node 1, which leads. All packets go through boxes, on one thread.
-fn one_call<M: Machine, D: Device>(
+fn one_call<R: Abort, M: Machine, D: Device>(
+    rt: &R,
     alloc: Global,
     program: &M::Program,
     devices: Vec<D>,
-) -> Result<Outcome, Fault> {
-    let mut all: AllSeats<M, D> = seats(alloc, CONFIG, program, devices)?;
-    let task = all.tasks.first_mut().ok_or(Fault::BadConfig)?;
-    let packet = first_call(task, alloc)?.bytes;
-    if task.put(packet).is_err() {
-        return Err(Fault::Io);
-    }
-    let leader = all.nodes.first_mut().ok_or(Fault::BadConfig)?;
-    receive_all(leader, alloc)?;
-    node_step(leader, alloc, &Input::Lead(None))?;
-    for _ in 0..8 {
-        for seat in all.nodes.iter_mut() {
-            receive_all(seat, alloc)?;
-        }
-    }
-    let mut applied = Vec::new(alloc);
-    for seat in &all.nodes {
-        applied.push(seat.applied()?)?;
-    }
-    let first = Party::Node(NodeId::new(1).ok_or(Fault::BadConfig)?);
-    let task = all.tasks.first_mut().ok_or(Fault::BadConfig)?;
-    let reply = task.fetch(first);
-    let leader = all.nodes.first_mut().ok_or(Fault::BadConfig)?;
-    Ok(Outcome {
+) -> Outcome {
+    let all = all_seats::<R, M, D>(rt, alloc, program, devices);
+    let AllSeats {
+        mut nodes,
+        mut tasks,
+        audit: _audit,
+    } = all;
+    let task = tasks.first_mut().expect(rt, "task 1");
+    calls(rt, task, alloc);
+    decide(rt, nodes.as_mut_slice(), alloc);
+    let applied = applied_by(rt, nodes.as_slice(), alloc);
+    let reply = task.fetch(Party::Node(NodeId::first()));
+    let report = report_of(rt, nodes.as_mut_slice(), alloc);
+    Outcome {
         reply,
-        report: leader.report(alloc, Position::first())?.bytes,
+        report,
         applied,
-    })
+    }
 }
 
 #[test]
-fn one_call_is_decided_by_seats(rt: HostRuntime) -> Result<(), Fail> {
+fn one_call_is_decided_by_seats(rt: HostRuntime) {
     let alloc = rt.alloc();
-    let program = TallyProgram::new(1).ok_or("one object")?;
-    let devices = MemDevice::several(alloc, CONFIG.nodes)?;
-    let stated = one_call::<Tally, MemDevice>(alloc, &program, devices)?;
+    let devices = empty_devices(&rt, alloc);
+    let stated = one_call::<_, Tally, MemDevice>(&rt, alloc, &one_tally(&rt), devices);
     assert_eq!(rt; stated.applied.as_slice(), [1, 1, 1].as_slice());
-    let reply = stated.reply.ok_or("a reply is in the box")?;
-    assert_eq!(rt;
-        reply.as_slice(),
-        b"\x02\x09\x01\x11\0\0\0\x01\x01\0\0\0\0\0\0\0\x05".as_slice()
+    expect_packet(
+        &rt,
+        stated.reply,
+        b"\x02\x09\x01\x11\0\0\0\x01\x01\0\0\0\0\0\0\0\x05",
     );
-    assert_eq!(rt;
-        stated.report.as_slice(),
-        b"\x02\x0a\x01\x20\0\x01\0\x01\x01\x01\x01\0\0\0\x01\x01\x02\x01\0\0\0\0\0\0\0\x05".as_slice()
+    expect_packet(
+        &rt,
+        Some(stated.report),
+        b"\x02\x0a\x01\x20\0\x01\0\x01\x01\x01\x01\0\0\0\x01\x01\x02\x01\0\0\0\0\0\0\0\x05",
     );
-    Ok(())
 }

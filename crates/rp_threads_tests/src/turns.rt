@@ -1,8 +1,12 @@
-use crate::setup::CONFIG;
+ghost use Rattle.std.specs.Prelude.{◌≡◌, []};
+ghost use Rattle.rp_threads.specs.rp_boxes.specs.Parts.{fresh_part, OfTask};
+ghost use Rattle.rp_threads.specs.rp_model.specs.Parts.{fresh_task};
+
+use crate::setup::{all_seats, empty_devices, expect_packet, node, one_tally};
 use rp_threads::rp_base::{Fault, NodeId, Operation, TaskId};
-use rp_threads::rp_boxes::{AllSeats, Fetch, seats};
+use rp_threads::rp_boxes::{Fetch, NodeSeat, TaskSeat};
 use rp_threads::rp_codec::Party;
-use rp_threads::rp_machine::{Machine, Tally, TallyProgram};
+use rp_threads::rp_machine::{Machine, Tally};
 use rp_threads::rp_replica::Input;
 use rp_threads::rp_store::{Device, MemDevice};
 use rp_threads::rp_tasks::FaultLine;
@@ -11,65 +15,105 @@ use rp_threads::{
     task_loop,
 };
 use std::alloc::Global;
+use std::process::Abort;
 use std::sync::atomic::{AtomicU64, Ordering};
-use std::test::Fail;
 
-/// The result of a turn, and the packet that is then in a box.
+/// A link that holds nothing.
+fn empty_link(rt: &impl Abort, alloc: Global) -> FaultLine
+    ensures { result.held ≡ [] }
+{
+    FaultLine::new(alloc, [0; 32]).expect(rt, "memory for the link")
+}
+
+/// The result of a turn of a node, and the packet that is then in its box from itself.
 #[derive(Drop)]
 struct Made {
-    turn: Option<Turn>,
-    made: usize,
+    turn: Turn,
+    sent: usize,
     packet: Option<Vec<u8>>,
 }
 
-/// Node 1 makes a turn in which it is to lead, on an empty link. The packet is the one in its box
-/// from itself.
-fn leads<M: Machine, D: Device>(
-    alloc: Global,
-    program: &M::Program,
-    devices: Vec<D>,
-) -> Result<Made, Fault> {
-    let mut all: AllSeats<M, D> = seats(alloc, CONFIG, program, devices)?;
-    let node = all.nodes.first_mut().ok_or(Fault::BadConfig)?;
-    let from = Party::Node(NodeId::new(1).ok_or(Fault::BadConfig)?);
-    let mut line = FaultLine::new(alloc, [0; 32])?;
-    let turned = node_turn(node, &mut line, alloc, from, true)?;
-    Ok(Made {
-        turn: Some(turned.turn),
-        made: turned.packets.sent,
-        packet: node.fetch(from),
-    })
+/// Node 1 makes a turn in which it is to lead, on an empty link.
+fn leads<M: Machine, D: Device>(rt: &impl Abort, seat: &mut NodeSeat<M, D>, alloc: Global) -> Made {
+    let mut link = empty_link(rt, alloc);
+    let from = node(rt, 1);
+    let turned = node_turn(seat, &mut link, alloc, Party::Node(from), true).expect(rt, "a turn");
+    Made {
+        turn: turned.turn,
+        sent: turned.packets.sent,
+        packet: seat.fetch(Party::Node(from)),
+    }
 }
 
-/// The first task makes one turn, with one call of node 1. The packet is the one in the box to node
-/// 1.
-fn calls<M: Machine, D: Device>(
+/// Node 1 of a cluster leads.
+fn first_leads<R: Abort, M: Machine, D: Device>(
+    rt: &R,
     alloc: Global,
     program: &M::Program,
     devices: Vec<D>,
-) -> Result<Made, Fault> {
-    let mut all: AllSeats<M, D> = seats(alloc, CONFIG, program, devices)?;
+) -> Made {
+    let mut all = all_seats::<R, M, D>(rt, alloc, program, devices);
+    leads(rt, all.nodes.first_mut().expect(rt, "node 1"), alloc)
+}
+
+#[test]
+fn an_empty_line_lets_a_node_lead(rt: HostRuntime) {
+    let alloc = rt.alloc();
+    let devices = empty_devices(&rt, alloc);
+    let made = first_leads::<_, Tally, MemDevice>(&rt, alloc, &one_tally(&rt), devices);
+    assert_eq!(rt; made.turn, Turn::Led);
+    assert_eq!(rt; made.sent, 3);
+    expect_packet(
+        &rt,
+        made.packet,
+        b"\x02\x02\x01\x01\0\x01\0\0\0\0\0\0\0\x09",
+    );
+}
+
+/// The task makes one turn, with one call of node 1: how many calls it made.
+fn makes_a_call<M: Machine>(rt: &impl Abort, task: TaskSeat<M>, alloc: Global) -> usize
+    requires { task.part ≡ fresh_part (OfTask fresh_task) }
+{
     let call = TaskCall {
-        node: NodeId::new(1).ok_or(Fault::BadConfig)?,
+        node: NodeId::first(),
         object: 1,
         operation: Operation::Procedure(1),
         arg: 5,
     };
-    let from = Party::Task(TaskId::new(1).ok_or(Fault::BadConfig)?);
-    let task = all.tasks.swap_remove(0);
-    let line = FaultLine::new(alloc, [0; 32])?;
     let options = LoopOptions {
         alloc,
         gate: &Open,
         turns: 1,
     };
-    let end = task_loop(task, &[call], line, 3, options);
-    let node = all.nodes.first_mut().ok_or(Fault::BadConfig)?;
-    Ok(Made {
-        turn: None,
-        made: end.made,
-        packet: node.fetch(from),
-    })
+    let end = task_loop(task, &[call], empty_link(rt, alloc), 3, options);
+    end.made
+}
+
+/// The first task of a cluster makes one turn: how many calls it made, and the packet that is then
+/// in its box to node 1.
+fn calls<R: Abort, M: Machine, D: Device>(
+    rt: &R,
+    alloc: Global,
+    program: &M::Program,
+    devices: Vec<D>,
+) -> (usize, Option<Vec<u8>>) {
+    let mut all = all_seats::<R, M, D>(rt, alloc, program, devices);
+    let made = makes_a_call(rt, all.tasks.swap_remove(0), alloc);
+    let node = all.nodes.first_mut().expect(rt, "node 1");
+    (made, node.fetch(Party::Task(TaskId::first())))
+}
+
+#[test]
+fn a_task_makes_its_first_call_in_its_first_turn(rt: HostRuntime) {
+    let alloc = rt.alloc();
+    let devices = empty_devices(&rt, alloc);
+    let (made, packet) = calls::<_, Tally, MemDevice>(&rt, alloc, &one_tally(&rt), devices);
+    assert_eq!(rt; made, 1);
+    expect_packet(
+        &rt,
+        packet,
+        b"\x02\x01\x11\x01\x01\x01\0\0\0\x01\x01\x02\x01\0\0\0\0\0\0\0\x05",
+    );
 }
 
 /// Says from its fourth turn on that the run is over, and counts the loops that ended.
@@ -111,36 +155,34 @@ impl Gate for ThreeTurns {
 }
 
 /// The last node makes at most ten turns, with nothing to do: how many were idle.
-fn idles<M: Machine, D: Device>(
+fn idles<R: Abort, M: Machine, D: Device>(
+    rt: &R,
     alloc: Global,
     program: &M::Program,
     devices: Vec<D>,
     gate: &ThreeTurns,
-) -> Result<u64, Fault> {
-    let mut all: AllSeats<M, D> = seats(alloc, CONFIG, program, devices)?;
-    let node = all.nodes.pop().ok_or(Fault::BadConfig)?;
-    let line = FaultLine::new(alloc, [0; 32])?;
+) -> u64 {
+    let mut all = all_seats::<R, M, D>(rt, alloc, program, devices);
+    let node = all.nodes.pop().expect(rt, "node 3");
     let options = LoopOptions {
         alloc,
         gate,
         turns: 10,
     };
-    let end = node_loop(node, line, 3, options);
-    Ok(end.counts.idle)
+    let end = node_loop(node, empty_link(rt, alloc), 3, options);
+    end.counts.idle
 }
 
 #[test]
-fn a_loop_ends_when_the_gate_says_that_the_run_is_over(rt: HostRuntime) -> Result<(), Fail> {
+fn a_loop_ends_when_the_gate_says_that_the_run_is_over(rt: HostRuntime) {
     let alloc = rt.alloc();
-    let program = TallyProgram::new(1).ok_or("one object")?;
-    let devices = MemDevice::several(alloc, CONFIG.nodes)?;
     let gate = ThreeTurns {
         ended: AtomicU64::new(0),
     };
-    let idle = idles::<Tally, MemDevice>(alloc, &program, devices, &gate)?;
+    let devices = empty_devices(&rt, alloc);
+    let idle = idles::<_, Tally, MemDevice>(&rt, alloc, &one_tally(&rt), devices, &gate);
     assert_eq!(rt; idle, 3);
     assert_eq!(rt; gate.ended.load(Ordering::SeqCst), 1);
-    Ok(())
 }
 
 /// How many packets a node sent in a step, and how many of them are then in boxes.
@@ -150,87 +192,63 @@ struct Delivered {
     boxed: usize,
 }
 
+/// The node leads: how many of its packets are put into boxes, and how many are lost.
+fn step<M: Machine, D: Device>(
+    rt: &impl Abort,
+    seat: &mut NodeSeat<M, D>,
+    alloc: Global,
+) -> PacketCounts {
+    node_step(seat, alloc, &Input::Lead(None)).expect(rt, "the node leads")
+}
+
 /// Node 1 leads in one step, and each node looks into its box from node 1.
-fn delivers<M: Machine, D: Device>(
+fn delivers<R: Abort, M: Machine, D: Device>(
+    rt: &R,
     alloc: Global,
     program: &M::Program,
     devices: Vec<D>,
-) -> Result<Delivered, Fault> {
-    let mut all: AllSeats<M, D> = seats(alloc, CONFIG, program, devices)?;
-    let leader = all.nodes.first_mut().ok_or(Fault::BadConfig)?;
-    let sent = node_step(leader, alloc, &Input::Lead(None))?.sent;
-    let from = Party::Node(NodeId::new(1).ok_or(Fault::BadConfig)?);
+) -> Delivered {
+    let mut all = all_seats::<R, M, D>(rt, alloc, program, devices);
+    let sent = step(rt, all.nodes.first_mut().expect(rt, "node 1"), alloc).sent;
     let mut boxed: usize = 0;
     for seat in all.nodes.iter_mut() {
-        if seat.fetch(from).is_some() {
+        if seat.fetch(Party::Node(NodeId::first())).is_some() {
             boxed = boxed.saturating_add(1);
         }
     }
-    Ok(Delivered { sent, boxed })
+    Delivered { sent, boxed }
 }
 
 #[test]
-fn each_packet_of_a_step_is_put_into_its_box(rt: HostRuntime) -> Result<(), Fail> {
+fn each_packet_of_a_step_is_put_into_its_box(rt: HostRuntime) {
     let alloc = rt.alloc();
-    let program = TallyProgram::new(1).ok_or("one object")?;
-    let devices = MemDevice::several(alloc, CONFIG.nodes)?;
-    let delivered = delivers::<Tally, MemDevice>(alloc, &program, devices)?;
+    let devices = empty_devices(&rt, alloc);
+    let delivered = delivers::<_, Tally, MemDevice>(&rt, alloc, &one_tally(&rt), devices);
     assert_eq!(rt; delivered, Delivered { sent: 3, boxed: 3 });
-    Ok(())
 }
 
 /// Node 1 leads twice, and no node empties its box: how many packets of each step are sent and
 /// lost.
-fn leads_twice<M: Machine, D: Device>(
+fn leads_twice<R: Abort, M: Machine, D: Device>(
+    rt: &R,
     alloc: Global,
     program: &M::Program,
     devices: Vec<D>,
-) -> Result<(PacketCounts, PacketCounts), Fault> {
-    let mut all: AllSeats<M, D> = seats(alloc, CONFIG, program, devices)?;
-    let leader = all.nodes.first_mut().ok_or(Fault::BadConfig)?;
-    let first = node_step(leader, alloc, &Input::Lead(None))?;
-    let second = node_step(leader, alloc, &Input::Lead(None))?;
-    Ok((first, second))
+) -> [PacketCounts; 2] {
+    let mut all = all_seats::<R, M, D>(rt, alloc, program, devices);
+    let leader = all.nodes.first_mut().expect(rt, "node 1");
+    let first = step(rt, leader, alloc);
+    [first, step(rt, leader, alloc)]
 }
 
 #[test]
-fn a_packet_whose_box_is_in_use_is_counted_as_lost(rt: HostRuntime) -> Result<(), Fail> {
+fn a_packet_whose_box_is_in_use_is_counted_as_lost(rt: HostRuntime) {
     let alloc = rt.alloc();
-    let program = TallyProgram::new(1).ok_or("one object")?;
-    let devices = MemDevice::several(alloc, CONFIG.nodes)?;
-    let (first, second) = leads_twice::<Tally, MemDevice>(alloc, &program, devices)?;
-    assert_eq!(rt; first, PacketCounts { sent: 3, lost: 0 });
-    assert_eq!(rt; second, PacketCounts { sent: 3, lost: 3 });
-    Ok(())
-}
-
-#[test]
-fn an_empty_line_lets_a_node_lead(rt: HostRuntime) -> Result<(), Fail> {
-    let alloc = rt.alloc();
-    let program = TallyProgram::new(1).ok_or("one object")?;
-    let devices = MemDevice::several(alloc, CONFIG.nodes)?;
-    let made = leads::<Tally, MemDevice>(alloc, &program, devices)?;
-    assert_eq!(rt; made.turn, Some(Turn::Led));
-    assert_eq!(rt; made.made, 3);
-    let packet = made.packet.ok_or("it asks itself for a promise")?;
-    assert_eq!(rt;
-        packet.as_slice(),
-        b"\x02\x02\x01\x01\0\x01\0\0\0\0\0\0\0\x09".as_slice()
-    );
-    Ok(())
-}
-
-#[test]
-fn a_task_makes_its_first_call_in_its_first_turn(rt: HostRuntime) -> Result<(), Fail> {
-    let alloc = rt.alloc();
-    let program = TallyProgram::new(1).ok_or("one object")?;
-    let devices = MemDevice::several(alloc, CONFIG.nodes)?;
-    let made = calls::<Tally, MemDevice>(alloc, &program, devices)?;
-    assert_eq!(rt; made.made, 1);
-    let packet = made.packet.ok_or("the call is in its box")?;
-    assert_eq!(rt;
-        packet.as_slice(),
-        b"\x02\x01\x11\x01\x01\x01\0\0\0\x01\x01\x02\x01\0\0\0\0\0\0\0\x05".as_slice()
-    );
-    Ok(())
+    let devices = empty_devices(&rt, alloc);
+    let counts = leads_twice::<_, Tally, MemDevice>(&rt, alloc, &one_tally(&rt), devices);
+    let expected = [
+        PacketCounts { sent: 3, lost: 0 },
+        PacketCounts { sent: 3, lost: 3 },
+    ];
+    assert_eq!(rt; counts.as_slice(), expected.as_slice());
 }

@@ -77,6 +77,7 @@ impl Task {
     /// least `TASK_BYTES` bytes. Refused with `ShortAnswer` if the buffer is too short, with
     /// `BadRequest` if the bytes are no request, with `TaskBusy` or `NumbersSpent` if no call may
     /// be made, and with `BadPacket` or `OutOfMemory` if a packet could not be read.
+    #[inline(never)]
     pub fn call(
         &mut self,
         alloc: Global,

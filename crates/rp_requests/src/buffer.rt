@@ -32,7 +32,7 @@ pub(crate) fn put_parts(stored: &[u8], others: &[u8], answer: &mut [u8]) -> Resu
     })
 }
 
-/// Copies bytes over as many others. Mostly there are none of one part of an answer.
+/// Copies bytes over as many others. A part of an answer is often empty.
 #[inline(always)]
 fn copy_over(bytes: &[u8], place: &mut [u8])
     requires { length bytes.now ≡ length place.old }

@@ -111,8 +111,8 @@ impl<M: Machine> Node<M> {
         }
     }
 
-    /// Answers any request, as `call`; by far the most frequent ones bring a packet, which are not
-    /// read here.
+    /// Answers a request of any kind, as `call`, which gives those that bring a packet, by far the
+    /// most, to `receive`.
     #[inline(never)]
     fn answer(
         &mut self,

@@ -47,6 +47,7 @@ impl ActorKind {
 impl Actor {
     /// Answers a request to an actor of this kind, as `Node::call` or `Task::call`; `None` if the
     /// actor is of the other kind.
+    #[inline(always)]
     pub(crate) fn call(
         &mut self,
         alloc: Global,

@@ -16,6 +16,7 @@ pub struct Lengths {
 
 /// Puts the bytes to be stored, and then the others, at the front of the buffer, if they fit;
 /// otherwise returns how many bytes they are.
+#[inline(always)]
 pub(crate) fn put_parts(stored: &[u8], others: &[u8], answer: &mut [u8]) -> Result<Lengths, usize>
     ensures { Puts stored.now others.now answer.old answer.new result }
 {
@@ -23,12 +24,23 @@ pub(crate) fn put_parts(stored: &[u8], others: &[u8], answer: &mut [u8]) -> Resu
     if used > answer.len() {
         return Err(used);
     }
-    answer[..stored.len()].copy_from_slice(stored);
-    answer[stored.len()..used].copy_from_slice(others);
+    copy_over(stored, &mut answer[..stored.len()]);
+    copy_over(others, &mut answer[stored.len()..used]);
     Ok(Lengths {
         stored: stored.len(),
         used,
     })
+}
+
+/// Copies bytes over as many others. A part of an answer is often empty.
+#[inline(always)]
+fn copy_over(bytes: &[u8], place: &mut [u8])
+    requires { length bytes.now ≡ length place.old }
+    ensures { place.new ≡ bytes.now }
+{
+    if !bytes.is_empty() {
+        place.copy_from_slice(bytes);
+    }
 }
 
 /// Puts a text with nothing to be stored at the front of the buffer, if it fits.

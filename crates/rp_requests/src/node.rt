@@ -92,6 +92,7 @@ impl<M: Machine> Node<M> {
     /// `ShortAnswer` if the buffer is too short, with `LongAnswer` if the step was made and its
     /// answer is longer than the buffer, and otherwise as `Replica::turn`, but never with `Device`,
     /// and with `TooFar` in place of `LogFull` if the log has not ended.
+    #[inline(always)]
     pub fn call(
         &mut self,
         alloc: Global,
@@ -101,6 +102,24 @@ impl<M: Machine> Node<M> {
         // claim: A node by handle makes of each request what its bytes ask for: a step has the effect
         //   that the definitions give, and its answer is the record to be stored and then the packets;
         //   a question changes nothing; and what is refused changes nothing
+        ensures { RequestAnswers M.next M.answers M.image (asked_of request.now) self.old self.new
+            answer.old answer.new result }
+    {
+        match request {
+            [1, packet @ ..] => self.receive(alloc, packet, answer),
+            _ => self.answer(alloc, request, answer),
+        }
+    }
+
+    /// Answers a request of any kind, as `call`, which gives those that bring a packet, by far the
+    /// most, to `receive`.
+    #[inline(never)]
+    fn answer(
+        &mut self,
+        alloc: Global,
+        request: &[u8],
+        answer: &mut [u8],
+    ) -> Result<Lengths, Refusal>
         ensures { RequestAnswers M.next M.answers M.image (asked_of request.now) self.old self.new
             answer.old answer.new result }
     {
@@ -136,6 +155,7 @@ impl<M: Machine> Node<M> {
     }
 
     /// Answers the request that brings a packet, as `call`, by the packet alone.
+    #[inline(always)]
     #[tactic(auto, unfolding(crate::specs::Requests::asked_of, crate::specs::Requests::asked_of_kind))]
     pub fn receive(
         &mut self,
@@ -151,6 +171,7 @@ impl<M: Machine> Node<M> {
     }
 
     /// Makes a step.
+    #[inline(always)]
     fn step(
         &mut self,
         alloc: Global,
@@ -175,6 +196,7 @@ impl<M: Machine> Node<M> {
     }
 
     /// Makes a step of which no answer is put into a buffer yet.
+    #[inline(always)]
     fn turn(&mut self, alloc: Global, input: &Input<'_>) -> Result<(), Fault>
         requires { IsRightInput input.now }
         ensures ok { OnOk result (StepMade
@@ -239,6 +261,7 @@ impl<M: Machine> Node<M> {
     }
 
     /// Puts the answer of the last step into the buffer, if it fits; otherwise returns its length.
+    #[inline(always)]
     fn put_last(&self, answer: &mut [u8]) -> Result<Lengths, usize>
         ensures { Puts self.now.stored self.now.packets answer.old answer.new result }
     {

@@ -7,6 +7,7 @@ ghost use Rattle.rp_base.specs.declared.fault.Fault.TheVariants as faults;
 ghost use Rattle.rp_base.specs.Number.{IsTask};
 ghost use Rattle.rp_codec.specs.Message.{IsCallOf};
 ghost use Rattle.rp_codec.specs.Text.{text_of, reply_text};
+ghost use Rattle.rp_codec.specs.Usual.{reply_sent};
 ghost use Rattle.rp_codec.specs.declared.packet.Party.TheVariants.{Task as TaskParty};
 ghost use Rattle.rp_tasks.specs.Calls.{no_calls, task_after};
 ghost use Rattle.rp_requests.specs.Buffers.{IsPutInFront};
@@ -18,7 +19,7 @@ use crate::buffer::{Lengths, put_short};
 use crate::refusal::Refusal;
 use crate::task_request::{TaskRequest, task_request_of};
 use rp_base::{Action, Fault, NodeId, Reply, TaskId};
-use rp_codec::{Body, Packet, Party, decode, text_of_packet};
+use rp_codec::{Body, Packet, Party, SentReply, decode, text_of_packet, usual_reply};
 use rp_tasks::Stub;
 use std::alloc::Global;
 use std::marker::Model;
@@ -77,6 +78,7 @@ impl Task {
     /// least `TASK_BYTES` bytes. Refused with `ShortAnswer` if the buffer is too short, with
     /// `BadRequest` if the bytes are no request, with `TaskBusy` or `NumbersSpent` if no call may
     /// be made, and with `BadPacket` or `OutOfMemory` if a packet could not be read.
+    #[inline(never)]
     pub fn call(
         &mut self,
         alloc: Global,
@@ -168,11 +170,31 @@ impl Task {
         ensures { TaskDoes (Some (TakePacket bytes.now))
             self.old self.new answer.old answer.new result }
     {
+        if let Ok(sent) = usual_reply(bytes) {
+            return Ok(self.take_reply(&sent, answer));
+        }
         match decode(alloc, bytes) {
             Ok(Ok(packet)) => Ok(self.take(&packet, answer)),
             Ok(Err(reason)) => Err(Refusal::Fault(Fault::BadPacket(reason))),
             Err(_) => Err(Refusal::Fault(Fault::OutOfMemory)),
         }
+    }
+
+    /// Takes a reply, if it is one to the outstanding call; otherwise the answer is empty.
+    #[inline(always)]
+    fn take_reply(&mut self, sent: &SentReply, answer: &mut [u8]) -> Lengths
+        requires room { 40 ≤ length answer.old }
+        ensures taken { self.new ≡ once_taken self.old (reply_taken self.old (reply_sent sent.now)) }
+        ensures put { IsPutInFront [] (taken_text (reply_taken self.old (reply_sent sent.now)))
+            answer.old answer.new result }
+    {
+        if sent.task.get() != self.task.get() {
+            return put_short(&[], answer);
+        }
+        if !self.stub.reply(sent.number, sent.reply) {
+            return put_short(&[], answer);
+        }
+        put_reply(sent.reply, answer)
     }
 
     /// Takes the reply of a decoded packet, if it is one to the outstanding call; otherwise the

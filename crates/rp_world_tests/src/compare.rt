@@ -20,3 +20,10 @@ pub(crate) fn expect_at<N: Debug, T: PartialEq + Debug + Drop>(
 ) {
     assert_eq!(rt; found, expected, "{name:?}");
 }
+
+/// Appends a value. Room is made first, so that no value is left over if memory is refused: the
+/// proof of a caller is much shorter than with `push`.
+pub(crate) fn push<T: Drop>(rt: &impl Abort, values: &mut Vec<T>, value: T) {
+    values.reserve(1).expect(rt, "memory for a value");
+    values.push_reserved(value);
+}

@@ -36,23 +36,11 @@ fn found<D: Device>(rt: &impl Abort, alloc: Global, device: D, bytes: &[u8]) -> 
     (opened.records, opened.cut_bytes)
 }
 
-/// How many of the first records are equal.
-fn same_front(found: &[Rec], all: &[Rec]) -> usize {
-    let mut same = 0usize;
-    for (one, other) in found.iter().zip(all) {
-        if one != other {
-            break;
-        }
-        same = same.saturating_add(1);
-    }
-    same
-}
-
 /// A device with these bytes opens with at least this many of the records, unchanged.
 fn expect_kept(rt: &impl Abort, alloc: Global, bytes: &[u8], all: &[Rec], least: usize) -> u64 {
     let (records, cut_bytes) = found(rt, alloc, MemDevice::new(alloc), bytes);
-    let same = same_front(&records, all);
-    expect_at(rt, &least, least <= same, true);
+    let front = all.get(..least).expect(rt, "the least records");
+    expect_at(rt, &least, records.get(..least), Some(front));
     cut_bytes
 }
 

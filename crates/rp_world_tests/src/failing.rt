@@ -1,4 +1,4 @@
-use crate::compare::{expect_at, expect_eq};
+use crate::compare::{expect_at, expect_eq, push};
 use crate::world::{call, lead, node, program};
 use rp_world::rp_base::{Config, Fault, Reply, TaskId};
 use rp_world::rp_machine::{Machine, Tally};
@@ -68,6 +68,16 @@ impl<M: Machine, D: CutDevice> Run<M, D> {
         }
     }
 
+    /// Makes these steps. After each that is paired with `true`, all messages are delivered.
+    fn makes_all(&mut self, rt: &impl Abort, alloc: Global, events: &[(Event, bool)]) {
+        for (event, delivered) in events {
+            self.makes(rt, alloc, event);
+            if *delivered {
+                self.delivers_all(rt, alloc);
+            }
+        }
+    }
+
     /// How many actions a node has applied.
     fn applied(&self, rt: &impl Abort, number: u8) -> u16 {
         let applied = self.cluster.applied(node(rt, number));
@@ -117,12 +127,7 @@ fn one_call<M: Machine, D: CutDevice>(
     events: &[(Event, bool)],
 ) -> Result<Outcome, Fault> {
     let mut run: Run<M, D> = Run::new(alloc, program, devices)?;
-    for (event, delivered) in events {
-        run.makes(rt, alloc, event);
-        if *delivered {
-            run.delivers_all(rt, alloc);
-        }
-    }
+    run.makes_all(rt, alloc, events);
     Ok(run.outcome(rt))
 }
 
@@ -152,14 +157,12 @@ fn devices(
 ) -> Vec<Device> {
     let mut devices = Vec::new(alloc);
     for place in 0..3 {
-        let made = if place == at {
-            device(alloc, first, second)
+        let (first, second) = if place == at {
+            (first, second)
         } else {
-            device(alloc, NONE, NONE)
+            (NONE, NONE)
         };
-        if devices.push(made).is_err() {
-            panic!(rt; "memory is refused");
-        }
+        push(rt, &mut devices, device(alloc, first, second));
     }
     devices
 }

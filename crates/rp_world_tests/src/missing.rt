@@ -8,6 +8,20 @@ use rp_world::*;
 use std::alloc::Global;
 use std::process::Abort;
 
+/// Makes these steps, and delivers all messages after each.
+fn steps<M: Machine, D: CutDevice>(
+    rt: &impl Abort,
+    cluster: &mut Cluster<M, D>,
+    alloc: Global,
+    events: &[Event],
+) {
+    let mut next = 1;
+    for event in events {
+        step(rt, cluster, alloc, event);
+        next = deliver_from(rt, cluster, alloc, next);
+    }
+}
+
 /// Events over three nodes, after each of which all messages are delivered, leave the stated
 /// result.
 fn expect_after<M: Machine, D: CutDevice>(
@@ -18,11 +32,7 @@ fn expect_after<M: Machine, D: CutDevice>(
     (events, left): (&[Event], &Left),
 ) {
     let mut cluster: Cluster<M, D> = opened(rt, alloc, program, devices, 1000);
-    let mut next = 1;
-    for event in events {
-        step(rt, &mut cluster, alloc, event);
-        next = deliver_from(rt, &mut cluster, alloc, next);
-    }
+    steps(rt, &mut cluster, alloc, events);
     expect_left(rt, alloc, &cluster, left);
 }
 

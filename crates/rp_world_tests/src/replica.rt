@@ -1,6 +1,6 @@
 ghost use Rattle.std.specs.Prelude.{◌≡◌, ◌≤◌};
 
-use crate::compare::{expect_at, expect_eq, expect_text};
+use crate::compare::{expect_at, expect_eq, expect_text, push};
 use crate::world::{devices, program};
 use rp_world::rp_base::{Config, Fault, NodeId, PacketReason, Position};
 use rp_world::rp_codec::{decode_front, packet_len};
@@ -78,7 +78,8 @@ fn opened<M: Machine, D: Device>(
     opening.ok().expect(rt, "it opens")
 }
 
-/// The node that opening returns, without the counts.
+/// The node that opening returns, without the counts. A caller that keeps it to its end gives it to
+/// `drop`: where a function lets a node go by itself, the prover goes through all of its fields.
 fn node_over<M: Machine, D: Device>(
     rt: &impl Abort,
     alloc: Global,
@@ -103,9 +104,7 @@ fn turn<M: Machine, D: Device>(
 /// Appends a text to the others.
 fn push_text(rt: &impl Abort, alloc: Global, texts: &mut Vec<Vec<u8>>, text: &[u8]) {
     let text = text.to_vec(alloc).expect(rt, "memory for a text");
-    if texts.push(text).is_err() {
-        panic!(rt; "memory is refused");
-    }
+    push(rt, texts, text);
 }
 
 /// Appends the texts of a step's packets to the others.
@@ -160,9 +159,7 @@ fn push_node<M: Machine, D: Device>(
     let number = u8::try_from(nodes.len().saturating_add(1));
     let number = number.expect(rt, "the number of a node");
     let node = node_over::<M, D>(rt, alloc, (number, 1000), program, device);
-    if nodes.push(node).is_err() {
-        panic!(rt; "memory is refused");
-    }
+    push(rt, nodes, node);
 }
 
 /// Closes the device, and puts its records in version 1 on another device.
@@ -255,16 +252,12 @@ impl<M: Machine, D: Device> Nodes<M, D> {
         program: &M::Program,
         others: Vec<D>,
     ) -> Self {
-        let mut again = Vec::new(alloc);
+        let mut devices = Vec::new(alloc);
         for (node, other) in self.nodes.into_iter().zip(others) {
             let device = onto_version_1(rt, alloc, node.close(), other);
-            push_node(rt, alloc, program, &mut again, device);
+            push(rt, &mut devices, device);
         }
-        Nodes {
-            nodes: again,
-            texts: Vec::new(alloc),
-            delivered: 0,
-        }
+        Nodes::new(rt, alloc, program, devices)
     }
 }
 
@@ -338,6 +331,12 @@ fn replicas_go_on_from_records_of_version_1(rt: HostRuntime) {
     expect_going_on::<Tally, MemDevice>(&rt, alloc, &program(&rt), first, second);
 }
 
+/// What a step dropped and how many packets it sent, beside how many bytes the device then holds.
+fn effect(sent: Result<Sent, Fault>, stored: u64) -> Result<(Dropped, usize, u64), Fault> {
+    let sent = sent?;
+    Ok((sent.dropped, sent.packets, stored))
+}
+
 /// The effect of a packet on a node of three with a log of n positions: what it drops, how many
 /// packets it sends, and how many bytes its device then holds.
 pub(crate) fn hears<M: Machine, D: Device>(
@@ -349,8 +348,10 @@ pub(crate) fn hears<M: Machine, D: Device>(
 ) -> Result<(Dropped, usize, u64), Fault> {
     let (program, text) = given;
     let mut node = node_over::<M, D>(rt, alloc, at, program, device);
-    let sent = node.receive(alloc, text)?;
-    Ok((sent.dropped, sent.packets, node.stored()))
+    let sent = node.receive(alloc, text);
+    let stored = node.stored();
+    drop(node);
+    effect(sent, stored)
 }
 
 /// Packets that change nothing: the node and the length of its log, and the packet.
@@ -446,6 +447,20 @@ fn drops_tick<M: Machine, D: Device>(
     sent.dropped == Dropped::Full
 }
 
+/// The first tick, counted from 1, for which a node has no place.
+fn full_tick_of<M: Machine, D: Device>(
+    rt: &impl Abort,
+    alloc: Global,
+    node: &mut Replica<M, D>,
+) -> u32 {
+    for now in 1..=100 {
+        if drops_tick(rt, alloc, node, now) {
+            return now;
+        }
+    }
+    0
+}
+
 /// The first tick, counted from 1, for which there is no place.
 fn first_full_tick<M: Machine, D: Device>(
     rt: &impl Abort,
@@ -454,12 +469,9 @@ fn first_full_tick<M: Machine, D: Device>(
     device: D,
 ) -> u32 {
     let mut node = node_over::<M, D>(rt, alloc, (1, 1), program, device);
-    for now in 1..=100 {
-        if drops_tick(rt, alloc, &mut node, now) {
-            return now;
-        }
-    }
-    0
+    let full = full_tick_of(rt, alloc, &mut node);
+    drop(node);
+    full
 }
 
 #[test]
@@ -511,6 +523,7 @@ fn answer<M: Machine, D: Device>(
 ) -> Vec<u8> {
     let mut node = node_over::<M, D>(rt, alloc, (3, 1), program, device);
     let sent = node.receive(alloc, text);
+    drop(node);
     sent.expect(rt, "the node hears").bytes
 }
 
@@ -565,6 +578,7 @@ fn expect_led<M: Machine, D: Device>(
         expect_eq(rt, sent.bytes.get(5), Some(position));
     }
     expect_eq(rt, node.lead(alloc, None).err(), Some(Fault::LogFull));
+    drop(node);
 }
 
 #[test]

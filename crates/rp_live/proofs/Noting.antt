@@ -8,7 +8,7 @@ use Rattle.rp_boxes.specs.rp_rules.specs.declared.input.Input.{Input}
 use Rattle.rp_boxes.specs.Seats.{SeatState}
 use Rattle.rp_threads.proofs.Places.{zip_on}
 use Rattle.rp_threads.proofs.Steps.{event_same}
-use Rattle.rp_live.specs.Noted.{AreNoted, IsNoted, noted_by}
+use Rattle.rp_live.specs.Noted.{AreNoted, IsNotedInput, noted_by}
 
 module _ {P : Type 0} where
   abbrev pub IsSame : SeatState P → SeatState P → Type 0
@@ -24,7 +24,7 @@ module _ {P : Type 0} where
   same_with (seat ∷ seats) (suc place) old new at same = (refl, same_with seats place old new at same)
 
   module _ {S : Type 0} (next : S → Action → S) (answers : S → Action → List Answer) (begin : P → S) where
-    noted_same : (note : Option (ℕ × Input)) (olds news : List (SeatState P)) → IsNoted next answers begin note olds news → AllZip IsSame olds news
+    noted_same : (note : Option (ℕ × Input)) (olds news : List (SeatState P)) → IsNotedInput next answers begin note olds news → AllZip IsSame olds news
     noted_same None olds news is = subst (AllZip IsSame olds) (sym is) (same_all olds)
     noted_same (Some note) olds news is =
         subst (AllZip IsSame olds) (sym is.news_are) (same_with olds (note.0 - 1) is.old is.new is.at (event_same next answers begin (λ given. given ≡ note.1) is.old is.new is.packets is.event))

@@ -48,13 +48,13 @@ module _ {S P : Type 0} (next : S → Action → S) (answers : S → Action → 
     pub event : IsEventBy next answers begin (λ given. given ≡ input) old new packets
 
   -- what is noted at its node, if something is
-  abbrev pub IsNoted : Option (ℕ × Input) → List (SeatState P) → List (SeatState P) → Type 0
-  IsNoted None olds news = news ≡ olds
-  IsNoted (Some note) olds news = IsTakenAt note.0 note.1 olds news
+  abbrev pub IsNotedInput : Option (ℕ × Input) → List (SeatState P) → List (SeatState P) → Type 0
+  IsNotedInput None olds news = news ≡ olds
+  IsNotedInput (Some note) olds news = IsTakenAt note.0 note.1 olds news
 
   -- the first n of the events are noted, one after the other
   abbrev pub AreNoted : List Event → ℕ → List (SeatState P) → List (SeatState P) → Type 0
   AreNoted events zero olds news = news ≡ olds
   AreNoted events (suc n) olds news =
       (between : List (SeatState P)) × (event : Event) × AreNoted events n olds between
-      × (slice_get events n ≡ Some event) × IsNoted (noted_by event) between news
+      × (slice_get events n ≡ Some event) × IsNotedInput (noted_by event) between news

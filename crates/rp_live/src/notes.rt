@@ -2,7 +2,7 @@
 
 ghost use Rattle.std.specs.Prelude.{◌≡◌, ◌≤◌, All, Some, length, OnOk, IsOkUnless};
 ghost use Rattle.rp_live.specs.Events.{IsLive};
-ghost use Rattle.rp_live.specs.Noted.{IsNoted, AreNoted, noted_by};
+ghost use Rattle.rp_live.specs.Noted.{IsNotedInput, AreNoted, noted_by};
 ghost use Rattle.rp_live.specs.Seats.{IsNote};
 ghost use Rattle.rp_threads.specs.Rounds.{Runs};
 ghost use Rattle.rp_threads.specs.Turns.{IsEventBy};
@@ -51,7 +51,7 @@ fn note_at<M: Machine, D: InfallibleDevice>(
     requires note { IsNote input.now }
     requires run { All (λ seat. Runs seat.part) seats.old.items }
     ensures size { length seats.new.items ≡ length seats.old.items }
-    ensures ok { OnOk result (IsNoted M.next M.answers M.begin (Some (node, input.now))
+    ensures ok { OnOk result (IsNotedInput M.next M.answers M.begin (Some (node, input.now))
         seats.old.items seats.new.items) }
     ensures run { OnOk result (All (λ seat. Runs seat.part) seats.new.items) }
     ensures only { IsOkUnless result Fault.OutOfMemory }
@@ -70,7 +70,7 @@ fn note<M: Machine, D: InfallibleDevice>(
     requires live { IsLive (length seats.old.items) event.now }
     requires run { All (λ seat. Runs seat.part) seats.old.items }
     ensures size { length seats.new.items ≡ length seats.old.items }
-    ensures ok { OnOk result (IsNoted M.next M.answers M.begin (noted_by event.now)
+    ensures ok { OnOk result (IsNotedInput M.next M.answers M.begin (noted_by event.now)
         seats.old.items seats.new.items) }
     ensures run { OnOk result (All (λ seat. Runs seat.part) seats.new.items) }
     ensures only { IsOkUnless result Fault.OutOfMemory }

@@ -39,8 +39,9 @@ pub fn bind(alloc: Global, text: &[u8], language: Language) -> Result<Binding, F
 {
     let mut lines = Lines::new(text);
     let declared = read_declarations(alloc, &mut lines)?;
-    let binding = bind_declared(alloc, language, &declared)?;
-    Ok(binding)
+    let binding = bind_declared(alloc, language, &declared);
+    drop(declared);
+    Ok(binding?)
 }
 
 /// The packages of what a deck declares, or why there are none.

@@ -5,9 +5,9 @@ ghost use Rattle.clap.specs.Words.{app_of, rule_of, subcommand_of, fault_of, fou
 ghost use Rattle.clap.specs.declared.builder.command.Command.TheViews.{out-Command};
 ghost use Rattle.rp_console.specs.CommandLine.{ada_option, bind, bind_option, c_option, chart, chart_option, console, count_option, explore, explore_option, hide_self_option, html_option, live, live_args, subcommand_word, position_option, script, seed, seed_of, states, trace_of, turns, turns_of, IsChartRequest, IsLanguage, IsRequest, IsView, ReadsAs};
 
+use crate::words::VERSION;
 use clap::{Arg, ArgAction, ArgMatches, Command, Error, value_parser};
 use rp_bind_run::rp_bind::Language;
-use rp_bind_run::rp_output::VERSION;
 use rp_bind_run::rp_script::LiveRequest;
 use rp_chart::ChartRequest;
 use rp_chart::rp_history::View;

@@ -1,7 +1,5 @@
 -- The status that a program ends with, and what it reports if its words ask for no run.
 use Rattle.std.specs.Prelude.{◌≡◌, ◌≢◌, ◌⊎◌, ℕ, Option, Result, Ok, Err, List}
-use Rattle.clap.specs.declared.error.kind.ErrorKind.{ErrorKind}
-use Rattle.clap.specs.declared.error.kind.ErrorKind.TheVariants as kinds
 use Rattle.rp_model.specs.rp_base.specs.declared.fault.Fault.{Fault}
 use Rattle.rp_model.specs.rp_base.specs.declared.fault.Fault.TheVariants as faults
 use Rattle.rp_output.specs.FaultMessage.{fault_message_of, with_line_feed}
@@ -42,19 +40,3 @@ pub record RefusesFor (why : NoRun) (output output_after errors errors_after : O
   pub output_kept : why ≢ Help → output_after ≡ output
   pub errors_kept : why ≡ Help → ending.status ≡ no_run_status why → errors_after ≡ errors
   pub memory : why ≡ OutOfMemory → ReportsFault faults.OutOfMemory errors errors_after ending
-
--- why words that could not be read ask for no run
-abbrev pub no_run_of : ErrorKind → NoRun
-no_run_of kinds.OutOfMemory = OutOfMemory
-no_run_of kinds.DisplayHelp = Help
-no_run_of kinds.DisplayVersion = Help
-no_run_of _ = Mistake
-
--- wrong words were reported, or help or the version was printed and nothing else
-abbrev pub RefusesAs : ErrorKind → Option (List ℕ) → Option (List ℕ) → Option (List ℕ)
-    → Option (List ℕ) → Ending → Type 0
-RefusesAs kind = RefusesFor (no_run_of kind)
-
--- one of the words is not UTF-8, or there is no memory to report that
-abbrev pub IsUnread : ErrorKind → Type 0
-IsUnread kind = (kind ≡ kinds.InvalidValue) ⊎ (kind ≡ kinds.OutOfMemory)

@@ -7,7 +7,6 @@
 //! - `short_line`: short lines, put together in place
 //! - `stream`: writes what a run prints
 //! - `ending`: how a program ends, and what it reports
-//! - `words`: what the programs do with the words of their command lines
 #![tactic(auto)]
 
 mod ending;
@@ -16,7 +15,6 @@ mod printed;
 mod short_line;
 mod stream;
 mod trace;
-mod words;
 
 pub use ending::{Ending, NoRun, Streams, fail, refuse};
 pub use fault_message::{FaultMessage, is_refusal, reason_text, tell};
@@ -27,4 +25,3 @@ pub use rp_model;
 pub use rp_model::rp_base;
 pub use stream::{is_interrupted, print, print_reply_line, report, write_out, write_whole};
 pub use trace::{BodyText, PartyText, TraceLine};
-pub use words::{VERSION, given_words, refuse_unread, refuse_words};

@@ -26,13 +26,25 @@ use std::alloc::{AllocError, Global};
 use std::marker::Model;
 
 /// The nodes, the eight tasks, and every message that was sent.
-#[derive(Drop)]
 pub(crate) struct World<M: Machine, D: CutDevice> {
     pub(crate) config: Config,
     pub(crate) program: M::Program,
     pub(crate) nodes: Vec<Node<M, D>>,
     pub(crate) tasks: Vec<Task>,
     pub(crate) messages: Outbox,
+}
+
+// Not derived, so that to drop it is one step of a proof and not one for each of its parts.
+impl<M: Machine, D: CutDevice> Drop for World<M, D> {
+    fn drop(self) {
+        let World {
+            config: _,
+            program: _,
+            nodes: _,
+            tasks: _,
+            messages: _,
+        } = self;
+    }
 }
 
 impl<M: Machine, D: CutDevice> Model for World<M, D> {

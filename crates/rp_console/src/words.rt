@@ -1,17 +1,17 @@
-//! What the programs do with the words of their command lines.
+//! What the program does with words of its command line that ask for no run.
 
 ghost use Rattle.std.specs.Prelude.{◌≡◌, IfOk};
 ghost use Rattle.clap.specs.Values.{kind_of};
-ghost use Rattle.rp_output.specs.Endings.{IsUnread, RefusesAs, no_run_of};
+ghost use Rattle.rp_console.specs.RefusedWords.{IsUnread, RefusesAs, no_run_of};
 
-use crate::ending::{Ending, NoRun, Streams, refuse};
 use clap::error::ErrorKind;
 use clap::{Command, Error};
+use rp_bind_run::rp_output::{Ending, NoRun, Streams, refuse};
 use std::alloc::AllocError;
 use std::io::Write;
 use std::{env, io};
 
-/// The programs' version.
+/// The program's version.
 pub const VERSION: &str = "1.0.0";
 
 /// The words of the command line.

@@ -19,7 +19,7 @@ use std::sync::Arc;
 /// A protected object with functions, procedures and entries. Each call is a whole protected action
 /// with the servicing of the entry queues, and takes no memory (Ada Reference Manual, sections
 /// 9.5.1 and 9.5.3).
-#[derive(Debug, Drop)]
+#[derive(Drop)]
 pub struct Object {
     operations: Arc<Operations, Global>,
     state: State,

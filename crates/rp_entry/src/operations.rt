@@ -14,7 +14,7 @@ use rp_body::{Components, Cond, Expr, Limits, Stmt, check, truth, value};
 pub const LONGEST_QUEUE: u8 = 8;
 
 /// A function: one expression or one condition, which reads the components and changes none.
-#[derive(Debug, Drop)]
+#[derive(Drop)]
 pub enum Function {
     /// The value of the expression.
     Value(Expr),
@@ -23,7 +23,7 @@ pub enum Function {
 }
 
 /// An entry with a simple barrier.
-#[derive(Debug, Drop)]
+#[derive(Drop)]
 pub struct Entry {
     /// The name of the Boolean component that opens the entry where it is True.
     pub barrier: u8,
@@ -35,7 +35,7 @@ pub struct Entry {
 
 /// The operations of an object. Functions are named by their indices from 1 in this order, and so
 /// are procedures and entries.
-#[derive(Debug, Drop)]
+#[derive(Drop)]
 pub struct Operations {
     /// The functions.
     pub functions: Vec<Function>,

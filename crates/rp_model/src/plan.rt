@@ -9,7 +9,7 @@ use rp_base::{Action, Ballot, NodeId, Position, PositionRange, Rec, Reply, TaskI
 use rp_codec::{Header, Votes};
 
 /// A promise that came from a node, in a ballot at a position, with the vote that it reports.
-#[derive(Clone, Copy, Debug)]
+#[derive(Clone, Copy)]
 pub struct CountedPromise {
     pub from: NodeId,
     pub position: Position,
@@ -18,7 +18,7 @@ pub struct CountedPromise {
 }
 
 /// A promise to a node for a range in a ballot.
-#[derive(Clone, Copy, Debug)]
+#[derive(Clone, Copy)]
 pub struct RangePromise {
     pub to: NodeId,
     pub range: PositionRange,
@@ -26,7 +26,7 @@ pub struct RangePromise {
 }
 
 /// A promise that came from a node, in a ballot for a range, with the votes that it reports.
-#[derive(Debug, Drop)]
+#[derive(Drop)]
 pub struct CountedRange {
     pub from: NodeId,
     pub range: PositionRange,
@@ -36,7 +36,7 @@ pub struct CountedRange {
 
 /// What a step does: decided without changing anything, small and without texts. To commit it is to
 /// write its record, if it has one, then to update the state, and then to send.
-#[derive(Debug, Drop)]
+#[derive(Drop)]
 pub enum Plan {
     /// Nothing, and what is dropped.
     Pass(Dropped),

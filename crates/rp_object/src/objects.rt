@@ -25,7 +25,7 @@ use std::sync::Arc;
 
 /// A program that runs: its protected objects, the times for which its timing events are set, and
 /// the clock.
-#[derive(Debug, Drop)]
+#[derive(Drop)]
 pub struct Objects {
     declarations: Arc<Declarations, Global>,
     objects: Vec<Object>,

@@ -35,7 +35,7 @@ pub enum Profile {
 
 /// A protected object: its components are named by their places in the lists of names, and have
 /// their first values.
-#[derive(Debug, Drop)]
+#[derive(Drop)]
 pub struct ObjectDeclaration {
     pub name: String,
     /// The ceiling priority, 1 to 30 (section D.3).
@@ -58,7 +58,7 @@ pub struct TimingEvent {
 }
 
 /// What is declared, each kind numbered from 1 in this order.
-#[derive(Debug, Drop)]
+#[derive(Drop)]
 pub struct Declarations {
     pub profile: Profile,
     /// The base priorities of the tasks, 1 to 30.

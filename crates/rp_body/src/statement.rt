@@ -15,7 +15,7 @@ pub const MOST_STATEMENTS: u8 = 64;
 pub const MOST_DEPTH: u8 = 8;
 
 /// A statement of a body.
-#[derive(Drop)]
+#[derive(Debug, Drop)]
 pub enum Stmt {
     /// Gives the whole-number component of this name a value, or raises Constraint_Error where the
     /// value lies outside the component's range.

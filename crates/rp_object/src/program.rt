@@ -70,7 +70,7 @@ pub struct Declarations {
 }
 
 /// Declarations that keep the limits. They are shared by all who run the program.
-#[derive(Debug, Drop)]
+#[derive(Drop)]
 pub struct Program {
     declarations: Arc<Declarations, Global>,
     ghost right: { IsProgram (arc_value declarations) } by { one_proof (arc_value declarations) },

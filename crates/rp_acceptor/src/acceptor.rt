@@ -27,7 +27,6 @@ use std::marker::Model;
 /// Simple", section 2.5). The bound at a position is the greatest of three ballots: the one
 /// promised for it alone and the last vote's, which its page keeps, and the one promised for a
 /// range, which a level holds for all positions up to the next one.
-#[derive(Drop)]
 pub struct Acceptor {
     alloc: Global,
     pub(crate) levels: Levels,
@@ -36,6 +35,21 @@ pub struct Acceptor {
     votes: History<Position>,
     ranges: History<PositionRange>,
     records: History<Rec>,
+}
+
+// Not derived, so that to drop it is one step of a proof and not one for each of its parts.
+impl Drop for Acceptor {
+    fn drop(self) {
+        let Acceptor {
+            alloc: _,
+            levels: _,
+            pages: _,
+            reserved: _,
+            votes: _,
+            ranges: _,
+            records: _,
+        } = self;
+    }
 }
 
 impl Model for Acceptor {

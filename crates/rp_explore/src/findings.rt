@@ -92,7 +92,6 @@ impl Tried {
 }
 
 /// What the orders that were visited give.
-#[derive(Drop)]
 pub struct Findings {
     /// Whether each order and action led to the state of an order that was found.
     pub is_whole: bool,
@@ -105,6 +104,20 @@ pub struct Findings {
     pub depth: usize,
     /// How many actions were taken after them, each after each.
     pub steps: u64,
+}
+
+// Not derived, so that to drop it is one step of a proof and not one for each of its parts.
+impl Drop for Findings {
+    fn drop(self) {
+        let Findings {
+            is_whole: _,
+            given: _,
+            finals: _,
+            stuck: _,
+            depth: _,
+            steps: _,
+        } = self;
+    }
 }
 
 impl Findings {

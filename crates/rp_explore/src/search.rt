@@ -24,7 +24,6 @@ use std::marker::Model;
 
 /// The orders that were found, `most` of them at most, each to a state of its own, with a key for
 /// each in the table.
-#[derive(Drop)]
 pub struct Search<'a, M: Machine> {
     alloc: Global,
     program: &'a M::Program,
@@ -33,6 +32,21 @@ pub struct Search<'a, M: Machine> {
     pieces: Pieces,
     keys: IndexSet<Key>,
     most: usize,
+}
+
+// Not derived, so that to drop it is one step of a proof and not one for each of its parts.
+impl<'a, M: Machine> Drop for Search<'a, M> {
+    fn drop(self) {
+        let Search {
+            alloc: _,
+            program: _,
+            guards: _,
+            tree: _,
+            pieces: _,
+            keys: _,
+            most: _,
+        } = self;
+    }
 }
 
 /// The order at a place, and the state to which it leads.
@@ -278,7 +292,16 @@ impl<'a, M: Machine> Search<'a, M> {
     pub fn into_tree(self) -> OrderTree
         ensures { result ≡ self.entry.listed }
     {
-        self.tree
+        let Search {
+            alloc: _,
+            program: _,
+            guards: _,
+            tree,
+            pieces: _,
+            keys: _,
+            most: _,
+        } = self;
+        tree
     }
 }
 

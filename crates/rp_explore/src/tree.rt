@@ -11,10 +11,19 @@ use std::marker::Model;
 
 /// Some orders of the actions that may happen, the empty one first. An order takes the same memory
 /// however long it is.
-#[derive(Drop)]
 pub struct OrderTree {
     may: Vec<Action>,
     branches: Vec<Branch>,
+}
+
+// Not derived, so that to drop it is one step of a proof and not one for each of its parts.
+impl Drop for OrderTree {
+    fn drop(self) {
+        let OrderTree {
+            may: _,
+            branches: _,
+        } = self;
+    }
 }
 
 impl Model for OrderTree {

@@ -46,13 +46,25 @@ impl Caller {
 ///
 /// To a contract it is its start and the list of the actions applied, which memory does not hold.
 /// What it was asked costs the same however many they are.
-#[derive(Drop)]
 pub struct Numbered<M: Machine> {
     machine: M,
     callers: [Caller; CALLERS],
     occurrences: [u32; SOURCES],
     program: Snapshot<M::Program>,
     actions: History<Action>,
+}
+
+// Not derived, so that to drop it is one step of a proof and not one for each of its parts.
+impl<M: Machine> Drop for Numbered<M> {
+    fn drop(self) {
+        let Numbered {
+            machine: _,
+            callers: _,
+            occurrences: _,
+            program: _,
+            actions: _,
+        } = self;
+    }
 }
 
 impl<M: Machine> Model for Numbered<M> {

@@ -30,7 +30,6 @@ use std::marker::Model;
 ///
 /// To a contract it is its node, the configuration and the machine's start, its records, and what
 /// it knows while it runs.
-#[derive(Drop)]
 pub struct Server<M: Machine> {
     pub(crate) me: NodeId,
     pub(crate) config: Config,
@@ -41,6 +40,23 @@ pub struct Server<M: Machine> {
     pub(crate) log: Log,
     pub(crate) machine: Numbered<M>,
     pub(crate) pending: Pending,
+}
+
+// Not derived, so that to drop it is one step of a proof and not one for each of its parts.
+impl<M: Machine> Drop for Server<M> {
+    fn drop(self) {
+        let Server {
+            me: _,
+            config: _,
+            acceptor: _,
+            proposer: _,
+            learner: _,
+            heard: _,
+            log: _,
+            machine: _,
+            pending: _,
+        } = self;
+    }
 }
 
 impl<M: Machine> Model for Server<M> {

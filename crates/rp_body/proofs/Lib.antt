@@ -1,5 +1,6 @@
 pub mod Passing
 pub mod Effects
+pub mod Sequence
 pub mod Places
 pub mod Storing
 pub mod Ranges

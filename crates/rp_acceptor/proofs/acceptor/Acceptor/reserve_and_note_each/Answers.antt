@@ -3,7 +3,7 @@ use Rattle.std.specs.Prelude.{flat_map}
 use Rattle.std.proofs.lemmas.List.{append_assoc, drop_more}
 use Rattle.rp_base.specs.declared.record.Rec.{Rec}
 use Rattle.rp_acceptor.specs.Noted.{Noted, places_in, restored_from}
-use Rattle.rp_acceptor.proofs.acceptor.Acceptor.restore.Goals as goal
+use Rattle.rp_acceptor.proofs.acceptor.Acceptor.reserve_and_note_each.Goals as goal
 
 pub loop-rec-preserved : goal.loop-rec-preserved
 loop-rec-preserved c =
@@ -14,6 +14,6 @@ loop-rec-preserved c =
     let within : index < length records = omega (arith, c.loop-rec-test.true) in
     let next : drop index records ≡ rec ∷ rest = drop_more records index rec within ∙ ap (λ (r : Rec). r ∷ rest) (sym c.rec-item.is) in
     let places = c.loop-rec.invariant.1 in (
-      ap (λ (a : Noted). restored_from a rest) c.in_ok-reserve_and_note.ensures.ok ∙ ap (restored_from c.loop-rec.acceptor) (sym next) ∙ c.loop-rec.invariant.0,
+      ap (λ (a : Noted). restored_from a rest) c.in_ok-reserve_and_note.ensures.ok ∙ ap (restored_from c.loop-rec.self) (sym next) ∙ c.loop-rec.invariant.0,
       (places.0 ++ places_in rec, append_assoc places.0 (places_in rec) (flat_map places_in rest) ∙ ap (λ (l : List Rec). places.0 ++ flat_map places_in l) (sym next) ∙ places.1),
     )

@@ -55,7 +55,6 @@ pub record Passes (component : Ranged) (value bottom top : ℤ) : Type 0 where
   pub not_below : int_lt (kept value) (kept bottom) ≡ false
   pub not_above : int_lt (kept top) (kept value) ≡ false
 
-
 module _ {component : Ranged} {value bottom top : ℤ} (p : Passes component value bottom top) where
   from_low : int_le component.low value ≡ true
   from_low = up_to component.low value (sym (ap₂ int_lt (to_z-of_z w128 value p.value_fits) (widened component.low bottom p.low_fits p.bottom_is)) ∙ p.not_below)

@@ -52,8 +52,7 @@ run_from-loop-statement-preserved t c =
       start_fits = c.ranges.start;
       so_far = c.loop-statement.invariant.0;
     } in
-    let fits : FitsSigned w64 c.in-Out.next = search rules in
-    (
+    let fits : FitsSigned w64 c.in-Out.next = search rules in (
       goes_on r c.statement-item.result c.run.new.components c.run.result c.loop-statement-test.true c.statement-item.is c.run.ensures.effect c.in-Out.next fits c.in-Out.is,
       c.run.ensures.counts ∙ c.loop-statement.invariant.1,
       rest_fits _ c.args.body.now c.loop-statement.statement-index c.statement-item.result c.loop-statement-test.true c.loop-statement.invariant.2,

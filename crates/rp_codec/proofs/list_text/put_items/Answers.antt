@@ -18,7 +18,7 @@ pub returns-in_err-extend_from_slice-2-clause-err :
 returns-in_err-extend_from_slice-2-clause-err g c =
     on_err c.from_residual-in_err-extend_from_slice-2.result
     (stays g.T.Item.item_text c.args.out.now.items c.args.front.now c.args.items.now c.loop-item.item-index c.loop-item.out.items c.extend_from_slice-in-loop-item.new.self.items
-      c.in_err-extend_from_slice-2.ensures.items c.loop-item.invariant)
+    c.in_err-extend_from_slice-2.ensures.items c.loop-item.invariant)
 
 pub loop-item-init : goal.loop-item-init
 loop-item-init g c =

@@ -24,7 +24,7 @@ returns-in_err-reserve_and_note-clause-full c =
     let places = c.loop-rec.invariant.1 in
     on_err c.from_residual.result
     (some_place places.0 (places_in rec) (flat_map places_in rest) (flat_map places_in records)
-      (ap (λ (l : List Rec). places.0 ++ flat_map places_in l) (sym next) ∙ places.1) c.in_err-reserve_and_note.ensures.full)
+    (ap (λ (l : List Rec). places.0 ++ flat_map places_in l) (sym next) ∙ places.1) c.in_err-reserve_and_note.ensures.full)
 
 pub loop-rec-preserved : goal.loop-rec-preserved
 loop-rec-preserved c =

@@ -1,7 +1,8 @@
 -- The last votes at the positions of a range, by the places that hold them.
-use Rattle.std.proofs.Common.{◌≡◌, ℕ, zero, suc, ◌+◌, ◌<◌, ◌≤◌, Option, Some, None, List, [], ◌∷◌, ◌++◌, length, refl, sym, ap, ◌∙◌, arith, length-append}
-use Rattle.std.specs.Prelude.{filter_map}
+use Rattle.std.proofs.Common.{◌≡◌, ℕ, zero, suc, ◌+◌, ◌<◌, ◌≤◌, Option, Some, None, List, [], ◌∷◌, ◌++◌, length, get_or, drop, refl, sym, ap, ◌∙◌, arith, append_assoc, length-append}
+use Rattle.std.specs.Prelude.{filter_map, option_to_list}
 use Rattle.std.specs.List.{range_with_len, cons_option}
+use Rattle.std.proofs.lemmas.List.{drop_more}
 use Rattle.rp_base.specs.declared.record.Rec.{Rec}
 use Rattle.rp_base.specs.declared.placed.PlacedVote.{PlacedVote}
 use Rattle.rp_base.specs.PlacedVotes.{placed_last}
@@ -43,3 +44,23 @@ pub one_left : (old votes all rest : List PlacedVote) (placed : PlacedVote) → 
 one_left old votes all rest placed is more none =
     let long = ap length (is ∙ ap (λ (l : List PlacedVote). old ++ l) none) in
     omega (arith, long, more, length-append votes (placed ∷ rest), length-append old [])
+
+in_front : (o : Option PlacedVote) (votes : List PlacedVote) → cons_option o votes ≡ option_to_list o ++ votes
+in_front None votes = refl
+in_front (Some placed) votes = refl
+
+-- the vote at a place, if there is one, is added to those before it
+pub one_place : (i offset : ℕ) (places : List Kept) (kept : Kept) (votes now all : List PlacedVote) → offset < length places → kept ≡ get_or places offset kept
+    → now ≡ votes ++ option_to_list (placed_if (i + offset) kept.last)
+    → votes ++ votes_from (i + offset) (drop offset places) ≡ all → now ++ votes_from (i + (offset + 1)) (drop (offset + 1) places) ≡ all
+one_place i offset places kept votes now all within is added e =
+    let rest = drop (offset + 1) places in
+    let later = votes_from (i + (offset + 1)) rest in
+    let next : i + (offset + 1) ≡ i + offset + 1 = omega arith in
+    ap (λ (l : List PlacedVote). l ++ later) added
+    ∙ append_assoc votes (option_to_list (placed_if (i + offset) kept.last)) later
+    ∙ ap (λ (l : List PlacedVote). votes ++ l) (sym (in_front (placed_if (i + offset) kept.last) later))
+    ∙ ap (λ (n : ℕ). votes ++ cons_option (placed_if (i + offset) kept.last) (votes_from n rest)) next
+    ∙ ap (λ (k : Kept). votes ++ votes_from (i + offset) (k ∷ rest)) is
+    ∙ ap (λ (l : List Kept). votes ++ votes_from (i + offset) l) (sym (drop_more places offset kept within))
+    ∙ e

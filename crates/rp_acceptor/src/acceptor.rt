@@ -10,7 +10,7 @@ ghost use Rattle.rp_base.specs.declared.record.Rec.TheVariants.{Promised, Voted}
 ghost use Rattle.rp_base.specs.Records.{bound_at, last_vote_at};
 ghost use Rattle.rp_base.specs.Ranges.{positions_of};
 ghost use Rattle.rp_base.specs.Sets.{Has};
-ghost use Rattle.rp_acceptor.specs.Noted.{nothing_noted, places_in, HasRoom, reserves, reserves_vote, reserves_range, reserves_for, notes, restored};
+ghost use Rattle.rp_acceptor.specs.Noted.{nothing_noted, places_in, HasRoom, reserves, reserves_vote, reserves_range, reserves_for, notes, restored_from, restored};
 ghost use Rattle.rp_base.specs.Voting.{prepare_answer, vote_answer, accept_answer};
 
 use crate::levels::{Levels, raise_promised, split_ends};
@@ -99,10 +99,19 @@ impl Acceptor {
         ensures full { OnErr result (¬ (flat_map places_in records.now ≡ [])) }
     {
         let mut acceptor = Acceptor::new(alloc);
-        for rec in records {
-            acceptor.reserve_and_note(rec)?;
-        }
+        acceptor.reserve_and_note_each(records)?;
         Ok(acceptor)
+    }
+
+    /// Makes room for the records and notes them, in order.
+    fn reserve_and_note_each(&mut self, records: &[Rec]) -> Result<(), AllocError>
+        ensures ok { OnOk result (self.new ≡ restored_from self.old records.now) }
+        ensures full { OnErr result (¬ (flat_map places_in records.now ≡ [])) }
+    {
+        for rec in records {
+            self.reserve_and_note(rec)?;
+        }
+        Ok(())
     }
 
     /// Makes room for the record and notes it.

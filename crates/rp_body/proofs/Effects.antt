@@ -1,5 +1,5 @@
 -- What an `if` does, where the code has run one of its arms.
-use Rattle.std.proofs.Common.{◌≡◌, ℤ, Bool, true, false, cond, List, Vec, Global, sym, ◌∙◌, ap, ap₂, FitsSigned, w64, to_z, of_z}
+use Rattle.std.proofs.Common.{◌≡◌, ℤ, Bool, true, false, cond, List, Vec, Global, sym, ◌∙◌, ap, ap₂, FitsSigned, w64}
 use Rattle.std.proofs.lemmas.Int.{to_z-of_z}
 use Rattle.rp_body.specs.declared.expression.Cond.{Cond}
 use Rattle.rp_body.specs.declared.statement.Stmt.{Stmt}
@@ -10,15 +10,12 @@ use Rattle.rp_body.specs.declared.statement.Outcome.{Outcome}
 use Rattle.rp_body.specs.Store.{Store}
 use Rattle.rp_body.specs.Expressions.{truth_of}
 use Rattle.rp_body.specs.Meaning.{Effect, effect_of_step, effect_of, effects_of}
+use Rattle.rp_body.proofs.Passing.{passed}
 
 effect-If : (arg : ℤ) (test : Cond) (first second : Vec Stmt Global) (store : Store) (out : ℤ) → effect_of arg (If test first second) store out ≡ cond (truth_of test store arg out) (effects_of arg first.items store out) (effects_of arg second.items store out)
 effect-If arg test first second store out =
     ap (λ (s : Stmt). effect_of arg s store out) (sym (rolls-If test first second))
     ∙ ap (λ (e : Effect). e store out) (fold-roll-Stmt Effect (effect_of_step arg) (Stmt-F.If test first second))
-
--- a number as the code passes it
-abbrev pub passed : ℤ → ℤ
-passed z = to_z w64 (of_z w64 z)
 
 -- the code has run these statements for an `if`, whose condition had this truth
 pub record Ran (arg out : ℤ) (statement : Stmt) (store : Store) (test : Cond) (first second : Vec Stmt Global) (truth : Bool) (arm : List Stmt) (ended : Store × Outcome) : Type 0 where

@@ -1,6 +1,9 @@
+pub mod Passing
 pub mod Effects
+pub mod Sequence
 pub mod Places
 pub mod Storing
 pub mod Ranges
 pub mod Booleans
 pub mod Outs
+pub mod Sums

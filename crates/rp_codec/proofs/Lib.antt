@@ -4,6 +4,7 @@ pub mod FieldLaws
 pub mod VersionLaws
 pub mod ActionLaws
 pub mod ListReading
+pub mod ListWriting
 pub mod VotesLaws
 pub mod VotesReading
 pub mod BodyLaws

@@ -5,7 +5,6 @@ ghost use Rattle.std.specs.Prelude.{◌≡◌};
 use crate::items::{Actions, Votes};
 use crate::rules;
 use rp_base::{Action, Ballot, NodeId, Position, PositionRange, TaskId, Vote};
-use std::alloc::AllocError;
 use std::marker::Model;
 
 /// A sender or a receiver of packets.
@@ -19,7 +18,7 @@ pub enum Party {
 
 /// What a packet says (Lamport, "Paxos Made Simple", section 2.2, where `Prepare` to `Accepted` are
 /// the requests of its two phases and their responses).
-#[derive(Clone, Debug, PartialEq, Eq, Drop)]
+#[derive(PartialEq, Eq, Drop)]
 pub enum Body {
     /// A task calls.
     Call {
@@ -94,11 +93,22 @@ pub enum Body {
 /// are right, a promise's votes are in lower ballots, those for a range at positions of it that
 /// rise, the bound of a `Nack` is above its ballot, and a report has as many actions as
 /// `report_len` says.
-#[derive(Debug, PartialEq, Eq, Drop)]
+#[derive(PartialEq, Eq)]
 pub struct Packet {
     from: Party,
     to: Party,
     body: Body,
+}
+
+// Not derived, so that to drop it is one step of a proof and not one for each of its parts.
+impl Drop for Packet {
+    fn drop(self) {
+        let Packet {
+            from: _,
+            to: _,
+            body: _,
+        } = self;
+    }
 }
 
 impl Model for Packet {
@@ -147,19 +157,5 @@ impl Packet {
         ensures packet { IsPacket self.now }
     {
         &self.body
-    }
-}
-
-impl Clone for Packet {
-    // A clone is the same packet.
-    ghost is_clone = { λ p q. q ≡ p };
-
-    fn clone(&self) -> Result<Self, AllocError> {
-        let body = self.body.clone()?;
-        Ok(Packet {
-            from: self.from,
-            to: self.to,
-            body,
-        })
     }
 }

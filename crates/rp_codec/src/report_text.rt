@@ -63,7 +63,7 @@ pub(crate) fn list_actions(
     let mut actions = Vec::with_capacity(alloc, usize::from(count))?;
     for _ in 0..count {
         match read_action(&mut reader, version) {
-            Ok(action) => actions.push(action)?,
+            Ok(action) => actions.push_reserved(action),
             Err(_) => unreachable!(),
         }
     }

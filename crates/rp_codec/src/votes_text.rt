@@ -118,7 +118,7 @@ pub(crate) fn list_votes(
                 let (position, ballot, action) = read;
                 first = u32::from(position.get()) + 1;
                 let vote = Vote { ballot, action };
-                votes.push(PlacedVote { position, vote })?;
+                votes.push_reserved(PlacedVote { position, vote });
             }
             Err(_) => unreachable!(),
         }

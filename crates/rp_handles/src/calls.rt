@@ -190,7 +190,10 @@ fn boxed(alloc: Global, actor: Actor) -> Result<Box<Actor>, Refusal>
 {
     match Box::new(alloc, actor) {
         Ok(boxed) => Ok(boxed),
-        Err(_) => Err(Refusal::Fault(Fault::OutOfMemory)),
+        Err(given_back) => {
+            drop(given_back);
+            Err(Refusal::Fault(Fault::OutOfMemory))
+        }
     }
 }
 

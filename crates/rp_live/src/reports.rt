@@ -151,8 +151,13 @@ fn read_end<M: Machine, D: InfallibleDevice>(
     ensures only { IsOkUnless result Fault.OutOfMemory }
 {
     let mut seat = node_ended(end)?;
-    let applied = read_log(audit, &mut seat, alloc)?;
-    Ok((seat, applied))
+    match read_log(audit, &mut seat, alloc) {
+        Ok(applied) => Ok((seat, applied)),
+        Err(fault) => {
+            drop(seat);
+            Err(fault)
+        }
+    }
 }
 
 /// The nodes report one after the other. They are those of the numbers from 1 on, and the audit

@@ -44,8 +44,13 @@ fn node_start<M: Machine, D: Device>(
         ≡ party_line seed (parties.Node seat.setup.number)) }
     ensures only { IsOkUnless result Fault.OutOfMemory }
 {
-    let line = line_for(alloc, seed, Party::Node(seat.number()))?;
-    Ok(NodeStart { seat, line })
+    match line_for(alloc, seed, Party::Node(seat.number())) {
+        Ok(line) => Ok(NodeStart { seat, line }),
+        Err(fault) => {
+            drop(seat);
+            Err(fault)
+        }
+    }
 }
 
 /// Makes the nodes ready to run.

@@ -72,7 +72,7 @@ impl fmt::Display for RangeText {
 }
 
 /// The kind of a packet, and what distinguishes it from others of its kind: `prepare 1 9`.
-#[derive(Clone, Copy, Debug)]
+#[derive(Clone, Copy)]
 pub struct BodyText<'a> {
     pub body: &'a Body,
 }
@@ -159,7 +159,7 @@ fn call_number(action: Action) -> u32
 }
 
 /// The line of the message of a number: `m2 1>3 prepare 1 9`.
-#[derive(Clone, Copy, Debug)]
+#[derive(Clone, Copy)]
 pub struct TraceLine<'a> {
     pub number: u64,
     pub from: PartyText<'a>,

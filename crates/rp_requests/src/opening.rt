@@ -56,13 +56,18 @@ impl<M: Machine> Node<M> {
             Ok(opening) => {
                 let records = opening.records as usize;
                 let kept = opening.replica.stored() as usize;
-                let tail = tail_after(alloc, bytes, kept)?;
-                Ok(Opened {
-                    node: Node::new(alloc, opening.replica, config),
-                    records,
-                    kept,
-                    tail,
-                })
+                match tail_after(alloc, bytes, kept) {
+                    Ok(tail) => Ok(Opened {
+                        node: Node::new(alloc, opening.replica, config),
+                        records,
+                        kept,
+                        tail,
+                    }),
+                    Err(refusal) => {
+                        drop(opening);
+                        Err(refusal)
+                    }
+                }
             }
             // A device in memory does not fail.
             Err(_) => Err(Refusal::Fault(Fault::OutOfMemory)),

@@ -650,8 +650,7 @@ fn a_packet_gives_its_parts(rt: HostRuntime) {
     let parties = (packet.from(), packet.to());
     expect_eq(&rt, parties, (node(&rt, 3), node(&rt, 1)));
     let is_nack = matches!(packet.body(), Body::Nack { .. });
-    let again = packet.clone().expect(&rt, "memory for the packet");
-    expect_eq(&rt, (is_nack, again == packet), (true, true));
+    expect_eq(&rt, is_nack, true);
 }
 
 static STARTED: [u8; 10] = [2, 1, 0, 0, 0, 0, 0, 0, 0, 9];

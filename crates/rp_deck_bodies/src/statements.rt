@@ -19,9 +19,19 @@ use crate::expressions::{bool_named, int_named, read_cond, read_expr};
 use crate::names::ComponentNames;
 use rp_body::{Cond, MOST_DEPTH, MOST_STATEMENTS, Stmt};
 use rp_words::rp_base::DeckReason;
-use rp_words::{LineError, TextLine, Words};
+use rp_words::{LineError, TextLine, Words, named};
 use std::alloc::{AllocError, Global};
 use std::mem;
+
+/// The words by which a line in a body begins.
+const BODY_WORDS: [(&[u8], BodyWord); 6] = [
+    (b"set", BodyWord::Statement(StatementWord::Set)),
+    (b"put", BodyWord::Statement(StatementWord::Put)),
+    (b"out", BodyWord::Statement(StatementWord::Out)),
+    (b"if", BodyWord::Statement(StatementWord::If)),
+    (b"else", BodyWord::Else),
+    (b"end", BodyWord::End),
+];
 
 /// The first word of a line in a body.
 #[derive(Clone, Copy)]
@@ -45,15 +55,7 @@ impl BodyWord {
     fn named(first: &[u8]) -> Option<BodyWord>
         ensures { result ≡ body_word_named first.now }
     {
-        match first {
-            b"set" => Some(BodyWord::Statement(StatementWord::Set)),
-            b"put" => Some(BodyWord::Statement(StatementWord::Put)),
-            b"out" => Some(BodyWord::Statement(StatementWord::Out)),
-            b"if" => Some(BodyWord::Statement(StatementWord::If)),
-            b"else" => Some(BodyWord::Else),
-            b"end" => Some(BodyWord::End),
-            _ => None,
-        }
+        named(&BODY_WORDS, first)
     }
 }
 

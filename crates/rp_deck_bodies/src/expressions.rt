@@ -156,13 +156,24 @@ pub fn read_cond(alloc: Global, words: Words<'_>, names: &ComponentNames) -> Res
 
 /// The nodes of an expression or a condition that are still to be read, a word each, those of a
 /// node after it.
-#[derive(Drop)]
 struct Nodes<'w, 'n> {
     alloc: Global,
     words: Words<'w>,
     names: &'n ComponentNames,
     /// How many more there may be.
     left: u8,
+}
+
+// Not derived, so that to drop it is one step of a proof and not one for each of its parts.
+impl<'w, 'n> Drop for Nodes<'w, 'n> {
+    fn drop(self) {
+        let Nodes {
+            alloc: _,
+            words: _,
+            names: _,
+            left: _,
+        } = self;
+    }
 }
 
 impl<'w, 'n> Nodes<'w, 'n> {

@@ -70,7 +70,6 @@ struct OpenIf {
 }
 
 /// A body whose `end` was not read yet.
-#[derive(Drop)]
 pub struct BodyDraft {
     /// The `if`s that it is in, the innermost last.
     ifs: Vec<OpenIf>,
@@ -78,6 +77,17 @@ pub struct BodyDraft {
     statements: Vec<Stmt>,
     /// How many more statements there may be.
     left: u8,
+}
+
+// Not derived, so that to drop it is one step of a proof and not one for each of its parts.
+impl Drop for BodyDraft {
+    fn drop(self) {
+        let BodyDraft {
+            ifs: _,
+            statements: _,
+            left: _,
+        } = self;
+    }
 }
 
 impl BodyDraft {
@@ -182,7 +192,12 @@ impl BodyDraft {
         ensures limits { (declared : List Component) → IsBody declared 0 self
             → WhereCounted declared (λ limits. KeepsLimits limits result.items) }
     {
-        self.statements
+        let BodyDraft {
+            ifs: _,
+            statements,
+            left: _,
+        } = self;
+        statements
     }
 
     /// Counts a statement more, before it is read.
@@ -201,12 +216,11 @@ impl BodyDraft {
     }
 
     /// Reads a statement, after its first word. Of an `if` it reads the condition.
-    #[tactic(auto, unfolding(crate::specs::Bodies::statement_line))]
     fn read_statement(
         &mut self,
         alloc: Global,
         word: StatementWord,
-        mut words: Words<'_>,
+        words: Words<'_>,
         names: &ComponentNames,
     ) -> Result<(), LineError>
         requires { IsBody (values names.now) 1 self.old }
@@ -216,26 +230,85 @@ impl BodyDraft {
             (unread words.entry)) }
     {
         match word {
-            StatementWord::Set => {
-                let place = int_named(words.take()?, names)?;
-                let value = read_expr(alloc, words, names)?;
-                self.add(Stmt::Set(place, value))?;
-            }
-            StatementWord::Put => {
-                let place = bool_named(words.take()?, names)?;
-                let value = read_cond(alloc, words, names)?;
-                self.add(Stmt::Put(place, value))?;
-            }
-            StatementWord::Out => {
-                let value = read_expr(alloc, words, names)?;
-                self.add(Stmt::Out(value))?;
-            }
-            StatementWord::If => {
-                let cond = read_cond(alloc, words, names)?;
-                self.begin_if(alloc, cond)?;
-            }
+            StatementWord::Set => self.read_set(alloc, words, names),
+            StatementWord::Put => self.read_put(alloc, words, names),
+            StatementWord::Out => self.read_out(alloc, words, names),
+            StatementWord::If => self.read_if(alloc, words, names),
         }
-        Ok(())
+    }
+
+    /// Reads the rest of a `set`.
+    #[tactic(auto, unfolding(crate::specs::Bodies::statement_line))]
+    fn read_set(
+        &mut self,
+        alloc: Global,
+        mut words: Words<'_>,
+        names: &ComponentNames,
+    ) -> Result<(), LineError>
+        requires { IsBody (values names.now) 1 self.old }
+        ensures limits { OnOk result (IsBody (values names.now) 0 self.new) }
+        ensures read { Makes (λ _. body_draft_text self.new) result
+            (statement_line (key_names names.now) (values names.now) (body_draft_text self.old) StatementWord.Set
+            (unread words.entry)) }
+    {
+        let place = int_named(words.take()?, names)?;
+        let value = read_expr(alloc, words, names)?;
+        Ok(self.add(Stmt::Set(place, value))?)
+    }
+
+    /// Reads the rest of a `put`.
+    #[tactic(auto, unfolding(crate::specs::Bodies::statement_line))]
+    fn read_put(
+        &mut self,
+        alloc: Global,
+        mut words: Words<'_>,
+        names: &ComponentNames,
+    ) -> Result<(), LineError>
+        requires { IsBody (values names.now) 1 self.old }
+        ensures limits { OnOk result (IsBody (values names.now) 0 self.new) }
+        ensures read { Makes (λ _. body_draft_text self.new) result
+            (statement_line (key_names names.now) (values names.now) (body_draft_text self.old) StatementWord.Put
+            (unread words.entry)) }
+    {
+        let place = bool_named(words.take()?, names)?;
+        let value = read_cond(alloc, words, names)?;
+        Ok(self.add(Stmt::Put(place, value))?)
+    }
+
+    /// Reads the rest of an `out`.
+    #[tactic(auto, unfolding(crate::specs::Bodies::statement_line))]
+    fn read_out(
+        &mut self,
+        alloc: Global,
+        words: Words<'_>,
+        names: &ComponentNames,
+    ) -> Result<(), LineError>
+        requires { IsBody (values names.now) 1 self.old }
+        ensures limits { OnOk result (IsBody (values names.now) 0 self.new) }
+        ensures read { Makes (λ _. body_draft_text self.new) result
+            (statement_line (key_names names.now) (values names.now) (body_draft_text self.old) StatementWord.Out
+            (unread words.entry)) }
+    {
+        let value = read_expr(alloc, words, names)?;
+        Ok(self.add(Stmt::Out(value))?)
+    }
+
+    /// Reads the condition of an `if`.
+    #[tactic(auto, unfolding(crate::specs::Bodies::statement_line))]
+    fn read_if(
+        &mut self,
+        alloc: Global,
+        words: Words<'_>,
+        names: &ComponentNames,
+    ) -> Result<(), LineError>
+        requires { IsBody (values names.now) 1 self.old }
+        ensures limits { OnOk result (IsBody (values names.now) 0 self.new) }
+        ensures read { Makes (λ _. body_draft_text self.new) result
+            (statement_line (key_names names.now) (values names.now) (body_draft_text self.old) StatementWord.If
+            (unread words.entry)) }
+    {
+        let cond = read_cond(alloc, words, names)?;
+        Ok(self.begin_if(alloc, cond)?)
     }
 
     /// Adds a statement.

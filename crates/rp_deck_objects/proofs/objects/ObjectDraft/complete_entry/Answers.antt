@@ -8,10 +8,10 @@ use Rattle.rp_object.specs.rp_entry.specs.declared.operations.Entry.{Entry as De
 use Rattle.rp_deck_bodies.specs.indexmap.specs.IndexMap.{values}
 use Rattle.rp_deck_objects.specs.declared.objects.Head.{Head}
 use Rattle.rp_deck_objects.specs.declared.objects.Head.TheVariants as heads
-use Rattle.rp_deck_objects.specs.declared.names.OperationName.TheVariants.{Procedure, Entry}
+use Rattle.rp_deck_objects.specs.declared.names.OperationName.TheVariants.{Entry}
 use Rattle.rp_deck_objects.specs.ObjectLimits.{HasRoomForOperation, HeadFits, HeadKeeps}
-use Rattle.rp_deck_objects.proofs.Naming.{last_numbered, procedure_more, entry_more, named_after}
-use Rattle.rp_deck_objects.proofs.ObjectLemmas.{procedure_fits, entry_fits, entry_keeps, few_entries, same_entries}
+use Rattle.rp_deck_objects.proofs.Naming.{last_numbered, entry_more, named_after}
+use Rattle.rp_deck_objects.proofs.ObjectLemmas.{entry_fits, entry_keeps, few_entries}
 use Rattle.rp_deck_objects.proofs.objects.ObjectDraft.complete_entry.Goals as goal
 
 pub returns-clause-object : goal.returns-clause-object

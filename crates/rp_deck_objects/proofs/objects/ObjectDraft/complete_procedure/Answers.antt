@@ -1,17 +1,14 @@
 -- A procedure more, and its name.
-use Rattle.std.proofs.Common.{◌≡◌, ◌+◌, length, true, rules, arith, refl, sym, subst}
+use Rattle.std.proofs.Common.{◌≡◌, ◌+◌, length, true, rules, refl, sym, subst}
 use Rattle.std.specs.Prelude.{is_some}
 use Rattle.std.proofs.lemmas.Result.{on_ok_weaker}
 use Rattle.rp_object.specs.rp_entry.specs.Operations.{of_index}
 use Rattle.rp_object.specs.rp_entry.specs.declared.operations.Operations.{Operations}
-use Rattle.rp_object.specs.rp_entry.specs.declared.operations.Entry.{Entry as DeclaredEntry}
 use Rattle.rp_deck_bodies.specs.indexmap.specs.IndexMap.{values}
-use Rattle.rp_deck_objects.specs.declared.objects.Head.{Head}
-use Rattle.rp_deck_objects.specs.declared.objects.Head.TheVariants as heads
-use Rattle.rp_deck_objects.specs.declared.names.OperationName.TheVariants.{Procedure, Entry}
-use Rattle.rp_deck_objects.specs.ObjectLimits.{HasRoomForOperation, HeadFits, HeadKeeps}
-use Rattle.rp_deck_objects.proofs.Naming.{last_numbered, procedure_more, entry_more, named_after}
-use Rattle.rp_deck_objects.proofs.ObjectLemmas.{procedure_fits, entry_fits, entry_keeps, few_entries, same_entries}
+use Rattle.rp_deck_objects.specs.declared.names.OperationName.TheVariants.{Procedure}
+use Rattle.rp_deck_objects.specs.ObjectLimits.{HasRoomForOperation}
+use Rattle.rp_deck_objects.proofs.Naming.{last_numbered, procedure_more, named_after}
+use Rattle.rp_deck_objects.proofs.ObjectLemmas.{procedure_fits, same_entries}
 use Rattle.rp_deck_objects.proofs.objects.ObjectDraft.complete_procedure.Goals as goal
 
 pub returns-clause-object : goal.returns-clause-object

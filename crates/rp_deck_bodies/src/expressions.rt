@@ -5,7 +5,7 @@ ghost use Rattle.rp_body.specs.Check.{expr_nodes, cond_nodes, expr_fits, cond_fi
 ghost use Rattle.rp_deck_bodies.specs.Counted.{IsCounted, WhereCounted};
 ghost use Rattle.rp_words.specs.indexmap.specs.IndexMap.{values};
 ghost use Rattle.rp_deck_bodies.specs.ExpressionViews.{expr_text, cond_text};
-ghost use Rattle.rp_deck_bodies.specs.Expressions.{expression_words, component_of, int_of, bool_of, next_node_read, expr_from, expr_line, cond_of, cond_from, cond_line};
+ghost use Rattle.rp_deck_bodies.specs.Expressions.{expression_words, component_of, int_of, bool_of, next_node_read, expr_from, expr_line, two_at, ExprText, CondText, cond_of, cond_from, cond_line};
 ghost use Rattle.rp_words.specs.Reading.{Gives, Makes};
 ghost use Rattle.rp_words.specs.Tables.{is_declared, find, key_names};
 ghost use Rattle.rp_words.specs.Words.{begins_as_number, unread};
@@ -15,6 +15,14 @@ use rp_body::{Cond, Expr, MOST_EXPRESSION_NODES};
 use rp_words::rp_base::DeckReason;
 use rp_words::{LineError, Words, named, read_name, read_number};
 use std::alloc::Global;
+
+/// The words by which an expression begins, but for a number and a component's name.
+const EXPR_WORDS: [(&[u8], ExprWord); 4] = [
+    (b"arg", ExprWord::Arg),
+    (b"out", ExprWord::Out),
+    (b"add", ExprWord::Add),
+    (b"sub", ExprWord::Sub),
+];
 
 /// The words by which a condition begins, but for a component's name.
 const COND_WORDS: [(&[u8], CondWord); 8] = [
@@ -96,6 +104,15 @@ pub fn bool_named(word: &[u8], names: &ComponentNames) -> Result<u8, DeckReason>
     }
 }
 
+/// The first word of an expression, but for a number and a component's name.
+#[derive(Clone, Copy)]
+enum ExprWord {
+    Arg,
+    Out,
+    Add,
+    Sub,
+}
+
 /// The first word of a condition, but for a component's name.
 #[derive(Clone, Copy)]
 pub enum CondWord {
@@ -139,7 +156,6 @@ pub fn read_cond(alloc: Global, words: Words<'_>, names: &ComponentNames) -> Res
 
 /// The nodes of an expression or a condition that are still to be read, a word each, those of a
 /// node after it.
-#[derive(Drop)]
 struct Nodes<'w, 'n> {
     alloc: Global,
     words: Words<'w>,
@@ -148,8 +164,20 @@ struct Nodes<'w, 'n> {
     left: u8,
 }
 
+// Not derived, so that to drop it is one step of a proof and not one for each of its parts.
+impl<'w, 'n> Drop for Nodes<'w, 'n> {
+    fn drop(self) {
+        let Nodes {
+            alloc: _,
+            words: _,
+            names: _,
+            left: _,
+        } = self;
+    }
+}
+
 impl<'w, 'n> Nodes<'w, 'n> {
-    ghost use Rattle.rp_deck_bodies.specs.NodeReads.{ReadsExpr, ReadsCond, expr_in, cond_in, IsExprCounted, IsCondCounted};
+    ghost use Rattle.rp_deck_bodies.specs.NodeReads.{Reads, expr_of, ReadsExpr, ReadsCond, expr_in, cond_in, IsExprCounted, IsCondCounted};
 
     /// The nodes of a line: at most 32.
     fn new(alloc: Global, words: Words<'w>, names: &'n ComponentNames) -> Self
@@ -193,7 +221,7 @@ impl<'w, 'n> Nodes<'w, 'n> {
 
     /// Reads the rest of an expression, after its first word. Its parts are at most so deep.
     #[cycle(expr)]
-    #[tactic(auto, unfolding(crate::specs::Expressions::expr_from))]
+    #[tactic(auto, using(crate::proofs::ExpressionsLemmas::expr_by_word))]
     fn expr_from(&mut self, word: &[u8], depth: u8) -> Result<Expr, LineError>
         ensures read { ReadsExpr (expr_from (key_names self.old.names.now)
             (values self.old.names.now) (expr_in self.old depth) word.now)
@@ -201,23 +229,85 @@ impl<'w, 'n> Nodes<'w, 'n> {
         ensures nodes { IfOk result (λ expr. self.new.left + expr_nodes expr ≡ self.old.left + 1) }
         ensures counted { IfOk result (λ expr. IsExprCounted self.old expr) }
     {
-        let alloc = self.alloc;
-        match word {
-            b"arg" => Ok(Expr::Arg),
-            b"out" => Ok(Expr::Out),
-            b"add" => {
-                let first = Box::new(alloc, self.expr(depth)?)?;
-                Ok(Expr::Add(first, Box::new(alloc, self.expr(depth)?)?))
+        let first = named(&EXPR_WORDS, word);
+        self.expr_of(first, word, depth)
+    }
+
+    /// The same, where the word names `first`.
+    #[cycle(expr)]
+    #[tactic(auto, unfolding(crate::specs::NodeReads::expr_of))]
+    fn expr_of(
+        &mut self,
+        first: Option<ExprWord>,
+        word: &[u8],
+        depth: u8,
+    ) -> Result<Expr, LineError>
+        ensures read { ReadsExpr (expr_of (key_names self.old.names.now)
+            (values self.old.names.now) (expr_in self.old depth) first word.now)
+            self.old self.new result }
+        ensures nodes { IfOk result (λ expr. self.new.left + expr_nodes expr ≡ self.old.left + 1) }
+        ensures counted { IfOk result (λ expr. IsExprCounted self.old expr) }
+    {
+        match first {
+            Some(ExprWord::Arg) => Ok(Expr::Arg),
+            Some(ExprWord::Out) => Ok(Expr::Out),
+            Some(ExprWord::Add) => {
+                let (first, second) = self.two_exprs(depth)?;
+                Ok(Expr::Add(first, second))
             }
-            b"sub" => {
-                let first = Box::new(alloc, self.expr(depth)?)?;
-                Ok(Expr::Sub(first, Box::new(alloc, self.expr(depth)?)?))
+            Some(ExprWord::Sub) => {
+                let (first, second) = self.two_exprs(depth)?;
+                Ok(Expr::Sub(first, second))
             }
-            _ if begins_as_number(word) => {
+            None if begins_as_number(word) => {
                 Ok(Expr::Number(read_number(word).ok_or(DeckReason::BadNumber)?))
             }
-            _ => Ok(Expr::Int(int_named(word, self.names)?)),
+            None => Ok(Expr::Int(int_named(word, self.names)?)),
         }
+    }
+
+    /// Reads an expression that is at most so deep, into a box.
+    #[cycle(expr)]
+    fn boxed_expr(&mut self, depth: u8) -> Result<Box<Expr>, LineError>
+        ensures read { Reads (λ expr. expr_text expr.value) (expr_in self.old depth)
+            self.old self.new result }
+        ensures nodes { IfOk result (λ expr.
+            self.new.left + expr_nodes expr.value ≡ self.old.left) }
+        ensures counted { IfOk result (λ expr. IsExprCounted self.old expr.value) }
+    {
+        let expr = self.expr(depth)?;
+        Ok(Box::new(self.alloc, expr)?)
+    }
+
+    /// Reads two expressions, one after the other, that are each at most so deep.
+    #[cycle(expr)]
+    fn two_exprs(&mut self, depth: u8) -> Result<(Box<Expr>, Box<Expr>), LineError>
+        ensures read { (make : ExprText → ExprText → ExprText)
+            → Reads (λ both. make (expr_text both.0.value) (expr_text both.1.value))
+            (two_at (expr_in self.old depth) make) self.old self.new result }
+        ensures nodes { IfOk result (λ both. self.new.left
+            + (expr_nodes both.0.value + expr_nodes both.1.value) ≡ self.old.left) }
+        ensures counted { IfOk result (λ both. IsExprCounted self.old both.0.value
+            × IsExprCounted self.old both.1.value) }
+    {
+        let first = self.boxed_expr(depth)?;
+        let second = self.boxed_expr(depth)?;
+        Ok((first, second))
+    }
+
+    /// Reads the two expressions that a condition compares.
+    fn operands(&mut self) -> Result<(Expr, Expr), LineError>
+        ensures read { (make : ExprText → ExprText → CondText)
+            → Reads (λ both. make (expr_text both.0) (expr_text both.1))
+            (two_at (expr_in self.old 32) make) self.old self.new result }
+        ensures nodes { IfOk result (λ both. self.new.left
+            + (expr_nodes both.0 + expr_nodes both.1) ≡ self.old.left) }
+        ensures counted { IfOk result (λ both. IsExprCounted self.old both.0
+            × IsExprCounted self.old both.1) }
+    {
+        let first = self.expr(MOST_EXPRESSION_NODES)?;
+        let second = self.expr(MOST_EXPRESSION_NODES)?;
+        Ok((first, second))
     }
 
     /// Reads a condition that is at most so deep.
@@ -262,32 +352,60 @@ impl<'w, 'n> Nodes<'w, 'n> {
         ensures nodes { IfOk result (λ cond. self.new.left + cond_nodes cond ≡ self.old.left + 1) }
         ensures counted { IfOk result (λ cond. IsCondCounted self.old cond) }
     {
-        let alloc = self.alloc;
         match first {
             Some(CondWord::True) => Ok(Cond::Constant(true)),
             Some(CondWord::False) => Ok(Cond::Constant(false)),
             Some(CondWord::Less) => {
-                let first = self.expr(MOST_EXPRESSION_NODES)?;
-                Ok(Cond::Less(first, self.expr(MOST_EXPRESSION_NODES)?))
+                let (first, second) = self.operands()?;
+                Ok(Cond::Less(first, second))
             }
             Some(CondWord::LessOrEqual) => {
-                let first = self.expr(MOST_EXPRESSION_NODES)?;
-                Ok(Cond::LessOrEqual(first, self.expr(MOST_EXPRESSION_NODES)?))
+                let (first, second) = self.operands()?;
+                Ok(Cond::LessOrEqual(first, second))
             }
             Some(CondWord::Equal) => {
-                let first = self.expr(MOST_EXPRESSION_NODES)?;
-                Ok(Cond::Equal(first, self.expr(MOST_EXPRESSION_NODES)?))
+                let (first, second) = self.operands()?;
+                Ok(Cond::Equal(first, second))
             }
-            Some(CondWord::Not) => Ok(Cond::Not(Box::new(alloc, self.cond(depth)?)?)),
+            Some(CondWord::Not) => Ok(Cond::Not(self.boxed_cond(depth)?)),
             Some(CondWord::And) => {
-                let first = Box::new(alloc, self.cond(depth)?)?;
-                Ok(Cond::And(first, Box::new(alloc, self.cond(depth)?)?))
+                let (first, second) = self.two_conds(depth)?;
+                Ok(Cond::And(first, second))
             }
             Some(CondWord::Or) => {
-                let first = Box::new(alloc, self.cond(depth)?)?;
-                Ok(Cond::Or(first, Box::new(alloc, self.cond(depth)?)?))
+                let (first, second) = self.two_conds(depth)?;
+                Ok(Cond::Or(first, second))
             }
             None => Ok(Cond::Bool(bool_named(word, self.names)?)),
         }
+    }
+
+    /// Reads a condition that is at most so deep, into a box.
+    #[cycle(cond)]
+    fn boxed_cond(&mut self, depth: u8) -> Result<Box<Cond>, LineError>
+        ensures read { Reads (λ cond. cond_text cond.value) (cond_in self.old depth)
+            self.old self.new result }
+        ensures nodes { IfOk result (λ cond.
+            self.new.left + cond_nodes cond.value ≡ self.old.left) }
+        ensures counted { IfOk result (λ cond. IsCondCounted self.old cond.value) }
+    {
+        let cond = self.cond(depth)?;
+        Ok(Box::new(self.alloc, cond)?)
+    }
+
+    /// Reads two conditions, one after the other, that are each at most so deep.
+    #[cycle(cond)]
+    fn two_conds(&mut self, depth: u8) -> Result<(Box<Cond>, Box<Cond>), LineError>
+        ensures read { (make : CondText → CondText → CondText)
+            → Reads (λ both. make (cond_text both.0.value) (cond_text both.1.value))
+            (two_at (cond_in self.old depth) make) self.old self.new result }
+        ensures nodes { IfOk result (λ both. self.new.left
+            + (cond_nodes both.0.value + cond_nodes both.1.value) ≡ self.old.left) }
+        ensures counted { IfOk result (λ both. IsCondCounted self.old both.0.value
+            × IsCondCounted self.old both.1.value) }
+    {
+        let first = self.boxed_cond(depth)?;
+        let second = self.boxed_cond(depth)?;
+        Ok((first, second))
     }
 }

@@ -19,9 +19,19 @@ use crate::expressions::{bool_named, int_named, read_cond, read_expr};
 use crate::names::ComponentNames;
 use rp_body::{Cond, MOST_DEPTH, MOST_STATEMENTS, Stmt};
 use rp_words::rp_base::DeckReason;
-use rp_words::{LineError, TextLine, Words};
+use rp_words::{LineError, TextLine, Words, named};
 use std::alloc::{AllocError, Global};
 use std::mem;
+
+/// The words by which a line in a body begins.
+const BODY_WORDS: [(&[u8], BodyWord); 6] = [
+    (b"set", BodyWord::Statement(StatementWord::Set)),
+    (b"put", BodyWord::Statement(StatementWord::Put)),
+    (b"out", BodyWord::Statement(StatementWord::Out)),
+    (b"if", BodyWord::Statement(StatementWord::If)),
+    (b"else", BodyWord::Else),
+    (b"end", BodyWord::End),
+];
 
 /// The first word of a line in a body.
 #[derive(Clone, Copy)]
@@ -45,15 +55,7 @@ impl BodyWord {
     fn named(first: &[u8]) -> Option<BodyWord>
         ensures { result ≡ body_word_named first.now }
     {
-        match first {
-            b"set" => Some(BodyWord::Statement(StatementWord::Set)),
-            b"put" => Some(BodyWord::Statement(StatementWord::Put)),
-            b"out" => Some(BodyWord::Statement(StatementWord::Out)),
-            b"if" => Some(BodyWord::Statement(StatementWord::If)),
-            b"else" => Some(BodyWord::Else),
-            b"end" => Some(BodyWord::End),
-            _ => None,
-        }
+        named(&BODY_WORDS, first)
     }
 }
 
@@ -68,7 +70,6 @@ struct OpenIf {
 }
 
 /// A body whose `end` was not read yet.
-#[derive(Drop)]
 pub struct BodyDraft {
     /// The `if`s that it is in, the innermost last.
     ifs: Vec<OpenIf>,
@@ -76,6 +77,17 @@ pub struct BodyDraft {
     statements: Vec<Stmt>,
     /// How many more statements there may be.
     left: u8,
+}
+
+// Not derived, so that to drop it is one step of a proof and not one for each of its parts.
+impl Drop for BodyDraft {
+    fn drop(self) {
+        let BodyDraft {
+            ifs: _,
+            statements: _,
+            left: _,
+        } = self;
+    }
 }
 
 impl BodyDraft {
@@ -180,7 +192,12 @@ impl BodyDraft {
         ensures limits { (declared : List Component) → IsBody declared 0 self
             → WhereCounted declared (λ limits. KeepsLimits limits result.items) }
     {
-        self.statements
+        let BodyDraft {
+            ifs: _,
+            statements,
+            left: _,
+        } = self;
+        statements
     }
 
     /// Counts a statement more, before it is read.
@@ -199,12 +216,11 @@ impl BodyDraft {
     }
 
     /// Reads a statement, after its first word. Of an `if` it reads the condition.
-    #[tactic(auto, unfolding(crate::specs::Bodies::statement_line))]
     fn read_statement(
         &mut self,
         alloc: Global,
         word: StatementWord,
-        mut words: Words<'_>,
+        words: Words<'_>,
         names: &ComponentNames,
     ) -> Result<(), LineError>
         requires { IsBody (values names.now) 1 self.old }
@@ -214,26 +230,85 @@ impl BodyDraft {
             (unread words.entry)) }
     {
         match word {
-            StatementWord::Set => {
-                let place = int_named(words.take()?, names)?;
-                let value = read_expr(alloc, words, names)?;
-                self.add(Stmt::Set(place, value))?;
-            }
-            StatementWord::Put => {
-                let place = bool_named(words.take()?, names)?;
-                let value = read_cond(alloc, words, names)?;
-                self.add(Stmt::Put(place, value))?;
-            }
-            StatementWord::Out => {
-                let value = read_expr(alloc, words, names)?;
-                self.add(Stmt::Out(value))?;
-            }
-            StatementWord::If => {
-                let cond = read_cond(alloc, words, names)?;
-                self.begin_if(alloc, cond)?;
-            }
+            StatementWord::Set => self.read_set(alloc, words, names),
+            StatementWord::Put => self.read_put(alloc, words, names),
+            StatementWord::Out => self.read_out(alloc, words, names),
+            StatementWord::If => self.read_if(alloc, words, names),
         }
-        Ok(())
+    }
+
+    /// Reads the rest of a `set`.
+    #[tactic(auto, unfolding(crate::specs::Bodies::statement_line))]
+    fn read_set(
+        &mut self,
+        alloc: Global,
+        mut words: Words<'_>,
+        names: &ComponentNames,
+    ) -> Result<(), LineError>
+        requires { IsBody (values names.now) 1 self.old }
+        ensures limits { OnOk result (IsBody (values names.now) 0 self.new) }
+        ensures read { Makes (λ _. body_draft_text self.new) result
+            (statement_line (key_names names.now) (values names.now) (body_draft_text self.old) StatementWord.Set
+            (unread words.entry)) }
+    {
+        let place = int_named(words.take()?, names)?;
+        let value = read_expr(alloc, words, names)?;
+        Ok(self.add(Stmt::Set(place, value))?)
+    }
+
+    /// Reads the rest of a `put`.
+    #[tactic(auto, unfolding(crate::specs::Bodies::statement_line))]
+    fn read_put(
+        &mut self,
+        alloc: Global,
+        mut words: Words<'_>,
+        names: &ComponentNames,
+    ) -> Result<(), LineError>
+        requires { IsBody (values names.now) 1 self.old }
+        ensures limits { OnOk result (IsBody (values names.now) 0 self.new) }
+        ensures read { Makes (λ _. body_draft_text self.new) result
+            (statement_line (key_names names.now) (values names.now) (body_draft_text self.old) StatementWord.Put
+            (unread words.entry)) }
+    {
+        let place = bool_named(words.take()?, names)?;
+        let value = read_cond(alloc, words, names)?;
+        Ok(self.add(Stmt::Put(place, value))?)
+    }
+
+    /// Reads the rest of an `out`.
+    #[tactic(auto, unfolding(crate::specs::Bodies::statement_line))]
+    fn read_out(
+        &mut self,
+        alloc: Global,
+        words: Words<'_>,
+        names: &ComponentNames,
+    ) -> Result<(), LineError>
+        requires { IsBody (values names.now) 1 self.old }
+        ensures limits { OnOk result (IsBody (values names.now) 0 self.new) }
+        ensures read { Makes (λ _. body_draft_text self.new) result
+            (statement_line (key_names names.now) (values names.now) (body_draft_text self.old) StatementWord.Out
+            (unread words.entry)) }
+    {
+        let value = read_expr(alloc, words, names)?;
+        Ok(self.add(Stmt::Out(value))?)
+    }
+
+    /// Reads the condition of an `if`.
+    #[tactic(auto, unfolding(crate::specs::Bodies::statement_line))]
+    fn read_if(
+        &mut self,
+        alloc: Global,
+        words: Words<'_>,
+        names: &ComponentNames,
+    ) -> Result<(), LineError>
+        requires { IsBody (values names.now) 1 self.old }
+        ensures limits { OnOk result (IsBody (values names.now) 0 self.new) }
+        ensures read { Makes (λ _. body_draft_text self.new) result
+            (statement_line (key_names names.now) (values names.now) (body_draft_text self.old) StatementWord.If
+            (unread words.entry)) }
+    {
+        let cond = read_cond(alloc, words, names)?;
+        Ok(self.begin_if(alloc, cond)?)
     }
 
     /// Adds a statement.

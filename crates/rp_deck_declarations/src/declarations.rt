@@ -1,6 +1,6 @@
 //! Reads the declarations of a deck.
 
-ghost use Rattle.std.specs.Prelude.{◌≡◌, IfOk, IfErr, option_copied, slice_get};
+ghost use Rattle.std.specs.Prelude.{◌≡◌, IfOk, IfErr, OnOk, option_copied, slice_get};
 ghost use Rattle.rp_words.specs.Ahead.{text_of, ahead, after_last};
 ghost use Rattle.rp_deck_declarations.specs.Declarations.{IsNodeCount, IsDraft, IsFinishable, IsComplete};
 ghost use Rattle.rp_deck_declarations.specs.Declaring.{declarations_from, declarations_of};
@@ -75,7 +75,11 @@ fn read_draft(alloc: Global, lines: &mut Lines<'_>) -> Result<Draft, Fault>
     };
     let number = line.number;
     match node_count(line) {
-        Ok(nodes) => read_lines(Draft::new(alloc, nodes), alloc, lines),
+        Ok(nodes) => {
+            let mut draft = Draft::new(alloc, nodes);
+            read_lines(&mut draft, alloc, lines)?;
+            Ok(draft)
+        }
         Err(reason) => Err(Fault::BadDeck {
             line: number,
             reason,
@@ -98,17 +102,17 @@ fn node_count(mut line: TextLine<'_>) -> Result<u8, DeckReason>
 }
 
 /// Reads the lines after `nodes`, up to `script`.
-fn read_lines(mut draft: Draft, alloc: Global, lines: &mut Lines<'_>) -> Result<Draft, Fault>
-    requires { IsDraft draft }
-    ensures read { Reads (λ after. (draft_text after, ahead lines.new)) result
-        (declarations_from (after_last lines.old) (draft_text draft) (ahead lines.old)) }
-    ensures finishable { IfOk result IsFinishable }
+fn read_lines(draft: &mut Draft, alloc: Global, lines: &mut Lines<'_>) -> Result<(), Fault>
+    requires { IsDraft draft.old }
+    ensures read { Reads (λ _. (draft_text draft.new, ahead lines.new)) result
+        (declarations_from (after_last lines.old) (draft_text draft.old) (ahead lines.old)) }
+    ensures finishable { OnOk result (IsFinishable draft.new) }
 {
     while let Some(mut line) = lines.next() {
         let number = line.number;
         if draft.is_ended_by(&line) {
             return match draft.complete(&mut line.words) {
-                Ok(()) => Ok(draft),
+                Ok(()) => Ok(()),
                 Err(reason) => Err(LineError::Bad(reason).at(number)),
             };
         }

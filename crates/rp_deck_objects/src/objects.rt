@@ -1,6 +1,6 @@
 //! Reads the lines that belong to an object.
 
-ghost use Rattle.std.specs.Prelude.{◌≡◌, ◌≤◌, ◌<◌, ◌+◌, Some, true, false, length, IfSome, IfOk, IfErr, OnOk};
+ghost use Rattle.std.specs.Prelude.{◌≡◌, ◌≤◌, ◌<◌, ◌+◌, ◌∷◌, ◌++◌, [], Some, true, false, length, map, string_bytes, IfSome, IfOk, IfErr, OnOk};
 ghost use Rattle.std.specs.FinMap.{len};
 ghost use Rattle.rp_object.specs.Program.{has_operation, operations_of, DeclarationFits, KeepsProfile};
 ghost use Rattle.rp_words.specs.Ahead.{text_of};
@@ -27,6 +27,7 @@ use rp_words::{
     take_name_new_to_map, truth_named,
 };
 use std::alloc::{AllocError, Global};
+use std::mem;
 use std::sync::Arc;
 
 /// The first words of the lines that belong to an object.
@@ -48,6 +49,12 @@ pub enum Part {
     Entry,
 }
 
+/// The words that say what a function answers.
+const FUNCTION_KINDS: [(&[u8], FunctionKind); 2] = [
+    (b"value", FunctionKind::Value),
+    (b"truth", FunctionKind::Truth),
+];
+
 /// What a function answers.
 #[derive(Clone, Copy)]
 enum FunctionKind {
@@ -60,11 +67,7 @@ impl FunctionKind {
     fn named(word: &[u8]) -> Option<FunctionKind>
         ensures { result ≡ function_named word.now }
     {
-        match word {
-            b"value" => Some(FunctionKind::Value),
-            b"truth" => Some(FunctionKind::Truth),
-            _ => None,
-        }
+        named(&FUNCTION_KINDS, word)
     }
 }
 
@@ -85,7 +88,6 @@ struct OperationDraft {
 }
 
 /// An object that is being declared.
-#[derive(Drop)]
 pub struct ObjectDraft {
     name: String,
     ceiling: u8,
@@ -99,8 +101,26 @@ pub struct ObjectDraft {
     open_operation: Option<OperationDraft>,
 }
 
+// Not derived, so that to drop it is one step of a proof and not one for each of its parts.
+impl Drop for ObjectDraft {
+    fn drop(self) {
+        let ObjectDraft {
+            name: _,
+            ceiling: _,
+            components: _,
+            component_names: _,
+            int_names: _,
+            bool_names: _,
+            operations: _,
+            operation_names: _,
+            entry_names: _,
+            open_operation: _,
+        } = self;
+    }
+}
+
 impl ObjectDraft {
-    ghost use Rattle.std.specs.Prelude.{option_map, string_bytes, is_some};
+    ghost use Rattle.std.specs.Prelude.{option_map, is_some};
     ghost use Rattle.rp_deck_objects.specs.ObjectViews.{function_text, operation_text, object_text, operation_of, protected_text, protected_of, object_operations, own_operations};
     ghost use Rattle.rp_deck_objects.specs.Objects.{empty_object, component_name_at, with_int, int_line, with_bool, bool_line, function_of, with_function, function_line, procedure_line, entry_line, begun_line, completed_as, operation_line, part_line, object_step};
     ghost use Rattle.rp_deck_objects.specs.ObjectLimits.{MayBegin, IsOpenIn, IsObject, MayDeclare, KeepsProcedures, KeepsObject};
@@ -120,11 +140,7 @@ impl ObjectDraft {
             component_names: IndexMap::new(alloc),
             int_names: Vec::new(alloc),
             bool_names: Vec::new(alloc),
-            operations: Operations {
-                functions: Vec::new(alloc),
-                procedures: Vec::new(alloc),
-                entries: Vec::new(alloc),
-            },
+            operations: no_operations(alloc),
             operation_names: IndexMap::new(alloc),
             entry_names: Vec::new(alloc),
             open_operation: None,
@@ -150,7 +166,10 @@ impl ObjectDraft {
     }
 
     /// What the program has of it, and the names of its operations.
-    pub fn finish(self, alloc: Global) -> Result<(ObjectDeclaration, OperationNames), AllocError>
+    pub fn finish(
+        mut self,
+        alloc: Global,
+    ) -> Result<(ObjectDeclaration, OperationNames), AllocError>
         ghost profile: { Profile }
         requires { IsObject profile self }
         ensures named { IfOk result (λ made. AreNamed (operations_of made.0) made.1) }
@@ -161,16 +180,30 @@ impl ObjectDraft {
         ensures operations { IfOk result (λ made.
             own_operations made.1 ≡ object_operations (object_text self)) }
     {
+        let taken = mem::replace(&mut self.operations, no_operations(alloc));
+        let operations = Arc::new(alloc, taken)?;
+        let ObjectDraft {
+            name,
+            ceiling,
+            components,
+            component_names: _,
+            int_names: ints,
+            bool_names: bools,
+            operations: _,
+            operation_names,
+            entry_names: entries,
+            open_operation: _,
+        } = self;
         let declaration = ObjectDeclaration {
-            name: self.name,
-            ceiling: self.ceiling,
-            ints: self.int_names,
-            bools: self.bool_names,
-            components: self.components,
-            entries: self.entry_names,
-            operations: Arc::new(alloc, self.operations)?,
+            name,
+            ceiling,
+            ints,
+            bools,
+            components,
+            entries,
+            operations,
         };
-        Ok((declaration, self.operation_names))
+        Ok((declaration, operation_names))
     }
 
     /// Reads a line of the object, or of its body.
@@ -216,7 +249,7 @@ impl ObjectDraft {
             .body
             .read_line(alloc, line, &self.component_names)?
         {
-            return self.complete(profile, operation);
+            return self.complete(alloc, profile, operation);
         }
         self.open_operation = Some(operation);
         Ok(())
@@ -309,7 +342,7 @@ impl ObjectDraft {
     {
         let named = Component::Int(self.components.limits().ints);
         insert_in_map(alloc, &mut self.component_names, name, named)?;
-        self.int_names.push(String::from_str(alloc, name)?)?;
+        push_name(alloc, &mut self.int_names, name)?;
         self.components.add_int(component);
         Ok(())
     }
@@ -326,7 +359,7 @@ impl ObjectDraft {
     {
         let named = Component::Bool(self.components.limits().bools);
         insert_in_map(alloc, &mut self.component_names, name, named)?;
-        self.bool_names.push(String::from_str(alloc, name)?)?;
+        push_name(alloc, &mut self.bool_names, name)?;
         self.components.add_bool(value);
         Ok(())
     }
@@ -365,10 +398,9 @@ impl ObjectDraft {
         ensures object { KeepsObject self.old self.new result }
     {
         let index = Index::after(self.operations.functions.len()).unwrap();
+        push_item(&mut self.operations.functions, function)?;
         let named = OperationName::Function(index);
-        insert_in_map(alloc, &mut self.operation_names, name, named)?;
-        self.operations.functions.push(function)?;
-        Ok(())
+        insert_in_map(alloc, &mut self.operation_names, name, named)
     }
 
     /// The rest of the line, the expression or the condition of a function.
@@ -459,7 +491,12 @@ impl ObjectDraft {
     }
 
     /// Adds an operation whose body has ended.
-    fn complete(&mut self, profile: Profile, operation: OperationDraft) -> Result<(), LineError>
+    fn complete(
+        &mut self,
+        alloc: Global,
+        profile: Profile,
+        operation: OperationDraft,
+    ) -> Result<(), LineError>
         requires object { MayDeclare profile self.old }
         requires operation { IsOpenIn profile self.old operation }
         ensures read { OnOk result (object_text self.new ≡ completed_as operation.head
@@ -469,27 +506,99 @@ impl ObjectDraft {
         ensures object { OnOk result (IsObject profile self.new) }
         ensures grows { OnOk result (KeepsProcedures self.old self.new) }
     {
-        let body = operation.body.into_statements();
         match operation.head {
-            Head::Procedure => {
-                let index = Index::after(self.operations.procedures.len()).unwrap();
-                self.operations.procedures.push(body)?;
-                let named = OperationName::Procedure(index);
-                insert_string_in_map(&mut self.operation_names, operation.name, named)
-            }
+            Head::Procedure => self.complete_procedure(profile, operation),
             Head::Entry { barrier, longest } => {
-                let index = EntryIndex::after(self.operations.entries.len()).unwrap();
-                self.entry_names.push(operation.name.clone()?)?;
-                self.operations.entries.push(Entry {
-                    barrier,
-                    longest,
-                    body,
-                })?;
-                let named = OperationName::Entry(index);
-                insert_string_in_map(&mut self.operation_names, operation.name, named)
+                self.complete_entry(alloc, profile, operation, (barrier, longest))
             }
         }
     }
+
+    /// Adds a procedure whose body has ended.
+    fn complete_procedure(
+        &mut self,
+        profile: Profile,
+        operation: OperationDraft,
+    ) -> Result<(), LineError>
+        requires object { MayDeclare profile self.old }
+        requires operation { IsOpenIn profile self.old operation }
+        requires head { operation.head ≡ Head.Procedure }
+        ensures read { OnOk result (object_text self.new ≡ completed_as operation.head
+            (string_bytes operation.name) (body_draft_text operation.body).statements
+            (object_text self.old)) }
+        ensures memory { IfErr result (λ error. error ≡ LineError.OutOfMemory) }
+        ensures object { OnOk result (IsObject profile self.new) }
+        ensures grows { OnOk result (KeepsProcedures self.old self.new) }
+    {
+        let index = Index::after(self.operations.procedures.len()).unwrap();
+        let body = operation.body.into_statements();
+        push_item(&mut self.operations.procedures, body)?;
+        let named = OperationName::Procedure(index);
+        insert_string_in_map(&mut self.operation_names, operation.name, named)
+    }
+
+    /// Adds an entry with this barrier and longest queue, whose body has ended.
+    fn complete_entry(
+        &mut self,
+        alloc: Global,
+        profile: Profile,
+        operation: OperationDraft,
+        head: (u8, u8),
+    ) -> Result<(), LineError>
+        requires object { MayDeclare profile self.old }
+        requires operation { IsOpenIn profile self.old operation }
+        requires head { operation.head ≡ Head.Entry head.0 head.1 }
+        ensures read { OnOk result (object_text self.new ≡ completed_as operation.head
+            (string_bytes operation.name) (body_draft_text operation.body).statements
+            (object_text self.old)) }
+        ensures memory { IfErr result (λ error. error ≡ LineError.OutOfMemory) }
+        ensures object { OnOk result (IsObject profile self.new) }
+        ensures grows { OnOk result (KeepsProcedures self.old self.new) }
+    {
+        let (barrier, longest) = head;
+        let index = EntryIndex::after(self.operations.entries.len()).unwrap();
+        push_name(alloc, &mut self.entry_names, &operation.name)?;
+        let entry = Entry {
+            barrier,
+            longest,
+            body: operation.body.into_statements(),
+        };
+        push_item(&mut self.operations.entries, entry)?;
+        let named = OperationName::Entry(index);
+        insert_string_in_map(&mut self.operation_names, operation.name, named)
+    }
+}
+
+/// No operations.
+fn no_operations(alloc: Global) -> Operations
+    ensures functions { result.functions.items ≡ [] }
+    ensures procedures { result.procedures.items ≡ [] }
+    ensures entries { result.entries.items ≡ [] }
+{
+    Operations {
+        functions: Vec::new(alloc),
+        procedures: Vec::new(alloc),
+        entries: Vec::new(alloc),
+    }
+}
+
+/// Adds an item after these. Of whatever type, so that to drop it, where there is no memory, is one
+/// step of a proof and not one for each of its parts.
+fn push_item<T: Drop>(items: &mut Vec<T>, item: T) -> Result<(), AllocError>
+    ensures items { OnOk result (items.new.items ≡ items.old.items ++ item ∷ []) }
+    ensures len { OnOk result (length items.new.items ≡ length items.old.items + 1) }
+{
+    items.push(item)?;
+    Ok(())
+}
+
+/// Adds a name after these.
+fn push_name(alloc: Global, names: &mut Vec<String>, name: &str) -> Result<(), AllocError>
+    ensures names { OnOk result (map (λ name. string_bytes name) names.new.items
+        ≡ map (λ name. string_bytes name) names.old.items ++ name.now ∷ []) }
+    ensures len { OnOk result (length names.new.items ≡ length names.old.items + 1) }
+{
+    push_item(names, String::from_str(alloc, name)?)
 }
 
 /// How many entries an object has at most.

@@ -1,8 +1,9 @@
 //! The drawing of a sketch.
 
-ghost use Rattle.std.specs.Prelude.{◌≡◌, ◌+◌, ◌*◌, ◌++◌, ◌≤◌, ◌<◌, ◌^◌, true, IfErr, IfOk, OnOk, length, string_bytes, flat_map};
+ghost use Rattle.std.specs.Prelude.{◌≡◌, ◌+◌, ◌*◌, [], ◌++◌, ◌≤◌, ◌<◌, ◌^◌, true, IfErr, IfOk, OnOk, length, string_bytes, flat_map};
 ghost use Rattle.std.specs.List.{sum_by};
 ghost use Rattle.rp_drawing.specs.Drawings.{end_kind, page_text, way_curve, way_text, IsDrawnBy};
+ghost use Rattle.rp_drawing.specs.Elements.{most_head_bytes};
 ghost use Rattle.rp_drawing.specs.Lines.{effect_line, effect_line_text, head_text, lane_text, lanes_text, mark_kind, mark_text, name_text, names_from, names_text, row_bytes, row_element, row_text, text_point};
 ghost use Rattle.rp_drawing.specs.Pages.{line_y};
 ghost use Rattle.rp_drawing.specs.Stops.{within_page};
@@ -49,21 +50,51 @@ pub fn draw(alloc: Global, sketch: &Sketch, lanes: &[Lane]) -> Result<String, Fa
         (string_bytes text)) }
     ensures fault { IfErr result (λ fault. fault ≡ Fault.OutOfMemory) }
 {
+    let mut text = String::new(alloc);
+    write_page(alloc, &mut text, sketch, lanes)?;
+    Ok(text)
+}
+
+/// Writes the drawing of a sketch into an empty text.
+fn write_page(
+    alloc: Global,
+    text: &mut String,
+    sketch: &Sketch,
+    lanes: &[Lane],
+) -> Result<(), Fault>
+    requires down { AreDown sketch.now.lines sketch.now.ways.items }
+    requires lines { sketch.now.lines ≤ 2 ^ 32 }
+    requires lanes { length lanes.now ≤ 16 }
+    requires empty { string_bytes text.old ≡ [] }
+    ensures page { OnOk result (string_bytes text.new ≡ page_text lanes.now sketch.now) }
+    ensures drawn { OnOk result (IsDrawnBy sketch.now (length lanes.now)
+        (string_bytes text.new)) }
+    ensures fault { IfErr result (λ fault. fault ≡ Fault.OutOfMemory) }
+{
     let page = Page {
         lanes: lanes.len() as u32,
     };
-    let mut text = String::new(alloc);
     let height = page.line_y(sketch.lines) + LINE;
+    write_head(alloc, text, height)?;
+    add_head(text, legend_text())?;
+    write_lanes(alloc, text, page, lanes, height)?;
+    write_stops(alloc, text, page, &sketch.rows, height)?;
+    write_ways(alloc, text, page, &sketch.lines, &sketch.ways)?;
+    write_rows(alloc, text, page, &sketch.rows)?;
+    write_names(alloc, text, page, lanes, sketch.lines)?;
+    add_element(text, "</svg>", MOST_BYTES)
+}
+
+/// Writes the head of a drawing of this height.
+fn write_head(alloc: Global, text: &mut String, height: u64) -> Result<(), Fault>
+    ensures added { OnOk result (string_bytes text.new
+        ≡ string_bytes text.old ++ head_text height) }
+    ensures short { OnOk result (length (string_bytes text.new)
+        ≤ length (string_bytes text.old) + most_head_bytes) }
+    ensures fault { IfErr result (λ fault. fault ≡ Fault.OutOfMemory) }
+{
     let head = head_text(alloc, height)?;
-    add_head(&mut text, &head)?;
-    add_head(&mut text, legend_text())?;
-    write_lanes(alloc, &mut text, page, lanes, height)?;
-    write_stops(alloc, &mut text, page, &sketch.rows, height)?;
-    write_ways(alloc, &mut text, page, &sketch.lines, &sketch.ways)?;
-    write_rows(alloc, &mut text, page, &sketch.rows)?;
-    write_names(alloc, &mut text, page, lanes, sketch.lines)?;
-    add_element(&mut text, "</svg>", MOST_BYTES)?;
-    Ok(text)
+    add_head(text, &head)
 }
 
 /// The head of a drawing of this height.

@@ -20,7 +20,7 @@ returns-in-Err-clause-read c =
     let d = draft_text c.loop-line.draft in
     let read = sym c.loop-line.invariant.same ∙ ap (declarations_from last d) c.in-Some.ensures.next
     ∙ bad_script last d (text_of c.in-Some.line) (ahead c.next.new.self) c.in-Err.reason (sym c.is_ended_by.ensures ∙ c.if-is_ended_by.true) c.in-Err.ensures.read in
-    subst (λ f. Refuses f (declarations_from last (draft_text c.args.draft) (ahead c.args.lines.now))) (sym c.at.ensures) read
+    subst (λ f. Refuses f (declarations_from last (draft_text c.args.draft.now) (ahead c.args.lines.now))) (sym c.at.ensures) read
 
 pub returns-in-Err-read_line-clause-read : goal.returns-in-Err-read_line-clause-read
 returns-in-Err-read_line-clause-read c =
@@ -28,7 +28,7 @@ returns-in-Err-read_line-clause-read c =
     let d = draft_text c.loop-line.draft in
     let same = sym c.loop-line.invariant.same ∙ ap (declarations_from last d) c.in-Some.ensures.next in
     let refused = refused_at last d (text_of c.in-Some.line) (ahead c.next.new.self) c.in-Err-read_line.error (sym c.is_ended_by.ensures ∙ c.if-is_ended_by.false) c.in-Err-read_line.ensures.read in
-    subst (λ f. Refuses f (declarations_from last (draft_text c.args.draft) (ahead c.args.lines.now))) (sym c.at-in-Err-read_line.ensures)
+    subst (λ f. Refuses f (declarations_from last (draft_text c.args.draft.now) (ahead c.args.lines.now))) (sym c.at-in-Err-read_line.ensures)
     (subst (λ r. Refuses (fault_at c.in-Some.line.number c.in-Err-read_line.error) r) (sym same) refused)
 
 pub loop-line-preserved : goal.loop-line-preserved

@@ -15,11 +15,11 @@ returns-clause-object c = (
       let place = c.limits.result.bools in
       let is : place ≡ len self.components.bools = search rules in
       let more = bool_more self.components (length self.int_names.items) (length self.bool_names.items) (values self.component_names) c.args.value place was.components c.requires.room is in
-      let count : length c.push.new.self.items ≡ length self.bool_names.items + 1 = search rules in
+      let count : length c.push_name.new.names.items ≡ length self.bool_names.items + 1 = c.in_ok-push_name.ensures.len in
       let names : values c.insert_in_map.new.table ≡ values self.component_names ++ Bool place ∷ [] = c.in_ok-insert_in_map.ensures.values in
       record {
         ceiling = was.ceiling;
-        components = same_components _ c.add_bool.new.self (length self.int_names.items) (length self.int_names.items) (length self.bool_names.items + 1) (length c.push.new.self.items) (values self.component_names ++ Bool place ∷ []) (values c.insert_in_map.new.table)
+        components = same_components _ c.add_bool.new.self (length self.int_names.items) (length self.int_names.items) (length self.bool_names.items + 1) (length c.push_name.new.names.items) (values self.component_names ++ Bool place ∷ []) (values c.insert_in_map.new.table)
             c.add_bool.ensures refl count names more;
         entries = was.entries;
         fit = counted_front (values self.component_names) _ (Bool place) (λ limits. OperationsFit limits self.operations) names was.fit;

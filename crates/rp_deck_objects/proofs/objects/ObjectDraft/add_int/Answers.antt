@@ -22,12 +22,12 @@ returns-clause-object c = (
       let fits : FitsSigned w64 component.low × FitsSigned w64 component.high = (search rules, search rules) in
       let within : IsTrue (is_within component.low component.high component.value) = c.requires.in_range in
       let more = int_more self.components (length self.int_names.items) (length self.bool_names.items) (values self.component_names) component place was.components c.requires.room is fits within in
-      let count : length c.push.new.self.items ≡ length self.int_names.items + 1 = search rules in
+      let count : length c.push_name.new.names.items ≡ length self.int_names.items + 1 = c.in_ok-push_name.ensures.len in
       let names : values c.insert_in_map.new.table ≡ values self.component_names ++ Int place ∷ [] = c.in_ok-insert_in_map.ensures.values in
       let store : c.add_int.new.self ≡ record self.components { ints = insert self.components.ints (len self.components.ints) component } = search rules in
       record {
         ceiling = was.ceiling;
-        components = same_components _ c.add_int.new.self (length self.int_names.items + 1) (length c.push.new.self.items) (length self.bool_names.items) (length self.bool_names.items) (values self.component_names ++ Int place ∷ []) (values c.insert_in_map.new.table)
+        components = same_components _ c.add_int.new.self (length self.int_names.items + 1) (length c.push_name.new.names.items) (length self.bool_names.items) (length self.bool_names.items) (values self.component_names ++ Int place ∷ []) (values c.insert_in_map.new.table)
             store count refl names more;
         entries = was.entries;
         fit = counted_front (values self.component_names) _ (Int place) (λ limits. OperationsFit limits self.operations) names was.fit;

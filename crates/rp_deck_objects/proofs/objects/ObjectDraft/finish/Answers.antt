@@ -1,5 +1,5 @@
 -- An object that keeps its limits.
-use Rattle.std.proofs.Common.{◌≡◌, length, arith, sym, subst}
+use Rattle.std.proofs.Common.{◌≡◌, ◌∙◌, length, arith, sym, subst}
 use Rattle.rp_object.specs.rp_body.specs.Store.{limits_of}
 use Rattle.rp_object.specs.rp_entry.specs.Operations.{OperationsFit}
 use Rattle.rp_object.specs.Program.{KeepsProfile}
@@ -16,12 +16,12 @@ returns-clause-fits g c =
       few_bools = omega (arith, k.bools, k.few_bools);
       ints = k.ints;
       bools = k.bools;
-      entries = subst (λ operations. length self.entry_names.items ≡ length operations.entries.items) (sym c.in_ok-new.ensures.ok) c.requires.entries;
+      entries = subst (λ operations. length self.entry_names.items ≡ length operations.entries.items) (sym (c.in_ok-operations.ensures.ok ∙ c.replace-taken.ensures.value)) c.requires.entries;
       numbered = k.numbered;
       ends = k.ends;
       in_range = k.in_range;
-      operations = subst (λ operations. OperationsFit limits operations) (sym c.in_ok-new.ensures.ok) (c.requires.fit limits k.counted);
+      operations = subst (λ operations. OperationsFit limits operations) (sym (c.in_ok-operations.ensures.ok ∙ c.replace-taken.ensures.value)) (c.requires.fit limits k.counted);
     }
 
 pub returns-clause-keeps : goal.returns-clause-keeps
-returns-clause-keeps g c = subst (λ operations. KeepsProfile g.profile operations) (sym c.in_ok-new.ensures.ok) c.requires.keeps
+returns-clause-keeps g c = subst (λ operations. KeepsProfile g.profile operations) (sym (c.in_ok-operations.ensures.ok ∙ c.replace-taken.ensures.value)) c.requires.keeps

@@ -14,9 +14,9 @@ returns-clause-object c =
       ceiling = c.requires;
       components = subst (λ n. KeepsComponents c.new.result n (length c.new-4.result.items) (values c.new-2.result)) (sym ints)
           (subst (λ n. KeepsComponents c.new.result 0 n (values c.new-2.result)) (sym bools) (no_components c.new.result (values c.new-2.result) c.new.ensures.ints c.new.ensures.bools none));
-      entries = ap length c.new-9.ensures.items ∙ sym (ap length c.new-7.ensures.items);
-      fit = λ limits counted. no_operations _ limits c.new-5.ensures.items c.new-6.ensures.items c.new-7.ensures.items;
-      keeps = no_entries profile _ c.new-7.ensures.items;
+      entries = ap length c.new-6.ensures.items ∙ sym (ap length c.no_operations.ensures.entries);
+      fit = λ limits counted. no_operations _ limits c.no_operations.ensures.functions c.no_operations.ensures.procedures c.no_operations.ensures.entries;
+      keeps = no_entries profile _ c.no_operations.ensures.entries;
       named = search rules;
       operation = tt;
     }

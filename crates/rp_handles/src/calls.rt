@@ -190,10 +190,7 @@ fn boxed(alloc: Global, actor: Actor) -> Result<Box<Actor>, Refusal>
 {
     match Box::new(alloc, actor) {
         Ok(boxed) => Ok(boxed),
-        Err(given_back) => {
-            drop(given_back);
-            Err(Refusal::Fault(Fault::OutOfMemory))
-        }
+        Err(_) => Err(Refusal::Fault(Fault::OutOfMemory)),
     }
 }
 

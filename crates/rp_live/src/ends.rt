@@ -22,10 +22,7 @@ pub(crate) fn node_ended<M: Machine, D: InfallibleDevice>(
 {
     end.seat.never_failed();
     match end.fault {
-        Some(fault) => {
-            drop(end.seat);
-            Err(fault)
-        }
+        Some(fault) => Err(fault),
         None => Ok(end.seat),
     }
 }
@@ -38,10 +35,7 @@ pub(crate) fn task_ended<M: Machine>(end: TaskEnd<M>) -> Result<TaskSeat<M>, Fau
     ensures only { IsOkUnless result Fault.OutOfMemory }
 {
     match end.fault {
-        Some(Fault::OutOfMemory) => {
-            drop(end.seat);
-            Err(Fault::OutOfMemory)
-        }
+        Some(Fault::OutOfMemory) => Err(Fault::OutOfMemory),
         _ => Ok(end.seat),
     }
 }

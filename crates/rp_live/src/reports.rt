@@ -151,13 +151,8 @@ fn read_end<M: Machine, D: InfallibleDevice>(
     ensures only { IsOkUnless result Fault.OutOfMemory }
 {
     let mut seat = node_ended(end)?;
-    match read_log(audit, &mut seat, alloc) {
-        Ok(applied) => Ok((seat, applied)),
-        Err(fault) => {
-            drop(seat);
-            Err(fault)
-        }
-    }
+    let applied = read_log(audit, &mut seat, alloc)?;
+    Ok((seat, applied))
 }
 
 /// The nodes report one after the other. They are those of the numbers from 1 on, and the audit

@@ -44,13 +44,8 @@ fn node_start<M: Machine, D: Device>(
         ≡ party_line seed (parties.Node seat.setup.number)) }
     ensures only { IsOkUnless result Fault.OutOfMemory }
 {
-    match line_for(alloc, seed, Party::Node(seat.number())) {
-        Ok(line) => Ok(NodeStart { seat, line }),
-        Err(fault) => {
-            drop(seat);
-            Err(fault)
-        }
-    }
+    let line = line_for(alloc, seed, Party::Node(seat.number()))?;
+    Ok(NodeStart { seat, line })
 }
 
 /// Makes the nodes ready to run.

@@ -56,18 +56,13 @@ impl<M: Machine> Node<M> {
             Ok(opening) => {
                 let records = opening.records as usize;
                 let kept = opening.replica.stored() as usize;
-                match tail_after(alloc, bytes, kept) {
-                    Ok(tail) => Ok(Opened {
-                        node: Node::new(alloc, opening.replica, config),
-                        records,
-                        kept,
-                        tail,
-                    }),
-                    Err(refusal) => {
-                        drop(opening);
-                        Err(refusal)
-                    }
-                }
+                let tail = tail_after(alloc, bytes, kept)?;
+                Ok(Opened {
+                    node: Node::new(alloc, opening.replica, config),
+                    records,
+                    kept,
+                    tail,
+                })
             }
             // A device in memory does not fail.
             Err(_) => Err(Refusal::Fault(Fault::OutOfMemory)),

@@ -22,22 +22,12 @@ use std::marker::{Brand, Model};
 
 /// The seat of a node: the node itself, and its seat at the table that all share. It may be moved to
 /// another thread, and none of its calls blocks.
+#[derive(Drop)]
 pub struct NodeSeat<M: Machine, D: Device> {
     pub(crate) replica: Replica<M, D>,
     pub(crate) seat: Seat<M, NodeId>,
     /// A buffer for the offsets at which the packets of a step end.
     pub(crate) ends: Vec<usize>,
-}
-
-// Not derived, so that to drop it is one step of a proof and not one for each of its parts.
-impl<M: Machine, D: Device> Drop for NodeSeat<M, D> {
-    fn drop(self) {
-        let NodeSeat {
-            replica: _,
-            seat: _,
-            ends: _,
-        } = self;
-    }
 }
 
 impl<M: Machine, D: Device> Model for NodeSeat<M, D> {
@@ -51,18 +41,6 @@ impl<M: Machine, D: Device> Model for NodeSeat<M, D> {
 }
 
 impl<M: Machine, D: Device> NodeSeat<M, D> {
-    /// Its seat at the table; the node is dropped.
-    pub(crate) fn into_seat(self) -> Seat<M, NodeId>
-        ensures { result ≡ record self.entry { failures = 0 } }
-    {
-        let NodeSeat {
-            replica: _,
-            seat,
-            ends: _,
-        } = self;
-        seat
-    }
-
     /// Makes one step of the node, with a packet that the seat got or with another input. It is one
     /// event, and the result is the packets that the node sends. `OutOfMemory`, `Failed` once the
     /// device has failed, or `BallotsSpent` or `LogFull` if the node cannot lead: then nothing has

@@ -56,7 +56,7 @@ impl<M: Machine, D: Device> Leaves for NodeSeat<M, D> {
     ghost known = { of_node };
 
     fn into_place(self) -> Place {
-        self.into_seat().into_place()
+        self.seat.into_place()
     }
 }
 

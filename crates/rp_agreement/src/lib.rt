@@ -60,5 +60,4 @@ pub use responses::{
     a_majority_is_offered, an_answered_call_is_answered_again,
     pending_items_stay_until_they_are_over,
 };
-pub use rp_machine;
 pub use sends::{nodes_send_right_packets, tasks_send_right_packets};

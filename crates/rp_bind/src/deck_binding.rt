@@ -8,10 +8,10 @@ ghost use Rattle.rp_deck_declarations.specs.rp_words.specs.LineFaults.{IsDeckFau
 use crate::lines::Language;
 use crate::names::{BadName, first_bad};
 use crate::packages::packages_text;
-use rp_deck_declarations::rp_base::Fault;
-use rp_deck_declarations::rp_deck_objects::OperationNames;
-use rp_deck_declarations::rp_words::Lines;
+use rp_base::Fault;
 use rp_deck_declarations::{Declared, read_declarations};
+use rp_deck_objects::OperationNames;
+use rp_words::Lines;
 use std::alloc::{AllocError, Global};
 
 /// What becomes of a deck that declares what its text says.

@@ -4,9 +4,9 @@ ghost use Rattle.std.specs.Prelude.{◌≡◌, ◌≤◌, ◌++◌, IfOk, option
 ghost use Rattle.rp_bind.specs.Packages.{between, end, text_before_objects, functions_at, head, index_of, is_truth, operation_kind, object_text, objects_text, operations_text, packages_text, tasks_text};
 
 use crate::lines::{Kind, Language, ObjectEnd, ObjectHead, OperationLines, Party, TaskLine};
-use rp_deck_declarations::rp_deck_objects::{OperationName, OperationNames};
-use rp_deck_declarations::rp_entry::Function;
 use rp_deck_declarations::{DeckProgram, Declared};
+use rp_deck_objects::{OperationName, OperationNames};
+use rp_entry::Function;
 use std::alloc::{AllocError, Global};
 
 /// What is before the tasks of a package of Ada.

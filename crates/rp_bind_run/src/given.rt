@@ -3,8 +3,8 @@
 ghost use Rattle.std.specs.Prelude.{IfErr, IfOk, OnErr};
 ghost use Rattle.rp_bind_run.specs.Prints.{BindingBegins, FailsBinding, PrintsBinding};
 
+use rp_base::Fault;
 use rp_bind::{Binding, Language, bind};
-use rp_script::rp_base::Fault;
 use rp_script::{read_whole, write_out, write_whole};
 use std::alloc::Global;
 use std::io::{Read, Write};

@@ -7,6 +7,3 @@
 mod given;
 
 pub use given::bind_deck;
-pub use rp_bind;
-pub use rp_script;
-pub use rp_script::rp_output;

@@ -17,7 +17,7 @@ use crate::task_seat::TaskSeat;
 use rp_agreement::reports_follow_the_order;
 use rp_base::{Action, Fault, MOST_NODES, NodeId, Position};
 use rp_codec::{Body, Party, decode};
-use rp_model::rp_machine::Machine;
+use rp_machine::Machine;
 use std::alloc::{AllocError, Global};
 use std::marker::Model;
 

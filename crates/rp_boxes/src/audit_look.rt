@@ -13,7 +13,7 @@ use crate::seat::{AuditSeat, Seat};
 use crate::task_seat::TaskSeat;
 use atomic_table::Join;
 use rp_base::TaskId;
-use rp_model::rp_machine::Machine;
+use rp_machine::Machine;
 use std::marker::Brand;
 
 /// Joins two places: one place then knows what both knew.

@@ -2,7 +2,7 @@
 
 use atomic_table::{Seat, Shared, Table, TableRule};
 use rp_base::Config;
-use rp_model::rp_machine::Machine;
+use rp_machine::Machine;
 use std::alloc::Global;
 use std::marker::{Model, PhantomData};
 use std::snapshot::Snapshot;

@@ -19,7 +19,7 @@ use crate::events::Fact;
 use crate::look::look;
 use crate::spares::spare;
 use atomic_table::Play;
-use rp_model::rp_machine::Machine;
+use rp_machine::Machine;
 use std::marker::{Brand, PhantomData};
 
 /// The box holds no packet. It may hold a buffer that its receiver left there for the sender.

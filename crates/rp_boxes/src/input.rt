@@ -5,7 +5,7 @@ ghost use Rattle.rp_base.specs.Number.{IsNode};
 ghost use Rattle.rp_boxes.specs.Seats.{HasInputRanges};
 
 use rp_base::{NodeId, Position};
-use rp_world::rp_replica::Input;
+use rp_replica::Input;
 
 /// The numbers of an input are within the ranges of their types. It does nothing: its contract is
 /// for the callers' proofs.

@@ -10,7 +10,7 @@ use rp_agreement::{
     only_made_calls_count, replies_answer_calls_that_count, task_events_keep_replies,
     tasks_send_right_packets, the_order_exists,
 };
-use rp_model::rp_machine::{Machine, a_call_has_one_place};
+use rp_machine::{Machine, a_call_has_one_place};
 
 /// An event of an actor preserves the invariant, and the packets that the actor sends name it as
 /// their sender.

@@ -39,8 +39,5 @@ pub use actors::Sits;
 pub use all_seats::{AllSeats, seats};
 pub use audit::{Added, Audit};
 pub use node_seat::NodeSeat;
-pub use rp_model;
-pub use rp_model::rp_machine;
-pub use rp_world::rp_store;
 pub use seat::{AuditSeat, Fetch, Put, Seat};
 pub use task_seat::TaskSeat;

@@ -9,7 +9,7 @@ ghost use Rattle.rp_boxes.specs.Seats.{table_setting};
 use crate::board::{Known, Place, Slots};
 use crate::events::Fact;
 use atomic_table::Play;
-use rp_model::rp_machine::Machine;
+use rp_machine::Machine;
 use std::marker::PhantomData;
 
 /// Nothing changes, and the fact `J` holds of the first part that the seat knows.

@@ -14,9 +14,9 @@ use crate::input::keeps_ranges;
 use crate::seat::{Fetch, Put, Seat};
 use rp_base::{Fault, NodeId, Position};
 use rp_codec::Party;
-use rp_model::rp_machine::Machine;
-use rp_world::rp_replica::{Input, Replica, Sent, texts_are_packets};
-use rp_world::rp_store::{Device, InfallibleDevice};
+use rp_machine::Machine;
+use rp_replica::{Input, Replica, Sent, texts_are_packets};
+use rp_store::{Device, InfallibleDevice};
 use std::alloc::Global;
 use std::marker::{Brand, Model};
 

@@ -17,7 +17,7 @@ use crate::laws::events_keep;
 use crate::look::look;
 use crate::spares::{keep, keep_left, spare_buffer};
 use rp_codec::Party;
-use rp_model::rp_machine::Machine;
+use rp_machine::Machine;
 use std::alloc::Global;
 use std::marker::{Brand, Model};
 use std::sync::Arc;

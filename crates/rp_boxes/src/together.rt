@@ -17,8 +17,8 @@ use crate::node_seat::NodeSeat;
 use crate::seat::Seat;
 use crate::task_seat::TaskSeat;
 use rp_agreement::{applied_lists_are_prefixes, reports_follow_the_order};
-use rp_model::rp_machine::Machine;
-use rp_world::rp_store::Device;
+use rp_machine::Machine;
+use rp_store::Device;
 use std::marker::Brand;
 
 /// A seat that ends and hands over the place of its actor.

@@ -6,7 +6,7 @@ ghost use Rattle.rp_requests.specs.rp_patience.specs.declared.advice.Advice.{Adv
 ghost use Rattle.rp_c.specs.Advice.{WritesAdvice, advised_code, written_advice};
 
 use rp_handles::{Handle, advise};
-use rp_requests::rp_patience::{Advice, Patience};
+use rp_patience::{Advice, Patience};
 use std::alloc::Global;
 
 /// What a node is to do, in the layout that a C caller reads.

@@ -5,7 +5,7 @@ ghost use Rattle.rp_c.specs.Decks.{IsBadLine, IsOutput, IsTextPut, IsTextTooLong
 ghost use Rattle.rp_c.specs.Status.{status_code};
 
 use crate::status::Status;
-use rp_script::rp_base::Fault;
+use rp_base::Fault;
 use rp_script::{MOST_BYTES, run_script, tell};
 use std::alloc::Global;
 

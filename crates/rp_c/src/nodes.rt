@@ -10,10 +10,10 @@ ghost use Rattle.rp_c.specs.Handles.{OpensByHandle, OpensDeviceByHandle, PutsHea
 
 use crate::answer::code_of_opening;
 use crate::status::deck_reason_number;
+use rp_base::Fault;
 use rp_handles::{Found, HEADER_BYTES, Handle, device_header, open_device, open_node};
 use rp_requests::{Refusal, Tail};
 use rp_script::MOST_BYTES;
-use rp_script::rp_base::Fault;
 use std::alloc::Global;
 
 /// What a node found on its device, or why its deck is bad, in the layout that a C caller reads.

@@ -5,7 +5,7 @@ ghost use Rattle.rp_c.specs.Packets.{ChecksPacket, PutsLength};
 ghost use Rattle.rp_c.specs.Status.{status_code};
 
 use crate::status::{Status, reason_number};
-use rp_requests::rp_codec::{decode, packet_len};
+use rp_codec::{decode, packet_len};
 use std::alloc::Global;
 
 /// Writes the length of the packet that the bytes begin with; any bytes may follow it. `BadPacket`

@@ -4,7 +4,7 @@ ghost use Rattle.std.specs.Prelude.{◌≡◌};
 ghost use Rattle.rp_script.specs.rp_base.specs.declared.fault.PacketReason.TheVariants as reasons;
 ghost use Rattle.rp_c.specs.Status.{status_code, reason_code, deck_reason_code};
 
-use rp_script::rp_base::{DeckReason, PacketReason};
+use rp_base::{DeckReason, PacketReason};
 
 /// How a call ends.
 #[derive(Clone, Copy, Debug, PartialEq, Eq)]

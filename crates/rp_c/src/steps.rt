@@ -10,7 +10,7 @@ ghost use Rattle.rp_c.specs.Handles.{WritesStep, answer_code, dropped_code};
 
 use crate::answer::code_of_answer;
 use rp_handles::{ActorKind, Handle, LastStep, call, last_step, receive};
-use rp_requests::rp_model::Dropped;
+use rp_model::Dropped;
 use rp_requests::{Lengths, Refusal};
 use std::alloc::Global;
 

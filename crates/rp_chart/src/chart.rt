@@ -8,17 +8,17 @@ ghost use Rattle.rp_script.specs.rp_output.specs.Trace.{task_name};
 ghost use Rattle.rp_script.specs.rp_run.specs.Output.{names_of};
 ghost use Rattle.rp_script.specs.Given.{FailsRun};
 
-use rp_chart_run::rp_drawing::{Lane, Words};
-use rp_chart_run::rp_history::{Stage, View};
-use rp_chart_run::rp_page::Form;
-use rp_chart_run::rp_store::MemDevice;
+use indexmap::IndexMap;
+use rp_base::Fault;
 use rp_chart_run::{Scene, draw_lines};
-use rp_script::indexmap::IndexMap;
-use rp_script::rp_base::Fault;
-use rp_script::rp_deck::{Deck, DeckProgram, Mode, Task, read_deck};
-use rp_script::rp_machine::Tally;
-use rp_script::rp_object::Objects;
+use rp_deck::{Deck, DeckProgram, Mode, Task, read_deck};
+use rp_drawing::{Lane, Words};
+use rp_history::{Stage, View};
+use rp_machine::Tally;
+use rp_object::Objects;
+use rp_page::Form;
 use rp_script::{DRAIN_LIMIT, RunOptions, read_whole, write_out, write_whole};
+use rp_store::MemDevice;
 use std::alloc::{AllocError, Global};
 use std::io::{Read, Write};
 

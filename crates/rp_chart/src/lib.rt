@@ -7,4 +7,3 @@
 mod chart;
 
 pub use chart::{ChartRequest, Outcome, draw_script};
-pub use rp_chart_run::{rp_history, rp_page};

@@ -11,15 +11,15 @@ ghost use Rattle.rp_run.specs.rp_output.specs.Printed.{applied_line_of, node_lin
 ghost use Rattle.rp_run.specs.rp_output.specs.Trace.{message_line_of};
 ghost use Rattle.rp_run.specs.Output.{names_of};
 
-use rp_history::rp_drawing::Words;
+use indexmap::IndexMap;
+use rp_base::{Answer, Fault, NodeId, Rec};
+use rp_codec::{Body, Packet};
+use rp_deck::Task;
+use rp_drawing::Words;
 use rp_history::{Happened, delivered_by};
-use rp_run::indexmap::IndexMap;
+use rp_model::{Dropped, Event};
+use rp_output::{BodyText, NodeLine, NodeState, ReplyText, TraceLine};
 use rp_run::party_text;
-use rp_run::rp_base::{Answer, Fault, NodeId, Rec};
-use rp_run::rp_codec::{Body, Packet};
-use rp_run::rp_deck::Task;
-use rp_run::rp_model::{Dropped, Event};
-use rp_run::rp_output::{BodyText, NodeLine, NodeState, ReplyText, TraceLine};
 use std::alloc::{AllocError, Global};
 use std::fmt;
 

@@ -12,9 +12,5 @@ mod prospect;
 mod scene;
 mod walk;
 
-pub use rp_history;
-pub use rp_history::rp_drawing;
-pub use rp_page;
-pub use rp_run::rp_store;
 pub use scene::Scene;
 pub use walk::draw_lines;

@@ -5,15 +5,15 @@ ghost use Rattle.rp_chart_run.specs.Prospects.{actor_at, actor_state, node_state
 ghost use Rattle.rp_history.specs.Histories.{delivered_by, ending_by, end_at};
 ghost use Rattle.rp_run.specs.rp_model.specs.World.{part_at};
 
-use rp_history::rp_drawing::{End, Ending};
+use rp_base::{Fault, NodeId};
+use rp_codec::{Packet, Party};
+use rp_drawing::{End, Ending};
 use rp_history::{Happened, NodeState, actor_of, delivered_by};
-use rp_run::rp_base::{Fault, NodeId};
-use rp_run::rp_codec::{Packet, Party};
-use rp_run::rp_machine::Machine;
-use rp_run::rp_model::{Effect, Event};
-use rp_run::rp_store::CutDevice;
-use rp_run::rp_world::Cluster;
+use rp_machine::Machine;
+use rp_model::{Effect, Event};
 use rp_run::sent_packet;
+use rp_store::CutDevice;
+use rp_world::Cluster;
 use std::alloc::Global;
 
 /// What is known before an event: how the way of the message that it delivers ends, if it delivers

@@ -8,17 +8,17 @@ ghost use Rattle.rp_history.specs.Views.{shows_all};
 ghost use Rattle.rp_run.specs.Output.{names_of};
 
 use crate::labels::{cause_words, effect_words, line_at, message_words};
+use rp_base::{Fault, NodeId};
+use rp_codec::{Packet, Party};
 use rp_details::{Told, details};
-use rp_history::rp_drawing::{Kind, Label, Lane, Mark, Words};
+use rp_drawing::{Kind, Label, Lane, Mark, Words};
 use rp_history::{Happened, Stage, delivered_by};
+use rp_machine::Machine;
+use rp_model::Event;
 use rp_page::Form;
 use rp_run::RunOptions;
-use rp_run::rp_base::{Fault, NodeId};
-use rp_run::rp_codec::{Packet, Party};
-use rp_run::rp_machine::Machine;
-use rp_run::rp_model::Event;
-use rp_run::rp_store::CutDevice;
-use rp_run::rp_world::Cluster;
+use rp_store::CutDevice;
+use rp_world::Cluster;
 use std::alloc::{AllocError, Global};
 
 /// How a script is run and drawn.

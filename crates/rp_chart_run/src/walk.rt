@@ -14,17 +14,17 @@ ghost use Rattle.rp_run.specs.Settled.{is_settled};
 use crate::labels::{applied_words, image_words, refusal_words, stopped_words};
 use crate::prospect::{happened_after, packets_from, prospect_of};
 use crate::scene::Scene;
+use rp_base::{Fault, NodeId};
+use rp_deck::{Command, Line};
+use rp_drawing::{Label, Words};
 use rp_history::Chart;
-use rp_history::rp_drawing::{Label, Words};
+use rp_machine::Machine;
+use rp_model::{Event, Step, worlds_grow};
+use rp_output::is_refusal;
 use rp_page::draw_as;
-use rp_run::rp_base::{Fault, NodeId};
-use rp_run::rp_deck::{Command, Line};
-use rp_run::rp_machine::Machine;
-use rp_run::rp_model::{Event, Step, worlds_grow};
-use rp_run::rp_output::is_refusal;
-use rp_run::rp_store::CutDevice;
-use rp_run::rp_world::Cluster;
 use rp_run::{Settled, sent_packet, settled_by};
+use rp_store::CutDevice;
+use rp_world::Cluster;
 use std::alloc::Global;
 
 /// The drawing of the lines of a script, over a cluster of new devices, or its page; `None` if the

@@ -61,7 +61,6 @@ pub use party_text::{RECEIVER, party_number, party_of, receiver_of};
 pub use record_text::{
     decode_front, encode_rec, one_record_text, text_of_record, two_record_texts,
 };
-pub use rp_base;
 pub use rules::report_len;
 pub use short_text::{LONGEST_TEXT, ShortText};
 pub use tails::{

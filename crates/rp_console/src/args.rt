@@ -7,13 +7,13 @@ ghost use Rattle.rp_console.specs.CommandLine.{ada_option, bind, bind_option, c_
 
 use crate::words::VERSION;
 use clap::{Arg, ArgAction, ArgMatches, Command, Error, value_parser};
-use rp_bind_run::rp_bind::Language;
-use rp_bind_run::rp_script::LiveRequest;
+use rp_base::Position;
+use rp_bind::Language;
 use rp_chart::ChartRequest;
-use rp_chart::rp_history::View;
-use rp_chart::rp_page::Form;
-use rp_deck_hints::rp_base::Position;
 use rp_explore_run::ExploreRequest;
+use rp_history::View;
+use rp_page::Form;
+use rp_script::LiveRequest;
 use std::alloc::{AllocError, Global};
 use std::convert::AsStr;
 

@@ -9,14 +9,14 @@ ghost use Rattle.rp_bind_run.specs.rp_script.specs.Given.{most_bytes};
 
 use crate::args::{Args, read_args};
 use crate::words::refuse_words;
+use rp_base::Fault;
 use rp_bind_run::bind_deck;
-use rp_bind_run::rp_output::{Ending, Streams, fail, report};
-use rp_bind_run::rp_script::{FiguresLine, read_whole, run_live, run_script};
 use rp_chart::{Outcome, draw_script};
-use rp_deck_hints::rp_base::Fault;
-use rp_deck_hints::rp_deck::Mode;
+use rp_deck::Mode;
 use rp_deck_hints::{Hint, hint_for};
 use rp_explore_run::{Verdict, explore_deck};
+use rp_output::{Ending, Streams, fail, report};
+use rp_script::{FiguresLine, read_whole, run_live, run_script};
 use std::alloc::Global;
 use std::convert::AsStr;
 use std::io::{Read, Write};

@@ -13,8 +13,8 @@ mod words;
 
 use args::command;
 use console::obey;
-use rp_bind_run::rp_output::{Streams, fail};
-use rp_deck_hints::rp_base::Fault;
+use rp_base::Fault;
+use rp_output::{Streams, fail};
 use std::io::BufWriter;
 use std::process::ExitCode;
 use words::{given_words, refuse_unread};

@@ -6,7 +6,7 @@ ghost use Rattle.rp_console.specs.RefusedWords.{IsUnread, RefusesAs, no_run_of};
 
 use clap::error::ErrorKind;
 use clap::{Command, Error};
-use rp_bind_run::rp_output::{Ending, NoRun, Streams, refuse};
+use rp_output::{Ending, NoRun, Streams, refuse};
 use std::alloc::AllocError;
 use std::io::Write;
 use std::{env, io};

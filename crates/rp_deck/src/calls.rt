@@ -19,10 +19,10 @@ ghost use Rattle.rp_words.specs.Tables.{find, key_names};
 ghost use Rattle.rp_words.specs.Words.{unread};
 
 use crate::operands::{read_node, read_task};
+use rp_base::{DeckReason, Operation};
 use rp_deck_declarations::Declared;
-use rp_deck_declarations::rp_deck_objects::{Index, OperationName, OperationNames};
+use rp_deck_objects::{Index, OperationName, OperationNames};
 use rp_model::{Event, Interrupt, Step};
-use rp_words::rp_base::{DeckReason, Operation};
 use rp_words::{Words, map_index_of, read_dotted, read_number, set_index_of};
 
 /// Reads the rest of `call TASK NODE OBJECT.OPERATION [ARG]`.

@@ -1,10 +1,10 @@
 //! What a deck declares and asks for.
 
-use rp_deck_declarations::rp_object::Handler;
+use indexmap::{IndexMap, IndexSet};
+use rp_base::Config;
 use rp_deck_declarations::{DeckProgram, Task};
 use rp_model::Event;
-use rp_words::indexmap::{IndexMap, IndexSet};
-use rp_words::rp_base::Config;
+use rp_object::Handler;
 
 /// How a deck runs, which says what lines its script may hold.
 #[derive(Clone, Copy, Debug, PartialEq, Eq)]

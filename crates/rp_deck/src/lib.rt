@@ -18,8 +18,4 @@ mod verbs;
 
 pub use deck::{Command, Deck, Line, Mode};
 pub use reader::read_deck;
-pub use rp_deck_declarations;
-pub use rp_deck_declarations::{DeckProgram, Task, rp_object};
-pub use rp_model;
-pub use rp_words;
-pub use rp_words::{indexmap, rp_base};
+pub use rp_deck_declarations::{DeckProgram, Task};

@@ -8,8 +8,8 @@ ghost use Rattle.rp_deck.specs.ScriptLines.{declared_at};
 ghost use Rattle.rp_words.specs.Tables.{key_names};
 ghost use Rattle.rp_words.specs.Words.{unread};
 
+use rp_base::{DeckReason, NodeId, Position, TaskId};
 use rp_deck_declarations::{Declared, MOST_POSITIONS};
-use rp_words::rp_base::{DeckReason, NodeId, Position, TaskId};
 use rp_words::{Words, map_index_of};
 
 /// Reads the number of a node.

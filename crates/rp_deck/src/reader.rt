@@ -9,9 +9,9 @@ ghost use Rattle.rp_deck.specs.Meaning.{meaning_of};
 
 use crate::deck::{Deck, Mode};
 use crate::script::read_script;
+use rp_base::{Config, Fault, Position};
 use rp_deck_declarations::read_declarations;
 use rp_words::Lines;
-use rp_words::rp_base::{Config, Fault, Position};
 use std::alloc::Global;
 
 /// How long the log gets where the deck says nothing of it.

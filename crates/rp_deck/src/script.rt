@@ -18,9 +18,9 @@ use crate::calls::{read_arm, read_call, read_disarm, read_interrupt, read_tick};
 use crate::deck::{Command, Line, Mode};
 use crate::operands::{read_node, read_position, read_task};
 use crate::verbs::Verb;
+use rp_base::{DeckReason, Fault, MOST_COVERED, Position};
 use rp_deck_declarations::Declared;
 use rp_model::{Event, Step};
-use rp_words::rp_base::{DeckReason, Fault, MOST_COVERED, Position};
 use rp_words::{Lines, TextLine, Words};
 use std::alloc::Global;
 

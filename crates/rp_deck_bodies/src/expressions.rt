@@ -11,8 +11,8 @@ ghost use Rattle.rp_words.specs.Tables.{is_declared, find, key_names};
 ghost use Rattle.rp_words.specs.Words.{begins_as_number, unread};
 
 use crate::names::{Component, ComponentNames};
+use rp_base::DeckReason;
 use rp_body::{Cond, Expr, MOST_EXPRESSION_NODES};
-use rp_words::rp_base::DeckReason;
 use rp_words::{LineError, Words, named, read_name, read_number};
 use std::alloc::Global;
 

@@ -12,6 +12,4 @@ mod statements;
 
 pub use expressions::{bool_named, is_of_expressions, read_cond, read_expr};
 pub use names::{Component, ComponentNames};
-pub use rp_words;
-pub use rp_words::indexmap;
 pub use statements::BodyDraft;

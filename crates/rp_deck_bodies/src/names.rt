@@ -1,6 +1,6 @@
 //! What the names of an object's components denote.
 
-use rp_words::indexmap::IndexMap;
+use indexmap::IndexMap;
 
 /// A component of an object, by its place among those of its kind.
 #[derive(Clone, Copy)]

@@ -17,8 +17,8 @@ ghost use Rattle.rp_words.specs.Words.{unread};
 
 use crate::expressions::{bool_named, int_named, read_cond, read_expr};
 use crate::names::ComponentNames;
+use rp_base::DeckReason;
 use rp_body::{Cond, MOST_DEPTH, MOST_STATEMENTS, Stmt};
-use rp_words::rp_base::DeckReason;
 use rp_words::{LineError, TextLine, Words, named};
 use std::alloc::{AllocError, Global};
 use std::mem;

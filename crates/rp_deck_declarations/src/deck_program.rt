@@ -2,7 +2,7 @@
 
 ghost use Rattle.std.specs.Prelude.{◌≤◌, IfSome};
 
-use rp_object::rp_machine::TallyProgram;
+use rp_machine::TallyProgram;
 use rp_object::{Handler, Program};
 
 /// A task that is declared.

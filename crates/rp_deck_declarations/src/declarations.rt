@@ -14,10 +14,10 @@ ghost use Rattle.rp_words.specs.Reading.{Gives};
 use crate::deck_program::{DeckProgram, Task};
 use crate::draft::Draft;
 use crate::program::finish;
+use indexmap::{IndexMap, IndexSet};
+use rp_base::{DeckReason, Fault, MOST_NODES, Position};
 use rp_deck_objects::OperationNames;
 use rp_object::Handler;
-use rp_object::rp_base::{DeckReason, Fault, MOST_NODES, Position};
-use rp_words::indexmap::{IndexMap, IndexSet};
 use rp_words::{LineError, Lines, TextLine, is_word};
 use std::alloc::Global;
 

@@ -17,10 +17,10 @@ ghost use Rattle.rp_deck_declarations.specs.Declarations.{IsNodeCount, IsNameSet
 ghost use Rattle.rp_deck_objects.specs.ObjectLimits.{IsObject};
 
 use crate::deck_program::Task;
+use indexmap::{IndexMap, IndexSet};
+use rp_base::{DeckReason, MOST_OBJECTS, MOST_SOURCES, MOST_TASKS, Position};
 use rp_deck_objects::{Index, ObjectDraft, OperationName};
-use rp_object::rp_base::{DeckReason, MOST_OBJECTS, MOST_SOURCES, MOST_TASKS, Position};
 use rp_object::{Handler, MOST_PRIORITY, MOST_TIMERS, Profile};
-use rp_words::indexmap::{IndexMap, IndexSet};
 use rp_words::{
     LineError, TextLine, Words, insert_in_map, insert_in_set, is_word, named, read_dotted,
     take_name_new_to_map, take_name_new_to_set,

@@ -15,7 +15,3 @@ mod program;
 pub use deck_program::{DeckProgram, Task};
 pub use declarations::{Declared, read_declarations};
 pub use draft::MOST_POSITIONS;
-pub use rp_deck_objects;
-pub use rp_object;
-pub use rp_object::{rp_base, rp_entry};
-pub use rp_words;

@@ -22,11 +22,11 @@ ghost use Rattle.rp_deck_declarations.specs.ScriptNames.{tally_operations, decla
 use crate::deck_program::{DeckProgram, Task};
 use crate::declarations::Declared;
 use crate::draft::Draft;
+use indexmap::IndexMap;
 use rp_deck_objects::{Index, ObjectDraft, OperationName, OperationNames};
-use rp_object::rp_machine::TallyProgram;
+use rp_machine::TallyProgram;
 use rp_object::{Declarations, Handler, ObjectDeclaration, Program, TimingEvent};
 use rp_words::LineError;
-use rp_words::indexmap::IndexMap;
 use std::alloc::{AllocError, Global};
 use std::mem;
 use std::sync::Arc;

@@ -5,7 +5,7 @@ ghost use Rattle.rp_deck_hints.specs.Places.{before_word};
 ghost use Rattle.rp_deck_hints.specs.Hints.{IsBadAt, IsAtFault, IsNoneAtFault};
 
 use crate::places::{after_lines, first_line, from_word, split_word};
-use rp_deck::rp_base::{DeckReason, Fault};
+use rp_base::{DeckReason, Fault};
 use rp_deck::{Mode, read_deck};
 use std::alloc::Global;
 

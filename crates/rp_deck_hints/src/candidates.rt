@@ -2,8 +2,8 @@
 
 ghost use Rattle.std.specs.Prelude.{◌+◌, ◌^◌, ◌<◌, length};
 
-use rp_deck::rp_base::DeckReason;
-use rp_deck::rp_words::{Lines, TextLine, is_word};
+use rp_base::DeckReason;
+use rp_words::{Lines, TextLine, is_word};
 use std::alloc::{AllocError, Global};
 use strsim::levenshtein;
 

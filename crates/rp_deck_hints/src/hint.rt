@@ -6,8 +6,8 @@ ghost use Rattle.rp_deck_hints.specs.Hints.{IsHint, IsNear, IsNotHinted, hint_te
 
 use crate::bad_deck::{BadLine, Place};
 use crate::candidates::{MOST_EDITS, candidates};
+use rp_base::{DeckReason, Fault};
 use rp_deck::Mode;
-use rp_deck::rp_base::{DeckReason, Fault};
 use std::alloc::Global;
 use std::{fmt, str};
 use strsim::levenshtein;

@@ -13,5 +13,3 @@ mod hint;
 mod places;
 
 pub use hint::{Hint, hint_for};
-pub use rp_deck;
-pub use rp_deck::rp_base;

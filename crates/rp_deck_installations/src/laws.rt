@@ -15,9 +15,9 @@ ghost use Rattle.rp_installations.specs.Sites.{Installation, NodeSite};
 ghost use Rattle.rp_deck_installations.specs.HandleMoves.{HandleMoves, IsDeckOf};
 ghost use Rattle.rp_deck_installations.specs.HandleMoves.{IsHandleInstallation};
 
-use rp_deck::rp_object::Objects;
 use rp_deck_readings::decks_of_one_meaning_behave_alike;
 use rp_installations::installations_are_histories;
+use rp_object::Objects;
 
 /// Whatever callers do with the handles of the nodes of a deck of protected objects and of tasks,
 /// by the rules for devices and packets, is a history of the model. So nodes by handle agree, and

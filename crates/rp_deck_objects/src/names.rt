@@ -3,8 +3,8 @@
 ghost use Rattle.std.specs.Prelude.{◌≡◌, ◌↔◌, ◌<◌, ◌≤◌, ◌+◌, IsSome, IfSome};
 ghost use Rattle.rp_object.specs.rp_base.specs.Action.{IsRightOperation};
 
-use rp_deck_bodies::indexmap::IndexMap;
-use rp_object::rp_base::{MOST_ENTRIES, MOST_OPERATIONS, Operation};
+use indexmap::IndexMap;
+use rp_base::{MOST_ENTRIES, MOST_OPERATIONS, Operation};
 
 /// A number from 1 to `MOST`, in declared order.
 #[derive(Clone, Copy)]

@@ -14,13 +14,13 @@ ghost use Rattle.rp_words.specs.Reading.{Gives, Makes};
 ghost use Rattle.rp_words.specs.Words.{unread};
 
 use crate::names::{EntryIndex, Index, OperationName, OperationNames};
-use rp_deck_bodies::indexmap::IndexMap;
+use indexmap::IndexMap;
+use rp_base::{DeckReason, MOST_ENTRIES, MOST_OPERATIONS};
+use rp_body::{Components, MOST_OF_A_KIND, Ranged};
 use rp_deck_bodies::{
     BodyDraft, Component, ComponentNames, bool_named, is_of_expressions, read_cond, read_expr,
 };
-use rp_object::rp_base::{DeckReason, MOST_ENTRIES, MOST_OPERATIONS};
-use rp_object::rp_body::{Components, MOST_OF_A_KIND, Ranged};
-use rp_object::rp_entry::{Entry, Function, LONGEST_QUEUE, Operations};
+use rp_entry::{Entry, Function, LONGEST_QUEUE, Operations};
 use rp_object::{ObjectDeclaration, Profile};
 use rp_words::{
     LineError, TextLine, Words, insert_in_map, insert_string_in_map, is_word, map_has_name, named,

@@ -8,11 +8,11 @@ use crate::lines::add_line;
 use crate::nodes::add_nodes;
 use crate::packets::{add_delivered, add_packets};
 use crate::tasks::add_tasks;
+use rp_base::Fault;
+use rp_machine::Machine;
 use rp_run::RunOptions;
+use rp_store::CutDevice;
 use rp_world::Cluster;
-use rp_world::rp_base::Fault;
-use rp_world::rp_machine::Machine;
-use rp_world::rp_store::CutDevice;
 use std::alloc::Global;
 
 /// What an event did to the packets of a run with n tasks.

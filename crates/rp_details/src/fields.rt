@@ -3,9 +3,9 @@
 ghost use Rattle.std.specs.Prelude.{Some};
 ghost use Rattle.rp_details.specs.Fields.{action_words, asked_words, ballot_words, bound_words, call_words, fields_words, last_vote_words, operation_words, position_words, range_words};
 
-use rp_run::rp_output::ReplyText;
-use rp_world::rp_base::{Action, Ballot, Operation, Position, PositionRange, TaskId, Vote};
-use rp_world::rp_codec::Body;
+use rp_base::{Action, Ballot, Operation, Position, PositionRange, TaskId, Vote};
+use rp_codec::Body;
+use rp_output::ReplyText;
 use std::fmt;
 
 /// An operation of an object: `procedure 1`.

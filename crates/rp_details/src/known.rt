@@ -7,12 +7,12 @@ ghost use Rattle.rp_run.specs.rp_output.specs.FaultMessage.{with_line_feed};
 
 use crate::fields::{ActionWords, BoundWords};
 use crate::lines::add_line;
+use rp_base::{Action, NodeId, Position};
+use rp_machine::Machine;
+use rp_model::RightAction;
+use rp_server::Server;
+use rp_store::CutDevice;
 use rp_world::Cluster;
-use rp_world::rp_base::{Action, NodeId, Position};
-use rp_world::rp_machine::Machine;
-use rp_world::rp_model::RightAction;
-use rp_world::rp_server::Server;
-use rp_world::rp_store::CutDevice;
 use std::alloc::{AllocError, Global};
 
 /// Adds what a node knows, if it runs.

@@ -11,12 +11,12 @@ ghost use Rattle.rp_run.specs.Runs.{run_setting};
 
 use crate::known::add_known;
 use crate::lines::add_line;
+use rp_base::{Fault, NodeId};
+use rp_machine::Machine;
+use rp_output::{NodeLine, NodeState};
 use rp_run::RunOptions;
-use rp_run::rp_output::{NodeLine, NodeState};
+use rp_store::CutDevice;
 use rp_world::Cluster;
-use rp_world::rp_base::{Fault, NodeId};
-use rp_world::rp_machine::Machine;
-use rp_world::rp_store::CutDevice;
 use std::alloc::{AllocError, Global};
 
 /// Adds every node's state.

@@ -8,15 +8,15 @@ ghost use Rattle.rp_run.specs.Output.{names_of};
 
 use crate::fields::FieldsWords;
 use crate::lines::add_line;
-use rp_run::indexmap::IndexMap;
-use rp_run::rp_deck::Task;
-use rp_run::rp_output::{BodyText, TraceLine};
+use indexmap::IndexMap;
+use rp_base::Fault;
+use rp_codec::Packet;
+use rp_deck::Task;
+use rp_machine::Machine;
+use rp_output::{BodyText, TraceLine};
 use rp_run::{party_text, sent_packet};
+use rp_store::CutDevice;
 use rp_world::Cluster;
-use rp_world::rp_base::Fault;
-use rp_world::rp_codec::Packet;
-use rp_world::rp_machine::Machine;
-use rp_world::rp_store::CutDevice;
 use std::alloc::{AllocError, Global};
 
 /// Adds the packet that is delivered, if one is.

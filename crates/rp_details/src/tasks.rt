@@ -10,15 +10,15 @@ ghost use Rattle.rp_run.specs.Output.{names_of};
 
 use crate::fields::AskedWords;
 use crate::lines::add_line;
-use rp_run::indexmap::IndexMap;
+use indexmap::IndexMap;
+use rp_base::{Action, Answer, TaskId};
+use rp_codec::Party;
+use rp_deck::Task;
+use rp_machine::Machine;
+use rp_output::ReplyText;
 use rp_run::party_text;
-use rp_run::rp_deck::Task;
-use rp_run::rp_output::ReplyText;
+use rp_store::CutDevice;
 use rp_world::Cluster;
-use rp_world::rp_base::{Action, Answer, TaskId};
-use rp_world::rp_codec::Party;
-use rp_world::rp_machine::Machine;
-use rp_world::rp_store::CutDevice;
 use std::alloc::{AllocError, Global};
 
 /// Adds the state of the first n tasks, 8 at most.

@@ -18,5 +18,4 @@ pub use laws::{
 };
 pub use object::Object;
 pub use operations::{Entry, Function, LONGEST_QUEUE, Operations, of_index};
-pub use rp_body;
 pub use state::{CallOutcome, Done, Queue, Waiting};

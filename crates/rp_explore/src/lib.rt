@@ -28,5 +28,4 @@ mod tree;
 pub use explored::{Explored, explore};
 pub use giver::Giver;
 pub use property::{Property, first_broken};
-pub use rp_base;
 pub use rp_orders::Guard;

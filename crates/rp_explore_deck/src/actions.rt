@@ -7,9 +7,9 @@ ghost use Rattle.rp_deck.specs.DeckViews.{line_command, command_text};
 ghost use Rattle.rp_orders.specs.Orders.{AreRight};
 ghost use Rattle.rp_explore_deck.specs.PlannedActions.{is_call_of, calls_among, action_asked, AsksRight, with_planned, planned_after, actions_of};
 
-use rp_deck::rp_base::{Action, NodeId, TaskId};
-use rp_deck::rp_model::{Event, Step};
+use rp_base::{Action, NodeId, TaskId};
 use rp_deck::{Command, Line};
+use rp_model::{Event, Step};
 use std::alloc::{AllocError, Global};
 
 /// An action that a line of the script asks a node for.

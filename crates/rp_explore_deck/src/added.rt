@@ -6,7 +6,7 @@ ghost use Rattle.rp_explore_deck.specs.AddedLines.{guard_named, is_line_among, r
 ghost use Rattle.rp_words.specs.Ahead.{ahead};
 
 use crate::rules::RuleKind;
-use rp_words::indexmap::IndexSet;
+use indexmap::IndexSet;
 use rp_words::{Lines, is_word, named};
 use std::alloc::{AllocError, Global};
 use std::marker::Model;

@@ -14,10 +14,10 @@ use crate::actions::{PlannedAction, calls_among, is_call_of};
 use crate::added::is_wanted_by;
 use crate::replies::read_reply;
 use crate::rules::read_task;
-use rp_deck::rp_base::{DeckReason, Fault, Reply, TaskId};
+use indexmap::IndexSet;
+use rp_base::{DeckReason, Fault, Reply, TaskId};
 use rp_deck_declarations::Declared;
 use rp_orders::Guard;
-use rp_words::indexmap::IndexSet;
 use rp_words::{Lines, TextLine};
 use std::alloc::Global;
 

@@ -24,6 +24,5 @@ pub use actions::PlannedAction;
 pub use laws::{guards_are_for_calls, the_other_lines_keep_their_numbers};
 pub use plan::Plan;
 pub use reader::read_plan;
-pub use rp_deck_declarations::rp_object;
 pub use rp_orders::Guard;
 pub use rules::{PlacedRule, Rule, Truth};

@@ -19,7 +19,7 @@ use crate::added::AddedLines;
 use crate::guard_lines::{GuardLine, place_guards, read_guards};
 use crate::plan::Plan;
 use crate::rules::{PlacedRule, read_rules};
-use rp_deck::rp_base::Fault;
+use rp_base::Fault;
 use rp_deck::{Deck, Mode, read_deck};
 use rp_deck_declarations::{Declared, read_declarations};
 use rp_words::Lines;

@@ -5,7 +5,7 @@ ghost use Rattle.rp_explore_deck.specs.GuardLines.{reply_word_named, truth_value
 ghost use Rattle.rp_words.specs.Reading.{Gives};
 ghost use Rattle.rp_words.specs.Words.{unread};
 
-use rp_deck::rp_base::{DeckReason, Reply};
+use rp_base::{DeckReason, Reply};
 use rp_words::{Words, named, truth_named};
 
 /// The first words of replies.

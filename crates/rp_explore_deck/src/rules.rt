@@ -19,12 +19,12 @@ ghost use Rattle.rp_words.specs.Reading.{Gives, Makes};
 ghost use Rattle.rp_words.specs.Tables.{find, key_names};
 ghost use Rattle.rp_words.specs.Words.{unread};
 
+use indexmap::IndexSet;
+use rp_base::{DeckReason, Fault, Operation, TaskId};
 use rp_deck::DeckProgram;
-use rp_deck::rp_base::{DeckReason, Fault, Operation, TaskId};
 use rp_deck_declarations::Declared;
-use rp_deck_declarations::rp_deck_objects::{OperationName, OperationNames};
-use rp_deck_declarations::rp_entry::{Function, of_index};
-use rp_words::indexmap::IndexSet;
+use rp_deck_objects::{OperationName, OperationNames};
+use rp_entry::{Function, of_index};
 use rp_words::{
     LineError, Lines, TextLine, Words, is_word, map_index_of, named, read_dotted, set_index_of,
 };

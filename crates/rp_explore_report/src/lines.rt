@@ -3,8 +3,8 @@
 ghost use Rattle.std.specs.Prelude.{Some};
 ghost use Rattle.rp_explore_report.specs.Reports.{extent_text, figures_line_of, held_line_of, outcome_text_of, reach_text};
 
+use rp_base::{Answer, TaskId};
 use rp_output::ReplyLine;
-use rp_output::rp_base::{Answer, TaskId};
 use std::fmt;
 
 /// How far a search went: `states 219 steps 476 depth 6 complete`.

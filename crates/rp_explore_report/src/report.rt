@@ -7,7 +7,7 @@ ghost use Rattle.rp_explore_report.specs.Reports.{held_text, name_for, outcome_l
 
 use crate::lines::{FiguresLine, HeldLine, Outcome, OutcomeText};
 use indexmap::IndexMap;
-use rp_output::rp_base::TaskId;
+use rp_base::TaskId;
 use std::alloc::{AllocError, Global};
 
 /// What is printed of a search.

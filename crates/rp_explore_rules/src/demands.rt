@@ -3,10 +3,10 @@
 ghost use Rattle.std.specs.Prelude.{◌≡◌, ◌↔◌, IsTrue};
 ghost use Rattle.rp_explore_rules.specs.Rules.{AreTrueIn, AreNotAllTrueIn, are_true, is_true_at};
 
+use rp_base::Operation;
 use rp_explore::Property;
-use rp_explore::rp_base::Operation;
 use rp_explore_deck::Truth;
-use rp_explore_deck::rp_object::Objects;
+use rp_object::Objects;
 
 /// Each of these functions is true.
 #[derive(Clone, Copy)]

@@ -7,4 +7,3 @@
 mod demands;
 
 pub use demands::{AreNotAllTrue, AreTrue};
-pub use rp_explore_deck;

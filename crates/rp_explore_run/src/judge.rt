@@ -9,10 +9,10 @@ ghost use Rattle.rp_explore_run.specs.Judging.{IsJudged, IsJudgedBy, free_broken
 
 use crate::findings::Judged;
 use rp_explore::{Explored, first_broken};
-use rp_explore_rules::rp_explore_deck::{PlacedRule, Rule};
+use rp_explore_deck::{PlacedRule, Rule};
 use rp_explore_rules::{AreNotAllTrue, AreTrue};
-use rp_script::rp_machine::Machine;
-use rp_script::rp_object::{Objects, Program};
+use rp_machine::Machine;
+use rp_object::{Objects, Program};
 use std::alloc::{AllocError, Global};
 
 /// Judges the rules of a deck of protected objects.

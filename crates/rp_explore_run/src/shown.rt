@@ -8,14 +8,14 @@ ghost use Rattle.rp_script.specs.rp_run.specs.Output.{names_of};
 ghost use Rattle.rp_explore_run.specs.Shown.{IsShownBy, IsWanted, after_of};
 
 use crate::findings::{Found, order_at};
+use indexmap::IndexMap;
+use rp_base::{Action, Answers};
+use rp_deck::Task;
 use rp_explore::Explored;
 use rp_explore_report::{Outcome, task_name};
+use rp_machine::{Machine, Numbered};
 use rp_order_deck::{Source, Wanted};
-use rp_script::indexmap::IndexMap;
-use rp_script::rp_base::{Action, Answers};
-use rp_script::rp_deck::Task;
-use rp_script::rp_machine::{Machine, Numbered};
-use rp_script::rp_output::ReplyLine;
+use rp_output::ReplyLine;
 use std::alloc::{AllocError, Global};
 
 /// A search, with what its deck says.

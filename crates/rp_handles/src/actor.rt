@@ -3,9 +3,9 @@
 ghost use Rattle.std.specs.Prelude.{◌≡◌, ◌∷◌};
 ghost use Rattle.rp_handles.specs.Handles.{ActorAdvises, ActorAnswers, ActorShows, exchange_of, actor_kind_of, receives_byte};
 
-use rp_next_deck::rp_object::Objects;
-use rp_requests::rp_model::Dropped;
-use rp_requests::rp_patience::{Advice, Patience};
+use rp_model::Dropped;
+use rp_object::Objects;
+use rp_patience::{Advice, Patience};
 use rp_requests::{Lengths, Node, Refusal, Task};
 use std::alloc::Global;
 

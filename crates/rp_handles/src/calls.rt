@@ -10,8 +10,8 @@ ghost use Rattle.rp_handles.specs.Handles.{HandleAdvises, HandleAnswers, HandleS
 use crate::actor::{Actor, ActorKind, LastStep};
 use crate::deck_nodes::node_of_deck;
 use crate::handle::{Handle, closed, into_box, of};
-use rp_requests::rp_base::Fault;
-use rp_requests::rp_patience::{Advice, Patience};
+use rp_base::Fault;
+use rp_patience::{Advice, Patience};
 use rp_requests::{Lengths, Refusal, Tail, Task};
 use std::alloc::Global;
 use std::mem::replace;

@@ -7,9 +7,9 @@ ghost use Rattle.rp_requests.specs.Tails.{tail_of};
 ghost use Rattle.rp_requests.specs.declared.refusal.Refusal.TheVariants as refusals;
 ghost use Rattle.rp_handles.specs.DeckNodes.{IsNoDeck, MeansDeck, OpensNode, OpensNoNode};
 
-use rp_next_deck::rp_deck::{Deck, DeckProgram, Mode, read_deck};
-use rp_next_deck::rp_object::Objects;
-use rp_requests::rp_base::{Fault, NodeId};
+use rp_base::{Fault, NodeId};
+use rp_deck::{Deck, DeckProgram, Mode, read_deck};
+use rp_object::Objects;
 use rp_requests::{Node, Opened, Refusal};
 use std::alloc::Global;
 

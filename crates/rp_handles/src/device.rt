@@ -9,9 +9,9 @@ use crate::calls::{Found, open_node};
 use crate::deck_nodes::{deck_of, node_of};
 use crate::declared::declared_part;
 use crate::handle::Handle;
-use rp_next_deck::rp_deck::{Deck, DeckProgram};
+use rp_base::{Config, NodeId};
+use rp_deck::{Deck, DeckProgram};
 use rp_requests::Refusal;
-use rp_requests::rp_base::{Config, NodeId};
 use sha2::{Digest, Sha256};
 use std::alloc::Global;
 

@@ -6,10 +6,10 @@ ghost use Rattle.rp_handles.specs.NextDecks.{ActorGoesOn, GoesNotOn, GoesOn, Han
 use crate::actor::Actor;
 use crate::declared::declared_part;
 use crate::handle::{Handle, closed, into_box, of};
+use rp_base::Fault;
 use rp_next_deck::next_deck;
-use rp_next_deck::rp_object::Objects;
+use rp_object::Objects;
 use rp_requests::Node;
-use rp_requests::rp_base::Fault;
 use sha2::{Digest, Sha256};
 use std::alloc::{AllocError, Global};
 use std::mem::replace;

@@ -10,10 +10,10 @@ ghost use Rattle.rp_model.specs.World.{World, opening_world};
 ghost use Rattle.rp_model.specs.declared.event.Event.{Event};
 
 use crate::stage::Stage;
+use rp_base::Fault;
+use rp_codec::Packet;
 use rp_drawing::{End, Ending, Label, Lane, Moment, Sketch, draw};
-use rp_model::rp_base::Fault;
-use rp_model::rp_codec::Packet;
-use rp_model::rp_machine::Machine;
+use rp_machine::Machine;
 use rp_model::worlds_grow;
 use std::alloc::Global;
 

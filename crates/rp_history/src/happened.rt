@@ -6,8 +6,8 @@ ghost use Rattle.rp_history.specs.Views.{actor_of, has_written, is_unheard, mark
 
 use crate::stage::Stage;
 use crate::view::colour_of;
+use rp_codec::{Packet, Party};
 use rp_drawing::{Kind, Label, Mark, Words};
-use rp_model::rp_codec::{Packet, Party};
 use rp_model::{Effect, Event, Step};
 
 /// What is noted of a node before an event and after it.

@@ -15,7 +15,5 @@ mod view;
 
 pub use chart::Chart;
 pub use happened::{Happened, NodeState, actor_of, delivered_by};
-pub use rp_drawing;
-pub use rp_model::{rp_base, rp_machine};
 pub use stage::Stage;
 pub use view::{View, colour_of};

@@ -4,8 +4,8 @@ ghost use Rattle.std.specs.Prelude.{◌≡◌, map, IfOk};
 ghost use Rattle.rp_history.specs.Views.{lane_of, sending_of};
 
 use crate::view::{View, colour_of};
+use rp_codec::{Packet, Party};
 use rp_drawing::Sending;
-use rp_model::rp_codec::{Packet, Party};
 use std::alloc::{AllocError, Global};
 
 /// Which lanes there are, and what is drawn on them.

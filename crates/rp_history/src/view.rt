@@ -3,8 +3,8 @@
 ghost use Rattle.std.specs.Prelude.{◌≡◌};
 ghost use Rattle.rp_history.specs.Views.{colour_of, is_about, is_event_drawn, is_from, is_this_node, is_part, is_to, is_to_itself, is_within, named_ballot, names_position, shows, shows_all};
 
-use rp_model::rp_base::{Ballot, NodeId, Position};
-use rp_model::rp_codec::{Body, Packet, Party};
+use rp_base::{Ballot, NodeId, Position};
+use rp_codec::{Body, Packet, Party};
 
 /// Which part of a run is drawn.
 #[derive(Clone, Copy)]

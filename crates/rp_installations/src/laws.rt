@@ -18,7 +18,7 @@ ghost use Rattle.rp_installations.specs.Outcomes.{AgreeAs, GivesAnswer, HasOrder
 ghost use Rattle.rp_installations.specs.Outcomes.{IsOpenAt};
 ghost use Rattle.rp_installations.specs.Sites.{Installation, NodeSite};
 
-use rp_model::rp_machine::Machine;
+use rp_machine::Machine;
 use rp_pending::histories_keep_ranges;
 use rp_world::histories_are_ordered;
 

@@ -3,9 +3,9 @@
 ghost use Rattle.std.specs.Prelude.{◌≡◌, filter_map, IfOk};
 ghost use Rattle.rp_live.specs.Events.{call_by};
 
-use rp_boxes::rp_model::Event;
+use rp_base::TaskId;
+use rp_model::Event;
 use rp_threads::TaskCall;
-use rp_threads::rp_base::TaskId;
 use std::alloc::{AllocError, Global};
 
 /// The call that an event is, if this task makes it.

@@ -4,10 +4,10 @@ ghost use Rattle.std.specs.Prelude.{◌≡◌, IfOk, OnOk, IsOkUnless};
 ghost use Rattle.rp_live.specs.Ends.{HadNoFault, HadMemory};
 ghost use Rattle.rp_live.specs.Seats.{IsEndOfRun};
 
-use rp_boxes::rp_machine::Machine;
-use rp_boxes::rp_store::InfallibleDevice;
+use rp_base::Fault;
 use rp_boxes::{NodeSeat, TaskSeat};
-use rp_threads::rp_base::Fault;
+use rp_machine::Machine;
+use rp_store::InfallibleDevice;
 use rp_threads::{NodeEnd, TaskEnd};
 
 /// The seat of a node whose thread ended. `OutOfMemory` if its loop ended by a fault: no other

@@ -4,8 +4,8 @@ ghost use Rattle.std.specs.Prelude.{◌≡◌, map, length};
 ghost use Rattle.rp_boxes.specs.Parts.{task_of};
 ghost use Rattle.rp_live.specs.Figures.{figures_of, sum_from, greatest_from};
 
-use rp_boxes::rp_machine::Machine;
-use rp_boxes::rp_store::Device;
+use rp_machine::Machine;
+use rp_store::Device;
 use rp_threads::{NodeEnd, TaskEnd};
 
 /// How a run went, in numbers. Each sum saturates at the greatest 64-bit number.

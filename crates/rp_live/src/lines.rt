@@ -3,9 +3,9 @@
 ghost use Rattle.std.specs.Prelude.{◌≡◌, IfOk, IsOkUnless};
 ghost use Rattle.rp_live.specs.Lines.{line_seed, party_line};
 
-use rp_threads::rp_base::Fault;
-use rp_threads::rp_codec::{Party, party_number};
-use rp_threads::rp_tasks::FaultLine;
+use rp_base::Fault;
+use rp_codec::{Party, party_number};
+use rp_tasks::FaultLine;
 use std::alloc::Global;
 
 /// The seed of a party's link.

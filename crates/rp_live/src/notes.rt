@@ -8,13 +8,13 @@ ghost use Rattle.rp_threads.specs.Rounds.{Runs};
 ghost use Rattle.rp_threads.specs.Turns.{IsEventBy};
 ghost use Rattle.rp_threads.specs.declared.turns.PacketCounts.{PacketCounts};
 
+use rp_base::{Fault, NodeId};
 use rp_boxes::NodeSeat;
-use rp_boxes::rp_machine::Machine;
-use rp_boxes::rp_model::{Event, Step};
-use rp_boxes::rp_store::InfallibleDevice;
+use rp_machine::Machine;
+use rp_model::{Event, Step};
+use rp_replica::Input;
+use rp_store::InfallibleDevice;
 use rp_threads::node_step;
-use rp_threads::rp_base::{Fault, NodeId};
-use rp_threads::rp_replica::Input;
 use std::alloc::Global;
 
 /// The node takes an interrupt or a tick as its input. The packets that it sends go into their

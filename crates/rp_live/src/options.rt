@@ -1,6 +1,6 @@
 //! How a program is run in threads.
 
-use rp_threads::rp_base::Config;
+use rp_base::Config;
 
 /// How a program is run in threads.
 #[derive(Clone, Copy, Debug)]

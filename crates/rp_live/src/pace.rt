@@ -1,7 +1,7 @@
 //! How the threads of a run keep pace, and when the run is over.
 
-use rp_threads::rp_base::{Fault, MOST_NODES, MOST_TASKS, NodeId};
-use rp_threads::rp_codec::Party;
+use rp_base::{Fault, MOST_NODES, MOST_TASKS, NodeId};
+use rp_codec::Party;
 use rp_threads::{Gate, is_to_lead};
 use std::alloc::{AllocError, Global};
 use std::sync::atomic::{AtomicU64, Ordering};

@@ -5,10 +5,10 @@ ghost use Rattle.rp_live.specs.Ends.{HadMemory};
 ghost use Rattle.rp_live.specs.LiveOutcome.{replies_at};
 
 use crate::ends::task_ended;
+use rp_base::{Answer, Fault};
 use rp_boxes::TaskSeat;
-use rp_boxes::rp_machine::Machine;
+use rp_machine::Machine;
 use rp_threads::TaskEnd;
-use rp_threads::rp_base::{Answer, Fault};
 use std::alloc::Global;
 
 /// The seats of the tasks whose threads ended, and their replies, in order of tasks and of calls.

@@ -12,13 +12,13 @@ ghost use Rattle.rp_live.specs.Seats.{AreNumbered, HasAppliedAt, HasOnlyReported
 ghost use Rattle.rp_threads.specs.Rounds.{Runs};
 
 use crate::ends::node_ended;
-use rp_boxes::rp_machine::Machine;
-use rp_boxes::rp_store::InfallibleDevice;
+use rp_base::{Fault, NodeId, Position};
 use rp_boxes::{Audit, NodeSeat, Put};
+use rp_codec::{Party, one_text};
+use rp_machine::Machine;
+use rp_replica::Sent;
+use rp_store::InfallibleDevice;
 use rp_threads::NodeEnd;
-use rp_threads::rp_base::{Fault, NodeId, Position};
-use rp_threads::rp_codec::{Party, one_text};
-use rp_threads::rp_replica::Sent;
 use std::alloc::Global;
 
 /// The node makes a report of the actions that it has applied, from a position on.

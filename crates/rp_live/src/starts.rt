@@ -9,12 +9,12 @@ ghost use Rattle.rp_live.specs.Lines.{party_line};
 
 use crate::calls::calls_of;
 use crate::lines::line_for;
-use rp_boxes::rp_machine::Machine;
-use rp_boxes::rp_model::Event;
-use rp_boxes::rp_store::{Device, MemDevice};
+use rp_base::{Config, Fault};
 use rp_boxes::{AllSeats, NodeSeat, TaskSeat, seats};
-use rp_threads::rp_base::{Config, Fault};
-use rp_threads::rp_codec::Party;
+use rp_codec::Party;
+use rp_machine::Machine;
+use rp_model::Event;
+use rp_store::{Device, MemDevice};
 use rp_threads::{NodeStart, TaskStart};
 use std::alloc::Global;
 

@@ -21,5 +21,4 @@ pub use machine::Machine;
 pub use numbered::{Numbered, calls_count_once, occurrences_count_once};
 pub use places::{a_call_has_one_answer, a_call_has_one_place, an_answered_call_has_one_place};
 pub use replay::{replay_goes_on, replay_may_go_on, replies_fit};
-pub use rp_base;
 pub use tally::{Tally, TallyProgram};

@@ -1,8 +1,8 @@
 ghost use Rattle.std.specs.Prelude.{◌≡◌, suc};
 ghost use Rattle.rp_world.specs.rp_base.specs.declared.fault.Fault.TheVariants as faults;
 
-use rp_world::rp_base::Fault;
-use rp_world::rp_store::*;
+use rp_base::Fault;
+use rp_store::*;
 use std::alloc::Global;
 
 /// A call of a device.

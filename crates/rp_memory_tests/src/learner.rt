@@ -2,8 +2,8 @@ ghost use Rattle.std.specs.Prelude.{◌≡◌, ◌≤◌};
 ghost use Rattle.rp_learner.specs.Status.{SameSizes, fresh};
 
 use crate::compare::expect_eq;
+use rp_base::{Action, Ballot, NodeId, Position};
 use rp_learner::*;
-use rp_world::rp_base::{Action, Ballot, NodeId, Position};
 use std::alloc::Global;
 use std::process::Abort;
 use std::test::Fail;

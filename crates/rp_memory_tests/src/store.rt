@@ -1,8 +1,8 @@
 ghost use Rattle.rp_world.specs.rp_base.specs.Right.{IsRightRecord};
 
 use crate::compare::{expect_eq, expect_text};
-use rp_world::rp_base::{Action, Ballot, Fault, Operation, Position, Rec, TaskId, WriteFault};
-use rp_world::rp_store::*;
+use rp_base::{Action, Ballot, Fault, Operation, Position, Rec, TaskId, WriteFault};
+use rp_store::*;
 use std::alloc::Global;
 use std::process::Abort;
 use std::test::Fail;

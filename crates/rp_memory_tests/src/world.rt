@@ -1,8 +1,8 @@
 use crate::compare::expect_eq;
-use rp_world::rp_base::{Config, Fault, NodeId, Operation, Position, Reply, TaskId};
-use rp_world::rp_machine::{Machine, Tally, TallyProgram};
-use rp_world::rp_model::{Event, Step};
-use rp_world::rp_store::{CutDevice, MemDevice};
+use rp_base::{Config, Fault, NodeId, Operation, Position, Reply, TaskId};
+use rp_machine::{Machine, Tally, TallyProgram};
+use rp_model::{Event, Step};
+use rp_store::{CutDevice, MemDevice};
 use rp_world::*;
 use std::alloc::Global;
 use std::process::Abort;

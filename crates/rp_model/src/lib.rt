@@ -26,6 +26,3 @@ pub use laws::{
 };
 pub use plan::{CountedPromise, CountedRange, Plan, RangePromise};
 pub use right::RightAction;
-pub use rp_base;
-pub use rp_codec;
-pub use rp_machine;

@@ -7,10 +7,10 @@ ghost use Rattle.rp_next_deck.specs.NextDecks.{IsNextDeck, StartsAs, start_image
 
 use crate::lines::put_lines;
 use crate::shown::clock_shown;
-use rp_deck::rp_base::{Action, Config, Fault};
-use rp_deck::rp_deck_declarations::DeckProgram;
-use rp_deck::rp_object::{Objects, Program};
+use rp_base::{Action, Config, Fault};
 use rp_deck::{Mode, read_deck};
+use rp_deck_declarations::DeckProgram;
+use rp_object::{Objects, Program};
 use std::alloc::{AllocError, Global};
 
 /// The most bytes of a deck.

@@ -11,5 +11,3 @@ mod lines;
 mod shown;
 
 pub use decks::next_deck;
-pub use rp_deck;
-pub use rp_deck::rp_object;

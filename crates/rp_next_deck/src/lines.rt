@@ -7,7 +7,7 @@ ghost use Rattle.rp_deck.specs.rp_words.specs.Lines.{lines_of, texts_from};
 ghost use Rattle.rp_next_deck.specs.NextLines.{AreNextLines, AreFirstWords, IsNextLine, words_before_value};
 
 use crate::shown::value_shown;
-use rp_deck::rp_words::{Lines, TextLine, Words, is_word};
+use rp_words::{Lines, TextLine, Words, is_word};
 use std::alloc::AllocError;
 
 /// The most words of a line of a deck, after its first one: an expression has at most 32.

@@ -3,7 +3,7 @@
 
 ghost use Rattle.std.specs.Prelude.{◌+◌, ◌<◌, ◌^◌, length};
 
-use rp_deck::rp_words::{Lines, Words, is_word};
+use rp_words::{Lines, Words, is_word};
 
 /// The most lines of an image, and the most words of one.
 const MOST: u8 = 64;

@@ -8,7 +8,7 @@ ghost use Rattle.rp_object.specs.Program.{DeclarationFits};
 ghost use Rattle.rp_object.specs.InMemory.{IsMade};
 
 use crate::program::{ObjectDeclaration, Profile, TimingEvent};
-use rp_entry::rp_body::Components;
+use rp_body::Components;
 use rp_entry::{Object, Queue, Waiting};
 use std::alloc::AllocError;
 

@@ -24,7 +24,3 @@ pub use program::{
     Declarations, Handler, MOST_PRIORITY, MOST_TIMERS, ObjectDeclaration, Profile, Program,
     TimingEvent,
 };
-pub use rp_base;
-pub use rp_entry;
-pub use rp_entry::rp_body;
-pub use rp_machine;

@@ -8,7 +8,7 @@ ghost use Rattle.rp_object.specs.OneProof.{one_proof};
 ghost use Rattle.rp_entry.specs.rp_body.specs.Ranges.{IsInRange};
 
 use rp_base::{MOST_OBJECTS, MOST_OPERATIONS, MOST_SOURCES, MOST_TASKS, Operation, TaskId};
-use rp_entry::rp_body::{Components, MOST_OF_A_KIND};
+use rp_body::{Components, MOST_OF_A_KIND};
 use rp_entry::{Entry, Operations, of_index};
 use std::alloc::{AllocError, Global};
 use std::sync::Arc;

@@ -1,8 +1,8 @@
 //! Values on the heap, without an error to pass on: a test ends where memory is refused.
 
+use rp_base::{Answers, Reply, TaskId};
 use rp_body::{Components, Cond, Expr, Ranged};
-use rp_object::rp_base::{Answers, Reply, TaskId};
-use rp_object::rp_machine::Machine;
+use rp_machine::Machine;
 use std::alloc::Global;
 use std::fmt::Debug;
 use std::process::Abort;

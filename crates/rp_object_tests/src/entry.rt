@@ -5,9 +5,9 @@ ghost use Rattle.rp_object.specs.rp_entry.specs.Queue.{tasks_waiting};
 use crate::building::{
     add, and, components, expect_answers, expect_at, expect_eq, number_in, one, task_of, two,
 };
+use rp_base::{Reply, TaskId};
 use rp_body::{Cond, Expr, Ranged, Stmt};
-use rp_object::rp_base::{Reply, TaskId};
-use rp_object::rp_entry::*;
+use rp_entry::*;
 use std::alloc::Global;
 use std::process::Abort;
 use std::sync::Arc;

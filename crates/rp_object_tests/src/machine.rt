@@ -2,8 +2,8 @@ ghost use Rattle.rp_object.specs.rp_base.specs.Action.{IsRight};
 ghost use Rattle.rp_object.specs.rp_machine.specs.Calls.{MayApply};
 
 use crate::building::{expect_at, expect_eq, expect_image};
-use rp_object::rp_base::{Action, Answers, Operation, Reply, TaskId};
-use rp_object::rp_machine::*;
+use rp_base::{Action, Answers, Operation, Reply, TaskId};
+use rp_machine::*;
 use std::alloc::Global;
 use std::process::Abort;
 

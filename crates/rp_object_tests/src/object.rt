@@ -1,10 +1,10 @@
 use crate::building::{
     add, and, components, expect_answers, expect_eq, expect_image, one, task_of, two,
 };
+use rp_base::{Action, Answers, Operation, Reply};
 use rp_body::{Cond, Expr, Ranged, Stmt};
-use rp_object::rp_base::{Action, Answers, Operation, Reply};
-use rp_object::rp_entry::{Entry, Operations};
-use rp_object::rp_machine::Numbered;
+use rp_entry::{Entry, Operations};
+use rp_machine::Numbered;
 use rp_object::*;
 use std::alloc::Global;
 use std::process::Abort;

@@ -6,8 +6,8 @@ ghost use Rattle.std.specs.List.{list_any};
 ghost use Rattle.rp_output.specs.rp_base.specs.Action.{same_action};
 ghost use Rattle.rp_output.specs.FaultMessage.{with_line_feed};
 
+use rp_base::{Action, NodeId};
 use rp_explore_deck::PlannedAction;
-use rp_output::rp_base::{Action, NodeId};
 use std::alloc::{AllocError, Global};
 
 /// A deck, from which a script is made.

@@ -3,7 +3,7 @@
 ghost use Rattle.std.specs.Prelude.{◌≡◌};
 ghost use Rattle.rp_orders.specs.Guards.{fits, is_of};
 
-use rp_machine::rp_base::{Reply, TaskId};
+use rp_base::{Reply, TaskId};
 
 /// A task makes the `number`th of its calls only if the reply to the one before is this one, if it
 /// is wanted, and only if it is another, if it is not.

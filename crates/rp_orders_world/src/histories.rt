@@ -16,10 +16,10 @@ ghost use Rattle.rp_orders.specs.Orders.{AreRight, AreClosed, IsReached, IsGiven
 ghost use Rattle.rp_orders.specs.declared.guard.Guard.{Guard};
 ghost use Rattle.rp_orders_world.specs.Within.{IsWithin};
 
+use rp_agreement::{histories_are_sound, only_asked_actions_are_decided};
+use rp_machine::{Machine, a_call_has_one_answer, replay_goes_on};
 use rp_orders::closed_orders_lead_to_all;
 use rp_world::histories_are_ordered;
-use rp_world::rp_agreement::{histories_are_sound, only_asked_actions_are_decided};
-use rp_world::rp_machine::{Machine, a_call_has_one_answer, replay_goes_on};
 
 /// Some orders are closed under some right actions, and a history of a cluster asks for and notes
 /// only these, and a task asks for a call only where its guards hold of the reply to its call

@@ -13,8 +13,8 @@ ghost use Rattle.rp_model.specs.rp_codec.specs.declared.packet.Body.TheVariants.
 ghost use Rattle.rp_model.specs.Says.{says, says_to_all, says_to_others, says_to_task};
 ghost use Rattle.rp_outbox.specs.Packets.{IsTextOf, IsRun, packets_in, ends_of, texts_of, longest_text};
 
-use rp_model::rp_base::{Action, Answer, NodeId, Reply, Vote};
-use rp_model::rp_codec::{
+use rp_base::{Action, Answer, NodeId, Reply, Vote};
+use rp_codec::{
     Body, DecisionTail, Header, LONGEST_TEXT, Packet, Party, RECEIVER, SentDecision, SentReply,
     VoteTail, accept_text, accepted_by, accepted_text, decided_by, decided_text, encode_onto,
     is_call, prepare_text, promise_text, text_of_packet, value_reply_text,

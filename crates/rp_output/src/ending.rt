@@ -6,7 +6,7 @@ ghost use Rattle.rp_output.specs.Endings.{RefusesFor, ReportsFault, no_run_statu
 
 use crate::fault_message::tell;
 use crate::stream::write_out;
-use rp_model::rp_base::Fault;
+use rp_base::Fault;
 use std::fmt::Display;
 use std::io::Write;
 

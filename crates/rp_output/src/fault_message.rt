@@ -6,7 +6,7 @@ ghost use Rattle.rp_output.specs.FaultMessage.{reason_text_of, fault_message_of,
 ghost use Rattle.rp_output.specs.Stream.{IsWriteFault, Writes};
 
 use crate::stream::report;
-use rp_model::rp_base::{DeckReason, Fault};
+use rp_base::{DeckReason, Fault};
 use std::fmt;
 use std::io::Write;
 

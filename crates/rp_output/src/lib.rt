@@ -21,7 +21,5 @@ pub use fault_message::{FaultMessage, is_refusal, reason_text, tell};
 pub use printed::{
     AgreedLine, DrainLimitLine, NodeLine, NodeState, RefusedLine, ReplyLine, ReplyText,
 };
-pub use rp_model;
-pub use rp_model::rp_base;
 pub use stream::{is_interrupted, print, print_reply_line, report, write_out, write_whole};
 pub use trace::{BodyText, PartyText, TraceLine};

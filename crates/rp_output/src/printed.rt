@@ -3,7 +3,7 @@
 ghost use Rattle.std.specs.Prelude.{Some};
 ghost use Rattle.rp_output.specs.Printed.{reply_text_of, reply_line_of, refused_line_of, node_line_of, limit_line_of, agreed_line};
 
-use rp_model::rp_base::{Fault, NodeId, Reply};
+use rp_base::{Fault, NodeId, Reply};
 use std::fmt;
 
 /// The words for a reply, as `value 5`.

@@ -4,7 +4,7 @@ ghost use Rattle.std.specs.Prelude.{◌≡◌, ◌+◌, ◌≤◌, ◌++◌, ◌
 
 use crate::printed::ReplyLine;
 use itoa::write_digits;
-use rp_model::rp_base::Reply;
+use rp_base::Reply;
 
 /// How many bytes a short line has at most.
 const MOST: usize = 80;

@@ -10,7 +10,7 @@ ghost use Rattle.rp_output.specs.Stream.{IsReadFault, IsWriteFault, Writes};
 
 use crate::printed::ReplyLine;
 use crate::short_line::ShortLine;
-use rp_model::rp_base::Fault;
+use rp_base::Fault;
 use std::alloc::Global;
 use std::fmt::{Display, InlineText, Write as _};
 use std::io;

@@ -3,8 +3,8 @@
 ghost use Rattle.std.specs.Prelude.{◌≡◌, Some};
 ghost use Rattle.rp_output.specs.Trace.{body_text_of, call_number, kind_name, trace_line_of};
 
-use rp_model::rp_base::{Action, Ballot, NodeId, Position, PositionRange};
-use rp_model::rp_codec::Body;
+use rp_base::{Action, Ballot, NodeId, Position, PositionRange};
+use rp_codec::Body;
 use std::fmt;
 
 /// A node's number, a task's name, or the audit.

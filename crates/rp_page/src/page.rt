@@ -8,10 +8,10 @@ ghost use Rattle.rp_page.specs.Pages.{IsDrawnAs, IsPageIfShort};
 
 use crate::frame::{after_drawing, after_sections, before_drawing};
 use crate::section::add_sections;
+use rp_base::Fault;
+use rp_drawing::{Lane, draw};
 use rp_history::Chart;
-use rp_history::rp_base::Fault;
-use rp_history::rp_drawing::{Lane, draw};
-use rp_history::rp_machine::Machine;
+use rp_machine::Machine;
 use std::alloc::Global;
 
 /// What is made of a run.

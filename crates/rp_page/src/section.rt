@@ -6,7 +6,7 @@ ghost use Rattle.rp_history.specs.rp_drawing.specs.Stops.{within_page};
 ghost use Rattle.rp_page.specs.Pages.{actor_name, deed_text, row_section, section_title, sections_text};
 
 use crate::escape::escaped_text;
-use rp_history::rp_drawing::{Lane, Mark, Row, moment_y};
+use rp_drawing::{Lane, Mark, Row, moment_y};
 use std::alloc::{AllocError, Global};
 
 /// Adds a section for each moment that has a line of the drawing.

@@ -15,8 +15,8 @@ ghost use Rattle.rp_store.specs.Records.{AreTextsOf};
 ghost use Rattle.rp_pending.specs.Making.{Made, Stopped};
 ghost use Rattle.rp_pending.specs.Pending.{PendingStep, AreSteps, bytes_of};
 
-use rp_agreement::rp_machine::{Machine, replies_fit};
 use rp_agreement::the_opening_is_sound;
+use rp_machine::{Machine, replies_fit};
 
 /// In every history each number is within its range.
 pub fn histories_keep_ranges<M: Machine>()

@@ -22,7 +22,7 @@ ghost use Rattle.rp_model.specs.Effect.{Setting, NodeInput, Receive, Lead, runni
 ghost use Rattle.rp_model.specs.Parts.{Running, Turn};
 ghost use Rattle.rp_model.specs.Says.{says, says_to_all};
 
-use rp_model::rp_machine::Machine;
+use rp_machine::Machine;
 
 /// What goes to all nodes goes to each of them, and to nobody else; so does the question for
 /// promises of a node that leads.

@@ -9,7 +9,7 @@ ghost use Rattle.rp_base.specs.declared.reply.Reply.{Reply};
 ghost use Rattle.rp_possible.specs.Possible.{AreReplied, IsAskedAgain, IsServedLater};
 ghost use Rattle.rp_possible.specs.Possible.{answer_of, prompt_nodes, late_nodes};
 
-use rp_model::rp_machine::Machine;
+use rp_machine::Machine;
 
 /// With three to seven nodes, of which a bare majority runs, each of these can lead, and each task
 /// gets the replies to two calls, one after the other, and asks once for each.

@@ -15,7 +15,7 @@ ghost use Rattle.rp_model.specs.Parts.{TaskPart};
 ghost use Rattle.rp_model.specs.World.{World, Transition, event_effect, part_at};
 ghost use Rattle.rp_possible.specs.Possible.{answer_of};
 
-use rp_model::rp_machine::Machine;
+use rp_machine::Machine;
 
 /// A task that waits for no call makes its next one, unless it made 2^32 - 1: it asks the node, and
 /// waits for the reply.

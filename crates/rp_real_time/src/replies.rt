@@ -6,11 +6,11 @@ ghost use Rattle.rp_agreement.specs.rp_base.specs.declared.config.Config.{Config
 ghost use Rattle.rp_agreement.specs.rp_model.specs.World.{World};
 ghost use Rattle.rp_real_time.specs.RealTime.{KeepsRealTime};
 
-use rp_agreement::rp_machine::{Machine, a_call_has_one_place};
 use rp_agreement::{
     histories_agree, only_made_calls_count, replies_answer_calls_that_count,
     replies_follow_the_order, the_order_exists,
 };
+use rp_machine::{Machine, a_call_has_one_place};
 
 /// At two moments of a history, now and later: each call whose reply its task has now takes its place
 /// in the later order before each call that was not made yet, whoever makes that. So the order is one

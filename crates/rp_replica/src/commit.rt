@@ -30,7 +30,7 @@ use rp_base::{
     Action, Answer, Ballot, NodeId, PlacedVote, Position, Rec, Reply, TaskId, Vote, WriteFault,
 };
 use rp_codec::{Body, Header, VoteTail, voted_by};
-use rp_model::rp_machine::Machine;
+use rp_machine::Machine;
 use rp_model::{Plan, RightAction};
 use rp_outbox::Outbox;
 use rp_store::Device;

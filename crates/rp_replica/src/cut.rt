@@ -12,10 +12,10 @@ ghost use Rattle.rp_rules.specs.Plans.{MayCommit};
 
 use crate::replica::Replica;
 use rp_base::{Fault, Rec};
-use rp_model::rp_machine::Machine;
+use rp_machine::Machine;
 use rp_model::{Dropped, Plan};
 use rp_rules::Input;
-use rp_rules::rp_server::record_in_range;
+use rp_server::record_in_range;
 use rp_store::{CutDevice, Device, NotTorn};
 use std::alloc::Global;
 

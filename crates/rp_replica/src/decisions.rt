@@ -23,10 +23,10 @@ ghost use Rattle.rp_replica.specs.Turning.{Stops};
 use crate::replica::Replica;
 use rp_base::{Action, NodeId, Position, Vote, WriteFault};
 use rp_codec::{Body, DecisionTail};
+use rp_machine::Machine;
 use rp_model::Dropped;
-use rp_model::rp_machine::Machine;
 use rp_outbox::Outbox;
-use rp_rules::rp_server::Decision;
+use rp_server::Decision;
 use rp_store::Device;
 use std::alloc::Global;
 

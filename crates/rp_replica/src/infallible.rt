@@ -3,7 +3,7 @@
 ghost use Rattle.std.specs.Prelude.{◌≡◌};
 
 use crate::replica::Replica;
-use rp_model::rp_machine::Machine;
+use rp_machine::Machine;
 use rp_store::InfallibleDevice;
 
 impl<M: Machine, D: InfallibleDevice> Replica<M, D> {

@@ -18,7 +18,7 @@ ghost use Rattle.rp_replica.specs.Opening.{Opens};
 ghost use Rattle.rp_replica.specs.Turning.{Turns};
 ghost use Rattle.rp_replica.specs.declared.sent.Sent.{Sent};
 
-use rp_model::rp_machine::Machine;
+use rp_machine::Machine;
 
 /// A call that takes effect is the effect of its input on the node's part of a world; one that is
 /// refused for its input is refused there too.

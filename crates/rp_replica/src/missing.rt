@@ -9,7 +9,7 @@ ghost use Rattle.rp_replica.specs.Committing.{Commits};
 use crate::replica::Replica;
 use rp_base::{NodeId, WriteFault};
 use rp_codec::Body;
-use rp_model::rp_machine::Machine;
+use rp_machine::Machine;
 use rp_outbox::Outbox;
 use rp_store::Device;
 

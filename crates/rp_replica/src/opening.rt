@@ -7,8 +7,8 @@ ghost use Rattle.rp_replica.specs.Opening.{Opens, IsRefusedOpening};
 
 use crate::replica::Replica;
 use rp_base::{Config, Fault, NodeId, Rec};
-use rp_model::rp_machine::Machine;
-use rp_rules::rp_server::Server;
+use rp_machine::Machine;
+use rp_server::Server;
 use rp_store::{Device, Opened, Store};
 use std::alloc::Global;
 

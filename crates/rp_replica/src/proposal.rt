@@ -20,7 +20,7 @@ ghost use Rattle.rp_replica.specs.Turning.{Stops};
 use crate::replica::Replica;
 use rp_base::{Action, Ballot, Position, PositionRange, WriteFault};
 use rp_codec::Body;
-use rp_model::rp_machine::Machine;
+use rp_machine::Machine;
 use rp_model::{CountedPromise, CountedRange, Dropped};
 use rp_outbox::Outbox;
 use rp_store::Device;

@@ -11,8 +11,8 @@ ghost use Rattle.rp_rules.specs.rp_server.specs.Free.{free_items, has_uncounted}
 
 use crate::replica::Replica;
 use rp_base::{NodeId, Position, TaskId};
-use rp_model::rp_machine::Machine;
-use rp_rules::rp_server::Server;
+use rp_machine::Machine;
+use rp_server::Server;
 use rp_store::Device;
 
 impl<M: Machine, D: Device> Replica<M, D> {

@@ -15,7 +15,7 @@ ghost use Rattle.rp_replica.specs.Turning.{Stops};
 use crate::replica::Replica;
 use rp_base::{Rec, WriteFault};
 use rp_codec::{Body, Packet, Party, Votes, encode};
-use rp_model::rp_machine::Machine;
+use rp_machine::Machine;
 use rp_model::{Dropped, RangePromise};
 use rp_outbox::Outbox;
 use rp_store::Device;

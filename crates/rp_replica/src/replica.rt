@@ -9,8 +9,8 @@ ghost use Rattle.rp_replica.specs.Kept.{HoldsPart, HoldsItsRecords, HoldsOnly};
 ghost use Rattle.rp_replica.specs.State.{part_of};
 
 use rp_base::Fault;
-use rp_model::rp_machine::Machine;
-use rp_rules::rp_server::Server;
+use rp_machine::Machine;
+use rp_server::Server;
 use rp_store::{Device, Store};
 use std::alloc::Global;
 use std::marker::Model;

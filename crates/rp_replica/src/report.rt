@@ -10,7 +10,7 @@ ghost use Rattle.rp_replica.specs.Committing.{Commits};
 use crate::replica::Replica;
 use rp_base::{Position, WriteFault};
 use rp_codec::{Actions, Body, Packet, Party};
-use rp_model::rp_machine::Machine;
+use rp_machine::Machine;
 use rp_outbox::Outbox;
 use rp_store::Device;
 use std::alloc::Global;

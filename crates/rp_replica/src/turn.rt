@@ -18,7 +18,7 @@ use crate::laws::texts_are_packets;
 use crate::replica::Replica;
 use crate::sent::Sent;
 use rp_base::{Fault, Position, PositionRange};
-use rp_model::rp_machine::Machine;
+use rp_machine::Machine;
 use rp_model::{Dropped, Plan};
 use rp_outbox::Outbox;
 use rp_rules::{Input, decide, on_text};

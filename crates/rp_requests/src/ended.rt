@@ -6,7 +6,7 @@ ghost use Rattle.rp_requests.specs.Nodes.{image_of, positions_left};
 
 use crate::node::Node;
 use rp_base::{Config, Fault};
-use rp_replica::rp_machine::Machine;
+use rp_machine::Machine;
 use std::alloc::Global;
 
 impl<M: Machine> Node<M> {

@@ -12,9 +12,9 @@ use crate::node::Node;
 use crate::refusal::Refusal;
 use crate::tail::{Tail, tail_of};
 use rp_base::{Config, Fault, NodeId};
+use rp_machine::Machine;
 use rp_replica::Replica;
-use rp_replica::rp_machine::Machine;
-use rp_replica::rp_store::{Device, MemDevice};
+use rp_store::{Device, MemDevice};
 use std::alloc::Global;
 
 /// The result of opening a node.

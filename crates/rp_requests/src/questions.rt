@@ -12,8 +12,8 @@ use crate::buffer::{Lengths, put};
 use crate::node::Node;
 use crate::refusal::Refusal;
 use rp_base::TaskId;
+use rp_machine::Machine;
 use rp_patience::{Advice, Patience, Situation};
-use rp_replica::rp_machine::Machine;
 
 impl<M: Machine> Node<M> {
     /// How many pending items are free.

@@ -8,15 +8,15 @@ ghost use Rattle.rp_model.specs.Receiving.{is_range_within};
 ghost use Rattle.rp_rules.specs.Inputs.{running_server};
 ghost use Rattle.rp_rules.specs.Plans.{MayCommit};
 
+use rp_acceptor::Comparison;
 use rp_base::{
     AcceptAnswer, Action, Ballot, NodeId, Position, PositionRange, PrepareAnswer,
     last_votes_lie_below, range_votes_are_reported,
 };
-use rp_model::rp_codec::Header;
-use rp_model::rp_machine::Machine;
+use rp_codec::Header;
+use rp_machine::Machine;
 use rp_model::{Dropped, Plan, RangePromise};
 use rp_server::Server;
-use rp_server::rp_acceptor::Comparison;
 
 /// A `Prepare` comes.
 #[inline(always)]

@@ -8,7 +8,7 @@ ghost use Rattle.rp_rules.specs.Inputs.{running_server};
 ghost use Rattle.rp_rules.specs.Plans.{MayCommit};
 
 use rp_base::{Action, TaskId};
-use rp_model::rp_machine::Machine;
+use rp_machine::Machine;
 use rp_model::{Dropped, Plan, RightAction};
 use rp_server::Server;
 

@@ -10,8 +10,8 @@ ghost use Rattle.rp_rules.specs.Plans.{MayCommit};
 
 use crate::leader::on_lead_at;
 use rp_base::{Fault, Position};
+use rp_machine::Machine;
 use rp_model::Plan;
-use rp_model::rp_machine::Machine;
 use rp_server::Server;
 
 /// The command to lead at a position, or with none at the least position that is not learned and at

@@ -13,10 +13,10 @@ ghost use Rattle.rp_rules.specs.Inputs.{running_server};
 ghost use Rattle.rp_rules.specs.Plans.{MayCommit, MayCount};
 
 use rp_base::{Action, Fault, Position};
-use rp_model::rp_machine::Machine;
+use rp_machine::Machine;
 use rp_model::{CountedPromise, Dropped, Plan};
+use rp_proposer::Progress;
 use rp_server::Server;
-use rp_server::rp_proposer::Progress;
 
 /// The command to lead at a position. If it is learned nothing happens, and a prepared proposal
 /// there offers its action. It is refused with `LogFull` above the log or 64 positions above the

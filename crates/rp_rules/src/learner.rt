@@ -11,11 +11,11 @@ ghost use Rattle.rp_rules.specs.Plans.{MayCommit};
 ghost use Rattle.rp_server.specs.Status.{status_of};
 
 use rp_base::{Action, NodeId, Position, Vote};
-use rp_model::rp_codec::Header;
-use rp_model::rp_machine::Machine;
+use rp_codec::Header;
+use rp_learner::VoteStatus;
+use rp_machine::Machine;
 use rp_model::{Dropped, Plan};
 use rp_server::Server;
-use rp_server::rp_learner::VoteStatus;
 
 /// An `Ask` comes.
 pub(crate) fn on_ask<M: Machine>(server: &Server<M>, from: NodeId, position: Position) -> Plan

@@ -29,8 +29,6 @@ mod rules;
 mod texts;
 
 pub use input::Input;
-pub use rp_server;
-pub use rp_server::{rp_learner, rp_proposer};
 pub use rules::decide;
 pub use texts::{
     accept_for, accepted_for, call_for, decided_for, on_text, prepare_for, promise_for,

@@ -6,8 +6,8 @@ ghost use Rattle.rp_rules.specs.Inputs.{running_server};
 ghost use Rattle.rp_rules.specs.Plans.{MayCommit};
 
 use rp_base::{Fault, NodeId};
+use rp_machine::Machine;
 use rp_model::Plan;
-use rp_model::rp_machine::Machine;
 use rp_server::Server;
 
 /// The command to ask a node for each position that is missing in the window. It is refused with

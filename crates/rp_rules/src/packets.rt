@@ -15,8 +15,8 @@ use crate::arrivals::on_call;
 use crate::leader::on_promise;
 use crate::learner::{on_accepted, on_ask, on_decided};
 use rp_base::{Ballot, Config, Fault, NodeId, PositionRange};
-use rp_model::rp_codec::{Body, Header, Packet, Party};
-use rp_model::rp_machine::Machine;
+use rp_codec::{Body, Header, Packet, Party};
+use rp_machine::Machine;
 use rp_model::{CountedPromise, CountedRange, Dropped, Plan};
 use rp_server::Server;
 

@@ -11,8 +11,8 @@ use crate::missing::on_ask_missing;
 use crate::ranges::on_lead_range;
 use crate::texts::on_text;
 use rp_base::Fault;
+use rp_machine::Machine;
 use rp_model::Plan;
-use rp_model::rp_machine::Machine;
 use rp_server::Server;
 use std::alloc::Global;
 

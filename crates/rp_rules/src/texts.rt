@@ -26,11 +26,11 @@ use crate::leader::on_promise;
 use crate::learner::{on_accepted, on_decided};
 use crate::packets::on_packet;
 use rp_base::{Action, Fault, NodeId, Position};
-use rp_model::rp_codec::{
+use rp_codec::{
     Header, Kind, SentDecision, decode, usual_accept, usual_accepted, usual_call, usual_decided,
     usual_prepare, usual_promise,
 };
-use rp_model::rp_machine::Machine;
+use rp_machine::Machine;
 use rp_model::{CountedPromise, Plan};
 use rp_server::Server;
 use std::alloc::Global;

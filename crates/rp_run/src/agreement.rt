@@ -6,10 +6,10 @@ ghost use Rattle.rp_run.specs.Runs.{run_setting, opening_cluster};
 ghost use Rattle.rp_deck.specs.Script.{KeepsRanges};
 
 use crate::options::RunOptions;
+use rp_agreement::records_stay_in_the_log;
 use rp_deck::{Command, Line};
-use rp_model::rp_machine::Machine;
+use rp_machine::Machine;
 use rp_world::histories_are_ordered;
-use rp_world::rp_agreement::records_stay_in_the_log;
 
 /// For all lines of a script: after any number of them one order gives all that they print, and
 /// after any two of them nodes agree. It does nothing: its contract is for the callers' proofs.

@@ -10,17 +10,17 @@ ghost use Rattle.rp_output.specs.Stream.{Writes};
 ghost use Rattle.rp_output.specs.Faults.{IsRunFault};
 
 use crate::options::RunOptions;
+use indexmap::IndexMap;
 use rp_base::{Answer, Fault, NodeId, TaskId};
+use rp_codec::{Packet, Party, decode};
 use rp_deck::Task;
-use rp_deck::indexmap::IndexMap;
-use rp_model::rp_codec::{Packet, Party, decode};
-use rp_model::rp_machine::Machine;
+use rp_machine::Machine;
 use rp_model::{Dropped, Event, Step};
 use rp_output::{
     BodyText, NodeLine, NodeState, PartyText, ReplyLine, TraceLine, print, print_reply_line,
 };
+use rp_store::CutDevice;
 use rp_world::Cluster;
-use rp_world::rp_store::CutDevice;
 use std::alloc::Global;
 use std::io::Write;
 

@@ -2,8 +2,8 @@
 
 ghost use Rattle.rp_base.specs.Config.{IsRightConfig};
 
+use indexmap::IndexMap;
 use rp_base::Config;
-use rp_deck::indexmap::IndexMap;
 use rp_deck::{Line, Task};
 
 /// A script, and how it is run.

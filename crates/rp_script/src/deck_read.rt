@@ -6,7 +6,7 @@ ghost use Rattle.rp_script.specs.Faults.{IsProgramFault};
 ghost use Rattle.rp_script.specs.Given.{IsMeant, MeansDeck, most_bytes};
 ghost use Rattle.rp_deck.specs.Live.{IsDeckFor};
 
-use rp_deck::rp_base::Fault;
+use rp_base::Fault;
 use rp_deck::{Deck, Mode, read_deck};
 use rp_output::is_interrupted;
 use std::alloc::Global;

@@ -9,13 +9,13 @@ ghost use Rattle.rp_script.specs.Output.{output_of};
 ghost use Rattle.rp_output.specs.Stream.{Writes};
 
 use crate::deck_read::read_given;
-use rp_deck::rp_base::Fault;
+use rp_base::Fault;
 use rp_deck::{Deck, DeckProgram, Mode};
+use rp_machine::Tally;
 use rp_object::Objects;
-use rp_object::rp_machine::Tally;
 use rp_output::write_out;
-use rp_run::rp_store::MemDevice;
 use rp_run::{RunOptions, run_lines, scripts_agree};
+use rp_store::MemDevice;
 use std::alloc::Global;
 use std::io::{Read, Write};
 

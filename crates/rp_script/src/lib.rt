@@ -18,11 +18,6 @@ pub use deck_read::{MOST_BYTES, read_whole};
 pub use deck_run::{DRAIN_LIMIT, run_deck, run_script};
 pub use figures::FiguresLine;
 pub use live_run::{LiveRequest, run_live};
-pub use rp_deck;
-pub use rp_deck::{indexmap, rp_base};
-pub use rp_object;
-pub use rp_object::rp_machine;
-pub use rp_output;
 pub use rp_output::{
     BodyText, FaultMessage, NodeLine, NodeState, PartyText, RefusedLine, ReplyLine, ReplyText,
     TraceLine, is_refusal, print, reason_text, tell, write_out, write_whole,

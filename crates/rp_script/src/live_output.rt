@@ -6,9 +6,9 @@ ghost use Rattle.rp_script.specs.LiveOutput.{replies_text, node_text, applied_te
 ghost use Rattle.rp_run.specs.Output.{names_of};
 ghost use Rattle.rp_output.specs.Stream.{Writes};
 
+use indexmap::IndexMap;
+use rp_base::{Answer, Fault, NodeId};
 use rp_deck::Task;
-use rp_deck::indexmap::IndexMap;
-use rp_deck::rp_base::{Answer, Fault, NodeId};
 use rp_live::LiveOutcome;
 use rp_output::{AgreedLine, NodeLine, NodeState, print, write_out};
 use rp_run::print_reply;

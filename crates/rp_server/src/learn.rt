@@ -20,8 +20,8 @@ use crate::server::Server;
 use crate::window::follow;
 use rp_acceptor::Acceptor;
 use rp_base::{Action, NodeId, Position, Rec, WriteFault};
+use rp_codec::{DecisionTail, SentDecision, learned_by};
 use rp_machine::Machine;
-use rp_model::rp_codec::{DecisionTail, SentDecision, learned_by};
 use rp_outbox::Outbox;
 use rp_store::{Device, Store};
 

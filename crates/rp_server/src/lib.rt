@@ -34,7 +34,4 @@ mod window;
 pub use acceptor::record_in_range;
 pub use laws::the_least_free_position_is_least;
 pub use learn::Decision;
-pub use rp_acceptor;
-pub use rp_learner;
-pub use rp_proposer;
 pub use server::Server;

@@ -7,9 +7,9 @@ ghost use Rattle.rp_model.specs.rp_codec.specs.Message.{report_len};
 
 use crate::server::Server;
 use rp_base::{Action, Position};
+use rp_codec::report_len;
 use rp_log::Log;
 use rp_machine::Machine;
-use rp_model::rp_codec::report_len;
 use std::alloc::{AllocError, Global};
 
 impl<M: Machine> Server<M> {

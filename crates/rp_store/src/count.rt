@@ -2,7 +2,7 @@
 
 ghost use Rattle.std.specs.Prelude.{◌≡◌, suc};
 
-use rp_codec::rp_base::History;
+use rp_base::History;
 use std::marker::Model;
 
 /// A number without a greatest value, from 0: it is there for contracts, and memory holds nothing

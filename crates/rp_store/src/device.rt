@@ -4,7 +4,7 @@ ghost use Rattle.std.specs.Prelude.{◌≡◌, ◌⊎◌, ℕ, ◌≤◌, length
 ghost use Rattle.rp_codec.specs.rp_base.specs.declared.fault.Fault.TheVariants as faults;
 ghost use Rattle.rp_store.specs.Disk.{Disk, appended, synced, read_once, cut_to, stopped, ReadFailed, AppendFailed, SyncFailed, CutFailed};
 
-use rp_codec::rp_base::Fault;
+use rp_base::Fault;
 use std::alloc::Global;
 
 /// Bytes that stay where they were put. What was synced stays whatever happens. Of what was

@@ -4,7 +4,7 @@ ghost use Rattle.std.specs.Prelude.{◌≡◌, suc};
 
 use crate::count::Count;
 use crate::device::{CutDevice, Device};
-use rp_codec::rp_base::Fault;
+use rp_base::Fault;
 use std::alloc::Global;
 use std::marker::Model;
 

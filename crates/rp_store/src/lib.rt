@@ -24,5 +24,4 @@ pub use device::{CutDevice, Device, InfallibleDevice};
 pub use failing::{DeviceCall, FailDevice};
 pub use laws::{one_reading, stop_inside_open, stop_inside_put};
 pub use memory::MemDevice;
-pub use rp_codec::rp_base;
 pub use store::{NotTorn, Opened, Store};

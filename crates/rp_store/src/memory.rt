@@ -5,7 +5,7 @@ ghost use Rattle.rp_store.specs.Disk.{disk_of, empty_disk};
 
 use crate::count::Count;
 use crate::device::{CutDevice, Device, InfallibleDevice};
-use rp_codec::rp_base::Fault;
+use rp_base::Fault;
 use std::alloc::{AllocError, Global};
 use std::marker::Model;
 

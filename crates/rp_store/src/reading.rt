@@ -3,8 +3,8 @@
 ghost use Rattle.std.specs.Prelude.{◌≡◌, List, ℕ, length, IfOk};
 ghost use Rattle.rp_store.specs.Records.{AreRecordsOf};
 
+use rp_base::Rec;
 use rp_codec::decode_front;
-use rp_codec::rp_base::Rec;
 use std::alloc::{AllocError, Global};
 
 /// The records of the bytes, and how many bytes are torn after them. It goes over the bytes once.

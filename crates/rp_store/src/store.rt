@@ -11,7 +11,7 @@ ghost use Rattle.rp_store.specs.Opening.{IsOpened, IsNotOpened};
 
 use crate::device::{CutDevice, Device};
 use crate::reading::whole_records;
-use rp_codec::rp_base::{Fault, Rec, WriteFault};
+use rp_base::{Fault, Rec, WriteFault};
 use rp_codec::{is_call, learned_text, promised_text, started_text, text_of_record, voted_text};
 use std::alloc::Global;
 use std::marker::Model;

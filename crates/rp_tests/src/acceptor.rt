@@ -3,7 +3,7 @@ ghost use Rattle.rp_acceptor.specs.Noted.{places_in, ranges_in};
 
 use crate::compare::expect_eq;
 use rp_acceptor::*;
-use rp_codec::rp_base::{Action, Ballot, Operation, Position, Rec, TaskId, Vote};
+use rp_base::{Action, Ballot, Operation, Position, Rec, TaskId, Vote};
 use std::alloc::Global;
 use std::process::Abort;
 

@@ -1,5 +1,5 @@
 use crate::compare::{expect_at, expect_eq};
-use rp_codec::rp_base::*;
+use rp_base::*;
 use std::process::Abort;
 
 fn node(rt: &impl Abort, number: u8) -> NodeId {

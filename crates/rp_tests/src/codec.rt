@@ -1,5 +1,5 @@
 use crate::compare::{expect_at, expect_eq, expect_text};
-use rp_codec::rp_base::{
+use rp_base::{
     Action, Ballot, Fault, NodeId, Operation, PacketReason, PlacedVote, Position, PositionRange,
     Rec, Reply, TaskId, Vote,
 };

@@ -1,5 +1,5 @@
 use crate::compare::{expect_at, expect_eq};
-use rp_codec::rp_base::{Action, Position};
+use rp_base::{Action, Position};
 use rp_log::*;
 use std::alloc::Global;
 use std::process::Abort;

@@ -1,7 +1,7 @@
 ghost use Rattle.std.specs.Prelude.{◌≡◌, ◌≤◌};
 
 use crate::compare::expect_eq;
-use rp_codec::rp_base::{Action, Ballot, Fault, NodeId, Position, Rec, Vote};
+use rp_base::{Action, Ballot, Fault, NodeId, Position, Rec, Vote};
 use rp_proposer::*;
 use std::alloc::Global;
 use std::process::Abort;

@@ -1,5 +1,5 @@
 use crate::compare::{expect_at, expect_eq, expect_text};
-use rp_codec::rp_base::{Action, Fault, NodeId, Operation, Reply, TaskId};
+use rp_base::{Action, Fault, NodeId, Operation, Reply, TaskId};
 use rp_codec::{Body, Party, decode};
 use rp_tasks::*;
 use std::alloc::Global;

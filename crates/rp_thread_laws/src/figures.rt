@@ -9,8 +9,8 @@ ghost use Rattle.rp_live.specs.Figures.{figures_of};
 ghost use Rattle.rp_live.specs.LiveOutcome.{replies_at};
 ghost use Rattle.rp_thread_laws.specs.Figures.{within_64_bits};
 
-use rp_threads::rp_machine::Machine;
-use rp_threads::rp_store::Device;
+use rp_machine::Machine;
+use rp_store::Device;
 
 /// Each figure of a run is a sum over the ends of its loops, as far as 64 bits hold it; the turn of
 /// the last reply is the greatest of those of the tasks.

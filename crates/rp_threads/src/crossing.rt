@@ -3,8 +3,8 @@
 ghost use Rattle.std.specs.Prelude.{◌≡◌};
 
 use rp_boxes::{NodeSeat, TaskSeat};
-use rp_replica::rp_machine::Machine;
-use rp_replica::rp_store::Device;
+use rp_machine::Machine;
+use rp_store::Device;
 
 /// Returns a value that may be moved to another thread, unchanged.
 fn crossing<T: Send>(value: T) -> T

@@ -15,10 +15,10 @@ use crate::turns::{Turn, TurnResult, node_step, node_turn};
 use rp_base::{Fault, Position};
 use rp_boxes::NodeSeat;
 use rp_codec::Party;
+use rp_machine::Machine;
 use rp_patience::Patience;
 use rp_replica::Input;
-use rp_replica::rp_machine::Machine;
-use rp_replica::rp_store::Device;
+use rp_store::Device;
 use rp_tasks::FaultLine;
 use std::alloc::Global;
 

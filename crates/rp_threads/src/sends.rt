@@ -7,9 +7,9 @@ ghost use Rattle.rp_threads.specs.Turns.{AreSent, AreSentTexts, AreTextsOffered,
 
 use rp_boxes::{NodeSeat, Put};
 use rp_codec::{one_text, text_len};
+use rp_machine::Machine;
 use rp_replica::Sent;
-use rp_replica::rp_machine::Machine;
-use rp_replica::rp_store::Device;
+use rp_store::Device;
 use std::alloc::{AllocError, Global};
 
 /// Puts a packet that the node sent into its box. If the box is not empty, the packet is lost, and

@@ -21,8 +21,8 @@ use crate::turns::take_fetched;
 use rp_base::{Fault, NodeId, Operation};
 use rp_boxes::{Fetch, Put, TaskSeat};
 use rp_codec::Party;
+use rp_machine::Machine;
 use rp_replica::Sent;
-use rp_replica::rp_machine::Machine;
 use rp_tasks::{FaultLine, gives_what_it_took};
 use std::alloc::Global;
 

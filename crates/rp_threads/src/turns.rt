@@ -12,9 +12,9 @@ use crate::sends::put_all;
 use rp_base::Fault;
 use rp_boxes::{Fetch, NodeSeat, Put};
 use rp_codec::Party;
+use rp_machine::Machine;
 use rp_replica::Input;
-use rp_replica::rp_machine::Machine;
-use rp_replica::rp_store::Device;
+use rp_store::Device;
 use rp_tasks::{FaultLine, gives_what_it_took};
 use std::alloc::Global;
 

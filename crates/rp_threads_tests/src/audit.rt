@@ -2,13 +2,13 @@ ghost use Rattle.std.specs.Prelude.{List, ℕ};
 ghost use Rattle.rp_threads.specs.rp_boxes.specs.Audits.{IsGotReport};
 
 use crate::setup::{all_seats, empty_devices, node, one_tally, receive_each};
+use rp_base::{Action, NodeId, Position};
+use rp_boxes::{Added, Audit, NodeSeat, Put};
+use rp_codec::Party;
+use rp_machine::{Machine, Tally};
+use rp_replica::Input;
+use rp_store::{Device, MemDevice};
 use rp_threads::node_step;
-use rp_threads::rp_base::{Action, NodeId, Position};
-use rp_threads::rp_boxes::{Added, Audit, NodeSeat, Put};
-use rp_threads::rp_codec::Party;
-use rp_threads::rp_machine::{Machine, Tally};
-use rp_threads::rp_replica::Input;
-use rp_threads::rp_store::{Device, MemDevice};
 use std::alloc::Global;
 use std::process::Abort;
 

@@ -5,13 +5,13 @@ ghost use Rattle.rp_threads.specs.rp_boxes.specs.Parts.{fresh_part, OfTask};
 ghost use Rattle.rp_threads.specs.rp_model.specs.Parts.{fresh_task};
 
 use crate::setup::{all_seats, empty_devices, node, one_tally};
-use rp_threads::rp_base::{Fault, NodeId, Operation, Position};
-use rp_threads::rp_boxes::{Added, Audit, NodeSeat, TaskSeat};
-use rp_threads::rp_codec::{Body, Party, decode, packet_len};
-use rp_threads::rp_machine::{Machine, Tally};
-use rp_threads::rp_replica::Input;
-use rp_threads::rp_store::{Device, MemDevice};
-use rp_threads::rp_tasks::FaultLine;
+use rp_base::{Fault, NodeId, Operation, Position};
+use rp_boxes::{Added, Audit, NodeSeat, TaskSeat};
+use rp_codec::{Body, Party, decode, packet_len};
+use rp_machine::{Machine, Tally};
+use rp_replica::Input;
+use rp_store::{Device, MemDevice};
+use rp_tasks::FaultLine;
 use rp_threads::{
     Gate, LoopOptions, NodeEnd, NodeStart, TaskCall, TaskEnd, TaskStart, node_step, run_threads,
 };

@@ -1,13 +1,13 @@
 ghost use Rattle.rp_threads.specs.rp_boxes.specs.Seats.{IsSentText};
 
 use crate::setup::{all_seats, empty_devices, expect_packet, one_tally, receive, receive_each};
+use rp_base::{NodeId, Operation, Position, TaskId};
+use rp_boxes::{AllSeats, Fetch, NodeSeat, Put, TaskSeat};
+use rp_codec::Party;
+use rp_machine::{Machine, Tally};
+use rp_replica::Input;
+use rp_store::{Device, MemDevice};
 use rp_threads::node_step;
-use rp_threads::rp_base::{NodeId, Operation, Position, TaskId};
-use rp_threads::rp_boxes::{AllSeats, Fetch, NodeSeat, Put, TaskSeat};
-use rp_threads::rp_codec::Party;
-use rp_threads::rp_machine::{Machine, Tally};
-use rp_threads::rp_replica::Input;
-use rp_threads::rp_store::{Device, MemDevice};
 use std::alloc::Global;
 use std::process::Abort;
 

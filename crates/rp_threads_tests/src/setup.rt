@@ -3,13 +3,13 @@
 
 ghost use Rattle.rp_threads.specs.rp_boxes.specs.FirstSeats.{AreSeats, failures_of};
 
+use rp_base::{Config, NodeId};
+use rp_boxes::{AllSeats, Fetch, NodeSeat, seats};
+use rp_codec::Party;
+use rp_machine::{Machine, TallyProgram};
+use rp_replica::Input;
+use rp_store::{Device, MemDevice};
 use rp_threads::node_step;
-use rp_threads::rp_base::{Config, NodeId};
-use rp_threads::rp_boxes::{AllSeats, Fetch, NodeSeat, seats};
-use rp_threads::rp_codec::Party;
-use rp_threads::rp_machine::{Machine, TallyProgram};
-use rp_threads::rp_replica::Input;
-use rp_threads::rp_store::{Device, MemDevice};
 use std::alloc::Global;
 use std::process::Abort;
 

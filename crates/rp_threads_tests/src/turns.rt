@@ -3,13 +3,13 @@ ghost use Rattle.rp_threads.specs.rp_boxes.specs.Parts.{fresh_part, OfTask};
 ghost use Rattle.rp_threads.specs.rp_model.specs.Parts.{fresh_task};
 
 use crate::setup::{all_seats, empty_devices, expect_packet, node, one_tally};
-use rp_threads::rp_base::{Fault, NodeId, Operation, TaskId};
-use rp_threads::rp_boxes::{Fetch, NodeSeat, TaskSeat};
-use rp_threads::rp_codec::Party;
-use rp_threads::rp_machine::{Machine, Tally};
-use rp_threads::rp_replica::Input;
-use rp_threads::rp_store::{Device, MemDevice};
-use rp_threads::rp_tasks::FaultLine;
+use rp_base::{Fault, NodeId, Operation, TaskId};
+use rp_boxes::{Fetch, NodeSeat, TaskSeat};
+use rp_codec::Party;
+use rp_machine::{Machine, Tally};
+use rp_replica::Input;
+use rp_store::{Device, MemDevice};
+use rp_tasks::FaultLine;
 use rp_threads::{
     Gate, LoopOptions, Open, PacketCounts, TaskCall, Turn, node_loop, node_step, node_turn,
     task_loop,

@@ -13,12 +13,10 @@ mod lines;
 mod names;
 mod words;
 
-pub use indexmap;
 pub use line_error::LineError;
 pub use lines::{Lines, TextLine};
 pub use names::{
     insert_in_map, insert_in_set, insert_string_in_map, map_has_name, map_index_of, set_index_of,
     take_name_new_to_map, take_name_new_to_set,
 };
-pub use rp_base;
 pub use words::{Words, is_word, named, read_dotted, read_name, read_number, truth_named};

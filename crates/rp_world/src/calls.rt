@@ -12,9 +12,9 @@ use crate::effect::{no_effect, one_message};
 use crate::world::World;
 use rp_base::{Action, Fault, NodeId, Operation, TaskId};
 use rp_codec::{Body, Packet, Party};
+use rp_machine::Machine;
 use rp_model::Effect;
-use rp_model::rp_machine::Machine;
-use rp_replica::rp_outbox::Outbox;
+use rp_outbox::Outbox;
 use rp_store::CutDevice;
 use std::alloc::AllocError;
 

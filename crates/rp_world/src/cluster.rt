@@ -39,9 +39,9 @@ use rp_agreement::{
     replies_answer_calls_that_count, replies_follow_the_order, states_are_alike, the_order_exists,
 };
 use rp_base::{Action, Answer, Config, Fault, NodeId, TaskId};
-use rp_model::rp_machine::{Machine, a_call_has_one_place};
+use rp_machine::{Machine, a_call_has_one_place};
 use rp_model::{Effect, Event, Step, worlds_grow};
-use rp_replica::rp_server::Server;
+use rp_server::Server;
 use rp_store::{CutDevice, Device, InfallibleDevice};
 use std::alloc::Global;
 use std::marker::Model;

@@ -16,7 +16,7 @@ use rp_agreement::{
     only_noted_actions_are_decided, replies_answer_calls_that_count, replies_follow_the_order,
     the_order_exists,
 };
-use rp_model::rp_machine::{Machine, a_call_has_one_place};
+use rp_machine::{Machine, a_call_has_one_place};
 
 /// Nodes of one configuration that run one program of a machine agree at any two moments of any
 /// history, whatever stops, is cut within a step, starts again, is lost or delivered twice. At each

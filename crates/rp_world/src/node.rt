@@ -13,9 +13,9 @@ ghost use Rattle.rp_world.specs.Failures.{SomeHasFailed};
 ghost use Rattle.rp_world.specs.Nodes.{Member, member_of, RunsAs, RestsAs, Represents, GoesBy, IsCutBy, IsLight, IsNotStarted, IsResting, RefusedBy, IsLeftTorn, NotTaken, DescribesNothing, DescribesOpened, DescribesSending, failures_in, node_step, stored_length};
 
 use rp_base::{Config, Fault, NodeId};
+use rp_machine::Machine;
 use rp_model::Dropped;
-use rp_model::rp_machine::Machine;
-use rp_replica::rp_outbox::Outbox;
+use rp_outbox::Outbox;
 use rp_replica::{Input, NotCut, Replica};
 use rp_store::{CutDevice, Device, InfallibleDevice};
 use std::alloc::Global;

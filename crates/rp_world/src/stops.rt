@@ -6,8 +6,8 @@ ghost use Rattle.rp_world.specs.Going.{AnswersRestart, AnswersStop};
 use crate::effect::{no_effect, opened};
 use crate::world::{World, put_back};
 use rp_base::{Fault, NodeId};
+use rp_machine::Machine;
 use rp_model::Effect;
-use rp_model::rp_machine::Machine;
 use rp_store::CutDevice;
 use std::alloc::Global;
 

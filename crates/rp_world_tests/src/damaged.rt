@@ -1,10 +1,10 @@
 use crate::compare::{expect_at, expect_eq};
 use crate::replica::{hears, holding};
 use crate::world::program;
-use rp_world::rp_base::{Fault, Rec};
-use rp_world::rp_codec::decode;
-use rp_world::rp_machine::{Machine, Tally, TallyProgram};
-use rp_world::rp_store::*;
+use rp_base::{Fault, Rec};
+use rp_codec::decode;
+use rp_machine::{Machine, Tally, TallyProgram};
+use rp_store::*;
 use std::alloc::Global;
 use std::process::Abort;
 

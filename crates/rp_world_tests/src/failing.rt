@@ -1,9 +1,9 @@
 use crate::compare::{expect_at, expect_eq, push};
 use crate::world::{call, lead, node, program};
-use rp_world::rp_base::{Config, Fault, Reply, TaskId};
-use rp_world::rp_machine::{Machine, Tally};
-use rp_world::rp_model::{Event, Step};
-use rp_world::rp_store::{CutDevice, DeviceCall, FailDevice, MemDevice};
+use rp_base::{Config, Fault, Reply, TaskId};
+use rp_machine::{Machine, Tally};
+use rp_model::{Event, Step};
+use rp_store::{CutDevice, DeviceCall, FailDevice, MemDevice};
 use rp_world::*;
 use std::alloc::Global;
 use std::process::Abort;

@@ -1,10 +1,10 @@
 use crate::world::{
     Left, call, deliver_from, devices, expect_left, lead, node, opened, program, step,
 };
-use rp_world::rp_base::Position;
-use rp_world::rp_machine::{Machine, Tally};
-use rp_world::rp_model::{Event, Step};
-use rp_world::rp_store::{CutDevice, MemDevice};
+use rp_base::Position;
+use rp_machine::{Machine, Tally};
+use rp_model::{Event, Step};
+use rp_store::{CutDevice, MemDevice};
 use rp_world::*;
 use std::alloc::Global;
 use std::process::Abort;

@@ -2,12 +2,12 @@ ghost use Rattle.std.specs.Prelude.{◌≡◌, ◌≤◌};
 
 use crate::compare::{expect_at, expect_eq, expect_text, push};
 use crate::world::{devices, program};
-use rp_world::rp_base::{Config, Fault, NodeId, PacketReason, Position};
-use rp_world::rp_codec::{decode_front, packet_len};
-use rp_world::rp_machine::{Machine, Tally};
-use rp_world::rp_model::Dropped;
-use rp_world::rp_replica::*;
-use rp_world::rp_store::{CutDevice, Device, MemDevice};
+use rp_base::{Config, Fault, NodeId, PacketReason, Position};
+use rp_codec::{decode_front, packet_len};
+use rp_machine::{Machine, Tally};
+use rp_model::Dropped;
+use rp_replica::*;
+use rp_store::{CutDevice, Device, MemDevice};
 use std::alloc::Global;
 use std::process::Abort;
 

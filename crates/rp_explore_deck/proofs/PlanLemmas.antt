@@ -11,7 +11,7 @@ use Rattle.rp_deck_declarations.specs.DeclaredTexts.{DeclaredText, known}
 use Rattle.rp_deck_declarations.specs.Declaring.{declarations_of}
 use Rattle.rp_deck_declarations.specs.ScriptNames.{DeclaredNames}
 use Rattle.rp_explore_deck.specs.AddedLines.{Added, added_lines, plain_text}
-use Rattle.rp_explore_deck.specs.Plans.{PlanText, both, additions_of, plan_with, plan_of, above, first_fault}
+use Rattle.rp_explore_deck.specs.Plans.{PlanText, both, additions_of, plan_with, planned, plan_of, above, first_fault}
 use Rattle.rp_explore_deck.specs.declared.guard_lines.GuardLine.{GuardLine}
 use Rattle.rp_explore_deck.specs.RuleLines.{PlacedRuleText}
 use Rattle.rp_explore_deck.specs.declared.plan.Plan.{Plan}
@@ -20,10 +20,6 @@ use Rattle.rp_words.specs.LineFaults.{BadLine, IsDeckFault, Refuses, Reads}
 use Rattle.rp_words.specs.Lines.{LineText, lines_of, texts_from}
 use Rattle.rp_words.specs.Reading.{◌>>=◌}
 use Rattle.rp_words.specs.declared.lines.Lines.{Lines}
-
--- the plan of what a deck means and what its added lines say
-abbrev pub planned : Result DeckText BadLine → Result (List PlacedRuleText × List GuardLine) BadLine → Result PlanText BadLine
-planned deck added = both deck added >>= (λ (read : DeckText × (List PlacedRuleText × List GuardLine)). plan_with read.0 read.1.0 read.1.1)
 
 abbrev pub declared_plan : Added → List ℕ → Result (DeclaredNames × DeclaredText × List LineText) BadLine → Result PlanText BadLine
 declared_plan added text read = read >>= (λ (names : DeclaredNames × DeclaredText × List LineText). planned (meaning_of Live (plain_text added text)) (additions_of names.0 names.1.program added (texts_of text)))

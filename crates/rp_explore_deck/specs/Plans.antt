@@ -58,6 +58,13 @@ plan_with deck rules guards = do
   placed ← guards_of actions [] guards
   Ok (record { deck = deck; actions = actions; guards = placed; rules = rules })
 
+-- the plan of what a deck means and of what its added lines say
+abbrev pub planned : Result DeckText BadLine → Result (List PlacedRuleText × List GuardLine) BadLine
+    → Result PlanText BadLine
+planned deck added = do
+  read ← both deck added
+  plan_with read.0 read.1.0 read.1.1
+
 -- What a text means: its declarations, then the other lines by their own words, of two bad ones
 -- the first, and then the calls that the guards are for.
 unfoldable pub plan_of : List ℕ → Result PlanText BadLine
@@ -65,9 +72,7 @@ plan_of text = do
   let added = added_lines (texts_of text)
   let plain = plain_text added text
   names ← known (declarations_of (line_after plain) (texts_of plain))
-  read ← both (meaning_of Live plain)
-      (additions_of names.0 names.1.program added (texts_of text))
-  plan_with read.0 read.1.0 read.1.1
+  planned (meaning_of Live plain) (additions_of names.0 names.1.program added (texts_of text))
 
 -- ---- of two faults (no public clause names what follows)
 

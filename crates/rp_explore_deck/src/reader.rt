@@ -1,18 +1,20 @@
 //! Reads a deck for a search.
 
-ghost use Rattle.std.specs.Prelude.{◌≡◌, ◌+◌, ◌^◌, ◌<◌, All, length, map, IfOk, IfErr};
+ghost use Rattle.std.specs.Prelude.{◌≡◌, ◌+◌, ◌^◌, ◌<◌, All, List, Result, length, map, IfOk, IfErr};
 ghost use Rattle.rp_deck.specs.Deck.{IsRightDeck};
 ghost use Rattle.rp_deck.specs.DeckViews.{deck_text, command_text};
 ghost use Rattle.rp_deck.specs.Live.{IsDeckFor};
-ghost use Rattle.rp_deck.specs.Meaning.{texts_of};
+ghost use Rattle.rp_deck.specs.Meaning.{meaning_of, texts_of};
 ghost use Rattle.rp_deck.specs.declared.deck.Mode.TheVariants.{Live};
 ghost use Rattle.rp_deck_declarations.specs.Declarations.{IsComplete};
 ghost use Rattle.rp_deck_declarations.specs.DeclaredViews.{names_of, program_text};
 ghost use Rattle.rp_explore_deck.specs.PlannedActions.{AsksRight, actions_of};
-ghost use Rattle.rp_explore_deck.specs.Plans.{plan_text, additions_of, plan_with, plan_of, first_fault};
+ghost use Rattle.rp_explore_deck.specs.Plans.{plan_text, additions_of, plan_with, planned, plan_of, first_fault};
+ghost use Rattle.rp_explore_deck.specs.RuleLines.{PlacedRuleText};
 ghost use Rattle.rp_explore_deck.specs.RuleViews.{placed_rule_text};
+ghost use Rattle.rp_explore_deck.specs.declared.guard_lines.GuardLine.{GuardLine};
 ghost use Rattle.rp_orders.specs.Orders.{AreRight};
-ghost use Rattle.rp_words.specs.LineFaults.{IsDeckFault, Reads};
+ghost use Rattle.rp_words.specs.LineFaults.{BadLine, IsDeckFault, Reads};
 
 use crate::actions::plan_actions;
 use crate::added::AddedLines;
@@ -50,12 +52,31 @@ pub fn read_plan(alloc: Global, text: &[u8]) -> Result<Plan, Fault>
     let added = AddedLines::of(alloc, text)?;
     let plain = added.plain(alloc, text)?;
     let declared = read_declarations(alloc, &mut Lines::new(&plain))?;
-    let deck = read_deck(alloc, &plain, Mode::Live);
-    let additions = match read_additions(alloc, text, &added, &declared) {
-        Ok(additions) => additions,
-        Err(fault) => return Err(first_of(fault, deck)),
-    };
-    plan_with(alloc, deck?, additions)
+    let additions = read_additions(alloc, text, &added, &declared);
+    read_with(alloc, &plain, additions)
+}
+
+/// The plan of a deck without its added lines, and of what was read of these.
+fn read_with(
+    alloc: Global,
+    plain: &[u8],
+    additions: Result<Additions, Fault>,
+) -> Result<Plan, Fault>
+    requires size { length plain.now + 1 < 2 ^ 32 }
+    requires fault { IfErr additions IsDeckFault }
+    ensures meaning { (said : Result (List PlacedRuleText × List GuardLine) BadLine)
+        → Reads (λ a. (map placed_rule_text a.rules.items, a.guards.items)) additions said
+        → Reads plan_text result (planned (meaning_of Live plain.now) said) }
+    ensures deck { IfOk result (λ plan. IsRightDeck plan.deck) }
+    ensures taken { IfOk result (λ plan. IsDeckFor Live plan.deck) }
+    ensures right { IfOk result (λ plan. AreRight (map (λ p. p.action) plan.actions.items)) }
+    ensures fault { IfErr result IsDeckFault }
+{
+    let deck = read_deck(alloc, plain, Mode::Live);
+    match additions {
+        Ok(additions) => plan_with(alloc, deck?, additions),
+        Err(fault) => Err(first_of(fault, deck)),
+    }
 }
 
 /// Reads the added lines by their own words.

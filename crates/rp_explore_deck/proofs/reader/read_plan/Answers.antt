@@ -11,13 +11,13 @@ use Rattle.rp_deck.specs.declared.deck.Mode.TheVariants.{Live}
 use Rattle.rp_deck_declarations.specs.DeclaredTexts.{known}
 use Rattle.rp_deck_declarations.specs.DeclaredViews.{names_of, program_text}
 use Rattle.rp_deck_declarations.specs.Declaring.{declarations_of}
-use Rattle.rp_explore_deck.specs.Plans.{PlanText, plan_text, additions_of, plan_of}
+use Rattle.rp_explore_deck.specs.Plans.{PlanText, plan_text, additions_of, planned, plan_of}
 use Rattle.rp_explore_deck.specs.RuleViews.{placed_rule_text}
 use Rattle.rp_explore_deck.specs.declared.plan.Plan.{Plan}
 use Rattle.rp_words.specs.Ahead.{ahead, after_last}
 use Rattle.rp_words.specs.LineFaults.{BadLine, IsDeckFault, Reads, Refuses}
 use Rattle.rp_explore_deck.proofs.ActionLemmas.{script_right}
-use Rattle.rp_explore_deck.proofs.PlanLemmas.{declared_plan, planned, plan_from, refused_before, refused_deck, refused_added, both_right, first_is_fault, of_deck}
+use Rattle.rp_explore_deck.proofs.PlanLemmas.{declared_plan, plan_from, refused_before}
 use Rattle.rp_explore_deck.proofs.ShortLemmas.{deck_is_short}
 use Rattle.rp_explore_deck.proofs.reader.read_plan.Goals as goal
 
@@ -32,58 +32,6 @@ returns-in_err-declared-clause-meaning c =
     let p = err_from_is_err_and c.from_residual-in_err-declared.result c.from_residual-in_err-declared.ensures.1 in
     subst (λ (r : Result Plan Fault). Reads plan_text r (plan_of text)) (sym (p.1 ∙ ap Err p.2)) refused
 
-pub plan_with-requires-clause-right : goal.plan_with-requires-clause-right
-plan_with-requires-clause-right c = script_right c.in_ok-deck.field-0 c.in_ok-deck.ensures.deck
-
-pub plan_with-requires-clause-size : goal.plan_with-requires-clause-size
-plan_with-requires-clause-size c =
-    let deck = c.in_ok-deck.field-0 in
-    let plain = c.deref-2.result.now in
-    let short : length (map line_command deck.script.items) ≤ length plain = deck_is_short Live plain (deck_text deck) c.in_ok-deck.ensures.meaning in
-    let size = ap length c.deref-2.ensures.value in
-    let mapped : length (map line_command deck.script.items) ≡ length deck.script.items = simp length-map in
-    omega (arith, short, size, mapped, c.in_ok-plain.ensures.length, c.requires)
-
-pub returns-in-Err-clause-meaning : goal.returns-in-Err-clause-meaning
-returns-in-Err-clause-meaning c =
-    let text = c.args.text.now in
-    let added = c.in_ok-added.added in
-    let lines = c.new.result in
-    let declared = c.in_ok-declared.declared in
-    let plain = c.deref-2.result.now in
-    let adds = additions_of (names_of declared) (program_text declared.program) added (texts_of text) in
-    let same = c.deref-2.ensures.value ∙ c.in_ok-plain.ensures.text in
-    let is : plan_of text ≡ planned (meaning_of Live plain) adds =
-    plan_from text c.in_ok-plain.plain.items added lines c.in_ok-added.ensures c.in_ok-plain.ensures.text (c.new.ensures.text ∙ c.deref.ensures.value) c.new.ensures.count
-    ∙ ap (declared_plan added text) c.in_ok-declared.ensures.read ∙ (λ i. planned (meaning_of Live (sym same i)) adds) in
-    subst (λ (f : Fault). Refuses f (plan_of text)) (sym c.first_of.ensures) (refused_added deck_text c.in-Err.fault c.read_deck-deck.result (meaning_of Live plain) adds (plan_of text) is c.in-Err.ensures.read c.read_deck-deck.ensures.meaning)
-
-pub returns-in-Err-clause-fault : goal.returns-in-Err-clause-fault
-returns-in-Err-clause-fault c =
-    subst IsDeckFault (sym c.first_of.ensures) (first_is_fault c.in-Err.fault c.read_deck-deck.result c.in-Err.ensures.fault c.read_deck-deck.ensures.fault)
-
-pub returns-in_err-deck-clause-meaning : goal.returns-in_err-deck-clause-meaning
-returns-in_err-deck-clause-meaning c =
-    let text = c.args.text.now in
-    let added = c.in_ok-added.added in
-    let lines = c.new.result in
-    let declared = c.in_ok-declared.declared in
-    let plain = c.deref-2.result.now in
-    let fault = c.in_err-deck.field-0.0 in
-    let adds = additions_of (names_of declared) (program_text declared.program) added (texts_of text) in
-    let same = c.deref-2.ensures.value ∙ c.in_ok-plain.ensures.text in
-    let is : plan_of text ≡ planned (meaning_of Live plain) adds =
-    plan_from text c.in_ok-plain.plain.items added lines c.in_ok-added.ensures c.in_ok-plain.ensures.text (c.new.ensures.text ∙ c.deref.ensures.value) c.new.ensures.count
-    ∙ ap (declared_plan added text) c.in_ok-declared.ensures.read ∙ (λ i. planned (meaning_of Live (sym same i)) adds) in
-    let refused : Refuses fault (plan_of text) = refused_deck fault (meaning_of Live plain) adds (map placed_rule_text c.in-Ok.additions.rules.items, c.in-Ok.additions.guards.items) (plan_of text) is c.in_err-deck.ensures.meaning c.in-Ok.ensures.read in
-    let p = err_from_is_err_and c.from_residual-in_err-deck.result c.from_residual-in_err-deck.ensures.1 in
-    subst (λ (r : Result Plan Fault). Reads plan_text r (plan_of text)) (sym (p.1 ∙ ap Err p.2)) refused
-
-pub returns-in_err-deck-clause-fault : goal.returns-in_err-deck-clause-fault
-returns-in_err-deck-clause-fault c =
-    let p = err_from_is_err_and c.from_residual-in_err-deck.result c.from_residual-in_err-deck.ensures.1 in
-    subst (λ (r : Result Plan Fault). IfErr r IsDeckFault) (sym (p.1 ∙ ap Err p.2)) c.in_err-deck.ensures.fault
-
 pub returns-clause-meaning : goal.returns-clause-meaning
 returns-clause-meaning c =
     let text = c.args.text.now in
@@ -91,17 +39,9 @@ returns-clause-meaning c =
     let lines = c.new.result in
     let declared = c.in_ok-declared.declared in
     let plain = c.deref-2.result.now in
-    let deck = c.in_ok-deck.field-0 in
     let adds = additions_of (names_of declared) (program_text declared.program) added (texts_of text) in
     let same = c.deref-2.ensures.value ∙ c.in_ok-plain.ensures.text in
     let is : plan_of text ≡ planned (meaning_of Live plain) adds =
     plan_from text c.in_ok-plain.plain.items added lines c.in_ok-added.ensures c.in_ok-plain.ensures.text (c.new.ensures.text ∙ c.deref.ensures.value) c.new.ensures.count
     ∙ ap (declared_plan added text) c.in_ok-declared.ensures.read ∙ (λ i. planned (meaning_of Live (sym same i)) adds) in
-    let right = both_right (meaning_of Live plain) adds (deck_text deck) (map placed_rule_text c.in-Ok.additions.rules.items, c.in-Ok.additions.guards.items) (plan_of text) is c.in_ok-deck.ensures.meaning c.in-Ok.ensures.read in
-    subst (λ (r : Result PlanText BadLine). Reads plan_text c.plan_with.result r) (sym right) c.plan_with.ensures.read
-
-pub returns-clause-deck : goal.returns-clause-deck
-returns-clause-deck c = of_deck IsRightDeck c.plan_with.result c.in_ok-deck.field-0 c.plan_with.ensures.deck c.in_ok-deck.ensures.deck
-
-pub returns-clause-taken : goal.returns-clause-taken
-returns-clause-taken c = of_deck (IsDeckFor Live) c.plan_with.result c.in_ok-deck.field-0 c.plan_with.ensures.deck c.in_ok-deck.ensures.taken
+    subst (λ (r : Result PlanText BadLine). Reads plan_text c.read_with.result r) (sym is) (c.read_with.ensures.meaning adds c.read_additions-additions.ensures.read)

@@ -71,12 +71,23 @@ pub fn draw_lines<M: Machine, D: CutDevice>(
 }
 
 /// A run of a script, and the chart of what happened in it.
-#[derive(Drop)]
 struct Walk<M: Machine, D: CutDevice> {
     alloc: Global,
     cluster: Cluster<M, D>,
     settled: Settled,
     chart: Chart,
+}
+
+// Not derived, so that to drop it is one step of a proof and not one for each of its parts.
+impl<M: Machine, D: CutDevice> Drop for Walk<M, D> {
+    fn drop(self) {
+        let Walk {
+            alloc: _,
+            cluster: _,
+            settled: _,
+            chart: _,
+        } = self;
+    }
 }
 
 impl<M: Machine, D: CutDevice> Walk<M, D> {

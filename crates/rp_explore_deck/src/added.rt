@@ -15,10 +15,19 @@ use std::marker::Model;
 const GUARDS: [(&[u8], bool); 2] = [(b"when", true), (b"unless", false)];
 
 /// The numbers of the lines that are rules, and of those that are guards.
-#[derive(Drop)]
 pub struct AddedLines {
     pub rules: IndexSet<u32>,
     pub guards: IndexSet<u32>,
+}
+
+// Not derived, so that to drop it is one step of a proof and not one for each of its parts.
+impl Drop for AddedLines {
+    fn drop(self) {
+        let AddedLines {
+            rules: _,
+            guards: _,
+        } = self;
+    }
 }
 
 impl Model for AddedLines {

@@ -63,13 +63,24 @@ pub fn run_lines<M: Machine, D: CutDevice + InfallibleDevice, W: Write>(
 }
 
 /// A run of a script.
-#[derive(Drop)]
 struct Run<M: Machine, D: CutDevice> {
     alloc: Global,
     cluster: Cluster<M, D>,
     settled: Settled,
     /// The effect of the last event.
     effect: Effect,
+}
+
+// Not derived, so that to drop it is one step of a proof and not one for each of its parts.
+impl<M: Machine, D: CutDevice> Drop for Run<M, D> {
+    fn drop(self) {
+        let Run {
+            alloc: _,
+            cluster: _,
+            settled: _,
+            effect: _,
+        } = self;
+    }
 }
 
 impl<M: Machine, D: CutDevice> Run<M, D> {

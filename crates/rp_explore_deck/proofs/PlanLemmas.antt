@@ -11,7 +11,7 @@ use Rattle.rp_deck_declarations.specs.DeclaredTexts.{DeclaredText, known}
 use Rattle.rp_deck_declarations.specs.Declaring.{declarations_of}
 use Rattle.rp_deck_declarations.specs.ScriptNames.{DeclaredNames}
 use Rattle.rp_explore_deck.specs.AddedLines.{Added, added_lines, plain_text}
-use Rattle.rp_explore_deck.specs.Plans.{PlanText, both, additions_of, plan_with, planned, plan_of, above, first_fault}
+use Rattle.rp_explore_deck.specs.Plans.{PlanText, additions_of, plan_with, planned, plan_of, above, first_fault}
 use Rattle.rp_explore_deck.specs.declared.guard_lines.GuardLine.{GuardLine}
 use Rattle.rp_explore_deck.specs.RuleLines.{PlacedRuleText}
 use Rattle.rp_explore_deck.specs.declared.plan.Plan.{Plan}

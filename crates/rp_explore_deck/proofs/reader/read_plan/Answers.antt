@@ -1,24 +1,16 @@
-use Rattle.std.proofs.Common.{◌≡◌, ◌≤◌, map, Result, Err, ap, sym, subst, ◌∙◌, length, arith}
-use Rattle.std.specs.Prelude.{IfErr}
-use Rattle.std.proofs.lemmas.List.{length-map}
+use Rattle.std.proofs.Common.{◌≡◌, Result, Err, ap, sym, subst, ◌∙◌}
 use Rattle.std.proofs.lemmas.Result.{err_from_is_err_and}
 use Rattle.rp_deck.specs.rp_base.specs.declared.fault.Fault.{Fault}
-use Rattle.rp_deck.specs.Deck.{IsRightDeck}
-use Rattle.rp_deck.specs.DeckViews.{deck_text, line_command}
-use Rattle.rp_deck.specs.Live.{IsDeckFor}
 use Rattle.rp_deck.specs.Meaning.{texts_of, meaning_of}
 use Rattle.rp_deck.specs.declared.deck.Mode.TheVariants.{Live}
 use Rattle.rp_deck_declarations.specs.DeclaredTexts.{known}
 use Rattle.rp_deck_declarations.specs.DeclaredViews.{names_of, program_text}
 use Rattle.rp_deck_declarations.specs.Declaring.{declarations_of}
 use Rattle.rp_explore_deck.specs.Plans.{PlanText, plan_text, additions_of, planned, plan_of}
-use Rattle.rp_explore_deck.specs.RuleViews.{placed_rule_text}
 use Rattle.rp_explore_deck.specs.declared.plan.Plan.{Plan}
 use Rattle.rp_words.specs.Ahead.{ahead, after_last}
-use Rattle.rp_words.specs.LineFaults.{BadLine, IsDeckFault, Reads, Refuses}
-use Rattle.rp_explore_deck.proofs.ActionLemmas.{script_right}
+use Rattle.rp_words.specs.LineFaults.{BadLine, Reads, Refuses}
 use Rattle.rp_explore_deck.proofs.PlanLemmas.{declared_plan, plan_from, refused_before}
-use Rattle.rp_explore_deck.proofs.ShortLemmas.{deck_is_short}
 use Rattle.rp_explore_deck.proofs.reader.read_plan.Goals as goal
 
 pub returns-in_err-declared-clause-meaning : goal.returns-in_err-declared-clause-meaning

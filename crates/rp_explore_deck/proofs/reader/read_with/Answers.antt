@@ -1,19 +1,13 @@
-use Rattle.std.proofs.Common.{◌≡◌, ◌≤◌, map, Result, Err, ap, sym, subst, ◌∙◌, length, arith, refl}
-use Rattle.std.specs.Prelude.{IfErr}
+use Rattle.std.proofs.Common.{◌≡◌, ◌≤◌, map, sym, subst, length, arith, refl}
 use Rattle.std.proofs.lemmas.List.{length-map}
-use Rattle.std.proofs.lemmas.Result.{err_from_is_err_and}
 use Rattle.rp_deck.specs.rp_base.specs.declared.fault.Fault.{Fault}
-use Rattle.rp_deck.specs.Deck.{IsRightDeck}
 use Rattle.rp_deck.specs.DeckViews.{deck_text, line_command}
-use Rattle.rp_deck.specs.Live.{IsDeckFor}
 use Rattle.rp_deck.specs.Meaning.{meaning_of}
 use Rattle.rp_deck.specs.declared.deck.Mode.TheVariants.{Live}
-use Rattle.rp_explore_deck.specs.Plans.{PlanText, plan_text, planned}
+use Rattle.rp_explore_deck.specs.Plans.{planned}
 use Rattle.rp_explore_deck.specs.RuleViews.{placed_rule_text}
-use Rattle.rp_explore_deck.specs.declared.plan.Plan.{Plan}
-use Rattle.rp_words.specs.LineFaults.{BadLine, IsDeckFault, Reads, Refuses}
-use Rattle.rp_explore_deck.proofs.ActionLemmas.{script_right}
-use Rattle.rp_explore_deck.proofs.PlanLemmas.{refused_deck, refused_added, both_right, first_is_fault, of_deck}
+use Rattle.rp_words.specs.LineFaults.{Reads, Refuses}
+use Rattle.rp_explore_deck.proofs.PlanLemmas.{refused_added}
 use Rattle.rp_explore_deck.proofs.ShortLemmas.{deck_is_short}
 use Rattle.rp_explore_deck.proofs.reader.read_with.Goals as goal
 

@@ -1,7 +1,7 @@
 //! The lines of packages.
 
 ghost use Rattle.std.specs.Prelude.{Some};
-ghost use Rattle.rp_bind.specs.Texts.{inline_body, inline_function, inline_head, object_end, object_head, operation_lines, subprogram, task_constant};
+ghost use Rattle.rp_bind.specs.Texts.{ada_lines, c_lines, inline_body, inline_function, inline_head, object_end, object_head, operation_lines, subprogram, task_constant};
 
 use std::fmt;
 
@@ -100,8 +100,34 @@ impl fmt::Display for OperationLines<'_> {
 
     fn fmt<W: fmt::Write>(&self, f: &mut fmt::Formatter<W>) -> fmt::Result {
         let operation = *self;
-        match (self.object.language, self.kind) {
-            (Language::Ada, Kind::Value) => {
+        match self.object.language {
+            Language::Ada => {
+                let lines = AdaLines { operation };
+                write!(f, "{lines}")
+            }
+            Language::C => {
+                let lines = CLines { operation };
+                write!(f, "{lines}")
+            }
+        }
+    }
+}
+
+/// The subprograms of an operation in a package of Ada: a procedure or an entry is there with its
+/// result and without it.
+#[derive(Clone, Copy, Debug)]
+struct AdaLines<'a> {
+    operation: OperationLines<'a>,
+}
+
+impl fmt::Display for AdaLines<'_> {
+    ghost output = { λ l. Some (ada_lines l.operation.kind l.operation.object.number
+        l.operation.name.now l.operation.index) };
+
+    fn fmt<W: fmt::Write>(&self, f: &mut fmt::Formatter<W>) -> fmt::Result {
+        let operation = self.operation;
+        match operation.kind {
+            Kind::Value => {
                 let function = Subprogram {
                     word: "function",
                     calls: "Value_Function",
@@ -109,7 +135,7 @@ impl fmt::Display for OperationLines<'_> {
                 };
                 write!(f, "{function}")
             }
-            (Language::Ada, Kind::Truth) => {
+            Kind::Truth => {
                 let function = Subprogram {
                     word: "function",
                     calls: "Truth_Function",
@@ -117,7 +143,7 @@ impl fmt::Display for OperationLines<'_> {
                 };
                 write!(f, "{function}")
             }
-            (Language::Ada, Kind::Procedure) => {
+            Kind::Procedure => {
                 let whole = Subprogram {
                     word: "procedure",
                     calls: "A_Procedure",
@@ -130,7 +156,7 @@ impl fmt::Display for OperationLines<'_> {
                 };
                 write!(f, "{whole}{alone}")
             }
-            (Language::Ada, Kind::Entry) => {
+            Kind::Entry => {
                 let whole = Subprogram {
                     word: "procedure",
                     calls: "An_Entry",
@@ -143,39 +169,33 @@ impl fmt::Display for OperationLines<'_> {
                 };
                 write!(f, "{whole}{alone}")
             }
-            (Language::C, Kind::Value) => {
-                let function = Inline {
-                    result: "int64_t",
-                    calls: "rp_call_value_function",
-                    operation,
-                };
-                write!(f, "{function}")
-            }
-            (Language::C, Kind::Truth) => {
-                let function = Inline {
-                    result: "bool",
-                    calls: "rp_call_truth_function",
-                    operation,
-                };
-                write!(f, "{function}")
-            }
-            (Language::C, Kind::Procedure) => {
-                let function = Inline {
-                    result: "int64_t",
-                    calls: "rp_call_procedure",
-                    operation,
-                };
-                write!(f, "{function}")
-            }
-            (Language::C, Kind::Entry) => {
-                let function = Inline {
-                    result: "int64_t",
-                    calls: "rp_call_entry",
-                    operation,
-                };
-                write!(f, "{function}")
-            }
         }
+    }
+}
+
+/// The inline function of an operation in a header of C.
+#[derive(Clone, Copy, Debug)]
+struct CLines<'a> {
+    operation: OperationLines<'a>,
+}
+
+impl fmt::Display for CLines<'_> {
+    ghost output = { λ l. Some (c_lines l.operation.kind l.operation.object.name.now
+        l.operation.object.number l.operation.name.now l.operation.index) };
+
+    fn fmt<W: fmt::Write>(&self, f: &mut fmt::Formatter<W>) -> fmt::Result {
+        let (result, calls) = match self.operation.kind {
+            Kind::Value => ("int64_t", "rp_call_value_function"),
+            Kind::Truth => ("bool", "rp_call_truth_function"),
+            Kind::Procedure => ("int64_t", "rp_call_procedure"),
+            Kind::Entry => ("int64_t", "rp_call_entry"),
+        };
+        let function = Inline {
+            result,
+            calls,
+            operation: self.operation,
+        };
+        write!(f, "{function}")
     }
 }
 

@@ -40,10 +40,12 @@ impl<'a> BadLine<'a> {
             ↔ IsBadAt self.now.mode self.now.line self.now.reason text.now) }
         ensures memory { IfErr result (λ fault. fault ≡ Fault.OutOfMemory) }
     {
-        match read_deck(alloc, text, self.mode) {
-            Ok(_) => Ok(false),
-            Err(Fault::BadDeck { line, reason }) => Ok(line == self.line && reason == self.reason),
-            Err(_) => Err(Fault::OutOfMemory),
+        match read_deck(alloc, text, self.mode).err() {
+            None => Ok(false),
+            Some(Fault::BadDeck { line, reason }) => {
+                Ok(line == self.line && reason == self.reason)
+            }
+            Some(_) => Err(Fault::OutOfMemory),
         }
     }
 

@@ -16,10 +16,11 @@ ghost use Rattle.rp_words.specs.Words.{unread};
 ghost use Rattle.rp_deck_declarations.specs.Declarations.{IsNodeCount, IsNameSet, procedure_counts, IsHandled, IsDraft, IsFinishable};
 ghost use Rattle.rp_deck_objects.specs.ObjectLimits.{IsObject};
 
-use crate::deck_program::Task;
+use crate::deck_program::{DeckProgram, Task};
+use crate::declarations::Declared;
 use indexmap::{IndexMap, IndexSet};
 use rp_base::{DeckReason, MOST_OBJECTS, MOST_SOURCES, MOST_TASKS, Position};
-use rp_deck_objects::{Index, ObjectDraft, OperationName};
+use rp_deck_objects::{Index, ObjectDraft, OperationName, OperationNames};
 use rp_object::{Handler, MOST_PRIORITY, MOST_TIMERS, Profile};
 use rp_words::{
     LineError, TextLine, Words, insert_in_map, insert_in_set, is_word, named, read_dotted,
@@ -47,7 +48,6 @@ const KINDS: [(&[u8], Kind); 7] = [
 ];
 
 /// What is declared so far, each kind in declared order.
-#[derive(Drop)]
 pub struct Draft {
     /// 3 to 7.
     pub nodes: u8,
@@ -63,6 +63,23 @@ pub struct Draft {
     pub drafts: Vec<ObjectDraft>,
     pub interrupts: IndexMap<String, Handler>,
     pub timers: IndexMap<String, Handler>,
+}
+
+// Not derived, so that to drop it is one step of a proof and not one for each of its parts.
+impl Drop for Draft {
+    fn drop(self) {
+        let Draft {
+            nodes: _,
+            positions: _,
+            profile: _,
+            is_tally: _,
+            tasks: _,
+            objects: _,
+            drafts: _,
+            interrupts: _,
+            timers: _,
+        } = self;
+    }
 }
 
 /// A declaration of the deck's own, which belongs to no object.
@@ -382,6 +399,42 @@ impl Draft {
             return Err(DeckReason::ObjectExpected);
         }
         words.end()
+    }
+
+    /// All that is declared, with the program and the operations of its objects.
+    pub fn into_declared(self, program: DeckProgram, operations: Vec<OperationNames>) -> Declared
+        ensures { result ≡ record {
+            nodes = self.nodes;
+            positions = self.positions;
+            program = program;
+            tasks = self.tasks;
+            objects = self.objects;
+            operations = operations;
+            interrupts = self.interrupts;
+            timers = self.timers;
+        } }
+    {
+        let Draft {
+            nodes,
+            positions,
+            profile: _,
+            is_tally: _,
+            tasks,
+            objects,
+            drafts: _,
+            interrupts,
+            timers,
+        } = self;
+        Declared {
+            nodes,
+            positions,
+            program,
+            tasks,
+            objects,
+            operations,
+            interrupts,
+            timers,
+        }
     }
 }
 

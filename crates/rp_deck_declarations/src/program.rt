@@ -50,16 +50,7 @@ pub fn finish(alloc: Global, mut draft: Draft) -> Result<Declared, LineError>
 {
     let drafts = mem::replace(&mut draft.drafts, Vec::new(alloc));
     let made = make(alloc, &draft, drafts)?;
-    Ok(Declared {
-        nodes: draft.nodes,
-        positions: draft.positions,
-        program: made.program,
-        tasks: draft.tasks,
-        objects: draft.objects,
-        operations: made.operations,
-        interrupts: draft.interrupts,
-        timers: draft.timers,
-    })
+    Ok(draft.into_declared(made.program, made.operations))
 }
 
 /// Makes the program, of these drafts of its objects where they are not those of a tally.

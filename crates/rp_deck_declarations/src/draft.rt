@@ -1,11 +1,11 @@
 //! What a deck declares so far, and what each further line adds to it.
 
-ghost use Rattle.std.specs.Prelude.{◌≡◌, ◌≤◌, ◌<◌, ◌∷◌, ◌++◌, [], All, true, false, length, option_map, IfSome, IfOk, IfErr, OnOk};
+ghost use Rattle.std.specs.Prelude.{◌≡◌, ◌≤◌, ◌<◌, ◌∷◌, ◌++◌, [], All, Some, true, false, length, option_map, IfSome, IfOk, IfErr, OnOk};
 ghost use Rattle.rp_words.specs.indexmap.specs.IndexMap.{index_map_len};
 ghost use Rattle.rp_words.specs.indexmap.specs.IndexSet.{index_set_len};
 ghost use Rattle.rp_words.specs.Ahead.{text_of};
 ghost use Rattle.rp_deck_declarations.specs.DraftViews.{draft_text};
-ghost use Rattle.rp_deck_declarations.specs.Drafts.{is_new, empty_draft, profile_of, last_object, is_in_body, allows, kind_of, profile_named, positions_line, profile_line, task_line, tally_name, tally_names, tally_line, object_line, procedure_of, handler_at, handled_at, interrupt_line, timer_line, declaration_line, script_line};
+ghost use Rattle.rp_deck_declarations.specs.Drafts.{DraftText, is_new, empty_draft, profile_of, last_object, is_in_body, allows, kind_of, profile_named, positions_line, profile_line, task_line, tally_name, tally_names, tally_line, object_line, procedure_of, handler_at, handled_at, interrupt_line, timer_line, declaration_line, script_line};
 ghost use Rattle.rp_deck_declarations.specs.Declaring.{object_line_of, declaring_line, ends_declarations, missing};
 ghost use Rattle.rp_words.specs.Reading.{Gives, Makes};
 ghost use Rattle.rp_words.specs.Tables.{is_declared, place_of, find, key_names, set_names};
@@ -245,35 +245,46 @@ impl Draft {
     }
 
     /// Reads the rest of `profile PROFILE`.
-    #[tactic(auto, unfolding(crate::specs::Drafts::profile_line))]
-    fn read_profile(&mut self, mut words: Words<'_>) -> Result<(), LineError>
+    fn read_profile(&mut self, words: Words<'_>) -> Result<(), LineError>
         requires { IsDraft self.old × (is_new (draft_text self.old) ≡ true) }
         ensures read { Makes (λ _. draft_text self.new) result
             (profile_line (draft_text self.old) (unread words.entry)) }
         ensures draft { OnOk result (IsDraft self.new × (self.new.nodes ≡ self.old.nodes)) }
     {
-        let profile = profile_named(words.take()?).ok_or(DeckReason::UnknownWord)?;
-        words.end()?;
-        self.profile = Some(profile);
+        self.profile = Some(take_profile(words)?);
         Ok(())
     }
 
     /// Reads the rest of `task NAME PRIORITY`.
-    #[tactic(auto, using(rp_words::proofs::TablesLemmas::map_last), unfolding(crate::specs::Drafts::task_line))]
-    fn read_task(&mut self, alloc: Global, mut words: Words<'_>) -> Result<(), LineError>
+    #[tactic(auto, using(rp_words::proofs::TablesLemmas::map_last))]
+    fn read_task(&mut self, alloc: Global, words: Words<'_>) -> Result<(), LineError>
         requires { IsDraft self.old }
         ensures read { Makes (λ _. draft_text self.new) result
             (task_line (draft_text self.old) (unread words.entry)) }
         ensures draft { OnOk result (IsDraft self.new × (self.new.nodes ≡ self.old.nodes)) }
     {
+        let (name, task) = self.take_task(words)?;
+        insert_in_map(alloc, &mut self.tasks, name, task)
+    }
+
+    /// The rest of the line, a name that no task has and a priority.
+    #[tactic(auto, unfolding(crate::specs::Drafts::task_line))]
+    fn take_task<'w>(&self, mut words: Words<'w>) -> Result<(&'w str, Task), DeckReason>
+        ensures few { OnOk result (index_map_len self.now.tasks < 8) }
+        ensures new { IfOk result (λ new.
+            is_declared new.0.now (key_names self.now.tasks) ≡ false) }
+        ensures read { Gives (λ new. record (draft_text self.now) {
+          tasks = (draft_text self.now).tasks ++ new.0.now ∷ [];
+          priorities = (draft_text self.now).priorities ++ new.1.priority ∷ [];
+        }) result (task_line (draft_text self.now) (unread words.entry)) }
+    {
         if self.tasks.len() >= usize::from(MOST_TASKS) {
-            return Err(LineError::Bad(DeckReason::TooMany));
+            return Err(DeckReason::TooMany);
         }
         let name = take_name_new_to_map(&mut words, &self.tasks)?;
         let priority = words.take_number(1, u64::from(MOST_PRIORITY))? as u8;
         words.end()?;
-        insert_in_map(alloc, &mut self.tasks, name, Task { priority })?;
-        Ok(())
+        Ok((name, Task { priority }))
     }
 
     /// Reads the rest of `tally COUNT`.
@@ -300,7 +311,6 @@ impl Draft {
     }
 
     /// Reads the rest of `object NAME CEILING`.
-    #[tactic(auto, using(rp_words::proofs::TablesLemmas::map_last), unfolding(crate::specs::Drafts::object_line))]
     fn read_object(&mut self, alloc: Global, mut words: Words<'_>) -> Result<(), LineError>
         requires { IsDraft self.old × (self.old.is_tally ≡ false) }
         ensures read { Makes (λ _. draft_text self.new) result
@@ -404,14 +414,14 @@ impl Draft {
     /// All that is declared, with the program and the operations of its objects.
     pub fn into_declared(self, program: DeckProgram, operations: Vec<OperationNames>) -> Declared
         ensures { result ≡ record {
-            nodes = self.nodes;
-            positions = self.positions;
-            program = program;
-            tasks = self.tasks;
-            objects = self.objects;
-            operations = operations;
-            interrupts = self.interrupts;
-            timers = self.timers;
+          nodes = self.nodes;
+          positions = self.positions;
+          program = program;
+          tasks = self.tasks;
+          objects = self.objects;
+          operations = operations;
+          interrupts = self.interrupts;
+          timers = self.timers;
         } }
     {
         let Draft {
@@ -450,6 +460,17 @@ fn procedure_named(object: &ObjectDraft, name: &str) -> Option<Index>
         OperationName::Procedure(index) => Some(index),
         _ => None,
     }
+}
+
+/// The rest of the line, a profile.
+#[tactic(auto, unfolding(crate::specs::Drafts::profile_line))]
+fn take_profile(mut words: Words<'_>) -> Result<Profile, DeckReason>
+    ensures read { (d : DraftText) → Gives (λ profile. record d { profile = Some profile }) result
+        (profile_line d (unread words.entry)) }
+{
+    let profile = profile_named(words.take()?).ok_or(DeckReason::UnknownWord)?;
+    words.end()?;
+    Ok(profile)
 }
 
 /// The profile that the word names.

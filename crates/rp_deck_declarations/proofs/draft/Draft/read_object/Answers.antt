@@ -7,6 +7,8 @@ use Rattle.rp_words.specs.indexmap.specs.IndexMap.{values}
 use Rattle.rp_deck_objects.specs.ObjectLimits.{IsObject}
 use Rattle.rp_deck_declarations.proofs.HandlerLemmas.{handled_still}
 use Rattle.rp_deck_objects.specs.rp_deck_bodies.proofs.ListLemmas.{all_last}
+use Rattle.rp_deck_declarations.specs.Drafts.{object_line}
+use Rattle.rp_words.proofs.TablesLemmas.{map_last}
 use Rattle.rp_deck_declarations.proofs.draft.Draft.read_object.Goals as goal
 
 pub returns-clause-draft : goal.returns-clause-draft
@@ -28,3 +30,27 @@ returns-clause-draft c =
       },
       refl,
     )
+
+pub returns-then-len-from-clause-read : goal.returns-then-len-from-clause-read
+unfolding object_line
+returns-then-len-from-clause-read c = grind (arith, common_steps)
+
+pub returns-in_err-name-clause-read : goal.returns-in_err-name-clause-read
+unfolding object_line
+returns-in_err-name-clause-read c = grind (arith, common_steps)
+
+pub returns-in_err-ceiling-clause-read : goal.returns-in_err-ceiling-clause-read
+unfolding object_line
+returns-in_err-ceiling-clause-read c = grind (arith, common_steps)
+
+pub returns-in_err-end-clause-read : goal.returns-in_err-end-clause-read
+unfolding object_line
+returns-in_err-end-clause-read c = grind (arith, common_steps)
+
+pub returns-in_err-insert_in_set-clause-read : goal.returns-in_err-insert_in_set-clause-read
+unfolding object_line
+returns-in_err-insert_in_set-clause-read c = grind (arith, common_steps)
+
+pub returns-clause-read : goal.returns-clause-read
+unfolding object_line
+returns-clause-read c = grind (arith, common_steps, map_last)

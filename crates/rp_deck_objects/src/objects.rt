@@ -365,7 +365,6 @@ impl ObjectDraft {
     }
 
     /// Reads the rest of `function NAME value EXPR` or `function NAME truth COND`.
-    #[tactic(auto, unfolding(crate::specs::Objects::function_line))]
     fn read_function(&mut self, alloc: Global, mut words: Words<'_>) -> Result<(), LineError>
         ensures read { Makes (λ _. object_text self.new) result
             (function_line (object_text self.old) (unread words.entry)) }
@@ -443,7 +442,6 @@ impl ObjectDraft {
     }
 
     /// Reads the rest of `entry NAME when BOOL`, or of `entry NAME when BOOL queue LONGEST`.
-    #[tactic(auto, unfolding(crate::specs::Objects::entry_line))]
     fn read_entry(
         &mut self,
         alloc: Global,

@@ -6,7 +6,7 @@ ghost use Rattle.rp_deck_bodies.specs.Counted.{IsCounted, WhereCounted};
 ghost use Rattle.rp_words.specs.indexmap.specs.IndexMap.{values};
 ghost use Rattle.rp_deck_bodies.specs.ExpressionViews.{expr_text, cond_text};
 ghost use Rattle.rp_deck_bodies.specs.Expressions.{expression_words, component_of, int_of, bool_of, next_node_read, expr_from, expr_line, two_at, ExprText, CondText, cond_of, cond_from, cond_line};
-ghost use Rattle.rp_words.specs.Reading.{Gives, Makes};
+ghost use Rattle.rp_words.specs.Reading.{Gives, Makes, end_at};
 ghost use Rattle.rp_words.specs.Tables.{is_declared, find, key_names};
 ghost use Rattle.rp_words.specs.Words.{begins_as_number, unread};
 
@@ -136,8 +136,7 @@ pub fn read_expr(alloc: Global, words: Words<'_>, names: &ComponentNames) -> Res
 {
     let mut nodes = Nodes::new(alloc, words, names);
     let expr = nodes.expr(MOST_EXPRESSION_NODES)?;
-    nodes.words.end()?;
-    Ok(expr)
+    nodes.complete(expr)
 }
 
 /// Reads a condition, after which no word is left.
@@ -150,8 +149,7 @@ pub fn read_cond(alloc: Global, words: Words<'_>, names: &ComponentNames) -> Res
 {
     let mut nodes = Nodes::new(alloc, words, names);
     let cond = nodes.cond(MOST_EXPRESSION_NODES)?;
-    nodes.words.end()?;
-    Ok(cond)
+    nodes.complete(cond)
 }
 
 /// The nodes of an expression or a condition that are still to be read, a word each, those of a
@@ -191,6 +189,16 @@ impl<'w, 'n> Nodes<'w, 'n> {
             names,
             left: MOST_EXPRESSION_NODES,
         }
+    }
+
+    /// Returns the tree of the nodes, after which no word is left. Of whatever type, so that to drop
+    /// it, where a word is left, is one step of a proof and not one for each of its parts.
+    fn complete<T: Drop>(&self, tree: T) -> Result<T, LineError>
+        ensures read { Makes (λ _. tt) result (end_at (unread self.now.words)) }
+        ensures tree { IfOk result (λ whole. whole ≡ tree) }
+    {
+        self.words.end()?;
+        Ok(tree)
     }
 
     /// The word of the next node.

@@ -29,8 +29,7 @@ pub struct Search<'a, M: Machine> {
     program: &'a M::Program,
     guards: &'a [Guard],
     tree: OrderTree,
-    pieces: Pieces,
-    keys: IndexSet<Key>,
+    known: Known,
     most: usize,
 }
 
@@ -42,10 +41,22 @@ impl<'a, M: Machine> Drop for Search<'a, M> {
             program: _,
             guards: _,
             tree: _,
-            pieces: _,
-            keys: _,
+            known: _,
             most: _,
         } = self;
+    }
+}
+
+/// The key of each state that was found, at the place of its order, and the lines of the images.
+struct Known {
+    pieces: Pieces,
+    keys: IndexSet<Key>,
+}
+
+// Not derived, so that to drop it is one step of a proof and not one for each of its parts.
+impl Drop for Known {
+    fn drop(self) {
+        let Known { pieces: _, keys: _ } = self;
     }
 }
 
@@ -80,7 +91,7 @@ impl<'a, M: Machine> Model for Search<'a, M> {
 
     ghost invariant = { λ s.
         AreKeys M.next M.answers (M.begin s.program.now) s.guards.now M.image
-        s.pieces s.keys.keys s.tree.orders
+        s.known.pieces s.known.keys.keys s.tree.orders
         × AreGuarded M.next M.answers (M.begin s.program.now) s.guards.now s.tree.orders };
 }
 
@@ -101,18 +112,20 @@ impl<'a, M: Machine> Search<'a, M> {
           most = most;
         }) }
     {
-        let tree = OrderTree::new(alloc, may)?;
         let start = Numbered::<M>::new(alloc, program)?;
-        let mut pieces = Pieces::new(alloc);
-        let mut keys = IndexSet::new(alloc);
-        keys.insert(key_of(alloc, &start, guards, &mut pieces, &[])?)?;
+        let mut known = Known {
+            pieces: Pieces::new(alloc),
+            keys: IndexSet::new(alloc),
+        };
+        let key = key_of(alloc, &start, guards, &mut known.pieces, &[])?;
+        known.keys.insert(key)?;
+        let tree = OrderTree::new(alloc, may)?;
         Ok(Search {
             alloc,
             program,
             guards,
             tree,
-            pieces,
-            keys,
+            known,
             most,
         })
     }
@@ -128,8 +141,8 @@ impl<'a, M: Machine> Search<'a, M> {
         ensures distinct { AreDistinct M.next M.answers self.now.begin self.now.guards
             self.now.listed.orders }
     {
-        let _lines = self.pieces.len();
-        let _count = self.keys.len();
+        let _lines = self.known.pieces.len();
+        let _count = self.known.keys.len();
         self.tree.len()
     }
 
@@ -155,18 +168,18 @@ impl<'a, M: Machine> Search<'a, M> {
         M::laws();
         replay_may_go_on::<M>();
         let place = self.tree.len();
-        let near = lines_at(&self.keys, before);
-        let key = key_of(self.alloc, next, self.guards, &mut self.pieces, near)?;
-        let _lines = self.pieces.len();
-        if let Some(known) = self.keys.get_index_of(&key) {
+        let near = lines_at(&self.known.keys, before);
+        let key = key_of(self.alloc, next, self.guards, &mut self.known.pieces, near)?;
+        let _lines = self.known.pieces.len();
+        if let Some(known) = self.known.keys.get_index_of(&key) {
             return Ok(Some(known));
         }
         if place >= self.most {
             return Ok(None);
         }
-        self.keys.reserve(1)?;
+        self.known.keys.reserve(1)?;
         self.tree.push(before, index)?;
-        self.keys.insert(key)?;
+        self.known.keys.insert(key)?;
         Ok(Some(place))
     }
 
@@ -297,8 +310,7 @@ impl<'a, M: Machine> Search<'a, M> {
             program: _,
             guards: _,
             tree,
-            pieces: _,
-            keys: _,
+            known: _,
             most: _,
         } = self;
         tree

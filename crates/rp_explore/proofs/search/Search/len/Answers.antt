@@ -10,7 +10,7 @@ returns-clause-distinct g c =
     let m = g.M.Machine in
     let inside = c.self.inside in
     subst (λ (v : Searched _). AreDistinct m.next m.answers v.begin v.guards v.listed.orders) c.self.view_is
-    (distinct_orders m.next m.answers (m.begin inside.program.now) inside.guards.now m.image inside.pieces inside.keys.keys inside.tree.orders c.len-lines.ensures c.self.invariant.0 c.len-count.ensures.unique)
+    (distinct_orders m.next m.answers (m.begin inside.program.now) inside.guards.now m.image inside.known.pieces inside.known.keys.keys inside.tree.orders c.len-lines.ensures c.self.invariant.0 c.len-count.ensures.unique)
 
 pub returns-clause-guarded : goal.returns-clause-guarded
 returns-clause-guarded g c =

@@ -35,7 +35,7 @@ first_key {S} next answers begin guards shown known start keys key orders is own
 pub invariant_of-result : goal.invariant_of-result
 invariant_of-result g c =
     let m = g.M.Machine in
-    let key = c.in_ok-key_of.field-0 in
-    first_key m.next m.answers (m.begin c.args.program.now) c.args.guards.now m.image c.key_of.new.pieces c.in_ok-start.start c.insert.new.self.keys key c.in_ok-tree.tree.orders c.in_ok-start.ensures c.in_ok-key_of.ensures.value
-    (alone c.new-keys.result.keys c.insert.new.self.keys key c.new-keys.ensures.empty c.in_ok-insert.ensures.keys)
+    let key = c.in_ok-key.key in
+    first_key m.next m.answers (m.begin c.args.program.now) c.args.guards.now m.image c.key_of.new.pieces c.in_ok-start.start c.insert.new.self.keys key c.in_ok-tree.tree.orders c.in_ok-start.ensures c.in_ok-key.ensures.value
+    (alone c.new-3.result.keys c.insert.new.self.keys key c.new-3.ensures.empty c.in_ok-insert.ensures.keys)
     (ap (λ (l : Listed). l.orders) c.in_ok-tree.ensures)

@@ -49,14 +49,14 @@ returns-in-Some-clause-there g c =
     let order = further inside.tree c.args.before c.args.index in
     let seen : Searched _ = record { begin = m.begin program; guards = inside.guards.now; listed = inside.tree; most = inside.most } in
     let is : seen ≡ c.args.self.now = c.self.view_is in
-    let each = (keys_later m.next m.answers (m.begin program) inside.guards.now m.image inside.pieces c.key_of.new.pieces inside.keys.keys inside.tree.orders c.in_ok-key.ensures.more c.self.invariant.0) in
+    let each = (keys_later m.next m.answers (m.begin program) inside.guards.now m.image inside.known.pieces c.key_of.new.pieces inside.known.keys.keys inside.tree.orders c.in_ok-key.ensures.more c.self.invariant.0) in
     let own = of_order m.next m.answers inside.guards.now m.image c.key_of.new.pieces c.args.next.now (m.begin program) order c.in_ok-key.key
     (c.requires.begin ∙ ap (λ (v : Searched _). v.begin) (sym is)) (c.requires.actions ∙ ap (λ (v : Searched _). further v.listed c.args.before c.args.index) (sym is)) c.in_ok-key.ensures.value in
     let before : c.args.before < length inside.tree.orders = subst (λ (v : Searched _). c.args.before < length v.listed.orders) (sym is) c.requires.before in
     let index : c.args.index < length inside.tree.may = subst (λ (v : Searched _). c.args.index < length v.listed.may) (sym is) c.requires.index in
     let right = further_right inside.tree c.args.before c.args.index c.len-place.ensures.right c.len-place.ensures.among before index in
     subst (λ (v : Searched _). IsAt m.next m.answers seen (further v.listed c.args.before c.args.index) c.in-Some.known) is
-    (there_at m.next m.answers (m.begin program) inside.guards.now m.image c.key_of.new.pieces seen inside.keys.keys c.in_ok-key.key order c.in-Some.known (λ i. m.begin program) (λ i. inside.guards.now)
+    (there_at m.next m.answers (m.begin program) inside.guards.now m.image c.key_of.new.pieces seen inside.known.keys.keys c.in_ok-key.key order c.in-Some.known (λ i. m.begin program) (λ i. inside.guards.now)
     (λ other has same. laws.shows program (replay_state m.next m.answers (m.begin program) order) (replay_state m.next m.answers (m.begin program) other)
     (runs program order right) (runs program other (right_if_among inside.tree.may other c.len-place.ensures.right (c.len-place.ensures.among other has))) same)
     each own (sym c.in-Some.ensures.index))
@@ -69,13 +69,13 @@ returns-then-place-self-clause-there g c =
     let order = further inside.tree c.args.before c.args.index in
     let seen : Searched _ = record { begin = m.begin program; guards = inside.guards.now; listed = inside.tree; most = inside.most } in
     let is : seen ≡ c.args.self.now = c.self.view_is in
-    let each = (keys_later m.next m.answers (m.begin program) inside.guards.now m.image inside.pieces c.key_of.new.pieces inside.keys.keys inside.tree.orders c.in_ok-key.ensures.more c.self.invariant.0) in
+    let each = (keys_later m.next m.answers (m.begin program) inside.guards.now m.image inside.known.pieces c.key_of.new.pieces inside.known.keys.keys inside.tree.orders c.in_ok-key.ensures.more c.self.invariant.0) in
     let own = of_order m.next m.answers inside.guards.now m.image c.key_of.new.pieces c.args.next.now (m.begin program) order c.in_ok-key.key
     (c.requires.begin ∙ ap (λ (v : Searched _). v.begin) (sym is)) (c.requires.actions ∙ ap (λ (v : Searched _). further v.listed c.args.before c.args.index) (sym is)) c.in_ok-key.ensures.value in
     subst (λ (v : Searched _). IsMissing m.next m.answers seen (further v.listed c.args.before c.args.index)) is
     (record {
       full = omega (arith, c.if-place-self.true, c.len-place.ensures.value);
-      missing = not_reached m.next m.answers (m.begin program) inside.guards.now m.image c.key_of.new.pieces inside.keys.keys inside.tree.orders c.in_ok-key.key order c.len-lines.ensures each own (sym c.in_default.ensures.found);
+      missing = not_reached m.next m.answers (m.begin program) inside.guards.now m.image c.key_of.new.pieces inside.known.keys.keys inside.tree.orders c.in_ok-key.key order c.len-lines.ensures each own (sym c.in_default.ensures.found);
     })
 
 -- the orders, and one more, are let by the guards
@@ -94,15 +94,15 @@ invariant_of-self-2 g c =
     let order = further inside.tree c.args.before c.args.index in
     let seen : Searched _ = record { begin = m.begin program; guards = inside.guards.now; listed = inside.tree; most = inside.most } in
     let is : seen ≡ c.args.self.now = c.self.view_is in
-    let each = (keys_later m.next m.answers (m.begin program) inside.guards.now m.image inside.pieces c.key_of.new.pieces inside.keys.keys inside.tree.orders c.in_ok-key.ensures.more c.self.invariant.0) in
+    let each = (keys_later m.next m.answers (m.begin program) inside.guards.now m.image inside.known.pieces c.key_of.new.pieces inside.known.keys.keys inside.tree.orders c.in_ok-key.ensures.more c.self.invariant.0) in
     let own = of_order m.next m.answers inside.guards.now m.image c.key_of.new.pieces c.args.next.now (m.begin program) order c.in_ok-key.key
     (c.requires.begin ∙ ap (λ (v : Searched _). v.begin) (sym is)) (c.requires.actions ∙ ap (λ (v : Searched _). further v.listed c.args.before c.args.index) (sym is)) c.in_ok-key.ensures.value in
-    let pushed = keys_push m.next m.answers (m.begin program) inside.guards.now m.image c.key_of.new.pieces inside.keys.keys inside.tree.orders c.in_ok-key.key order each own in
-    let keys : c.insert.new.self.keys ≡ inside.keys.keys ++ c.in_ok-key.key ∷ [] = inserted inside.keys.keys c.reserve.new.self.keys c.insert.new.self.keys c.in_ok-key.key c.in_ok-reserve.ensures.keys c.in_ok-insert.ensures.keys c.in_default.ensures.found in
+    let pushed = keys_push m.next m.answers (m.begin program) inside.guards.now m.image c.key_of.new.pieces inside.known.keys.keys inside.tree.orders c.in_ok-key.key order each own in
+    let keys : c.insert.new.self.keys ≡ inside.known.keys.keys ++ c.in_ok-key.key ∷ [] = inserted inside.known.keys.keys c.reserve.new.self.keys c.insert.new.self.keys c.in_ok-key.key c.in_ok-reserve.ensures.keys c.in_ok-insert.ensures.keys c.in_default.ensures.found in
     let orders : c.push.new.self.orders ≡ inside.tree.orders ++ order ∷ [] = ap (λ (v : Listed). v.orders) c.in_ok-push.ensures.ok in
     let all : AreKeys m.next m.answers (m.begin program) inside.guards.now m.image c.key_of.new.pieces c.insert.new.self.keys c.push.new.self.orders =
     subst (λ (xs : List Key). AreKeys m.next m.answers (m.begin program) inside.guards.now m.image c.key_of.new.pieces xs c.push.new.self.orders) (sym keys)
-    (subst (λ (os : List (List Action)). AreKeys m.next m.answers (m.begin program) inside.guards.now m.image c.key_of.new.pieces (inside.keys.keys ++ c.in_ok-key.key ∷ []) os) (sym orders) pushed) in
+    (subst (λ (os : List (List Action)). AreKeys m.next m.answers (m.begin program) inside.guards.now m.image c.key_of.new.pieces (inside.known.keys.keys ++ c.in_ok-key.key ∷ []) os) (sym orders) pushed) in
     let before = order_at inside.tree.orders c.args.before in
     let lt : c.args.before < length inside.tree.orders = subst (λ (v : Searched _). c.args.before < length v.listed.orders) (sym is) c.requires.before in
     let follows : MayFollow m.next m.answers (m.begin program) inside.guards.now before (get_or inside.tree.may c.args.index Noop) =
@@ -121,8 +121,8 @@ invariant_of-self-in_err-push g c =
     let m = g.M.Machine in
     let inside = c.self.inside in
     let program = inside.program.now in
-    let each = (keys_later m.next m.answers (m.begin program) inside.guards.now m.image inside.pieces c.key_of.new.pieces inside.keys.keys inside.tree.orders c.in_ok-key.ensures.more c.self.invariant.0) in
-    stays_so m.next m.answers (m.begin program) inside.guards.now m.image c.key_of.new.pieces inside.keys.keys c.reserve.new.self.keys inside.tree c.push.new.self c.in_ok-reserve.ensures.keys c.in_err-push.ensures.err (each, c.self.invariant.1)
+    let each = (keys_later m.next m.answers (m.begin program) inside.guards.now m.image inside.known.pieces c.key_of.new.pieces inside.known.keys.keys inside.tree.orders c.in_ok-key.ensures.more c.self.invariant.0) in
+    stays_so m.next m.answers (m.begin program) inside.guards.now m.image c.key_of.new.pieces inside.known.keys.keys c.reserve.new.self.keys inside.tree c.push.new.self c.in_ok-reserve.ensures.keys c.in_err-push.ensures.err (each, c.self.invariant.1)
 
 -- the order that was found last is at the end
 at_end : {S : Type 0} (next : S → Action → S) (answers : S → Action → List Answer) (s : Searched S) (olds : List (List Action)) (order : List Action) (place : ℕ) → s.listed.orders ≡ olds ++ order ∷ [] → place ≡ length olds → IsAt next answers s order place
@@ -152,7 +152,7 @@ invariant_of-self g c =
     let m = g.M.Machine in
     let inside = c.self.inside in
     let program = inside.program.now in
-    let each = keys_later m.next m.answers (m.begin program) inside.guards.now m.image inside.pieces c.key_of.new.pieces inside.keys.keys inside.tree.orders c.key_of.ensures.more c.self.invariant.0 in
+    let each = keys_later m.next m.answers (m.begin program) inside.guards.now m.image inside.known.pieces c.key_of.new.pieces inside.known.keys.keys inside.tree.orders c.key_of.ensures.more c.self.invariant.0 in
     (each, c.self.invariant.1)
 
 pub invariant_of-self-in-Some : goal.invariant_of-self-in-Some
@@ -160,7 +160,7 @@ invariant_of-self-in-Some g c =
     let m = g.M.Machine in
     let inside = c.self.inside in
     let program = inside.program.now in
-    let each = keys_later m.next m.answers (m.begin program) inside.guards.now m.image inside.pieces c.key_of.new.pieces inside.keys.keys inside.tree.orders c.in_ok-key.ensures.more c.self.invariant.0 in
+    let each = keys_later m.next m.answers (m.begin program) inside.guards.now m.image inside.known.pieces c.key_of.new.pieces inside.known.keys.keys inside.tree.orders c.in_ok-key.ensures.more c.self.invariant.0 in
     (each, c.self.invariant.1)
 
 pub invariant_of-self-then-place-self : goal.invariant_of-self-then-place-self
@@ -168,7 +168,7 @@ invariant_of-self-then-place-self g c =
     let m = g.M.Machine in
     let inside = c.self.inside in
     let program = inside.program.now in
-    let each = keys_later m.next m.answers (m.begin program) inside.guards.now m.image inside.pieces c.key_of.new.pieces inside.keys.keys inside.tree.orders c.in_ok-key.ensures.more c.self.invariant.0 in
+    let each = keys_later m.next m.answers (m.begin program) inside.guards.now m.image inside.known.pieces c.key_of.new.pieces inside.known.keys.keys inside.tree.orders c.in_ok-key.ensures.more c.self.invariant.0 in
     (each, c.self.invariant.1)
 
 pub invariant_of-self-in_err-reserve : goal.invariant_of-self-in_err-reserve
@@ -176,5 +176,5 @@ invariant_of-self-in_err-reserve g c =
     let m = g.M.Machine in
     let inside = c.self.inside in
     let program = inside.program.now in
-    let each = keys_later m.next m.answers (m.begin program) inside.guards.now m.image inside.pieces c.key_of.new.pieces inside.keys.keys inside.tree.orders c.in_ok-key.ensures.more c.self.invariant.0 in
-    stays_so m.next m.answers (m.begin program) inside.guards.now m.image c.key_of.new.pieces inside.keys.keys c.reserve.new.self.keys inside.tree inside.tree c.in_err-reserve.ensures.keys (λ i. inside.tree) (each, c.self.invariant.1)
+    let each = keys_later m.next m.answers (m.begin program) inside.guards.now m.image inside.known.pieces c.key_of.new.pieces inside.known.keys.keys inside.tree.orders c.in_ok-key.ensures.more c.self.invariant.0 in
+    stays_so m.next m.answers (m.begin program) inside.guards.now m.image c.key_of.new.pieces inside.known.keys.keys c.reserve.new.self.keys inside.tree inside.tree c.in_err-reserve.ensures.keys (λ i. inside.tree) (each, c.self.invariant.1)

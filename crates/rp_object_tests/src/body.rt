@@ -136,7 +136,9 @@ fn truth_of(rt: &impl Abort, cond: &Cond, components: &Components, arg: i64) -> 
 
 /// The condition fits components, and holds at an argument or not.
 fn expect_truth(rt: &impl Abort, cond: Cond, components: &Components, arg: i64, holds: bool) {
-    expect_eq(rt, truth_of(rt, &cond, components, arg), holds);
+    let found = truth_of(rt, &cond, components, arg);
+    drop(cond);
+    expect_eq(rt, found, holds);
 }
 
 #[test]

@@ -1,11 +1,14 @@
 //! Values on the heap, without an error to pass on: a test ends where memory is refused.
 
-use rp_base::{Answers, Reply, TaskId};
+ghost use Rattle.rp_object.specs.rp_base.specs.Action.{IsRight};
+
+use rp_base::{Action, Answers, Reply, TaskId};
 use rp_body::{Components, Cond, Expr, Ranged};
 use rp_machine::Machine;
 use std::alloc::Global;
 use std::fmt::Debug;
 use std::process::Abort;
+use std::sync::Arc;
 
 /// Ends the test unless both values are equal. A call is shorter to prove than an `assert_eq!`.
 pub(crate) fn expect_eq<T: PartialEq + Debug + Drop>(rt: &impl Abort, found: T, expected: T) {
@@ -20,6 +23,13 @@ pub(crate) fn expect_at<N: Debug, T: PartialEq + Debug + Drop>(
     expected: T,
 ) {
     assert_eq!(rt; found, expected, "{name:?}");
+}
+
+/// Ends the test unless the action is right.
+pub(crate) fn expect_action(rt: &impl Abort, action: &Action)
+    ensures { IsRight action.now }
+{
+    assert!(rt; action.is_right());
 }
 
 /// The answer at this place, by its task, the number of its call and its reply.
@@ -44,7 +54,7 @@ pub(crate) fn expect_image<M: Machine>(
     expected: &str,
 ) {
     let image = machine.image(alloc).expect(rt, "memory for the image");
-    assert_eq!(rt; image.as_slice(), expected.as_bytes());
+    expect_eq(rt, image.as_slice(), expected.as_bytes());
 }
 
 pub(crate) fn task_of(rt: &impl Abort, number: u8) -> TaskId {
@@ -72,6 +82,14 @@ pub(crate) fn number_in(rt: &impl Abort, components: &Components, name: u8) -> i
 
 pub(crate) fn boxed<T: Drop>(rt: &impl Abort, alloc: Global, value: T) -> Box<T> {
     match Box::new(alloc, value) {
+        Ok(value) => value,
+        Err(_) => panic!(rt; "memory is refused"),
+    }
+}
+
+/// A value in an Arc.
+pub(crate) fn shared<T: Drop>(rt: &impl Abort, alloc: Global, value: T) -> Arc<T, Global> {
+    match Arc::new(alloc, value) {
         Ok(value) => value,
         Err(_) => panic!(rt; "memory is refused"),
     }

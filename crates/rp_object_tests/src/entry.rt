@@ -3,14 +3,14 @@ ghost use Rattle.rp_object.specs.rp_base.specs.Sets.{Has};
 ghost use Rattle.rp_object.specs.rp_entry.specs.Queue.{tasks_waiting};
 
 use crate::building::{
-    add, and, components, expect_answers, expect_at, expect_eq, number_in, one, task_of, two,
+    add, and, components, expect_answers, expect_at, expect_eq, number_in, one, shared, task_of,
+    two,
 };
 use rp_base::{Reply, TaskId};
 use rp_body::{Cond, Expr, Ranged, Stmt};
 use rp_entry::*;
 use std::alloc::Global;
 use std::process::Abort;
-use std::sync::Arc;
 
 // The procedures of the gate by their indices, and an index that it does not have.
 const LIFT: u8 = 1;
@@ -79,11 +79,9 @@ fn object(
     n: i64,
     up: bool,
 ) -> Option<Object> {
-    let Ok(shared) = Arc::new(alloc, operations) else {
-        panic!(rt; "memory is refused");
-    };
+    let operations = shared(rt, alloc, operations);
     let components = components(rt, &[up_to_4(n)], Some(up));
-    Object::new(alloc, shared, components).expect(rt, "memory for the queues")
+    Object::new(alloc, operations, components).expect(rt, "memory for the queues")
 }
 
 /// The gate with n at this value.

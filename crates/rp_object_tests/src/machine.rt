@@ -1,7 +1,7 @@
 ghost use Rattle.rp_object.specs.rp_base.specs.Action.{IsRight};
 ghost use Rattle.rp_object.specs.rp_machine.specs.Calls.{MayApply};
 
-use crate::building::{expect_at, expect_eq, expect_image};
+use crate::building::{expect_action, expect_at, expect_eq, expect_image};
 use rp_base::{Action, Answers, Operation, Reply, TaskId};
 use rp_machine::*;
 use std::alloc::Global;
@@ -48,7 +48,7 @@ fn expect_effect(
     image: &str,
 ) {
     let mut tally = start_of(rt, alloc, 2);
-    assert!(rt; action.is_right());
+    expect_action(rt, action);
     let answers = answers_to(&mut tally, action);
     expect_at(rt, action, last_reply(&answers), reply);
     expect_image(rt, alloc, &tally, image);
@@ -96,7 +96,7 @@ fn adds(number: u32, arg: i64) -> Action {
 /// Adds to the sum of the first object. The one reply.
 fn added(rt: &impl Abort, tally: &mut Tally, arg: i64) -> Option<Reply> {
     let action = adds(1, arg);
-    assert!(rt; action.is_right());
+    expect_action(rt, &action);
     let answers = answers_to(tally, &action);
     expect_eq(rt, answers.len(), 1);
     last_reply(&answers)
@@ -148,7 +148,7 @@ fn applied_to<M: Machine>(
     log: &mut Numbered<M>,
     action: &Action,
 ) -> Option<Reply> {
-    assert!(rt; action.is_right());
+    expect_action(rt, action);
     let mut answers = Answers::new();
     log.apply(action, &mut answers);
     last_reply(&answers)

@@ -1,5 +1,6 @@
 use crate::building::{
-    add, and, components, expect_answers, expect_eq, expect_image, one, task_of, two,
+    add, and, components, expect_action, expect_answers, expect_eq, expect_image, one, shared,
+    task_of, two,
 };
 use rp_base::{Action, Answers, Operation, Reply};
 use rp_body::{Cond, Expr, Ranged, Stmt};
@@ -8,7 +9,6 @@ use rp_machine::Numbered;
 use rp_object::*;
 use std::alloc::Global;
 use std::process::Abort;
-use std::sync::Arc;
 
 // The tasks by their numbers: of the gate's ceiling, above it, of its ceiling too, and not declared.
 const EQUAL: u8 = 1;
@@ -26,14 +26,6 @@ const GATE: u8 = 2;
 
 fn text(rt: &impl Abort, alloc: Global, word: &str) -> String {
     String::from_str(alloc, word).expect(rt, "memory for a word")
-}
-
-/// A value in an Arc.
-fn shared<T: Drop>(rt: &impl Abort, alloc: Global, value: T) -> Arc<T, Global> {
-    match Arc::new(alloc, value) {
-        Ok(value) => value,
-        Err(_) => panic!(rt; "memory is refused"),
-    }
 }
 
 /// A procedure that gives n the sum of two values.
@@ -171,7 +163,7 @@ type Step<'a> = (Input, &'a [(u8, u32, Reply)]);
 fn expect_step(rt: &impl Abort, log: &mut Numbered<Objects>, step: &Step) {
     let (input, expected) = *step;
     let action = action_of(rt, input);
-    assert!(rt; action.is_right());
+    expect_action(rt, &action);
     let mut answers = Answers::new();
     log.apply(&action, &mut answers);
     expect_answers(rt, &answers, expected);

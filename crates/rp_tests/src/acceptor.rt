@@ -48,7 +48,7 @@ fn voted(rt: &impl Abort, alloc: Global) -> Acceptor {
 
 /// Ends the test unless a `Prepare` is answered so.
 fn expect_answer(rt: &impl Abort, found: PrepareAnswer, expected: PrepareAnswer) {
-    assert_eq!(rt; found, expected);
+    expect_eq(rt, found, expected);
 }
 
 /// Ends the test unless an `Accept` of the call with this argument at position 1 is answered so.
@@ -60,7 +60,7 @@ fn expect_accept(
     expected: AcceptAnswer,
 ) {
     let found = acceptor.accept(Position::first(), ballot, &call(arg));
-    assert_eq!(rt; found, expected);
+    expect_eq(rt, found, expected);
 }
 
 /// The acceptor promises the ballot at a position, and reports this vote.

@@ -42,7 +42,7 @@ fn the_greatest_ballot_is_the_last_one(rt: HostRuntime) {
 #[test]
 fn a_majority_is_more_than_half(rt: HostRuntime) {
     for (nodes, most) in [(3, 2), (4, 3), (5, 3), (6, 4), (7, 4)] {
-        assert_eq!(rt; majority(nodes), most);
+        expect_eq(&rt, majority(nodes), most);
     }
 }
 
@@ -99,17 +99,15 @@ fn an_action_is_right_within_its_ranges(rt: HostRuntime) {
             operation,
             arg: 0,
         };
-        assert_eq!(rt; call.is_right(), right);
+        expect_eq(&rt, call.is_right(), right);
     }
-    assert!(rt;
-        !Action::Interrupt {
-            source: 9,
-            occurrence: 1
-        }
-        .is_right()
-    );
-    assert!(rt; Action::Tick { now: 0 }.is_right());
-    assert!(rt; Action::Noop.is_right());
+    let interrupt = Action::Interrupt {
+        source: 9,
+        occurrence: 1,
+    };
+    expect_eq(&rt, interrupt.is_right(), false);
+    expect_eq(&rt, Action::Tick { now: 0 }.is_right(), true);
+    expect_eq(&rt, Action::Noop.is_right(), true);
 }
 
 #[test]
@@ -159,6 +157,6 @@ fn a_node_that_is_added_twice_counts_once(rt: HostRuntime) {
                 senders.insert(node);
             }
         }
-        assert_eq!(rt; senders.len(), *count);
+        expect_eq(&rt, senders.len(), *count);
     }
 }

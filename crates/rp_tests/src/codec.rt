@@ -76,7 +76,7 @@ fn packet(
 ) -> Packet {
     let found = decoded(rt, alloc, bytes).expect(rt, "a packet");
     expect_eq(rt, (found.from(), found.to()), parties);
-    assert!(rt; *found.body() == body, "the body in {bytes:?}");
+    expect_at(rt, &bytes, *found.body() == body, true);
     found
 }
 
@@ -121,7 +121,7 @@ fn expect_reasons(rt: &impl Abort, alloc: Global, cases: &[(&[u8], PacketReason)
 /// The packet is read from these bytes.
 fn expect_packet(rt: &impl Abort, alloc: Global, bytes: &[u8], packet: &Packet) {
     let found = decoded(rt, alloc, bytes).expect(rt, "a packet");
-    assert!(rt; found == *packet, "the packet of {bytes:?}");
+    expect_at(rt, &bytes, found == *packet, true);
 }
 
 /// The packet goes onto a run of texts as these bytes.
@@ -200,17 +200,18 @@ fn promise(rt: &impl Abort, number: u64, last: Option<Vote>) -> Body {
 
 #[test]
 fn a_leader_prepares_and_is_promised(rt: HostRuntime) {
+    let alloc = rt.alloc();
     let position = Position::first();
     let ballot = ballot(&rt, 9);
     let prepare = Body::Prepare { position, ballot };
-    from_first(&rt, rt.alloc(), 1, prepare, &PREPARE);
-    to_first(&rt, rt.alloc(), 2, promise(&rt, 9, None), &PROMISE);
+    from_first(&rt, alloc, 1, prepare, &PREPARE);
+    to_first(&rt, alloc, 2, promise(&rt, 9, None), &PROMISE);
     let vote = Vote {
         ballot,
         action: call(),
     };
     let promise = promise(&rt, 10, Some(vote));
-    to_first(&rt, rt.alloc(), 2, promise, &PROMISE_WITH_VOTE);
+    to_first(&rt, alloc, 2, promise, &PROMISE_WITH_VOTE);
 }
 
 #[test]
@@ -225,6 +226,7 @@ fn a_node_refuses_a_ballot(rt: HostRuntime) {
 
 #[test]
 fn nodes_vote_and_learn(rt: HostRuntime) {
+    let alloc = rt.alloc();
     let position = Position::first();
     let ballot = ballot(&rt, 9);
     let accept = Body::Accept {
@@ -232,18 +234,18 @@ fn nodes_vote_and_learn(rt: HostRuntime) {
         ballot,
         action: call(),
     };
-    from_first(&rt, rt.alloc(), 2, accept, &ACCEPT);
+    from_first(&rt, alloc, 2, accept, &ACCEPT);
     let accepted = Body::Accepted {
         position,
         ballot,
         action: call(),
     };
-    to_first(&rt, rt.alloc(), 2, accepted, &ACCEPTED);
+    to_first(&rt, alloc, 2, accepted, &ACCEPTED);
     let decided = Body::Decided {
         position,
         action: call(),
     };
-    from_first(&rt, rt.alloc(), 2, decided, &DECIDED);
+    from_first(&rt, alloc, 2, decided, &DECIDED);
 }
 
 static SPOILED_PREPARES: [(&[u8], PacketReason); 7] = [
@@ -347,14 +349,15 @@ fn to_audit(rt: &impl Abort, alloc: Global, body: Body, bytes: &[u8]) {
 
 #[test]
 fn a_node_asks_and_reports(rt: HostRuntime) {
+    let alloc = rt.alloc();
     let ask = Body::Ask {
         position: position(&rt, 2),
     };
-    to_first(&rt, rt.alloc(), 2, ask, &ASK);
-    let one = report(&rt, rt.alloc(), 1, 1, &[call()]);
-    to_audit(&rt, rt.alloc(), one, &REPORT);
-    let none = report(&rt, rt.alloc(), 2, 1, &[]);
-    to_audit(&rt, rt.alloc(), none, &REPORT_OF_NONE);
+    to_first(&rt, alloc, 2, ask, &ASK);
+    let one = report(&rt, alloc, 1, 1, &[call()]);
+    to_audit(&rt, alloc, one, &REPORT);
+    let none = report(&rt, alloc, 2, 1, &[]);
+    to_audit(&rt, alloc, none, &REPORT_OF_NONE);
 }
 
 /// Puts the bytes after a text.
@@ -387,12 +390,13 @@ fn expect_long(rt: &impl Abort, alloc: Global, text: &[u8], to: Party, body: Bod
 
 #[test]
 fn a_report_has_at_most_200_actions(rt: HostRuntime) {
-    let text = long_report(&rt, rt.alloc(), 200);
-    let most = report(&rt, rt.alloc(), 1, 300, &[call(); 200]);
+    let alloc = rt.alloc();
+    let text = long_report(&rt, alloc, 200);
+    let most = report(&rt, alloc, 1, 300, &[call(); 200]);
     expect_eq(&rt, text.len(), 3409);
-    expect_long(&rt, rt.alloc(), &text, Party::Audit, most);
-    let more = long_report(&rt, rt.alloc(), 201);
-    expect_reason(&rt, rt.alloc(), &more, PacketReason::Field);
+    expect_long(&rt, alloc, &text, Party::Audit, most);
+    let more = long_report(&rt, alloc, 201);
+    expect_reason(&rt, alloc, &more, PacketReason::Field);
 }
 
 #[test]
@@ -471,19 +475,20 @@ fn from_third(rt: &impl Abort, alloc: Global, body: Body, bytes: &[u8]) {
 
 #[test]
 fn a_leader_prepares_a_range_and_is_promised(rt: HostRuntime) {
+    let alloc = rt.alloc();
     let prepare = Body::PrepareRange {
         range: range(&rt, 1, 4),
         ballot: ballot(&rt, 9),
     };
-    from_first(&rt, rt.alloc(), 2, prepare, &PREPARE_RANGE);
+    from_first(&rt, alloc, 2, prepare, &PREPARE_RANGE);
     let votes = [placed(&rt, 1, 9, Action::Noop)];
-    let promise = promise_range(&rt, rt.alloc(), range(&rt, 1, 2), &votes);
-    from_third(&rt, rt.alloc(), promise, &PROMISE_RANGE);
+    let promise = promise_range(&rt, alloc, range(&rt, 1, 2), &votes);
+    from_third(&rt, alloc, promise, &PROMISE_RANGE);
     let votes = [placed(&rt, 1, 9, INTERRUPT)];
-    let promise = promise_range(&rt, rt.alloc(), range(&rt, 1, 2), &votes);
-    from_third(&rt, rt.alloc(), promise, &PROMISE_RANGE_OF_INTERRUPT);
-    let promise = promise_range(&rt, rt.alloc(), range(&rt, 65535, 1), &[]);
-    from_third(&rt, rt.alloc(), promise, &PROMISE_RANGE_OF_NONE);
+    let promise = promise_range(&rt, alloc, range(&rt, 1, 2), &votes);
+    from_third(&rt, alloc, promise, &PROMISE_RANGE_OF_INTERRUPT);
+    let promise = promise_range(&rt, alloc, range(&rt, 65535, 1), &[]);
+    from_third(&rt, alloc, promise, &PROMISE_RANGE_OF_NONE);
 }
 
 /// A promise for the last 64 positions that reports a vote at each.
@@ -520,10 +525,11 @@ fn expect_votes(rt: &impl Abort, packet: &Packet, count: usize) {
 
 #[test]
 fn a_promise_for_a_range_reports_at_most_64_votes(rt: HostRuntime) {
-    let text = longest_promise_text(&rt, rt.alloc());
-    let most = longest_promise(&rt, rt.alloc());
+    let alloc = rt.alloc();
+    let text = longest_promise_text(&rt, alloc);
+    let most = longest_promise(&rt, alloc);
     expect_eq(&rt, text.len(), 1744);
-    let packet = expect_long(&rt, rt.alloc(), &text, node(&rt, 2), most);
+    let packet = expect_long(&rt, alloc, &text, node(&rt, 2), most);
     expect_votes(&rt, &packet, 64);
 }
 
@@ -559,9 +565,10 @@ static SPOILED_RANGES: [(&[u8], PacketReason); 9] = [
 
 #[test]
 fn each_spoiled_packet_has_its_reason(rt: HostRuntime) {
-    expect_reasons(&rt, rt.alloc(), &SPOILED_PREPARES);
-    expect_reasons(&rt, rt.alloc(), &SPOILED_ASKS_AND_REPORTS);
-    expect_reasons(&rt, rt.alloc(), &SPOILED_RANGES);
+    let alloc = rt.alloc();
+    expect_reasons(&rt, alloc, &SPOILED_PREPARES);
+    expect_reasons(&rt, alloc, &SPOILED_ASKS_AND_REPORTS);
+    expect_reasons(&rt, alloc, &SPOILED_RANGES);
 }
 
 /// A promise of node 3 for positions 1 and 2 in ballot 10 that says this count, and two votes.
@@ -585,14 +592,14 @@ static SPOILED_VOTES: [([u8; 4], PacketReason); 7] = [
 
 #[test]
 fn each_spoiled_promise_for_a_range_has_its_reason(rt: HostRuntime) {
+    let alloc = rt.alloc();
     let right = two_votes(2, 1, 2, 9);
-    let packet = decoded(&rt, rt.alloc(), &right);
-    expect_eq(&rt, packet.is_ok(), true);
+    expect_eq(&rt, decoded(&rt, alloc, &right).is_ok(), true);
     let short = right.get(..37).expect(&rt, "all bytes but the last");
-    expect_reason(&rt, rt.alloc(), short, PacketReason::Short);
+    expect_reason(&rt, alloc, short, PacketReason::Short);
     for ([count, first, second, ballot], reason) in &SPOILED_VOTES {
         let bytes = two_votes(*count, *first, *second, *ballot);
-        expect_reason(&rt, rt.alloc(), &bytes, *reason);
+        expect_reason(&rt, alloc, &bytes, *reason);
     }
 }
 

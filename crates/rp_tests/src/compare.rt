@@ -12,11 +12,11 @@ pub(crate) fn expect_text(rt: &impl Abort, found: &[u8], expected: &[u8]) {
 }
 
 /// Ends the test unless both values are equal, and says of what they are.
-pub(crate) fn expect_at<N: Debug, T: PartialEq + Debug + Drop>(
+pub(crate) fn expect_at<N: PartialEq + Debug, T: PartialEq + Debug + Drop>(
     rt: &impl Abort,
     name: &N,
     found: T,
     expected: T,
 ) {
-    assert_eq!(rt; found, expected, "{name:?}");
+    expect_eq(rt, (name, found), (name, expected));
 }

@@ -1,6 +1,6 @@
 ghost use Rattle.std.specs.Prelude.{◌≡◌, ◌≤◌};
 
-use crate::compare::expect_eq;
+use crate::compare::{expect_at, expect_eq};
 use rp_base::{Action, Ballot, Fault, NodeId, Position, Rec, Vote};
 use rp_proposer::*;
 use std::alloc::Global;
@@ -217,7 +217,7 @@ fn at_most_64_proposals_run(rt: HostRuntime) {
     let mut proposer = restored(&rt, rt.alloc(), 1, &[]);
     for number in 1..=65 {
         let running = leads_where_there_is_room(&rt, &mut proposer, number);
-        assert_eq!(rt; running, number <= 64, "{number}");
+        expect_at(&rt, &number, running, number <= 64);
     }
-    assert!(rt; proposer.has_room(Position::first()));
+    expect_eq(&rt, proposer.has_room(Position::first()), true);
 }

@@ -105,11 +105,12 @@ fn a_word_loses_doubles_or_holds_the_packet(rt: HostRuntime) {
 
 #[test]
 fn a_word_picks_among_the_held_packets(rt: HostRuntime) {
-    let mut line = empty_line(&rt, rt.alloc());
-    accept(&rt, &mut line, rt.alloc(), 0, &P);
+    let alloc = rt.alloc();
+    let mut line = empty_line(&rt, alloc);
+    accept(&rt, &mut line, alloc, 0, &P);
     expect_copies(&rt, &mut line, 0);
-    accept(&rt, &mut line, rt.alloc(), 18, &P);
-    accept(&rt, &mut line, rt.alloc(), 5, &Q);
+    accept(&rt, &mut line, alloc, 18, &P);
+    accept(&rt, &mut line, alloc, 5, &Q);
     expect_release(&rt, &mut line, 4, &P);
     expect_release(&rt, &mut line, 5, &Q);
     expect_release(&rt, &mut line, u32::MAX, &P);
@@ -118,12 +119,13 @@ fn a_word_picks_among_the_held_packets(rt: HostRuntime) {
 
 #[test]
 fn the_seventeenth_copy_is_lost(rt: HostRuntime) {
-    let mut line = empty_line(&rt, rt.alloc());
+    let alloc = rt.alloc();
+    let mut line = empty_line(&rt, alloc);
     for _ in 0..15 {
-        accept(&rt, &mut line, rt.alloc(), 4, &P);
+        accept(&rt, &mut line, alloc, 4, &P);
     }
-    accept(&rt, &mut line, rt.alloc(), 2, &Q);
-    accept(&rt, &mut line, rt.alloc(), 4, &P);
+    accept(&rt, &mut line, alloc, 2, &Q);
+    accept(&rt, &mut line, alloc, 4, &P);
     expect_release(&rt, &mut line, 15, &Q);
     expect_copies(&rt, &mut line, 15);
 }
@@ -162,10 +164,11 @@ static CALL: [u8; 21] = [
 
 #[test]
 fn a_call_leaves_the_line_as_it_entered_it(rt: HostRuntime) {
-    let mut line = empty_line(&rt, rt.alloc());
-    accept(&rt, &mut line, rt.alloc(), 5, &CALL);
+    let alloc = rt.alloc();
+    let mut line = empty_line(&rt, alloc);
+    accept(&rt, &mut line, alloc, 5, &CALL);
     let text = line.release_by(0).expect(&rt, "one packet");
-    let found = decode(rt.alloc(), &text).expect(&rt, "memory for the packet");
+    let found = decode(alloc, &text).expect(&rt, "memory for the packet");
     let packet = found.expect(&rt, "a packet");
     let node = Party::Node(NodeId::new(1).expect(&rt, "node 1"));
     let parties = (packet.from(), packet.to());

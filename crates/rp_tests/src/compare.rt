@@ -8,7 +8,7 @@ pub(crate) fn expect_eq<T: PartialEq + Debug + Drop>(rt: &impl Abort, found: T, 
 
 /// Ends the test unless it is this text.
 pub(crate) fn expect_text(rt: &impl Abort, found: &[u8], expected: &[u8]) {
-    assert_eq!(rt; found, expected);
+    expect_eq(rt, found, expected);
 }
 
 /// Ends the test unless both values are equal, and says of what they are.

@@ -1,21 +1,20 @@
 //! A text within HTML.
 
-ghost use Rattle.std.specs.Prelude.{◌≡◌, ◌++◌, IfOk, OnOk, flat_map, string_bytes};
+ghost use Rattle.std.specs.Prelude.{◌≡◌, ◌++◌, OnOk, flat_map, string_bytes};
 ghost use Rattle.rp_page.specs.Pages.{escaped, escaped_text};
 
-use std::alloc::{AllocError, Global};
+use std::alloc::AllocError;
 
-/// A text as it is written in HTML, where none of its bytes begins an element.
-pub fn escaped_text(alloc: Global, bytes: &[u8]) -> Result<String, AllocError>
+/// Adds a text as it is written in HTML, where none of its bytes begins an element.
+pub fn add_escaped_text(text: &mut String, bytes: &[u8]) -> Result<(), AllocError>
     // claim: A text is written in HTML byte for byte, `&` and `<` by their names, and a blank for what
     //   is not printed and does not end a line
-    ensures { IfOk result (λ text. string_bytes text ≡ escaped_text bytes.now) }
+    ensures { OnOk result (string_bytes text.new ≡ string_bytes text.old ++ escaped_text bytes.now) }
 {
-    let mut text = String::new(alloc);
     for byte in bytes {
-        add_escaped(&mut text, *byte)?;
+        add_escaped(text, *byte)?;
     }
-    Ok(text)
+    Ok(())
 }
 
 /// Adds a byte.

@@ -1,18 +1,19 @@
 //! The page of a chart, or its drawing alone.
 
-ghost use Rattle.std.specs.Prelude.{◌≡◌, ◌≤◌, List, length, map, option_map, IfErr, IfOk, string_bytes};
+ghost use Rattle.std.specs.Prelude.{◌≡◌, ◌≤◌, ◌++◌, List, length, map, option_map, IfErr, IfOk, OnOk, string_bytes};
 ghost use Rattle.rp_history.specs.Histories.{Happening, IsDrawable, IsSketchOf, lane_text};
 ghost use Rattle.rp_history.specs.rp_model.specs.Effect.{Setting};
 ghost use Rattle.rp_history.specs.rp_model.specs.World.{World};
-ghost use Rattle.rp_page.specs.Pages.{IsDrawnAs, IsPageIfShort};
+ghost use Rattle.rp_page.specs.Frame.{before_drawing, after_drawing, after_sections};
+ghost use Rattle.rp_page.specs.Pages.{IsDrawnAs, IsPageIfShort, sections_text};
 
 use crate::frame::{after_drawing, after_sections, before_drawing};
 use crate::section::add_sections;
 use rp_base::Fault;
-use rp_drawing::{Lane, draw};
+use rp_drawing::{Lane, Row, draw};
 use rp_history::Chart;
 use rp_machine::Machine;
-use std::alloc::Global;
+use std::alloc::{AllocError, Global};
 
 /// What is made of a run.
 #[derive(Clone, Copy, Debug, PartialEq, Eq)]
@@ -67,10 +68,24 @@ fn draw_page<M: Machine>(
     }
     let drawing = draw(alloc, &chart.sketch, lanes)?;
     let mut text = String::new(alloc);
-    text.push_str(before_drawing())?;
-    text.push_str(&drawing)?;
-    text.push_str(after_drawing())?;
-    add_sections(alloc, &mut text, lanes, &chart.sketch.rows)?;
-    text.push_str(after_sections())?;
+    add_page(&mut text, &drawing, lanes, &chart.sketch.rows)?;
     Ok(Some(text))
+}
+
+/// Adds the page of this drawing under these lanes, with a section for each of its moments.
+fn add_page(
+    text: &mut String,
+    drawing: &str,
+    lanes: &[Lane],
+    rows: &[Row],
+) -> Result<(), AllocError>
+    requires { length lanes.now ≤ 16 }
+    ensures { OnOk result (string_bytes text.new ≡ string_bytes text.old ++ before_drawing
+        ++ drawing.now ++ after_drawing ++ sections_text lanes.now rows.now ++ after_sections) }
+{
+    text.push_str(before_drawing())?;
+    text.push_str(drawing)?;
+    text.push_str(after_drawing())?;
+    add_sections(text, lanes, rows)?;
+    text.push_str(after_sections())
 }

@@ -73,10 +73,11 @@ fn all_records(rt: &impl Abort, alloc: Global) -> Vec<Rec> {
 
 #[test]
 fn each_damaged_byte_leaves_the_records_before_it(rt: HostRuntime) {
-    let all = all_records(&rt, rt.alloc());
+    let alloc = rt.alloc();
+    let all = all_records(&rt, alloc);
     for place in 0..RECORDS.len() {
-        expect_front_kept(&rt, rt.alloc(), &all, place);
-        expect_rest_kept(&rt, rt.alloc(), &all, place);
+        expect_front_kept(&rt, alloc, &all, place);
+        expect_rest_kept(&rt, alloc, &all, place);
     }
 }
 

@@ -1,6 +1,6 @@
 //! The lines of a report. The caller ends each with a line feed.
 
-ghost use Rattle.std.specs.Prelude.{Some};
+ghost use Rattle.std.specs.Prelude.{◌≡◌, Some};
 ghost use Rattle.rp_explore_report.specs.Reports.{extent_text, figures_line_of, held_line_of, outcome_text_of, reach_text};
 
 use rp_base::{Answer, TaskId};
@@ -30,12 +30,16 @@ impl fmt::Display for FiguresLine {
             depth,
             is_whole,
         } = *self;
-        if is_whole {
-            write!(f, "states {states} steps {steps} depth {depth} complete")
-        } else {
-            write!(f, "states {states} steps {steps} depth {depth} incomplete")
-        }
+        let extent = extent(is_whole);
+        write!(f, "states {states} steps {steps} depth {depth}{extent}")
     }
+}
+
+/// Whether a search found all states, after a blank.
+fn extent(is_whole: bool) -> &'static str
+    ensures { result.now ≡ extent_text is_whole }
+{
+    if is_whole { " complete" } else { " incomplete" }
 }
 
 /// What some order of what may happen leads to.
@@ -89,10 +93,14 @@ impl fmt::Display for HeldLine {
 
     fn fmt<W: fmt::Write>(&self, f: &mut fmt::Formatter<W>) -> fmt::Result {
         let line = self.line;
-        if self.is_whole {
-            write!(f, "line {line} holds")
-        } else {
-            write!(f, "line {line} holds so far")
-        }
+        let reach = reach(self.is_whole);
+        write!(f, "line {line}{reach}")
     }
+}
+
+/// How far a rule holds that no state breaks, after a blank.
+fn reach(is_whole: bool) -> &'static str
+    ensures { result.now ≡ reach_text is_whole }
+{
+    if is_whole { " holds" } else { " holds so far" }
 }

@@ -12,3 +12,4 @@ pub mod Printing
 pub mod RunParts
 pub mod Stepping
 pub mod Taken
+pub mod GoingOn

@@ -5,6 +5,7 @@ pub mod Output
 pub mod Runs
 pub mod Agreeing
 pub mod Faults
+pub mod GoingOn
 pub use Rattle.rp_base
 pub use Rattle.rp_model.specs.rp_codec
 pub use Rattle.rp_deck

@@ -1,8 +1,12 @@
 //! Runs the lines of a script, at any machine and over any devices that never fail.
 
-ghost use Rattle.std.specs.Prelude.{◌≡◌, ◌≤◌, ◌<◌, ◌^◌, ◌||◌, [], length, All, IfErr, OnOk};
+ghost use Rattle.std.specs.Prelude.{◌≡◌, ◌≤◌, ◌<◌, ◌^◌, ◌||◌, [], length, All, IfErr, IfOk, OnOk};
 ghost use Rattle.rp_model.specs.World.{part_at};
-ghost use Rattle.rp_deck.specs.Script.{FitsIn, IsEventWithin};
+ghost use Rattle.rp_model.specs.declared.event.Event.TheVariants.{Node};
+ghost use Rattle.rp_model.specs.declared.event.Step.TheVariants.{Deliver};
+ghost use Rattle.rp_world.specs.Steps.{ClusterState, IsStep};
+ghost use Rattle.rp_deck.specs.Script.{FitsIn, IsEventWithin, IsMessage};
+ghost use Rattle.rp_run.specs.GoingOn.{GoesOn};
 ghost use Rattle.rp_run.specs.Items.{items_text};
 ghost use Rattle.rp_run.specs.Output.{Play, event_said, lost, drained, part_items, nodes_items, command_said, run_said, text_of_said, is_restart, is_full};
 ghost use Rattle.rp_run.specs.Runs.{run_setting, opening_cluster, printed_text, HasParts, Follows, Says};
@@ -52,7 +56,7 @@ pub fn run_lines<M: Machine, D: CutDevice + InfallibleDevice, W: Write>(
         alloc,
         cluster: Cluster::<M, D>::new(alloc, options.config, program, devices)?,
         settled: Settled::new(alloc),
-        effect: no_effect(0),
+        told: Ok(no_effect(0)),
     };
     for line in options.lines {
         let taken = run.take(options, line, writer);
@@ -62,13 +66,23 @@ pub fn run_lines<M: Machine, D: CutDevice + InfallibleDevice, W: Write>(
     Ok(())
 }
 
+/// Whether an event with this effect prints more than the reply that a task takes.
+#[inline(always)]
+fn prints_more(options: &RunOptions<'_>, event: &Event, effect: &Effect) -> bool
+    ensures { result
+        ≡ (options.now.traced || (is_restart event.now || is_full effect.now.dropped)) }
+{
+    options.traced || is_restart(event) || matches!(effect.dropped, Dropped::Full)
+}
+
 /// A run of a script.
 struct Run<M: Machine, D: CutDevice> {
     alloc: Global,
     cluster: Cluster<M, D>,
     settled: Settled,
-    /// The effect of the last event.
-    effect: Effect,
+    /// What the cluster answered last, but for deliveries of which there was no more to tell than
+    /// what they sent.
+    told: Result<Effect, Fault>,
 }
 
 // Not derived, so that to drop it is one step of a proof and not one for each of its parts.
@@ -78,7 +92,7 @@ impl<M: Machine, D: CutDevice> Drop for Run<M, D> {
             alloc: _,
             cluster: _,
             settled: _,
-            effect: _,
+            told: _,
         } = self;
     }
 }
@@ -114,9 +128,7 @@ impl<M: Machine, D: CutDevice> Run<M, D> {
         }
     }
 
-    /// Takes a step, settles its messages and prints its effect; or prints that it was refused. It
-    /// is inlined into `drain`, where events are always deliveries.
-    #[inline(always)]
+    /// Takes a step, and tells of it.
     fn step<W: Write>(
         &mut self,
         options: &RunOptions<'_>,
@@ -137,22 +149,82 @@ impl<M: Machine, D: CutDevice> Run<M, D> {
         ensures fault { IfErr result (IsDeviceRunFault self.old.cluster.failures
             self.new.cluster.failures) }
     {
+        self.told = self.cluster.step(self.alloc, event);
+        self.tell(options, line, event, writer)
+    }
+
+    /// Takes the delivery of a message. Mostly it only sends messages, and if these are not printed
+    /// there is nothing to tell: then the message is settled, at once.
+    #[inline(always)]
+    fn deliver<W: Write>(
+        &mut self,
+        options: &RunOptions<'_>,
+        line: u32,
+        message: u64,
+        writer: &mut W,
+    ) -> Result<(), Fault>
+        requires parts { HasParts options.now.config.nodes self.old.cluster }
+        requires message { IsMessage message }
+        ensures parts { OnOk result (HasParts options.now.config.nodes self.new.cluster) }
+        ensures setup { self.new.cluster.setup ≡ self.old.cluster.setup }
+        ensures counts { OnOk result (self.new.cluster.failures ≡ self.old.cluster.failures) }
+        ensures printed { (play : Play) → Follows self.old.cluster.world self.old.settled play
+            → Says self.new.cluster.world self.new.settled
+            (W.contents writer.old) (W.contents writer.new)
+            (event_said (run_setting M.next M.answers M.begin M.image self.old.cluster options.now)
+            line play (Node (Deliver message))) result }
+        ensures fault { IfErr result (IsDeviceRunFault self.old.cluster.failures
+            self.new.cluster.failures) }
+    {
         worlds_grow::<M>();
-        // The settled message is determined before the event is taken, so that `drain` knows it
-        // from its deliveries.
-        let settled = settled_by(event);
-        let restarts = is_restart(event);
-        match self.cluster.step_into(self.alloc, event, &mut self.effect) {
-            Ok(()) => {
-                self.settled.settle_any(settled)?;
-                self.print_effect(options, event, restarts, writer)?;
-            }
-            Err(fault) if is_refusal(&fault) => {
-                print(self.alloc, writer, RefusedLine { line, fault })?;
-            }
-            Err(fault) => return Err(fault),
+        if options.traced {
+            let event = Event::Node(Step::Deliver(message));
+            return self.step(options, line, &event, writer);
         }
-        Ok(())
+        if self.cluster.step_by_delivery(self.alloc, message, &mut self.told) {
+            let event = Event::Node(Step::Deliver(message));
+            return self.tell(options, line, &event, writer);
+        }
+        Ok(self.settled.settle(message)?)
+    }
+
+    /// Tells what was answered to an event: settles its messages and prints its effect, or prints
+    /// that it was refused.
+    #[inline(never)]
+    fn tell<W: Write>(
+        &mut self,
+        options: &RunOptions<'_>,
+        line: u32,
+        event: &Event,
+        writer: &mut W,
+    ) -> Result<(), Fault>
+        requires event { IsEventWithin options.now.config.nodes 8 8 event.now }
+        requires first { IfOk self.old.told (λ effect. 1 ≤ effect.first) }
+        ensures cluster { self.new.cluster ≡ self.old.cluster }
+        ensures told { (before : ClusterState M.Program)
+            → HasParts options.now.config.nodes before
+            → IsStep M.next M.answers M.begin before event.now self.old.cluster self.old.told
+            → GoesOn options.now.config.nodes before self.new.cluster result }
+        ensures printed { (before : ClusterState M.Program) (play : Play)
+            → IsStep M.next M.answers M.begin before event.now self.old.cluster self.old.told
+            → Follows before.world self.old.settled play
+            → Says self.new.cluster.world self.new.settled
+            (W.contents writer.old) (W.contents writer.new)
+            (event_said (run_setting M.next M.answers M.begin M.image before options.now)
+            line play event.now) result }
+    {
+        worlds_grow::<M>();
+        match &self.told {
+            Ok(effect) => {
+                self.settled.settle_any(settled_by(event))?;
+                self.print_effect(options, event, effect, writer)
+            }
+            Err(fault) if is_refusal(fault) => {
+                let fault = *fault;
+                print(self.alloc, writer, RefusedLine { line, fault })
+            }
+            Err(fault) => Err(*fault),
+        }
     }
 
     /// Prints the effect of an event: usually only the reply that a task takes.
@@ -161,30 +233,19 @@ impl<M: Machine, D: CutDevice> Run<M, D> {
         &self,
         options: &RunOptions<'_>,
         event: &Event,
-        restarts: bool,
+        effect: &Effect,
         writer: &mut W,
     ) -> Result<(), Fault>
-        requires first { 1 ≤ self.now.effect.first }
-        requires restarts { restarts ≡ is_restart event.now }
+        requires { 1 ≤ effect.now.first }
         ensures printed { Writes (W.contents writer.old) (W.contents writer.new)
-            (printed_text options.now self.now.cluster.world event.now self.now.effect)
-            result }
+            (printed_text options.now self.now.cluster.world event.now effect.now) result }
         ensures fault { IfErr result IsRunFault }
     {
-        if self.prints_more(options, restarts) {
-            self.print_whole_effect(options, event, writer)?;
+        if prints_more(options, event, effect) {
+            self.print_whole_effect(options, event, effect, writer)
         } else {
-            print_taken(self.alloc, options.tasks, self.effect.taken, writer)?;
+            print_taken(self.alloc, options.tasks, effect.taken, writer)
         }
-        Ok(())
-    }
-
-    /// Whether an event prints more than the reply that a task takes.
-    #[inline(always)]
-    fn prints_more(&self, options: &RunOptions<'_>, restarts: bool) -> bool
-        ensures { result ≡ (options.now.traced || (restarts || is_full self.now.effect.dropped)) }
-    {
-        options.traced || restarts || matches!(self.effect.dropped, Dropped::Full)
     }
 
     /// Prints the effect of an event: its packets, if they are printed, the line of a restart, a
@@ -194,15 +255,14 @@ impl<M: Machine, D: CutDevice> Run<M, D> {
         &self,
         options: &RunOptions<'_>,
         event: &Event,
+        effect: &Effect,
         writer: &mut W,
     ) -> Result<(), Fault>
-        requires { 1 ≤ self.now.effect.first }
+        requires { 1 ≤ effect.now.first }
         ensures printed { Writes (W.contents writer.old) (W.contents writer.new)
-            (printed_text options.now self.now.cluster.world event.now self.now.effect)
-            result }
+            (printed_text options.now self.now.cluster.world event.now effect.now) result }
         ensures fault { IfErr result IsRunFault }
     {
-        let effect = &self.effect;
         print_trace(self.alloc, &self.cluster, options, effect.first, writer)?;
         print_restart(self.alloc, event, effect.opened, writer)?;
         print_dropped(self.alloc, &self.cluster, event, effect.dropped, writer)?;
@@ -257,8 +317,7 @@ impl<M: Machine, D: CutDevice> Run<M, D> {
             if message > self.cluster.messages() {
                 return Ok(());
             }
-            let event = Event::Node(Step::Deliver(message));
-            self.step(options, line, &event, writer)?;
+            self.deliver(options, line, message, writer)?;
         }
         if self.settled.least() > self.cluster.messages() {
             return Ok(());

@@ -40,6 +40,11 @@ nothing_goes f whole after stated resulted same is = record {
   describes = describes_of is (record { first = refl; count = refl; dropped = refl; taken = refl; opened = refl });
 }
 
+-- ---- a message for the audit, which nobody takes
+
+pub heard_by_audit : {S : Type 0} (s : Setting S) (w : World) {number : ℕ} → SentTo w.sent number Party.Audit → step_effect s w (Deliver number) ≡ Ok (nothing_happens w)
+heard_by_audit s w m = ap (chosen_effect s w) (ap (delivers w) m.found ∙ ap (reaches w m.packet) m.is_to)
+
 -- ---- a message for a node
 
 module _ {S : Type 0} (s : Setting S) (w : World) {number me : ℕ} (m : SentTo w.sent number (Party.Node me)) where

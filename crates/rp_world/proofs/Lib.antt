@@ -1,6 +1,7 @@
 pub mod Lists
 pub mod Placing
 pub mod Reports
+pub mod OnlySent
 pub mod Messages
 pub mod Represented
 pub mod Turning

@@ -7,25 +7,28 @@ use Rattle.rp_codec.specs.Decoding.{IsLongBody}
 use Rattle.rp_codec.specs.Message.{Message}
 use Rattle.rp_codec.specs.declared.packet.Party.{Party}
 use Rattle.rp_model.specs.declared.effect.Dropped.{Dropped}
+use Rattle.rp_model.specs.declared.effect.Dropped.TheVariants.{No}
 use Rattle.rp_model.specs.declared.effect.Effect.{Effect}
 use Rattle.rp_model.specs.Effect.{NodeInput, node_effect}
 use Rattle.rp_model.specs.Events.{Deliver}
 use Rattle.rp_model.specs.Parts.{NodePart}
-use Rattle.rp_model.specs.World.{part_at, node_done_if, nothing_happens, commanded, chosen_record, stepping, step_writes}
+use Rattle.rp_model.specs.World.{World, part_at, node_done_if, nothing_happens, commanded, chosen_record, stepping, step_writes}
 use Rattle.rp_replica.specs.rp_outbox.specs.Packets.{Sending}
 use Rattle.rp_world.specs.Going.{Meant, meant_by, step_meant, Goes, Answers, stated}
 use Rattle.rp_world.specs.Nodes.{Member, Represents, GoesBy, IsLight, NotTaken, DescribesSending, node_step}
+use Rattle.rp_world.specs.Deliveries.{only_sent}
 use Rattle.rp_world.specs.Steps.{IsLightStep, ClusterState}
 use Rattle.rp_world.specs.declared.node.Node.{Node}
 use Rattle.rp_world.proofs.Ending.{none_here}
 use Rattle.rp_world.proofs.Fields.{Fields, IsKept, as_seen, cluster_with, first_seen, member, now, sent_seen, setting, setting_by, world}
-use Rattle.rp_world.proofs.Hearing.{nothing_goes, heard_by_none, heard_resting, heard_as, heard_running, heard_stepping, heard_record}
+use Rattle.rp_world.proofs.Hearing.{nothing_goes, heard_by_audit, heard_by_none, heard_resting, heard_as, heard_running, heard_stepping, heard_record}
 use Rattle.rp_world.proofs.Light.{light_part}
 use Rattle.rp_world.proofs.Messages.{SentTo, at_place}
 use Rattle.rp_world.proofs.Moving.{part, is_here, represents_now, stayed}
 use Rattle.rp_world.proofs.Placing.{Found}
-use Rattle.rp_world.proofs.Reports.{at_err, stated_of, stated_sent, as_fault}
-use Rattle.rp_world.proofs.Taking.{still_turned, still_refused, sent_more, turned, not_turned, given_is}
+use Rattle.rp_world.proofs.OnlySent.{only_sent_none, only_sent_more}
+use Rattle.rp_world.proofs.Reports.{at_err, stated_sent, as_fault}
+use Rattle.rp_world.proofs.Taking.{still_turned, still_refused, turned, not_turned, given_is}
 
 -- the effect reports the number of the next message, and how many there are
 counted_from : {S D P : Type 0} (f : Fields S D P) (dropped : Dropped) (later : Sending) {first count : ℕ} {effect : Effect} → first ≡ length f.was.world.sent → count ≡ length later.sent
@@ -70,16 +73,22 @@ module _ {S D P : Type 0} (f : Fields S D P) (number : ℕ) where
   heard v = step_meant (setting_by f v) v.world (Deliver number)
 
 -- a message that changes nothing
-nothing_heard : {S D P : Type 0} (f : Fields S D P) (number : ℕ) (after : ClusterState P) {first : ℕ} {effect : Effect} → (heard f number (now f)).whole ≡ Ok (nothing_happens (world f)) → after ≡ now f → first ≡ length f.was.world.sent
-    → effect ≡ stated_of (first + 1) None → Goes f.was (heard f number f.was).whole after effect
-nothing_heard f number after {effect = effect} is same first_is is_effect =
-    as_seen f (λ v. Goes v (heard f number v).whole after effect)
-    (nothing_goes f (heard f number (now f)).whole after effect is same (is_effect ∙ ap (λ (k : ℕ). stated_of (k + 1) None) (first_seen f first_is)))
+nothing_heard : {S D P : Type 0} (f : Fields S D P) (number : ℕ) (after : ClusterState P) → (heard f number (now f)).whole ≡ Ok (nothing_happens (world f)) → after ≡ now f
+    → Goes f.was (heard f number f.was).whole after (only_sent f.was.world after.world)
+nothing_heard {P = P} f number after is same =
+    as_seen f (λ v. Goes v (heard f number v).whole after (only_sent v.world after.world))
+    (nothing_goes f (heard f number (now f)).whole after (only_sent (world f) after.world) is same (only_sent_none (world f) after.world (ap (λ (v : ClusterState P). v.world.sent) same)))
+
+-- for the audit
+pub goes_aside : {S D P : Type 0} (f : Fields S D P) {number : ℕ} → SentTo f.messages.sent number Party.Audit → Goes f.was (heard f number f.was).whole f.was (only_sent f.was.world f.was.world)
+goes_aside f {number = number} m =
+    as_seen f (λ v. Goes v (heard f number v).whole v (only_sent v.world v.world))
+    (nothing_goes f (heard f number (now f)).whole (now f) (only_sent (world f) (world f)) (heard_by_audit (setting f) (world f) m) refl (only_sent_none (world f) (world f) refl))
 
 -- there is no node of this number
 pub goes_past : {S D P : Type 0} (f : Fields S D P) {number i me : ℕ} → SentTo f.messages.sent number (Party.Node me) → suc i ≡ me → length f.nodes ≤ i
-    → {first : ℕ} {effect : Effect} → first ≡ length f.was.world.sent → effect ≡ stated_of (first + 1) None → Goes f.was (heard f number f.was).whole (now f) effect
-goes_past f {number = number} m placed past first_is is = nothing_heard f number (now f) (heard_by_none (setting f) (world f) m (none_here f placed past)) refl first_is is
+    → Goes f.was (heard f number f.was).whole (now f) (only_sent f.was.world (now f).world)
+goes_past f {number = number} m placed past = nothing_heard f number (now f) (heard_by_none (setting f) (world f) m (none_here f placed past)) refl
 
 module _ {S D P : Type 0} (f : Fields S D P) (at : Found f.nodes) {number : ℕ} (m : SentTo f.messages.sent number (Party.Node at.me)) where
   abbrev with_node : Node S D P → Sending → ClusterState P
@@ -90,10 +99,10 @@ module _ {S D P : Type 0} (f : Fields S D P) (at : Found f.nodes) {number : ℕ}
 
   -- it is stopped
   pub goes_resting : ((member : Member S) (p : NodePart) → Represents f.disk member at.it p → p.running ≡ None)
-      → {first : ℕ} {effect : Effect} → first ≡ length f.was.world.sent → effect ≡ stated_of (first + 1) None → Goes f.was (heard f number f.was).whole (with_node at.it f.messages) effect
-  goes_resting rests first_is is =
+      → Goes f.was (heard f number f.was).whole (with_node at.it f.messages) (only_sent f.was.world (with_node at.it f.messages).world)
+  goes_resting rests =
       nothing_heard f number (with_node at.it f.messages) (heard_resting (setting f) (world f) m (part f at) (is_here f at) (rests (member f at.me) (part f at) (represents_now f at)))
-      (stayed f at at.it f.messages (represents_now f at) refl refl) first_is is
+      (stayed f at at.it f.messages (represents_now f at) refl refl)
 
   abbrev Runs : Type 0
   Runs = (member : Member S) (p : NodePart) → Represents f.disk member at.it p → IsSome p.running
@@ -127,9 +136,6 @@ module _ {S D P : Type 0} (f : Fields S D P) (at : Found f.nodes) {number : ℕ}
     pub still_heard : IsKept f (slice_set f.nodes at.place new) f.tasks
     still_heard = still_turned f at new input dropped later (by (member f at.me) m.packet (at_place m))
 
-    pub more_heard : length f.messages.sent ≤ length later.sent
-    more_heard = sent_more f at new input dropped later (by (member f at.me) m.packet (at_place m))
-
     pub goes_heard : Runs → {first count : ℕ} {effect : Effect} → first ≡ length f.was.world.sent → count ≡ length later.sent → effect ≡ stated_sent (first + 1) count dropped
         → Goes f.was (heard f number f.was).whole (with_node new later) effect
     goes_heard runs {effect = effect} first_is count_is is =
@@ -137,16 +143,25 @@ module _ {S D P : Type 0} (f : Fields S D P) (at : Found f.nodes) {number : ℕ}
         (as_given (λ t. Goes (now f) t.whole (with_node new later) effect) runs
         (turned f at new input dropped later (by (member f at.me) m.packet (at_place m)) (taken f at new input (now f)) (given_is f at new input) effect (counted_from f dropped later first_is count_is is)))
 
+  -- the same, where it dropped nothing
+  module _ (new : Node S D P) (later : Sending)
+      (by : (member : Member S) (packet : Message) → slice_get f.messages.sent (number - 1) ≡ Some packet
+      → GoesBy f.disk member at.it new (node_step f.next f.answers member (NodeInput.Receive packet)) (DescribesSending f.messages.sent later.sent) No) where
+    pub goes_only_sending : Runs → Goes f.was (heard f number f.was).whole (with_node new later) (only_sent f.was.world (with_node new later).world)
+    goes_only_sending runs =
+        let after : World = (with_node new later).world in
+        as_seen f (λ v. Goes v (heard f number v).whole (with_node new later) (only_sent v.world after))
+        (as_given (λ t. Goes (now f) t.whole (with_node new later) (only_sent (world f) after)) runs
+        (turned f at new input No later (by (member f at.me) m.packet (at_place m)) (taken f at new input (now f)) (given_is f at new input) (only_sent (world f) after) (only_sent_more (world f) after)))
+
   -- or does not
   module _ (new : Node S D P) (fault : Fault)
       (by : (member : Member S) (packet : Message) → slice_get f.messages.sent (number - 1) ≡ Some packet → NotTaken f.disk member at.it new (node_step f.next f.answers member (NodeInput.Receive packet)) fault) where
     pub still_unheard : IsKept f (slice_set f.nodes at.place new) f.tasks
     still_unheard = still_refused f at new input fault (by (member f at.me) m.packet (at_place m))
 
-    pub answers_heard : (r : Result Unit Fault) → IsErrAnd r (λ e. e ≡ fault) → Runs → (later : Sending) → later.sent ≡ f.messages.sent → (effect : Effect)
-        → Answers f.was (heard f number f.was) (with_node new later) (stated r effect)
-    answers_heard r refuses runs later same effect =
-        at_err (λ x. Answers f.was (heard f number f.was) (with_node new later) (stated x effect)) fault r refuses
-        (as_seen f (λ v. Answers v (heard f number v) (with_node new later) (as_fault fault))
+    pub answers_heard : Runs → (later : Sending) → later.sent ≡ f.messages.sent → Answers f.was (heard f number f.was) (with_node new later) (as_fault fault)
+    answers_heard runs later same =
+        as_seen f (λ v. Answers v (heard f number v) (with_node new later) (as_fault fault))
         (as_given (λ t. Answers (now f) t (with_node new later) (as_fault fault)) runs
-        (not_turned f at new input fault (by (member f at.me) m.packet (at_place m)) later same (taken f at new input (now f)) (given_is f at new input))))
+        (not_turned f at new input fault (by (member f at.me) m.packet (at_place m)) later same (taken f at new input (now f)) (given_is f at new input)))

@@ -19,13 +19,14 @@ use Rattle.rp_model.specs.Tasks.{takes_reply}
 use Rattle.rp_model.specs.World.{World, with_part}
 use Rattle.rp_world.specs.Callers.{Caller}
 use Rattle.rp_world.specs.Going.{Answers, Goes, reply_in, reply_read, step_meant}
+use Rattle.rp_world.specs.Deliveries.{only_sent}
 use Rattle.rp_world.specs.Steps.{ClusterState}
 use Rattle.rp_world.proofs.Fields.{Fields, as_seen, cluster_with, first_seen, goes_to, now, setting, world, world_with, setting_by}
 use Rattle.rp_world.proofs.Hearing.{no_reply, reply_results, takes_it}
 use Rattle.rp_world.proofs.Messages.{SentTo}
 use Rattle.rp_world.proofs.Moving.{task_at, task_here, number_here, tasks_moved, tasks_stay}
 use Rattle.rp_world.proofs.Placing.{Found}
-use Rattle.rp_world.proofs.Reports.{stated_of}
+use Rattle.rp_world.proofs.OnlySent.{only_sent_none}
 
 -- what is read of a packet's text is the packet's reply
 pub reply_of_text : (text : List ℕ) (m : Message) (read : Option (ℕ × Reply)) → IsPacket m → text ≡ text_of m → read ≡ reply_read (all_of text) → read ≡ reply_in m.body
@@ -38,12 +39,12 @@ goes_as f tasks step effect done = record { transition = done.transition; result
 
 -- it is no reply, and changes nothing
 pub heard_no_reply : {S D P : Type 0} (f : Fields S D P) {number task : ℕ} (m : SentTo f.messages.sent number (Party.Task task)) → (1 ≤ task) × (task ≤ 8) → reply_in m.packet.body ≡ None
-    → {first : ℕ} {effect : Effect} → first ≡ length f.was.world.sent → effect ≡ stated_of (first + 1) None
-    → Goes f.was (step_meant (setting_by f f.was) f.was.world (Deliver number)).whole f.was effect
-heard_no_reply f {number = number} {task = task} m range none {effect = effect} first_is is =
+    → Goes f.was (step_meant (setting_by f f.was) f.was.world (Deliver number)).whole f.was (only_sent f.was.world f.was.world)
+heard_no_reply f {number = number} {task = task} m range none =
     let at = task_at f task range in
-    as_seen f (λ v. Goes v (step_meant (setting_by f v) v.world (Deliver number)).whole v effect)
-    (goes_as f f.tasks (Deliver number) effect (no_reply (setting f) (world f) m at.0 at.1 effect none at.2 (is ∙ ap (λ (k : ℕ). stated_of (k + 1) None) (first_seen f first_is))))
+    let effect = only_sent (world f) (world f) in
+    as_seen f (λ v. Goes v (step_meant (setting_by f v) v.world (Deliver number)).whole v (only_sent v.world v.world))
+    (goes_as f f.tasks (Deliver number) effect (no_reply (setting f) (world f) m at.0 at.1 effect none at.2 (only_sent_none (world f) (world f) refl)))
 
 module _ {S D P : Type 0} (f : Fields S D P) (at : Found f.tasks) (new : Caller) {number : ℕ} (m : SentTo f.messages.sent number (Party.Task at.me)) where
   abbrev w : World
@@ -59,10 +60,10 @@ module _ {S D P : Type 0} (f : Fields S D P) (at : Found f.tasks) (new : Caller)
   with_tasks ts = record { nodes = w.nodes; tasks = ts; sent = w.sent }
 
   -- what is answered to its delivery
-  abbrev AnsweredBy : Result Effect Fault → ClusterState P → Type 0
+  abbrev pub AnsweredBy : Result Effect Fault → ClusterState P → Type 0
   AnsweredBy r v = Answers v (step_meant (setting_by f v) v.world (Deliver number)) (cluster_with f f.nodes tasks f.messages) r
 
-  abbrev Answered : Result Effect Fault → Type 0
+  abbrev pub Answered : Result Effect Fault → Type 0
   Answered r = AnsweredBy r f.was
 
   -- it took the reply, or ignored it

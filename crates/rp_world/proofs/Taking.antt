@@ -1,5 +1,5 @@
 -- The result of a step of a node in the world.
-use Rattle.std.proofs.Common.{◌≡◌, ℕ, ◌+◌, ◌-◌, ◌^◌, ◌≤◌, min, Result, length, slice_set, refl, sym, ap, ◌∙◌, arith}
+use Rattle.std.proofs.Common.{◌≡◌, ℕ, ◌+◌, ◌-◌, ◌^◌, min, Result, length, slice_set, refl, sym, ap, ◌∙◌, arith}
 use Rattle.std.proofs.lemmas.List.{length-append}
 use Rattle.rp_base.specs.declared.fault.Fault.{Fault}
 use Rattle.rp_model.specs.declared.effect.Dropped.{Dropped}
@@ -36,10 +36,6 @@ module _ {S D P : Type 0} (f : Fields S D P) (at : Found f.nodes) (new : Node S 
     -- all nodes are still of this cluster
     pub still_turned : IsKept f (slice_set f.nodes at.place new) f.tasks
     still_turned = let d = by (part f at) (represents_now f at) in still_nodes f at new d.0.part d.2
-
-    -- and no message is lost
-    pub sent_more : length f.messages.sent ≤ length later.sent
-    sent_more = let d = by (part f at) (represents_now f at) in omega (arith, ap length d.3.sent, length-append f.messages.sent d.0.sends)
 
     pub turned : (m : Meant) → IsTurn m → (stated : Effect) → stated ≡ stated_sent (length w.sent + 1) (length later.sent) dropped → Goes (now f) m.whole (after later) stated
     turned m is stated is_stated =

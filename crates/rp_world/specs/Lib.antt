@@ -1,4 +1,5 @@
 pub mod Steps
+pub mod Deliveries
 pub mod Failures
 pub mod Runs
 pub mod Agreeing

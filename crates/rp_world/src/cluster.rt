@@ -24,6 +24,7 @@ ghost use Rattle.rp_agreement.specs.Order.{AllSent, IsPrefix};
 ghost use Rattle.rp_agreement.specs.Asked.{Says};
 ghost use Rattle.rp_agreement.specs.Worlds.{node_in};
 ghost use Rattle.rp_world.specs.Agreeing.{Agree, AsksIn, HasReported, HasWritten, HasWrittenPromise, IsOrdered};
+ghost use Rattle.rp_world.specs.Deliveries.{delivery_answer};
 ghost use Rattle.rp_world.specs.Failures.{SomeHasFailed};
 ghost use Rattle.rp_world.specs.Going.{stated};
 ghost use Rattle.rp_world.specs.Runs.{IsRun};
@@ -40,7 +41,7 @@ use rp_agreement::{
 };
 use rp_base::{Action, Answer, Config, Fault, NodeId, TaskId};
 use rp_machine::{Machine, a_call_has_one_place};
-use rp_model::{Effect, Event, Step, worlds_grow};
+use rp_model::{Effect, Event, worlds_grow};
 use rp_server::Server;
 use rp_store::{CutDevice, Device, InfallibleDevice};
 use std::alloc::Global;
@@ -156,32 +157,34 @@ impl<M: Machine, D: CutDevice> Cluster<M, D> {
             → IsLightStep (cluster_setting M.next M.answers M.begin self.old) self.old.world step
             → IsOk result }
     {
-        if let Event::Node(Step::Deliver(number)) = *event {
-            return self.step_by_delivery(alloc, number, effect);
-        }
         event.keeps_ranges();
         events_keep_replies::<M>();
         events_keep_ranges::<M>();
         self.world.step_into(alloc, event, effect)
     }
 
-    /// The delivery of a message, by its number: by far the most frequent step, so the shortest
-    /// way, and apart from the others.
+    /// The step that delivers a message, by its number: by far the most frequent step, so the
+    /// shortest way. Whether there is more to tell of it than what it sent, and then `told` is what
+    /// `step` would return. If not, it took effect, no item was dropped and no task took a reply;
+    /// the messages that it sent are the last ones, `messages` says how many there are, and the
+    /// content of `told` is unspecified.
     #[inline(never)]
-    fn step_by_delivery(
+    pub fn step_by_delivery(
         &mut self,
         alloc: Global,
         number: u64,
-        effect: &mut Effect,
-    ) -> Result<(), Fault>
+        told: &mut Result<Effect, Fault>,
+    ) -> bool
+        // claim as Cluster::step_into
         ensures step { IsStep M.next M.answers M.begin self.old (Node (Deliver number)) self.new
-            (stated result effect.new) }
+            (delivery_answer self.old.world self.new.world result told.new) }
         ensures certain { IsLightStep (cluster_setting M.next M.answers M.begin self.old) self.old.world
-            (events.Deliver number) → IsOk result }
+            (events.Deliver number)
+            → IsOk (delivery_answer self.old.world self.new.world result told.new) }
     {
         events_keep_replies::<M>();
         events_keep_ranges::<M>();
-        self.world.deliver(alloc, number, effect)
+        self.world.deliver(alloc, number, told)
     }
 
     /// The steps of these events one after another, up to the first that is refused. Whatever they

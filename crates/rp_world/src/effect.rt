@@ -1,6 +1,6 @@
 //! The result of an event, as a step returns it.
 
-ghost use Rattle.std.specs.Prelude.{◌≡◌, ◌≤◌, ◌<◌, ◌+◌, ◌-◌, ◌^◌, min, None};
+ghost use Rattle.std.specs.Prelude.{◌≡◌, ◌<◌, ◌+◌, ◌-◌, ◌^◌, min, None};
 ghost use Rattle.rp_model.specs.declared.effect.Dropped.TheVariants.{No};
 
 use rp_base::{Answer, Fault};
@@ -42,13 +42,13 @@ pub(crate) fn one_message(first: u64) -> Effect
     }
 }
 
-/// A task took this, if anything.
-pub(crate) fn taken(first: u64, taken: Option<Answer>) -> Effect
+/// A task took this reply.
+pub(crate) fn taken(first: u64, taken: Answer) -> Effect
     ensures { result
-        ≡ record { first = first; sent = 0; dropped = No; taken = taken; opened = None } }
+        ≡ record { first = first; sent = 0; dropped = No; taken = Some taken; opened = None } }
 {
     Effect {
-        taken,
+        taken: Some(taken),
         ..no_effect(first)
     }
 }
@@ -68,8 +68,7 @@ pub(crate) fn opened(first: u64, opened: Option<(u64, u64)>) -> Effect
 /// now.
 #[inline(always)]
 pub(crate) fn of_step(first: u64, count: u64, dropped: Dropped) -> Effect
-    requires below { first ≤ count + 1 }
-    requires small { count < 2 ^ 63 }
+    requires { count < 2 ^ 63 }
     ensures { result ≡ record {
       first = first;
       sent = min (count + 1 - first) (2 ^ 32 - 1);
@@ -80,7 +79,7 @@ pub(crate) fn of_step(first: u64, count: u64, dropped: Dropped) -> Effect
 {
     Effect {
         first,
-        sent: (count + 1 - first).min(u64::from(u32::MAX)) as u32,
+        sent: (count + 1).saturating_sub(first).min(u64::from(u32::MAX)) as u32,
         dropped,
         taken: None,
         opened: None,

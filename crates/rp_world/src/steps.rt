@@ -18,6 +18,7 @@ ghost use Rattle.rp_model.specs.World.{part_at, commanded};
 ghost use Rattle.rp_agreement.specs.Ranges.{IsRangedWorld};
 ghost use Rattle.rp_replica.specs.rp_rules.specs.Inputs.{IsLong, IsRightInput, given_by};
 ghost use Rattle.rp_world.specs.Choosing.{AreNodesOf, IsMaker, IsStepRefused};
+ghost use Rattle.rp_world.specs.Deliveries.{delivery_answer};
 ghost use Rattle.rp_world.specs.Going.{Answers, cut_meant, meant_by, reply_read, stated, step_meant};
 ghost use Rattle.rp_world.specs.Nodes.{IsLight};
 ghost use Rattle.rp_world.specs.Steps.{IsLightStep, IsStep, cluster_setting};
@@ -29,7 +30,7 @@ use rp_agreement::events_keep_ranges;
 use rp_base::{Fault, NodeId, Position, PositionRange, Reply, TaskId};
 use rp_codec::{Body, Party, decode, receiver_of, usual_reply};
 use rp_machine::Machine;
-use rp_model::{Effect, Event, Interrupt, Step};
+use rp_model::{Dropped, Effect, Event, Interrupt, Step};
 use rp_outbox::Outbox;
 use rp_replica::{Input, texts_are_packets};
 use rp_store::CutDevice;
@@ -122,7 +123,7 @@ impl<M: Machine, D: CutDevice> World<M, D> {
     {
         events_keep_ranges::<M>();
         match step {
-            Step::Deliver(number) => self.deliver(alloc, number, effect),
+            Step::Deliver(number) => self.deliver_into(alloc, number, effect),
             Step::Lead { node, position } => self.give_input(
                 alloc,
                 node,
@@ -292,10 +293,56 @@ impl<M: Machine, D: CutDevice> World<M, D> {
     }
 
     /// A message is taken by its receiver, or by nobody if that is no running node and no task.
+    /// Whether more than what was sent is told, and then what, as `Cluster::step_by_delivery` says.
     /// `NoSuchMessage` above the last one, or out of memory: nothing changes. `Device` if the
     /// device of its node fails: then the node is stopped.
     #[inline(always)]
     pub(crate) fn deliver(
+        &mut self,
+        alloc: Global,
+        number: u64,
+        told: &mut Result<Effect, Fault>,
+    ) -> bool
+        requires ranged { IsRangedWorld self.old.setup.config.nodes self.old.world }
+        ensures answer { let setting = cluster_setting M.next M.answers M.begin self.old in
+            Answers self.old (step_meant setting self.old.world (events.Deliver number)) self.new
+            (delivery_answer self.old.world self.new.world result told.new) }
+        ensures certain { IsLightStep (cluster_setting M.next M.answers M.begin self.old) self.old.world
+            (events.Deliver number)
+            → IsOk (delivery_answer self.old.world self.new.world result told.new) }
+    {
+        let Some(receiver) = self.receiver_of_number(number) else {
+            *told = Err(Fault::NoSuchMessage);
+            return true;
+        };
+        let node = match receiver {
+            Party::Node(node) => node,
+            Party::Task(task) => return self.give_to_task(alloc, number, task, told),
+            Party::Audit => return false,
+        };
+        let first = self.messages() + 1;
+        let Some(node) = self.nodes.get_mut(usize::from(node.get()) - 1) else {
+            return false;
+        };
+        if !node.is_running() {
+            return false;
+        }
+        let place = (number - 1) as usize;
+        match node.hear(alloc, &mut self.messages, place) {
+            Ok(Dropped::No) => false,
+            Ok(dropped) => {
+                *told = Ok(of_step(first, self.messages(), dropped));
+                true
+            }
+            Err(fault) => {
+                *told = Err(fault);
+                true
+            }
+        }
+    }
+
+    /// The same, with the effect written to `effect`, also that of a delivery that only sent.
+    fn deliver_into(
         &mut self,
         alloc: Global,
         number: u64,
@@ -308,63 +355,52 @@ impl<M: Machine, D: CutDevice> World<M, D> {
         ensures certain { IsLightStep (cluster_setting M.next M.answers M.begin self.old) self.old.world
             (events.Deliver number) → IsOk result }
     {
-        let Some(receiver) = self.receiver_of_number(number) else {
-            return Err(Fault::NoSuchMessage);
-        };
-        let node = match receiver {
-            Party::Node(node) => node,
-            Party::Task(task) => return self.give_to_task(alloc, number, task, effect),
-            Party::Audit => {
-                *effect = no_effect(self.messages() + 1);
-                return Ok(());
-            }
-        };
         let first = self.messages() + 1;
-        let Some(node) = self.nodes.get_mut(usize::from(node.get()) - 1) else {
-            *effect = no_effect(first);
-            return Ok(());
-        };
-        if !node.is_running() {
-            *effect = no_effect(first);
-            return Ok(());
+        let mut told = Ok(no_effect(first));
+        if self.deliver(alloc, number, &mut told) {
+            write_effect(told, effect)
+        } else {
+            *effect = of_step(first, self.messages(), Dropped::No);
+            Ok(())
         }
-        let place = (number - 1) as usize;
-        let dropped = node.hear(alloc, &mut self.messages, place)?;
-        *effect = of_step(first, self.messages(), dropped);
-        Ok(())
     }
 
-    /// A message arrives at its task, which takes a reply to the call that it waits for.
+    /// A message arrives at its task, which takes a reply to the call that it waits for. It is told
+    /// as `deliver` tells.
     #[inline(never)]
     fn give_to_task(
         &mut self,
         alloc: Global,
         number: u64,
         task: TaskId,
-        effect: &mut Effect,
-    ) -> Result<(), Fault>
+        told: &mut Result<Effect, Fault>,
+    ) -> bool
         requires ranged { IsRangedWorld self.old.setup.config.nodes self.old.world }
         requires to { (m : Message) × (part_at self.old.world.sent number ≡ Some m)
             × (m.to ≡ Task task) }
         ensures answer { let setting = cluster_setting M.next M.answers M.begin self.old in
             Answers self.old (step_meant setting self.old.world (events.Deliver number)) self.new
-            (stated result effect.new) }
+            (delivery_answer self.old.world self.new.world result told.new) }
     {
         let first = self.messages() + 1;
         let text = self.text(number).unwrap();
         let Ok(reply) = decode_reply(alloc, text) else {
-            return Err(Fault::OutOfMemory);
+            *told = Err(Fault::OutOfMemory);
+            return true;
         };
         let Some((number, reply)) = reply else {
-            *effect = no_effect(first);
-            return Ok(());
+            return false;
         };
         match self.tasks[usize::from(task.get()) - 1].take(number, reply) {
-            Ok(answer) => {
-                *effect = taken(first, answer);
-                Ok(())
+            Ok(Some(answer)) => {
+                *told = Ok(taken(first, answer));
+                true
             }
-            Err(_) => Err(Fault::OutOfMemory),
+            Ok(None) => false,
+            Err(_) => {
+                *told = Err(Fault::OutOfMemory);
+                true
+            }
         }
     }
 }

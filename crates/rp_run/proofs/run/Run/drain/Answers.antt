@@ -41,8 +41,8 @@ returns-then-message-messages-clause-printed g c =
     (drained s c.args.line c.args.options.now.most play) (λ (p : Play). drained s c.args.line most p) so_far tt
     (drained_none s c.args.line now most (none_is_left run.cluster.world run.settled now so_far.follows least.result least.ensures.least past))
 
-pub returns-in_err-step-clause-printed : goal.returns-in_err-step-clause-printed
-returns-in_err-step-clause-printed g c =
+pub returns-in_err-deliver-clause-printed : goal.returns-in_err-deliver-clause-printed
+returns-in_err-deliver-clause-printed g c =
     let m = g.M.Machine in
     let s = run_setting m.next m.answers m.begin m.image c.args.self.now.cluster c.args.options.now in
     let run = c.loop-delivered.self in
@@ -56,10 +56,10 @@ returns-in_err-step-clause-printed g c =
     λ play follows.
     let so_far = c.loop-delivered.invariant.so_far play follows in
     let now = so_far.said.play in
-    let said = c.in_err-step.ensures.printed now so_far.follows in
+    let said = c.in_err-deliver.ensures.printed now so_far.follows in
     says_failed _ _ _ _ (drained s c.args.line most play) c.from_residual.result c.from_residual.ensures.0
-    (fails run.cluster.world c.step.new.self.cluster.world run.settled c.step.new.self.settled
-    (g.W.Write.contents c.args.writer.now) (g.W.Write.contents c.loop-delivered.writer) (g.W.Write.contents c.step.new.writer)
+    (fails run.cluster.world c.deliver.new.self.cluster.world run.settled c.deliver.new.self.settled
+    (g.W.Write.contents c.args.writer.now) (g.W.Write.contents c.loop-delivered.writer) (g.W.Write.contents c.deliver.new.writer)
     (drained s c.args.line most play) (λ (p : Play). drained s c.args.line (most - delivered) p) so_far
     (event_said s c.args.line now (NodeStep (Deliver message))) (λ (p : Play). drained s c.args.line (most - (delivered + 1)) p)
     (drained_more s c.args.line now most delivered message below
@@ -79,16 +79,16 @@ loop-delivered-preserved g c =
     let below : delivered < most = omega arith in
     let same = same_run_setting m.next m.answers m.begin m.image c.args.options.now c.args.self.now.cluster run.cluster c.loop-delivered.invariant.setup in
     record {
-      parts = c.in_ok-step.ensures.parts;
-      setup = c.step.ensures.setup ∙ c.loop-delivered.invariant.setup;
-      counts = c.in_ok-step.ensures.counts ∙ c.loop-delivered.invariant.counts;
+      parts = c.in_ok-deliver.ensures.parts;
+      setup = c.deliver.ensures.setup ∙ c.loop-delivered.invariant.setup;
+      counts = c.in_ok-deliver.ensures.counts ∙ c.loop-delivered.invariant.counts;
       so_far = λ play follows.
           let so_far = c.loop-delivered.invariant.so_far play follows in
           let now = so_far.said.play in
-          let said = c.in_ok-step.ensures.printed now so_far.follows in
+          let said = c.in_ok-deliver.ensures.printed now so_far.follows in
           let here = rw same at said in
-          goes_on run.cluster.world c.step.new.self.cluster.world run.settled c.step.new.self.settled
-          (g.W.Write.contents c.args.writer.now) (g.W.Write.contents c.loop-delivered.writer) (g.W.Write.contents c.step.new.writer)
+          goes_on run.cluster.world c.deliver.new.self.cluster.world run.settled c.deliver.new.self.settled
+          (g.W.Write.contents c.args.writer.now) (g.W.Write.contents c.loop-delivered.writer) (g.W.Write.contents c.deliver.new.writer)
           (drained s c.args.line most play) (λ (p : Play). drained s c.args.line (most - delivered) p) so_far
           (event_said s c.args.line now (NodeStep (Deliver message))) (λ (p : Play). drained s c.args.line (most - (delivered + 1)) p)
           (drained_more s c.args.line now most delivered message below

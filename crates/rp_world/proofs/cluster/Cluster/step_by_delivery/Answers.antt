@@ -1,10 +1,11 @@
 -- A delivery is a step, and what it leads to satisfies the invariant.
-use Rattle.std.proofs.Common.{◌≡◌, refl, sym, subst}
+use Rattle.std.proofs.Common.{refl, sym, subst}
+use Rattle.std.specs.Prelude.{IsOk}
 use Rattle.rp_model.specs.declared.event.Event.TheVariants.{Node}
 use Rattle.rp_model.specs.declared.event.Step.TheVariants as steps
 use Rattle.rp_model.specs.Effect.{Setting}
 use Rattle.rp_model.specs.Events.{Makes, Deliver}
-use Rattle.rp_world.specs.Going.{stated}
+use Rattle.rp_world.specs.Deliveries.{delivery_answer}
 use Rattle.rp_world.specs.Shape.{IsCluster}
 use Rattle.rp_world.specs.Steps.{IsLightStep, IsStep, cluster_setting}
 use Rattle.rp_world.proofs.Answering.{same_setting}
@@ -18,7 +19,7 @@ invariant_of-self g c =
     let new = c.deliver.new.self in
     let s = cluster_setting m.next m.answers m.begin old in
     let step = Deliver c.args.number in
-    let answer = stated c.deliver.result c.deliver.new.effect in
+    let answer = delivery_answer old.world new.world c.deliver.result c.deliver.new.told in
     let whole = made_whole m.next m.answers m.begin old new (Node (steps.Deliver c.args.number)) answer step refl c.deliver.ensures.answer in
     let now = c.self.invariant in
     subst (λ (t : Setting g.row.M.Denot). IsCluster t new.world) (sym (same_setting m.next m.answers m.begin old new whole.setup))
@@ -34,11 +35,14 @@ returns-clause-step g c =
     let old = c.self.inside.world in
     let new = c.deliver.new.self in
     let step = Deliver c.args.number in
-    let answer = stated c.deliver.result c.deliver.new.effect in
-    subst (λ was. IsStep m.next m.answers m.begin was (Node (steps.Deliver c.args.number)) new answer) c.self.view_is
-    (made_whole m.next m.answers m.begin old new (Node (steps.Deliver c.args.number)) answer step refl c.deliver.ensures.answer)
+    let tells = c.deliver.result in
+    let told = c.deliver.new.told in
+    subst (λ was. IsStep m.next m.answers m.begin was (Node (steps.Deliver c.args.number)) new (delivery_answer was.world new.world tells told)) c.self.view_is
+    (made_whole m.next m.answers m.begin old new (Node (steps.Deliver c.args.number)) (delivery_answer old.world new.world tells told) step refl c.deliver.ensures.answer)
 
 pub returns-clause-certain : goal.returns-clause-certain
-returns-clause-certain g c = λ light.
+returns-clause-certain g c =
     let m = g.M.Machine in
-    c.deliver.ensures.certain (subst (λ was. IsLightStep (cluster_setting m.next m.answers m.begin was) was.world (Deliver c.args.number)) (sym c.self.view_is) light)
+    let new = c.deliver.new.self in
+    subst (λ was. IsLightStep (cluster_setting m.next m.answers m.begin was) was.world (Deliver c.args.number) → IsOk (delivery_answer was.world new.world c.deliver.result c.deliver.new.told)) c.self.view_is
+    c.deliver.ensures.certain

@@ -1,11 +1,6 @@
 -- By what the step was.
-use Rattle.std.proofs.Common.{◌≡◌, sym, ap, subst, ◌∙◌}
-use Rattle.rp_model.specs.declared.event.Event.{Event}
-use Rattle.rp_model.specs.declared.event.Event.TheVariants.{Node}
-use Rattle.rp_model.specs.declared.event.Step.TheVariants as steps
-use Rattle.rp_model.specs.Events.{Makes, Deliver, Step, event_of}
-use Rattle.rp_world.specs.Going.{stated}
-use Rattle.rp_world.specs.Steps.{IsLightStep, IsStep, cluster_setting}
+use Rattle.std.proofs.Common.{sym, subst}
+use Rattle.rp_world.specs.Steps.{IsLightStep, cluster_setting}
 use Rattle.rp_world.proofs.cluster.Cluster.step_into.Goals as goal
 
 pub returns-clause-certain : goal.returns-clause-certain

@@ -5,7 +5,7 @@ use Rattle.rp_world.proofs.Fields.{fields_of, member, setting_by}
 use Rattle.rp_world.proofs.Moving.{part, represents_now}
 use Rattle.rp_world.proofs.NodeTurns.{goes_given, answers_given, light_given}
 use Rattle.rp_world.proofs.Placing.{found_at, placed_at}
-use Rattle.rp_world.proofs.Taking.{still_turned, still_refused, sent_more}
+use Rattle.rp_world.proofs.Taking.{still_turned, still_refused}
 use Rattle.rp_world.proofs.world.World.give_input.Goals as goal
 
 pub returns-in_default-clause-answer : goal.returns-in_default-clause-answer
@@ -38,14 +38,6 @@ invariant_of-self-2 g c =
     let at = found_at f.nodes c.in-Some.node.now c.get.ensures c.from.ensures c.self.inside.nodes.ok.0 (c.in-Some.ensures.variant.0 refl) c.in-Some.ensures.value in
     let given = c.requires.given in
     still_turned f at c.turn.new.self given.0 c.in_ok-dropped.dropped c.turn.new.messages (c.in_ok-dropped.ensures.ok (member f at.me) given.0 given.1)
-
-pub of_step-requires-clause-below : goal.of_step-requires-clause-below
-of_step-requires-clause-below g c =
-    let f = fields_of g.M.Machine.next g.M.Machine.answers g.M.Machine.begin c.self.inside.messages c.self.invariant c.self.view_is in
-    let at = found_at f.nodes c.in-Some.node.now c.get.ensures c.from.ensures c.self.inside.nodes.ok.0 (c.in-Some.ensures.variant.0 refl) c.in-Some.ensures.value in
-    let given = c.requires.given in
-    let more = sent_more f at c.turn.new.self given.0 c.in_ok-dropped.dropped c.turn.new.messages (c.in_ok-dropped.ensures.ok (member f at.me) given.0 given.1) in
-    omega (arith, c.messages-first.ensures.value, ap (λ v. length v.world.sent) c.self.view_is, c.messages.ensures.value, more)
 
 pub returns : goal.returns
 returns g c =

@@ -1,16 +1,16 @@
-use Rattle.std.proofs.Common.{◌≡◌, Result, Ok, Some, None, sym, ap, subst, ◌∙◌}
-use Rattle.rp_base.specs.declared.fault.Fault.{Fault}
+use Rattle.std.proofs.Common.{◌≡◌, Ok, Some, None, slice_set, refl, sym, ap, subst, ◌∙◌}
 use Rattle.rp_codec.specs.Message.{IsParty}
 use Rattle.rp_model.specs.World.{part_at}
 use Rattle.rp_model.specs.Tasks.{takes_reply}
-use Rattle.rp_world.specs.Going.{reply_in, stated}
-use Rattle.rp_world.proofs.Fields.{fields_of}
+use Rattle.rp_world.specs.Going.{reply_in}
+use Rattle.rp_world.proofs.Fields.{cluster_with, fields_of, sent_seen}
 use Rattle.rp_world.proofs.Hearing.{take_keeps}
 use Rattle.rp_world.proofs.Messages.{has_at, seen_to, text_found, text_is}
 use Rattle.rp_world.proofs.Moving.{still_tasks}
 use Rattle.rp_world.proofs.Placing.{found_task}
-use Rattle.rp_world.proofs.Replied.{heard_no_reply, took_reply, not_taken, reply_of_text}
-use Rattle.rp_world.proofs.world.World.give_to_task.Goals.{in-Ok-take, in-Err}
+use Rattle.rp_world.proofs.OnlySent.{only_sent_none, as_told, as_untold}
+use Rattle.rp_world.proofs.Replied.{Answered, heard_no_reply, took_reply, not_taken, reply_of_text}
+use Rattle.rp_world.proofs.world.World.give_to_task.Goals.{in-Ok-Some, in-Ok-None, in-Err}
 use Rattle.rp_world.proofs.world.World.give_to_task.Goals as goal
 
 pub unwrap-text-requires : goal.unwrap-text-requires
@@ -23,7 +23,7 @@ returns-in_default-reply g c =
     let packet = c.requires.ranged.packets m.packet (has_at f.was.world.sent c.args.number m.packet c.requires.to.1) in
     let text = text_is c.text.result c.unwrap-text.result (part_at f.was.world.sent c.args.number) m.packet c.unwrap-text.ensures c.text.ensures c.requires.to.1 in
     let none : reply_in m.packet.body ≡ None = sym (reply_of_text c.unwrap-text.result.now m.packet c.in-Ok.reply packet text c.in-Ok.ensures.reply) ∙ c.in_default-reply.is in
-    record { answer = heard_no_reply f m (subst IsParty c.requires.to.2 packet.ranges.to) none c.messages-first.ensures.value c.no_effect.ensures }
+    record { answer = heard_no_reply f m (subst IsParty c.requires.to.2 packet.ranges.to) none }
 
 pub invariant_of-self : goal.invariant_of-self
 invariant_of-self g c =
@@ -40,11 +40,16 @@ returns g c =
     let packet = c.requires.ranged.packets m.packet (has_at f.was.world.sent c.args.number m.packet c.requires.to.1) in
     let text = text_is c.text.result c.unwrap-text.result (part_at f.was.world.sent c.args.number) m.packet c.unwrap-text.ensures c.text.ensures c.requires.to.1 in
     let is_reply : reply_in m.packet.body ≡ Some (c.in-Some.number, c.in-Some.reply) = sym (reply_of_text c.unwrap-text.result.now m.packet c.in-Ok.reply packet text c.in-Ok.ensures.reply) ∙ c.in-Some.is in
-    let stated_is = λ (r : Result Unit Fault). stated r c.match-take.effect in
+    let after = (cluster_with f f.nodes (slice_set f.tasks at.place c.take.new.self) f.messages).world in
+    let answers = Answered f at c.take.new.self m in
     record {
       answer = elim c.match-take.branch [
-        | in-Ok-take b ↦
-            took_reply f at c.take.new.self m is_reply b.in-Ok-take.is (ap stated_is b.result-is ∙ ap Ok b.effect-is) c.take.ensures.part c.take.ensures.taken c.messages-first.ensures.value b.taken.ensures
-        | in-Err b ↦ not_taken f at c.take.new.self m b.in-Err.is (ap stated_is b.result-is) c.take.ensures.err
+        | in-Ok-Some w ↦
+            as_told answers f.was.world after c.match-take.told w.result-is w.told-is
+            (took_reply f at c.take.new.self m is_reply (w.in-Ok-Some.is ∙ ap Ok w.in-Ok-Some.field-0-is) refl c.take.ensures.part c.take.ensures.taken c.messages-first.ensures.value w.taken.ensures)
+        | in-Ok-None w ↦
+            as_untold answers f.was.world after c.match-take.told w.result-is
+            (took_reply f at c.take.new.self m is_reply (w.in-Ok-None.is ∙ ap Ok w.in-Ok-None.field-0-is) refl c.take.ensures.part c.take.ensures.taken refl (only_sent_none f.was.world after (sent_seen f)))
+        | in-Err w ↦ as_told answers f.was.world after c.match-take.told w.result-is w.told-is (not_taken f at c.take.new.self m w.in-Err.is refl c.take.ensures.err)
       ];
     }

@@ -88,8 +88,8 @@ give_input-requires-in-Ask-clause-sends g c = λ given part done is here resulte
 
 pub returns-in-Deliver : goal.returns-in-Deliver
 returns-in-Deliver g c =
-    subst (λ step. IsMade g.M.Machine.next g.M.Machine.answers g.M.Machine.begin c.args.self.now c.deliver.new.self c.deliver.result c.deliver.new.effect (step_of step)) (sym c.in-Deliver.is)
-    (record { answer = c.deliver.ensures.answer; certain = c.deliver.ensures.certain })
+    subst (λ step. IsMade g.M.Machine.next g.M.Machine.answers g.M.Machine.begin c.args.self.now c.deliver_into.new.self c.deliver_into.result c.deliver_into.new.effect (step_of step)) (sym c.in-Deliver.is)
+    (record { answer = c.deliver_into.ensures.answer; certain = c.deliver_into.ensures.certain })
 
 pub returns-in-Lead : goal.returns-in-Lead
 returns-in-Lead g c =

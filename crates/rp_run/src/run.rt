@@ -56,7 +56,6 @@ pub fn run_lines<M: Machine, D: CutDevice + InfallibleDevice, W: Write>(
         alloc,
         cluster: Cluster::<M, D>::new(alloc, options.config, program, devices)?,
         settled: Settled::new(alloc),
-        told: Ok(no_effect(0)),
     };
     for line in options.lines {
         let taken = run.take(options, line, writer);
@@ -80,9 +79,6 @@ struct Run<M: Machine, D: CutDevice> {
     alloc: Global,
     cluster: Cluster<M, D>,
     settled: Settled,
-    /// What the cluster answered last, but for deliveries of which there was no more to tell than
-    /// what they sent.
-    told: Result<Effect, Fault>,
 }
 
 // Not derived, so that to drop it is one step of a proof and not one for each of its parts.
@@ -92,7 +88,6 @@ impl<M: Machine, D: CutDevice> Drop for Run<M, D> {
             alloc: _,
             cluster: _,
             settled: _,
-            told: _,
         } = self;
     }
 }
@@ -149,18 +144,20 @@ impl<M: Machine, D: CutDevice> Run<M, D> {
         ensures fault { IfErr result (IsDeviceRunFault self.old.cluster.failures
             self.new.cluster.failures) }
     {
-        self.told = self.cluster.step(self.alloc, event);
-        self.tell(options, line, event, writer)
+        let told = self.cluster.step(self.alloc, event);
+        self.tell(options, line, event, &told, writer)
     }
 
     /// Takes the delivery of a message. Mostly it only sends messages, and if these are not printed
-    /// there is nothing to tell: then the message is settled, at once.
+    /// there is nothing to tell: then the message is settled, at once. What there is to tell is put
+    /// into `told`, whose content is unspecified after it.
     #[inline(always)]
     fn deliver<W: Write>(
         &mut self,
         options: &RunOptions<'_>,
         line: u32,
         message: u64,
+        told: &mut Result<Effect, Fault>,
         writer: &mut W,
     ) -> Result<(), Fault>
         requires parts { HasParts options.now.config.nodes self.old.cluster }
@@ -181,9 +178,9 @@ impl<M: Machine, D: CutDevice> Run<M, D> {
             let event = Event::Node(Step::Deliver(message));
             return self.step(options, line, &event, writer);
         }
-        if self.cluster.step_by_delivery(self.alloc, message, &mut self.told) {
+        if self.cluster.step_by_delivery(self.alloc, message, told) {
             let event = Event::Node(Step::Deliver(message));
-            return self.tell(options, line, &event, writer);
+            return self.tell(options, line, &event, told, writer);
         }
         Ok(self.settled.settle(message)?)
     }
@@ -196,17 +193,18 @@ impl<M: Machine, D: CutDevice> Run<M, D> {
         options: &RunOptions<'_>,
         line: u32,
         event: &Event,
+        told: &Result<Effect, Fault>,
         writer: &mut W,
     ) -> Result<(), Fault>
         requires event { IsEventWithin options.now.config.nodes 8 8 event.now }
-        requires first { IfOk self.old.told (λ effect. 1 ≤ effect.first) }
+        requires first { IfOk told.now (λ effect. 1 ≤ effect.first) }
         ensures cluster { self.new.cluster ≡ self.old.cluster }
         ensures told { (before : ClusterState M.Program)
             → HasParts options.now.config.nodes before
-            → IsStep M.next M.answers M.begin before event.now self.old.cluster self.old.told
+            → IsStep M.next M.answers M.begin before event.now self.old.cluster told.now
             → GoesOn options.now.config.nodes before self.new.cluster result }
         ensures printed { (before : ClusterState M.Program) (play : Play)
-            → IsStep M.next M.answers M.begin before event.now self.old.cluster self.old.told
+            → IsStep M.next M.answers M.begin before event.now self.old.cluster told.now
             → Follows before.world self.old.settled play
             → Says self.new.cluster.world self.new.settled
             (W.contents writer.old) (W.contents writer.new)
@@ -214,7 +212,7 @@ impl<M: Machine, D: CutDevice> Run<M, D> {
             line play event.now) result }
     {
         worlds_grow::<M>();
-        match &self.told {
+        match told {
             Ok(effect) => {
                 self.settled.settle_any(settled_by(event))?;
                 self.print_effect(options, event, effect, writer)
@@ -312,12 +310,13 @@ impl<M: Machine, D: CutDevice> Run<M, D> {
         ensures fault { IfErr result (IsDeviceRunFault self.old.cluster.failures
             self.new.cluster.failures) }
     {
+        let mut told = Ok(no_effect(0));
         for delivered in 0..options.most {
             let message = self.settled.least();
             if message > self.cluster.messages() {
                 return Ok(());
             }
-            self.deliver(options, line, message, writer)?;
+            self.deliver(options, line, message, &mut told, writer)?;
         }
         if self.settled.least() > self.cluster.messages() {
             return Ok(());

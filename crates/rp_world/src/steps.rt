@@ -342,12 +342,7 @@ impl<M: Machine, D: CutDevice> World<M, D> {
     }
 
     /// The same, with the effect written to `effect`, also that of a delivery that only sent.
-    fn deliver_into(
-        &mut self,
-        alloc: Global,
-        number: u64,
-        effect: &mut Effect,
-    ) -> Result<(), Fault>
+    fn deliver_into(&mut self, alloc: Global, number: u64, effect: &mut Effect) -> Result<(), Fault>
         requires ranged { IsRangedWorld self.old.setup.config.nodes self.old.world }
         ensures answer { let setting = cluster_setting M.next M.answers M.begin self.old in
             Answers self.old (step_meant setting self.old.world (events.Deliver number)) self.new

@@ -1,4 +1,4 @@
-use Rattle.std.proofs.Common.{List, ℕ, sym, ap₂, append-nil, ◌∙◌}
+use Rattle.std.proofs.Common.{sym, ap₂, append-nil, ◌∙◌}
 use Rattle.rp_run.specs.Items.{notes_text}
 use Rattle.rp_run.specs.Output.{opened_notes}
 use Rattle.rp_output.proofs.Writing.{writes_same}

@@ -1,5 +1,5 @@
 -- By whether there was something to tell of it.
-use Rattle.std.proofs.Common.{◌≡◌, Result, Ok, Err}
+use Rattle.std.proofs.Common.{Result, Ok, ap, ◌∙◌}
 use Rattle.rp_base.specs.declared.fault.Fault.{Fault}
 use Rattle.rp_model.specs.Events.{event_of}
 use Rattle.rp_model.specs.declared.event.Event.TheVariants.{Node}
@@ -58,7 +58,7 @@ returns g c =
           happened s c.args.line play event old.world c.args.self.now.settled follows new.world c.settle.new.self effect _ _ answer
           step.world (c.worlds_grow.ensures s.setting old.world (event_of event) step.world.transition step.world.resulted)
           (settled_one c.args.self.now.settled c.settle.new.self c.args.message c.in_ok-settle.ensures.ok)
-          (sent_unprinted options old.world new.world c.args.message _ c.if-traced.false);
+          (sent_unprinted options old.world new.world c.args.message _ c.if-options.false);
       fault = on.fault;
     }
 

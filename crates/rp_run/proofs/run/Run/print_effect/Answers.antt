@@ -1,15 +1,10 @@
 -- Where no more is printed, the reply is all.
-use Rattle.std.proofs.Common.{◌∙◌, ◌||◌, Bool, List, ℕ, sym, ap, subst}
-use Rattle.rp_output.specs.Stream.{Begins}
-use Rattle.rp_output.proofs.Writing.{writes_failed}
-use Rattle.rp_run.specs.Output.{is_full}
+use Rattle.std.proofs.Common.{sym, ◌∙◌}
+use Rattle.rp_output.proofs.Writing.{writes_same}
 use Rattle.rp_run.proofs.Taken.{just_taken}
 use Rattle.rp_run.proofs.run.Run.print_effect.Goals as goal
 
-pub returns-in_err-print_taken-clause-printed : goal.returns-in_err-print_taken-clause-printed
-returns-in_err-print_taken-clause-printed g c =
-    let self = c.args.self.now in
-    let options = c.args.options.now in
-    let none = ap (λ (b : Bool). options.traced || (b || is_full self.effect.dropped)) (sym c.requires.restarts) ∙ sym c.prints_more.ensures ∙ c.if-prints_more.false in
-    writes_failed _ _ _ c.from_residual-in_err-print_taken.result c.from_residual-in_err-print_taken.ensures.0
-    (subst (λ (text : List ℕ). Begins (g.W.Write.contents c.args.writer.now) (g.W.Write.contents c.print_taken.new.writer) text) (just_taken options self.cluster.world c.args.event.now self.effect none) c.in_err-print_taken.ensures.printed)
+pub returns-else-prints_more-clause-printed : goal.returns-else-prints_more-clause-printed
+returns-else-prints_more-clause-printed g c =
+    let none = sym c.prints_more.ensures ∙ c.if-prints_more.false in
+    writes_same _ _ _ _ c.print_taken.result (just_taken c.args.options.now c.args.self.now.cluster.world c.args.event.now c.args.effect.now none) c.print_taken.ensures.printed

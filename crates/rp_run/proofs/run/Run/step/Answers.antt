@@ -9,12 +9,12 @@ pub tell-requires-clause-first : goal.tell-requires-clause-first
 tell-requires-clause-first g c =
     let m = g.M.Machine in
     let old = c.args.self.now.cluster in
-    numbered_from_one (cluster_setting m.next m.answers m.begin old) old.world c.step-answer.new.self.world (event_of c.args.event.now) c.step-answer.result c.step-answer.ensures.step.world
+    numbered_from_one (cluster_setting m.next m.answers m.begin old) old.world c.step-told.new.self.world (event_of c.args.event.now) c.step-told.result c.step-told.ensures.step.world
 
 pub returns : goal.returns
 returns g c =
     let old = c.args.self.now.cluster in
-    let step = c.step-answer.ensures.step in
+    let step = c.step-told.ensures.step in
     let on = c.tell.ensures.told old c.requires.parts step in
     record {
       parts = on.parts;

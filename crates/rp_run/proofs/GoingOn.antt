@@ -1,5 +1,5 @@
 -- How a run goes on after an event, by what was answered.
-use Rattle.std.proofs.Common.{◌≡◌, ℕ, ◌≤◌, ◌||◌, Bool, true, false, Option, Some, None, Result, Ok, Err, List, [], ◌∷◌, arith, refl, ap, subst, ◌∙◌}
+use Rattle.std.proofs.Common.{◌≡◌, ℕ, ◌≤◌, ◌||◌, Bool, true, false, Option, Result, Ok, Err, List, [], ◌∷◌, arith, refl, ap, subst, ◌∙◌}
 use Rattle.std.specs.Prelude.{◌==◌, IfErr, IfOk}
 use Rattle.std.proofs.KnownBytes.{Appends-nil}
 use Rattle.rp_base.specs.Fault.{code_of}

@@ -1,6 +1,5 @@
 -- By what was answered.
-use Rattle.std.proofs.Common.{◌≡◌, ◌≤◌, Result, Ok, Err, true, subst}
-use Rattle.rp_base.specs.declared.fault.Fault.{Fault}
+use Rattle.std.proofs.Common.{◌≡◌, ◌≤◌, true, subst}
 use Rattle.rp_base.specs.Fault.{code_of}
 use Rattle.rp_model.specs.Events.{event_of}
 use Rattle.rp_output.proofs.Writing.{begins_nothing}

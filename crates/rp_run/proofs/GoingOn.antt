@@ -20,7 +20,7 @@ use Rattle.rp_output.specs.Stream.{Writes}
 use Rattle.rp_output.proofs.Writing.{writes_same}
 use Rattle.rp_world.specs.Deliveries.{only_sent, delivery_answer}
 use Rattle.rp_world.specs.Steps.{ClusterState, IsStep}
-use Rattle.rp_run.specs.GoingOn.{GoesOn}
+use Rattle.rp_run.specs.GoingOn.{RunGoesOn}
 use Rattle.rp_run.specs.Output.{is_among}
 use Rattle.rp_run.specs.Runs.{HasParts, printed_text}
 use Rattle.rp_run.specs.Settled.{is_settled}
@@ -38,7 +38,7 @@ numbered_from_one s w after event (Err fault) stops = tt
 module _ {S P : Type 0} (next : S → Action → S) (answers : S → Action → List Answer) (start : P → S) (nodes : ℕ) (before now : ClusterState P) (event : Event)
     (parts : HasParts nodes before) (fits : IsEventWithin nodes 8 8 event) where
   -- it happened
-  pub happened_on : (effect : Effect) (answer : Result Unit Fault) → IsStep next answers start before event now (Ok effect) → IfErr answer IsRunFault → GoesOn nodes before now answer
+  pub happened_on : (effect : Effect) (answer : Result Unit Fault) → IsStep next answers start before event now (Ok effect) → IfErr answer IsRunFault → RunGoesOn nodes before now answer
   happened_on effect answer step ended = record {
     parts = always_ok answer (parts_stay next answers start nodes before now event parts fits effect step.setup step.world);
     counts = always_ok answer step.failures;
@@ -46,7 +46,7 @@ module _ {S P : Type 0} (next : S → Action → S) (answers : S → Action → 
   }
 
   -- it was refused
-  pub refused_on : (fault : Fault) (answer : Result Unit Fault) → IsStep next answers start before event now (Err fault) → 5 ≤ code_of fault → IfErr answer IsRunFault → GoesOn nodes before now answer
+  pub refused_on : (fault : Fault) (answer : Result Unit Fault) → IsStep next answers start before event now (Err fault) → 5 ≤ code_of fault → IfErr answer IsRunFault → RunGoesOn nodes before now answer
   refused_on fault answer step numbered ended = record {
     parts = always_ok answer (parts_left next answers start nodes before now event parts fits fault step.setup (refused_of _ before.world now.world event fault step.world numbered));
     counts = always_ok answer (refused_counts _ before.failures now.failures fault numbered step.failures);
@@ -54,7 +54,7 @@ module _ {S P : Type 0} (next : S → Action → S) (answers : S → Action → 
   }
 
   -- or it failed
-  pub failed_on : (fault : Fault) → IsStep next answers start before event now (Err fault) → (IsNumbered fault → ⊥) → GoesOn nodes before now (Err fault)
+  pub failed_on : (fault : Fault) → IsStep next answers start before event now (Err fault) → (IsNumbered fault → ⊥) → RunGoesOn nodes before now (Err fault)
   failed_on fault step other = record {
     parts = tt;
     counts = tt;

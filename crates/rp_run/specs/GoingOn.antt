@@ -7,7 +7,7 @@ use Rattle.rp_run.specs.Runs.{HasParts}
 
 -- It goes on from a cluster to one that has its n nodes and its tasks, and no device has failed; or
 -- a fault ends it.
-pub record GoesOn {P : Type 0} (nodes : ℕ) (before after : ClusterState P)
+pub record RunGoesOn {P : Type 0} (nodes : ℕ) (before after : ClusterState P)
     (result : Result Unit Fault) : Type 0 where
   pub parts : OnOk result (HasParts nodes after)
   pub counts : OnOk result (after.failures ≡ before.failures)

@@ -6,7 +6,7 @@ ghost use Rattle.rp_model.specs.declared.event.Event.TheVariants.{Node};
 ghost use Rattle.rp_model.specs.declared.event.Step.TheVariants.{Deliver};
 ghost use Rattle.rp_world.specs.Steps.{ClusterState, IsStep};
 ghost use Rattle.rp_deck.specs.Script.{FitsIn, IsEventWithin, IsMessage};
-ghost use Rattle.rp_run.specs.GoingOn.{GoesOn};
+ghost use Rattle.rp_run.specs.GoingOn.{RunGoesOn};
 ghost use Rattle.rp_run.specs.Items.{items_text};
 ghost use Rattle.rp_run.specs.Output.{Play, event_said, lost, drained, part_items, nodes_items, command_said, run_said, text_of_said, is_restart, is_full};
 ghost use Rattle.rp_run.specs.Runs.{run_setting, opening_cluster, printed_text, HasParts, Follows, Says};
@@ -202,7 +202,7 @@ impl<M: Machine, D: CutDevice> Run<M, D> {
         ensures told { (before : ClusterState M.Program)
             → HasParts options.now.config.nodes before
             → IsStep M.next M.answers M.begin before event.now self.old.cluster told.now
-            → GoesOn options.now.config.nodes before self.new.cluster result }
+            → RunGoesOn options.now.config.nodes before self.new.cluster result }
         ensures printed { (before : ClusterState M.Program) (play : Play)
             → IsStep M.next M.answers M.begin before event.now self.old.cluster told.now
             → Follows before.world self.old.settled play

@@ -18,10 +18,7 @@ use Rattle.rp_base.proofs.Members.{has_left, has_right}
 use Rattle.rp_model.specs.rp_codec.specs.Message.{Message}
 use Rattle.rp_model.specs.rp_codec.specs.declared.packet.Body.{Body}
 use Rattle.rp_model.specs.rp_codec.specs.declared.packet.Body.TheVariants as bodies
-use Rattle.rp_model.specs.rp_codec.specs.declared.packet.Party.{Party}
-use Rattle.rp_model.specs.rp_codec.specs.declared.packet.Party.TheVariants.{Node, Task, Audit}
-use Rattle.rp_model.specs.Effect as nodes
-use Rattle.rp_model.specs.Effect.{Setting, Done, NodeInput, turn_done_if, running_effect, effect_while, node_effect, cut_if, cut_effect, stops_while, restart_while, goes_on_as, stop_part}
+use Rattle.rp_model.specs.Effect.{Setting, Done, NodeInput, turn_done_if, running_effect, effect_while, node_effect, cut_if, cut_effect, stops_while, restart_while, goes_on_as}
 use Rattle.rp_model.specs.Events.{event_of, step_of}
 use Rattle.rp_model.specs.Parts.{NodePart, Running, TaskPart, Turn}
 use Rattle.rp_model.specs.Tasks.{TaskInput, Submit, Again, Take, next_call, may_call, calls_if, asks_again, takes, takes_reply, task_hears, task_effect, asks}

@@ -63,15 +63,15 @@ module _ {S P : Type 0} (next : S → Action → S) (answers : S → Action → 
 
 -- ---- a delivery
 
-module _ {S P : Type 0} (next : S → Action → S) (answers : S → Action → List Answer) (start : P → S) (old new : ClusterState P) (event : Event) (tells : Bool) (told : Result Effect Fault)
-    (step : IsStep next answers start old event new (delivery_answer old.world new.world tells told)) where
+module _ {S P : Type 0} (next : S → Action → S) (answers : S → Action → List Answer) (start : P → S) (old new : ClusterState P) (event : Event) (reports : Bool) (reported : Result Effect Fault)
+    (step : IsStep next answers start old event new (delivery_answer old.world new.world reports reported)) where
   -- of which there is something to tell
-  pub told_step : tells ≡ true → IsStep next answers start old event new told
-  told_step is = subst (λ (b : Bool). IsStep next answers start old event new (delivery_answer old.world new.world b told)) is step
+  pub reported_step : reports ≡ true → IsStep next answers start old event new reported
+  reported_step is = subst (λ (b : Bool). IsStep next answers start old event new (delivery_answer old.world new.world b reported)) is step
 
   -- or which only sent
-  pub untold_step : tells ≡ false → IsStep next answers start old event new (Ok (only_sent old.world new.world))
-  untold_step is = subst (λ (b : Bool). IsStep next answers start old event new (delivery_answer old.world new.world b told)) is step
+  pub unreported_step : reports ≡ false → IsStep next answers start old event new (Ok (only_sent old.world new.world))
+  unreported_step is = subst (λ (b : Bool). IsStep next answers start old event new (delivery_answer old.world new.world b reported)) is step
 
 or_false : (b : Bool) → b ≡ (b || false)
 or_false true = refl

@@ -10,7 +10,7 @@ use Rattle.rp_base.specs.declared.action.Action.TheVariants.{Noop, Call}
 use Rattle.rp_base.specs.declared.fault.Fault.{Fault}
 use Rattle.rp_model.specs.Answers.{Happen}
 use Rattle.rp_model.specs.Effect.{Setting}
-use Rattle.rp_model.specs.Events.{Event, IsRightEvent, Submit, Makes, Step, Deliver, Interrupt, Tick, event_of}
+use Rattle.rp_model.specs.Events.{Event, IsRightEvent, Submit, Makes, Deliver, Interrupt, Tick, event_of}
 use Rattle.rp_model.specs.World.{World, Transition, opening_world, event_effect}
 use Rattle.rp_model.specs.declared.event.Event.{Event as TakenEvent}
 use Rattle.rp_model.specs.declared.event.Event.TheVariants.{Node}

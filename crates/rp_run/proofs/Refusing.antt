@@ -11,7 +11,7 @@ use Rattle.rp_base.specs.declared.action.Operation.{Operation}
 use Rattle.rp_base.specs.declared.action.Operation.TheVariants.{Function, Procedure, Entry, SetTimer, CancelTimer}
 use Rattle.rp_base.specs.declared.config.Config.{Config}
 use Rattle.rp_base.specs.declared.fault.Fault.{Fault}
-use Rattle.rp_base.specs.declared.fault.Fault.TheVariants.{BallotsSpent, LogFull, TaskBusy, NumbersSpent, BadConfig}
+use Rattle.rp_base.specs.declared.fault.Fault.TheVariants.{LogFull, TaskBusy, NumbersSpent, BadConfig}
 use Rattle.rp_model.specs.rp_codec.specs.Message.{Message}
 use Rattle.rp_model.specs.rp_codec.specs.declared.packet.Party.{Party}
 use Rattle.rp_model.specs.rp_codec.specs.declared.packet.Party.TheVariants.{Node, Task, Audit}
@@ -22,7 +22,6 @@ use Rattle.rp_model.specs.declared.event.Step.TheVariants.{Deliver, Lead, LeadRa
 use Rattle.rp_model.specs.Parts.{NodePart}
 use Rattle.rp_model.specs.Parts.{Running}
 use Rattle.rp_model.specs.Parts.{TaskPart}
-use Rattle.rp_model.specs.Parts.{Turn}
 use Rattle.rp_model.specs.Effect as nodes
 use Rattle.rp_model.specs.Effect.{Setting, Done, NodeInput, turn_done, turn_done_if, effect_while, node_effect, cut_if, cut_effect, stops_while, restart_while, goes_on_as, stop_part, cut_part}
 use Rattle.rp_model.specs.Tasks as tasks
@@ -30,7 +29,6 @@ use Rattle.rp_model.specs.Tasks.{next_call, may_call, calls_if, asks_again, task
 use Rattle.rp_model.specs.Events.{event_of, step_of}
 use Rattle.rp_model.specs.World.{World, Transition, part_at, with_part, nothing_happens, node_done, task_done, node_done_if, task_done_if, task_takes, stops, restarts, step_effect, cut_step, event_effect, Chosen, NodeTakes, LostFor, commanded, reaches_node, reaches_number, reaches_task, reaches, delivers, chosen, chosen_effect, chosen_cut}
 use Rattle.rp_deck.specs.Script.{IsUpTo, IsStepWithin, IsEventWithin}
-use Rattle.rp_base.specs.Proposals.{Proposal, proposal_at, is_prepared}
 use Rattle.rp_base.specs.Ranges.{Range}
 use Rattle.rp_model.specs.Effect.{plan_of, turn_if}
 use Rattle.rp_model.specs.Node.{RunningNode, running_node}

@@ -19,7 +19,7 @@ use Rattle.rp_model.specs.Growing.{Grows}
 use Rattle.rp_model.specs.World.{World, Transition, event_effect}
 use Rattle.rp_model.specs.Answers.{Describes, IsDone, IsRefused}
 use Rattle.rp_run.specs.Output.{RunSetting, Play, Said, opening_play, text_of_said, nothing_said, note_said, and_then, is_among, from_to, least_unsettled, settled_by, called_by, lost, printed_items, transition_of, effect_said, event_said, drain_from, drained, command_said, script_said, nodes_items}
-use Rattle.rp_run.specs.Items.{Item, Note, Noted, Refused, DrainLimit, item_text, items_text, note_line, notes_text}
+use Rattle.rp_run.specs.Items.{Item, Note, Refused, DrainLimit, item_text, items_text, note_line, notes_text}
 use Rattle.rp_output.specs.Printed.{refused_line_of}
 use Rattle.rp_run.specs.Runs.{Follows, Says, described}
 use Rattle.rp_run.specs.Settled.{is_settled}

@@ -1,7 +1,8 @@
 //! Runs the lines of a script, at any machine and over any devices that never fail.
 
-ghost use Rattle.std.specs.Prelude.{◌≡◌, ◌≤◌, ◌<◌, ◌^◌, ◌||◌, [], length, All, IfErr, IfOk, OnOk};
+ghost use Rattle.std.specs.Prelude.{◌≡◌, ◌≤◌, ◌<◌, ◌^◌, ◌||◌, ℕ, [], length, All, Ok, Err, IfErr, IfOk, OnOk};
 ghost use Rattle.rp_model.specs.World.{part_at};
+ghost use Rattle.rp_model.specs.declared.event.Event.{Event as EventOf};
 ghost use Rattle.rp_model.specs.declared.event.Event.TheVariants.{Node};
 ghost use Rattle.rp_model.specs.declared.event.Step.TheVariants.{Deliver};
 ghost use Rattle.rp_world.specs.Steps.{ClusterState, IsStep};
@@ -10,6 +11,7 @@ ghost use Rattle.rp_run.specs.GoingOn.{RunGoesOn};
 ghost use Rattle.rp_run.specs.Items.{items_text};
 ghost use Rattle.rp_run.specs.Output.{Play, event_said, lost, drained, part_items, nodes_items, command_said, run_said, text_of_said, is_restart, is_full};
 ghost use Rattle.rp_run.specs.Runs.{run_setting, opening_cluster, printed_text, HasParts, Follows, Says};
+ghost use Rattle.rp_run.specs.declared.options.RunOptions.{RunOptions as RunOptionsOf};
 ghost use Rattle.rp_output.specs.Stream.{Writes};
 ghost use Rattle.rp_run.specs.Faults.{IsDeviceRunFault};
 ghost use Rattle.rp_output.specs.Faults.{IsRunFault};
@@ -115,15 +117,15 @@ impl<M: Machine, D: CutDevice> Run<M, D> {
             self.new.cluster.failures) }
     {
         let number = line.number;
-        match line.command {
-            Command::Take(event) => self.step(options, number, &event, writer),
-            Command::Lose { first, last } => self.lose(number, first, last, writer),
+        match &line.command {
+            Command::Take(event) => self.step(options, number, event, writer),
+            Command::Lose { first, last } => self.lose(number, *first, *last, writer),
             Command::Drain => self.drain(options, number, writer),
             Command::Show => self.show(options, writer),
         }
     }
 
-    /// Takes a step, and tells of it.
+    /// Takes a step, and reports it.
     fn step<W: Write>(
         &mut self,
         options: &RunOptions<'_>,
@@ -144,20 +146,23 @@ impl<M: Machine, D: CutDevice> Run<M, D> {
         ensures fault { IfErr result (IsDeviceRunFault self.old.cluster.failures
             self.new.cluster.failures) }
     {
-        let told = self.cluster.step(self.alloc, event);
-        self.tell(options, line, event, &told, writer)
+        let mut effect = no_effect(0);
+        match self.cluster.step_into(self.alloc, event, &mut effect) {
+            Ok(()) => self.report_effect(options, event, &effect, writer),
+            Err(fault) => self.report_refusal(line, fault, writer),
+        }
     }
 
     /// Takes the delivery of a message. Mostly it only sends messages, and if these are not printed
-    /// there is nothing to tell: then the message is settled, at once. What there is to tell is put
-    /// into `told`, whose content is unspecified after it.
+    /// there is nothing to report: then the message is settled, at once. What there is to report is
+    /// put into `reported`, whose content is unspecified after it.
     #[inline(always)]
     fn deliver<W: Write>(
         &mut self,
         options: &RunOptions<'_>,
         line: u32,
         message: u64,
-        told: &mut Result<Effect, Fault>,
+        reported: &mut Result<Effect, Fault>,
         writer: &mut W,
     ) -> Result<(), Fault>
         requires parts { HasParts options.now.config.nodes self.old.cluster }
@@ -175,36 +180,93 @@ impl<M: Machine, D: CutDevice> Run<M, D> {
     {
         worlds_grow::<M>();
         if options.traced {
-            let event = Event::Node(Step::Deliver(message));
-            return self.step(options, line, &event, writer);
+            return self.deliver_traced(options, line, message, writer);
         }
-        if self.cluster.step_by_delivery(self.alloc, message, told) {
-            let event = Event::Node(Step::Deliver(message));
-            return self.tell(options, line, &event, told, writer);
+        if self.cluster.step_by_delivery(self.alloc, message, reported) {
+            return self.report_delivery(options, line, message, reported, writer);
         }
         Ok(self.settled.settle(message)?)
     }
 
-    /// Tells what was answered to an event: settles its messages and prints its effect, or prints
-    /// that it was refused.
+    /// Takes the delivery of a message as any event, since its packets are printed.
     #[inline(never)]
-    fn tell<W: Write>(
+    fn deliver_traced<W: Write>(
         &mut self,
         options: &RunOptions<'_>,
         line: u32,
+        message: u64,
+        writer: &mut W,
+    ) -> Result<(), Fault>
+        requires parts { HasParts options.now.config.nodes self.old.cluster }
+        requires message { IsMessage message }
+        ensures parts { OnOk result (HasParts options.now.config.nodes self.new.cluster) }
+        ensures setup { self.new.cluster.setup ≡ self.old.cluster.setup }
+        ensures counts { OnOk result (self.new.cluster.failures ≡ self.old.cluster.failures) }
+        ensures printed { (play : Play) → Follows self.old.cluster.world self.old.settled play
+            → Says self.new.cluster.world self.new.settled
+            (W.contents writer.old) (W.contents writer.new)
+            (event_said (run_setting M.next M.answers M.begin M.image self.old.cluster options.now)
+            line play (Node (Deliver message))) result }
+        ensures fault { IfErr result (IsDeviceRunFault self.old.cluster.failures
+            self.new.cluster.failures) }
+    {
+        let event = Event::Node(Step::Deliver(message));
+        self.step(options, line, &event, writer)
+    }
+
+    /// Reports the delivery of a message. The event is made here, so that `drain` has no place for
+    /// it to clear before each message.
+    #[inline(never)]
+    fn report_delivery<W: Write>(
+        &mut self,
+        options: &RunOptions<'_>,
+        line: u32,
+        message: u64,
+        reported: &Result<Effect, Fault>,
+        writer: &mut W,
+    ) -> Result<(), Fault>
+        requires message { IsMessage message }
+        requires first { IfOk reported.now (λ effect. 1 ≤ effect.first) }
+        ensures cluster { self.new.cluster ≡ self.old.cluster }
+        ensures goes_on { (before : ClusterState M.Program)
+            → HasParts options.now.config.nodes before
+            → IsStep M.next M.answers M.begin before (Node (Deliver message)) self.old.cluster
+            reported.now
+            → RunGoesOn options.now.config.nodes before self.new.cluster result }
+        ensures printed { (before : ClusterState M.Program) (play : Play)
+            → IsStep M.next M.answers M.begin before (Node (Deliver message)) self.old.cluster
+            reported.now
+            → Follows before.world self.old.settled play
+            → Says self.new.cluster.world self.new.settled
+            (W.contents writer.old) (W.contents writer.new)
+            (event_said (run_setting M.next M.answers M.begin M.image before options.now)
+            line play (Node (Deliver message))) result }
+    {
+        let event = Event::Node(Step::Deliver(message));
+        match reported {
+            Ok(effect) => self.report_effect(options, &event, effect, writer),
+            Err(fault) => self.report_refusal(line, *fault, writer),
+        }
+    }
+
+    /// Reports an event that took effect: settles its messages, and prints its effect.
+    #[inline(always)]
+    fn report_effect<W: Write>(
+        &mut self,
+        options: &RunOptions<'_>,
         event: &Event,
-        told: &Result<Effect, Fault>,
+        effect: &Effect,
         writer: &mut W,
     ) -> Result<(), Fault>
         requires event { IsEventWithin options.now.config.nodes 8 8 event.now }
-        requires first { IfOk told.now (λ effect. 1 ≤ effect.first) }
+        requires first { 1 ≤ effect.now.first }
         ensures cluster { self.new.cluster ≡ self.old.cluster }
-        ensures told { (before : ClusterState M.Program)
+        ensures goes_on { (before : ClusterState M.Program)
             → HasParts options.now.config.nodes before
-            → IsStep M.next M.answers M.begin before event.now self.old.cluster told.now
+            → IsStep M.next M.answers M.begin before event.now self.old.cluster (Ok effect.now)
             → RunGoesOn options.now.config.nodes before self.new.cluster result }
-        ensures printed { (before : ClusterState M.Program) (play : Play)
-            → IsStep M.next M.answers M.begin before event.now self.old.cluster told.now
+        ensures printed { (line : ℕ) (before : ClusterState M.Program) (play : Play)
+            → IsStep M.next M.answers M.begin before event.now self.old.cluster (Ok effect.now)
             → Follows before.world self.old.settled play
             → Says self.new.cluster.world self.new.settled
             (W.contents writer.old) (W.contents writer.new)
@@ -212,17 +274,30 @@ impl<M: Machine, D: CutDevice> Run<M, D> {
             line play event.now) result }
     {
         worlds_grow::<M>();
-        match told {
-            Ok(effect) => {
-                self.settled.settle_any(settled_by(event))?;
-                self.print_effect(options, event, effect, writer)
-            }
-            Err(fault) if is_refusal(fault) => {
-                let fault = *fault;
-                print(self.alloc, writer, RefusedLine { line, fault })
-            }
-            Err(fault) => Err(*fault),
+        self.settled.settle_any(settled_by(event))?;
+        self.print_effect(options, event, effect, writer)
+    }
+
+    /// Reports an event that did not take effect: prints that it was refused, or ends the run.
+    #[inline(never)]
+    fn report_refusal<W: Write>(&self, line: u32, fault: Fault, writer: &mut W) -> Result<(), Fault>
+        ensures goes_on { (nodes : ℕ) (before : ClusterState M.Program) (event : EventOf)
+            → HasParts nodes before → IsEventWithin nodes 8 8 event
+            → IsStep M.next M.answers M.begin before event self.now.cluster (Err fault)
+            → RunGoesOn nodes before self.now.cluster result }
+        ensures printed { (options : RunOptionsOf) (before : ClusterState M.Program)
+            (event : EventOf) (play : Play)
+            → IsStep M.next M.answers M.begin before event self.now.cluster (Err fault)
+            → Follows before.world self.now.settled play
+            → Says self.now.cluster.world self.now.settled
+            (W.contents writer.old) (W.contents writer.new)
+            (event_said (run_setting M.next M.answers M.begin M.image before options)
+            line play event) result }
+    {
+        if is_refusal(&fault) {
+            return print(self.alloc, writer, RefusedLine { line, fault });
         }
+        Err(fault)
     }
 
     /// Prints the effect of an event: usually only the reply that a task takes.
@@ -310,13 +385,13 @@ impl<M: Machine, D: CutDevice> Run<M, D> {
         ensures fault { IfErr result (IsDeviceRunFault self.old.cluster.failures
             self.new.cluster.failures) }
     {
-        let mut told = Ok(no_effect(0));
+        let mut reported = Ok(no_effect(0));
         for delivered in 0..options.most {
             let message = self.settled.least();
             if message > self.cluster.messages() {
                 return Ok(());
             }
-            self.deliver(options, line, message, &mut told, writer)?;
+            self.deliver(options, line, message, &mut reported, writer)?;
         }
         if self.settled.least() > self.cluster.messages() {
             return Ok(());

@@ -21,11 +21,11 @@ only_sent_more old new =
 
 -- ---- what a delivery answers
 
-module _ (Q : Result Effect Fault → Type 0) (old new : World) {tells : Bool} (told : Result Effect Fault) where
-  -- what is told, where something is
-  pub as_told : {answer : Result Effect Fault} → tells ≡ true → told ≡ answer → Q answer → Q (delivery_answer old new tells told)
-  as_told tells_is told_is q = subst (λ (b : Bool). Q (delivery_answer old new b told)) (sym tells_is) (subst Q (sym told_is) q)
+module _ (Q : Result Effect Fault → Type 0) (old new : World) {reports : Bool} (reported : Result Effect Fault) where
+  -- what is reported, where something is
+  pub as_reported : {answer : Result Effect Fault} → reports ≡ true → reported ≡ answer → Q answer → Q (delivery_answer old new reports reported)
+  as_reported reports_is reported_is q = subst (λ (b : Bool). Q (delivery_answer old new b reported)) (sym reports_is) (subst Q (sym reported_is) q)
 
   -- or that it only sent
-  pub as_untold : tells ≡ false → Q (Ok (only_sent old new)) → Q (delivery_answer old new tells told)
-  as_untold tells_is q = subst (λ (b : Bool). Q (delivery_answer old new b told)) (sym tells_is) q
+  pub as_unreported : reports ≡ false → Q (Ok (only_sent old new)) → Q (delivery_answer old new reports reported)
+  as_unreported reports_is q = subst (λ (b : Bool). Q (delivery_answer old new b reported)) (sym reports_is) q

@@ -1,4 +1,4 @@
--- What a delivery answers, which is told only where it did more than send messages.
+-- What a delivery answers, which is reported only where it did more than send messages.
 use Rattle.std.specs.Prelude.{◌+◌, ◌-◌, ◌^◌, min, Bool, true, false, None, Result, Ok, length}
 use Rattle.rp_base.specs.declared.fault.Fault.{Fault}
 use Rattle.rp_model.specs.World.{World}
@@ -16,7 +16,7 @@ only_sent old new = record {
   opened = None;
 }
 
--- the answer of a delivery: what is told of it, if something is, and else that it only sent
+-- the answer of a delivery: what is reported of it, if something is, and else that it only sent
 abbrev pub delivery_answer : World → World → Bool → Result Effect Fault → Result Effect Fault
-delivery_answer old new true told = told
-delivery_answer old new false told = Ok (only_sent old new)
+delivery_answer old new true reported = reported
+delivery_answer old new false reported = Ok (only_sent old new)

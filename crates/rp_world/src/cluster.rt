@@ -164,27 +164,27 @@ impl<M: Machine, D: CutDevice> Cluster<M, D> {
     }
 
     /// The step that delivers a message, by its number: by far the most frequent step, so the
-    /// shortest way. Whether there is more to tell of it than what it sent, and then `told` is what
-    /// `step` would return. If not, it took effect, no item was dropped and no task took a reply;
-    /// the messages that it sent are the last ones, `messages` says how many there are, and the
-    /// content of `told` is unspecified.
+    /// shortest way. Whether there is more to report of it than what it sent, and then `reported` is
+    /// what `step` would return. If not, it took effect, no item was dropped and no task took a
+    /// reply; the messages that it sent are the last ones, `messages` says how many there are, and
+    /// the content of `reported` is unspecified.
     #[inline(never)]
     pub fn step_by_delivery(
         &mut self,
         alloc: Global,
         number: u64,
-        told: &mut Result<Effect, Fault>,
+        reported: &mut Result<Effect, Fault>,
     ) -> bool
         // claim as Cluster::step_into
         ensures step { IsStep M.next M.answers M.begin self.old (Node (Deliver number)) self.new
-            (delivery_answer self.old.world self.new.world result told.new) }
+            (delivery_answer self.old.world self.new.world result reported.new) }
         ensures certain { IsLightStep (cluster_setting M.next M.answers M.begin self.old) self.old.world
             (events.Deliver number)
-            → IsOk (delivery_answer self.old.world self.new.world result told.new) }
+            → IsOk (delivery_answer self.old.world self.new.world result reported.new) }
     {
         events_keep_replies::<M>();
         events_keep_ranges::<M>();
-        self.world.deliver(alloc, number, told)
+        self.world.deliver(alloc, number, reported)
     }
 
     /// The steps of these events one after another, up to the first that is refused. Whatever they

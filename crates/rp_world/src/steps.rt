@@ -293,31 +293,31 @@ impl<M: Machine, D: CutDevice> World<M, D> {
     }
 
     /// A message is taken by its receiver, or by nobody if that is no running node and no task.
-    /// Whether more than what was sent is told, and then what, as `Cluster::step_by_delivery` says.
-    /// `NoSuchMessage` above the last one, or out of memory: nothing changes. `Device` if the
+    /// Whether more than what was sent is reported, and then what, as `Cluster::step_by_delivery`
+    /// says. `NoSuchMessage` above the last one, or out of memory: nothing changes. `Device` if the
     /// device of its node fails: then the node is stopped.
     #[inline(always)]
     pub(crate) fn deliver(
         &mut self,
         alloc: Global,
         number: u64,
-        told: &mut Result<Effect, Fault>,
+        reported: &mut Result<Effect, Fault>,
     ) -> bool
         requires ranged { IsRangedWorld self.old.setup.config.nodes self.old.world }
         ensures answer { let setting = cluster_setting M.next M.answers M.begin self.old in
             Answers self.old (step_meant setting self.old.world (events.Deliver number)) self.new
-            (delivery_answer self.old.world self.new.world result told.new) }
+            (delivery_answer self.old.world self.new.world result reported.new) }
         ensures certain { IsLightStep (cluster_setting M.next M.answers M.begin self.old) self.old.world
             (events.Deliver number)
-            → IsOk (delivery_answer self.old.world self.new.world result told.new) }
+            → IsOk (delivery_answer self.old.world self.new.world result reported.new) }
     {
         let Some(receiver) = self.receiver_of_number(number) else {
-            *told = Err(Fault::NoSuchMessage);
+            *reported = Err(Fault::NoSuchMessage);
             return true;
         };
         let node = match receiver {
             Party::Node(node) => node,
-            Party::Task(task) => return self.give_to_task(alloc, number, task, told),
+            Party::Task(task) => return self.give_to_task(alloc, number, task, reported),
             Party::Audit => return false,
         };
         let first = self.messages() + 1;
@@ -331,11 +331,11 @@ impl<M: Machine, D: CutDevice> World<M, D> {
         match node.hear(alloc, &mut self.messages, place) {
             Ok(Dropped::No) => false,
             Ok(dropped) => {
-                *told = Ok(of_step(first, self.messages(), dropped));
+                *reported = Ok(of_step(first, self.messages(), dropped));
                 true
             }
             Err(fault) => {
-                *told = Err(fault);
+                *reported = Err(fault);
                 true
             }
         }
@@ -351,36 +351,36 @@ impl<M: Machine, D: CutDevice> World<M, D> {
             (events.Deliver number) → IsOk result }
     {
         let first = self.messages() + 1;
-        let mut told = Ok(no_effect(first));
-        if self.deliver(alloc, number, &mut told) {
-            write_effect(told, effect)
+        let mut reported = Ok(no_effect(first));
+        if self.deliver(alloc, number, &mut reported) {
+            write_effect(reported, effect)
         } else {
             *effect = of_step(first, self.messages(), Dropped::No);
             Ok(())
         }
     }
 
-    /// A message arrives at its task, which takes a reply to the call that it waits for. It is told
-    /// as `deliver` tells.
+    /// A message arrives at its task, which takes a reply to the call that it waits for. It is
+    /// reported as `deliver` says.
     #[inline(never)]
     fn give_to_task(
         &mut self,
         alloc: Global,
         number: u64,
         task: TaskId,
-        told: &mut Result<Effect, Fault>,
+        reported: &mut Result<Effect, Fault>,
     ) -> bool
         requires ranged { IsRangedWorld self.old.setup.config.nodes self.old.world }
         requires to { (m : Message) × (part_at self.old.world.sent number ≡ Some m)
             × (m.to ≡ Task task) }
         ensures answer { let setting = cluster_setting M.next M.answers M.begin self.old in
             Answers self.old (step_meant setting self.old.world (events.Deliver number)) self.new
-            (delivery_answer self.old.world self.new.world result told.new) }
+            (delivery_answer self.old.world self.new.world result reported.new) }
     {
         let first = self.messages() + 1;
         let text = self.text(number).unwrap();
         let Ok(reply) = decode_reply(alloc, text) else {
-            *told = Err(Fault::OutOfMemory);
+            *reported = Err(Fault::OutOfMemory);
             return true;
         };
         let Some((number, reply)) = reply else {
@@ -388,12 +388,12 @@ impl<M: Machine, D: CutDevice> World<M, D> {
         };
         match self.tasks[usize::from(task.get()) - 1].take(number, reply) {
             Ok(Some(answer)) => {
-                *told = Ok(taken(first, answer));
+                *reported = Ok(taken(first, answer));
                 true
             }
             Ok(None) => false,
             Err(_) => {
-                *told = Err(Fault::OutOfMemory);
+                *reported = Err(Fault::OutOfMemory);
                 true
             }
         }

@@ -1,4 +1,4 @@
--- By whether there was something to tell of it.
+-- By whether there was something to report.
 use Rattle.std.proofs.Common.{Result, Ok, ap, ◌∙◌}
 use Rattle.rp_base.specs.declared.fault.Fault.{Fault}
 use Rattle.rp_model.specs.Events.{event_of}
@@ -9,31 +9,31 @@ use Rattle.rp_world.specs.Deliveries.{only_sent}
 use Rattle.rp_world.specs.Steps.{cluster_setting}
 use Rattle.rp_run.specs.Output.{event_said}
 use Rattle.rp_run.specs.Runs.{run_setting}
-use Rattle.rp_run.proofs.GoingOn.{numbered_from_one, happened_on, told_step, untold_step, settled_one, sent_unprinted}
+use Rattle.rp_run.proofs.GoingOn.{numbered_from_one, happened_on, reported_step, unreported_step, settled_one, sent_unprinted}
 use Rattle.rp_run.proofs.RunParts.{happened, says_failed}
 use Rattle.rp_run.proofs.run.Run.deliver.Goals as goal
 
-pub tell-requires-clause-first : goal.tell-requires-clause-first
-tell-requires-clause-first g c =
+pub report_delivery-requires-clause-first : goal.report_delivery-requires-clause-first
+report_delivery-requires-clause-first g c =
     let m = g.M.Machine in
     let old = c.args.self.now.cluster in
     let by = c.step_by_delivery in
     let event = Node (Deliver c.args.message) in
-    let step = told_step m.next m.answers m.begin old by.new.self event by.result by.new.told by.ensures.step c.if-step_by_delivery.true in
-    numbered_from_one (cluster_setting m.next m.answers m.begin old) old.world by.new.self.world (event_of event) by.new.told step.world
+    let step = reported_step m.next m.answers m.begin old by.new.self event by.result by.new.reported by.ensures.step c.if-step_by_delivery.true in
+    numbered_from_one (cluster_setting m.next m.answers m.begin old) old.world by.new.self.world (event_of event) by.new.reported step.world
 
 pub returns-then-step_by_delivery : goal.returns-then-step_by_delivery
 returns-then-step_by_delivery g c =
     let m = g.M.Machine in
     let old = c.args.self.now.cluster in
     let by = c.step_by_delivery in
-    let step = told_step m.next m.answers m.begin old by.new.self (Node (Deliver c.args.message)) by.result by.new.told by.ensures.step c.if-step_by_delivery.true in
-    let on = c.tell.ensures.told old c.requires.parts step in
+    let step = reported_step m.next m.answers m.begin old by.new.self (Node (Deliver c.args.message)) by.result by.new.reported by.ensures.step c.if-step_by_delivery.true in
+    let on = c.report_delivery.ensures.goes_on old c.requires.parts step in
     record {
       parts = on.parts;
-      setup = ap (λ k. k.setup) c.tell.ensures.cluster ∙ step.setup;
+      setup = ap (λ k. k.setup) c.report_delivery.ensures.cluster ∙ step.setup;
       counts = on.counts;
-      printed = λ play follows. c.tell.ensures.printed old play step follows;
+      printed = λ play follows. c.report_delivery.ensures.printed old play step follows;
       fault = on.fault;
     }
 
@@ -47,7 +47,7 @@ returns g c =
     let event = Node (Deliver c.args.message) in
     let effect = only_sent old.world new.world in
     let answer : Result Unit Fault = Ok tt in
-    let step = untold_step m.next m.answers m.begin old new event by.result by.new.told by.ensures.step c.if-step_by_delivery.false in
+    let step = unreported_step m.next m.answers m.begin old new event by.result by.new.reported by.ensures.step c.if-step_by_delivery.false in
     let on = happened_on m.next m.answers m.begin options.config.nodes old new event c.requires.parts c.requires.message effect answer step tt in
     let s = run_setting m.next m.answers m.begin m.image old options in
     record {
@@ -72,4 +72,4 @@ pub returns-in_err-settle-clause-setup : goal.returns-in_err-settle-clause-setup
 returns-in_err-settle-clause-setup g c =
     let m = g.M.Machine in
     let by = c.step_by_delivery in
-    (untold_step m.next m.answers m.begin c.args.self.now.cluster by.new.self (Node (Deliver c.args.message)) by.result by.new.told by.ensures.step c.if-step_by_delivery.false).setup
+    (unreported_step m.next m.answers m.begin c.args.self.now.cluster by.new.self (Node (Deliver c.args.message)) by.result by.new.reported by.ensures.step c.if-step_by_delivery.false).setup

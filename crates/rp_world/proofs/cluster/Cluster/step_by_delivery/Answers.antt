@@ -19,7 +19,7 @@ invariant_of-self g c =
     let new = c.deliver.new.self in
     let s = cluster_setting m.next m.answers m.begin old in
     let step = Deliver c.args.number in
-    let answer = delivery_answer old.world new.world c.deliver.result c.deliver.new.told in
+    let answer = delivery_answer old.world new.world c.deliver.result c.deliver.new.reported in
     let whole = made_whole m.next m.answers m.begin old new (Node (steps.Deliver c.args.number)) answer step refl c.deliver.ensures.answer in
     let now = c.self.invariant in
     subst (λ (t : Setting g.row.M.Denot). IsCluster t new.world) (sym (same_setting m.next m.answers m.begin old new whole.setup))
@@ -35,14 +35,14 @@ returns-clause-step g c =
     let old = c.self.inside.world in
     let new = c.deliver.new.self in
     let step = Deliver c.args.number in
-    let tells = c.deliver.result in
-    let told = c.deliver.new.told in
-    subst (λ was. IsStep m.next m.answers m.begin was (Node (steps.Deliver c.args.number)) new (delivery_answer was.world new.world tells told)) c.self.view_is
-    (made_whole m.next m.answers m.begin old new (Node (steps.Deliver c.args.number)) (delivery_answer old.world new.world tells told) step refl c.deliver.ensures.answer)
+    let reports = c.deliver.result in
+    let reported = c.deliver.new.reported in
+    subst (λ was. IsStep m.next m.answers m.begin was (Node (steps.Deliver c.args.number)) new (delivery_answer was.world new.world reports reported)) c.self.view_is
+    (made_whole m.next m.answers m.begin old new (Node (steps.Deliver c.args.number)) (delivery_answer old.world new.world reports reported) step refl c.deliver.ensures.answer)
 
 pub returns-clause-certain : goal.returns-clause-certain
 returns-clause-certain g c =
     let m = g.M.Machine in
     let new = c.deliver.new.self in
-    subst (λ was. IsLightStep (cluster_setting m.next m.answers m.begin was) was.world (Deliver c.args.number) → IsOk (delivery_answer was.world new.world c.deliver.result c.deliver.new.told)) c.self.view_is
+    subst (λ was. IsLightStep (cluster_setting m.next m.answers m.begin was) was.world (Deliver c.args.number) → IsOk (delivery_answer was.world new.world c.deliver.result c.deliver.new.reported)) c.self.view_is
     c.deliver.ensures.certain

@@ -23,7 +23,7 @@ returns-then-deliver-clause-answer g c =
     let new = c.deliver.new.self in
     let m = step_meant (cluster_setting g.M.Machine.next g.M.Machine.answers g.M.Machine.begin was) was.world (Deliver c.args.number) in
     subst (Answers was m new) (sym c.write_effect.ensures)
-    (subst (λ (b : Bool). Answers was m new (delivery_answer was.world new.world b c.deliver.new.told)) c.if-deliver.true c.deliver.ensures.answer)
+    (subst (λ (b : Bool). Answers was m new (delivery_answer was.world new.world b c.deliver.new.reported)) c.if-deliver.true c.deliver.ensures.answer)
 
 pub returns-then-deliver-clause-certain : goal.returns-then-deliver-clause-certain
 returns-then-deliver-clause-certain g c = λ light.
@@ -31,7 +31,7 @@ returns-then-deliver-clause-certain g c = λ light.
     let new = c.deliver.new.self in
     stated_ok c.write_effect.result c.write_effect.new.effect
     (subst IsOk (sym c.write_effect.ensures)
-    (subst (λ (b : Bool). IsOk (delivery_answer was.world new.world b c.deliver.new.told)) c.if-deliver.true (c.deliver.ensures.certain light)))
+    (subst (λ (b : Bool). IsOk (delivery_answer was.world new.world b c.deliver.new.reported)) c.if-deliver.true (c.deliver.ensures.certain light)))
 
 pub returns-else-deliver-clause-answer : goal.returns-else-deliver-clause-answer
 returns-else-deliver-clause-answer g c =
@@ -44,4 +44,4 @@ returns-else-deliver-clause-answer g c =
     ∙ ap (λ (k : ℕ). stated_sent (length was.world.sent + 1) k No) c.messages.ensures.value
     ∙ sym (only_sent_more was.world new.world) in
     subst (λ (effect : Effect). Answers was m new (Ok effect)) (sym made)
-    (subst (λ (b : Bool). Answers was m new (delivery_answer was.world new.world b c.deliver.new.told)) c.if-deliver.false c.deliver.ensures.answer)
+    (subst (λ (b : Bool). Answers was m new (delivery_answer was.world new.world b c.deliver.new.reported)) c.if-deliver.false c.deliver.ensures.answer)

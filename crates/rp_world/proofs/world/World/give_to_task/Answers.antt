@@ -8,7 +8,7 @@ use Rattle.rp_world.proofs.Hearing.{take_keeps}
 use Rattle.rp_world.proofs.Messages.{has_at, seen_to, text_found, text_is}
 use Rattle.rp_world.proofs.Moving.{still_tasks}
 use Rattle.rp_world.proofs.Placing.{found_task}
-use Rattle.rp_world.proofs.OnlySent.{only_sent_none, as_told, as_untold}
+use Rattle.rp_world.proofs.OnlySent.{only_sent_none, as_reported, as_unreported}
 use Rattle.rp_world.proofs.Replied.{Answered, heard_no_reply, took_reply, not_taken, reply_of_text}
 use Rattle.rp_world.proofs.world.World.give_to_task.Goals.{in-Ok-Some, in-Ok-None, in-Err}
 use Rattle.rp_world.proofs.world.World.give_to_task.Goals as goal
@@ -45,11 +45,11 @@ returns g c =
     record {
       answer = elim c.match-take.branch [
         | in-Ok-Some w ↦
-            as_told answers f.was.world after c.match-take.told w.result-is w.told-is
+            as_reported answers f.was.world after c.match-take.reported w.result-is w.reported-is
             (took_reply f at c.take.new.self m is_reply (w.in-Ok-Some.is ∙ ap Ok w.in-Ok-Some.field-0-is) refl c.take.ensures.part c.take.ensures.taken c.messages-first.ensures.value w.taken.ensures)
         | in-Ok-None w ↦
-            as_untold answers f.was.world after c.match-take.told w.result-is
+            as_unreported answers f.was.world after c.match-take.reported w.result-is
             (took_reply f at c.take.new.self m is_reply (w.in-Ok-None.is ∙ ap Ok w.in-Ok-None.field-0-is) refl c.take.ensures.part c.take.ensures.taken refl (only_sent_none f.was.world after (sent_seen f)))
-        | in-Err w ↦ as_told answers f.was.world after c.match-take.told w.result-is w.told-is (not_taken f at c.take.new.self m w.in-Err.is refl c.take.ensures.err)
+        | in-Err w ↦ as_reported answers f.was.world after c.match-take.reported w.result-is w.reported-is (not_taken f at c.take.new.self m w.in-Err.is refl c.take.ensures.err)
       ];
     }

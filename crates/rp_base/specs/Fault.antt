@@ -1,5 +1,13 @@
--- The number and the name of each fault.
+-- The number and the name of each fault, and the words for why a deck is bad.
 use Rattle.std.specs.Prelude.{ℕ, List, codes}
+use Rattle.rp_base.specs.declared.fault.DeckReason.{DeckReason}
+use Rattle.rp_base.specs.declared.fault.DeckReason.TheVariants.{NodesExpected, UnknownWord}
+use Rattle.rp_base.specs.declared.fault.DeckReason.TheVariants.{WrongNumberOfWords, BadNumber}
+use Rattle.rp_base.specs.declared.fault.DeckReason.TheVariants.{BadName, DuplicateName, UnknownName}
+use Rattle.rp_base.specs.declared.fault.DeckReason.TheVariants.{TooMany, BadExpression}
+use Rattle.rp_base.specs.declared.fault.DeckReason.TheVariants.{TaskExpected, ObjectExpected}
+use Rattle.rp_base.specs.declared.fault.DeckReason.TheVariants.{EndExpected, ScriptExpected}
+use Rattle.rp_base.specs.declared.fault.DeckReason.TheVariants.{NotInLive}
 use Rattle.rp_base.specs.declared.fault.Fault.{Fault}
 use Rattle.rp_base.specs.declared.fault.Fault.TheVariants.{OutOfMemory, Device, Failed, BadPacket}
 use Rattle.rp_base.specs.declared.fault.Fault.TheVariants.{NotRunning, BallotsSpent, LogFull}
@@ -37,3 +45,20 @@ name_of NumbersSpent = codes "NumbersSpent"
 name_of (BadDeck line reason) = codes "BadDeck"
 name_of BadConfig = codes "BadConfig"
 name_of Io = codes "Io"
+
+-- the words for a reason
+abbrev pub reason_text_of : DeckReason → List ℕ
+reason_text_of NodesExpected = codes "nodes expected"
+reason_text_of UnknownWord = codes "unknown word"
+reason_text_of WrongNumberOfWords = codes "wrong number of words"
+reason_text_of BadNumber = codes "bad number"
+reason_text_of BadName = codes "bad name"
+reason_text_of DuplicateName = codes "duplicate name"
+reason_text_of UnknownName = codes "unknown name"
+reason_text_of TooMany = codes "too many"
+reason_text_of BadExpression = codes "bad expression"
+reason_text_of TaskExpected = codes "task expected"
+reason_text_of ObjectExpected = codes "object expected"
+reason_text_of EndExpected = codes "end expected"
+reason_text_of ScriptExpected = codes "script expected"
+reason_text_of NotInLive = codes "not in live"

@@ -2,7 +2,7 @@
 
 ghost use Rattle.std.specs.Prelude.{◌≡◌};
 ghost use Rattle.rp_base.specs.declared.fault.Fault.TheVariants.{OutOfMemory};
-ghost use Rattle.rp_base.specs.Fault.{code_of, name_of};
+ghost use Rattle.rp_base.specs.Fault.{code_of, name_of, reason_text_of};
 
 use std::alloc::{AllocError, AllocFailed};
 use thiserror::Error;
@@ -29,94 +29,93 @@ pub enum PacketReason {
 
 /// Why a deck is bad, by its first bad line.
 #[derive(Clone, Copy, Debug, PartialEq, Eq, Error)]
+#[error("{}", self.text())]
 pub enum DeckReason {
     /// The first line that is not skipped does not begin with `nodes`, or there is none.
-    #[error("nodes expected")]
     NodesExpected,
     /// The first word is not allowed at this place, or another fixed word is not the one expected.
-    #[error("unknown word")]
     UnknownWord,
     /// A word is missing or left over.
-    #[error("wrong number of words")]
     WrongNumberOfWords,
     /// No number, or one outside its range.
-    #[error("bad number")]
     BadNumber,
     /// Not of a name's form, or a word of the expressions as a component.
-    #[error("bad name")]
     BadName,
     /// Declared before.
-    #[error("duplicate name")]
     DuplicateName,
     /// Not declared, or of another kind.
-    #[error("unknown name")]
     UnknownName,
     /// The declaration or statement passes its limit, or the depth does.
-    #[error("too many")]
     TooMany,
     /// More than 32 words in an expression or a condition.
-    #[error("bad expression")]
     BadExpression,
     /// At `script`, no task is declared.
-    #[error("task expected")]
     TaskExpected,
     /// At `script`, neither a tally nor an object is declared.
-    #[error("object expected")]
     ObjectExpected,
     /// The deck ends in a body.
-    #[error("end expected")]
     EndExpected,
     /// The deck ends before `script`.
-    #[error("script expected")]
     ScriptExpected,
     /// A script line that live mode does not take.
-    #[error("not in live")]
     NotInLive,
+}
+
+impl DeckReason {
+    /// Its words, as they are printed.
+    pub fn text(&self) -> &'static str
+        ensures { result.now ≡ reason_text_of self.now }
+    {
+        match self {
+            DeckReason::NodesExpected => "nodes expected",
+            DeckReason::UnknownWord => "unknown word",
+            DeckReason::WrongNumberOfWords => "wrong number of words",
+            DeckReason::BadNumber => "bad number",
+            DeckReason::BadName => "bad name",
+            DeckReason::DuplicateName => "duplicate name",
+            DeckReason::UnknownName => "unknown name",
+            DeckReason::TooMany => "too many",
+            DeckReason::BadExpression => "bad expression",
+            DeckReason::TaskExpected => "task expected",
+            DeckReason::ObjectExpected => "object expected",
+            DeckReason::EndExpected => "end expected",
+            DeckReason::ScriptExpected => "script expected",
+            DeckReason::NotInLive => "not in live",
+        }
+    }
 }
 
 /// Why a call was refused. After `OutOfMemory`, `BadPacket` and all from `NotRunning` on nothing
 /// has changed, unless the call says otherwise.
 #[derive(Clone, Copy, Debug, PartialEq, Eq, Error)]
+#[error("{}", self.name())]
 pub enum Fault {
     /// An allocation failed.
-    #[error("OutOfMemory")]
     OutOfMemory,
     /// The device failed during this call.
-    #[error("Device")]
     Device,
     /// The device failed in an earlier call, and was not opened again.
-    #[error("Failed")]
     Failed,
     /// The bytes are no packet.
-    #[error("BadPacket")]
     BadPacket(PacketReason),
     /// The node is stopped, or the packet of a cut goes to no node.
-    #[error("NotRunning")]
     NotRunning,
     /// The node has no ballot above those that it has seen.
-    #[error("BallotsSpent")]
     BallotsSpent,
     /// The position to lead at, or one of the range, is above the log, or 64 or more above the
     /// first unlearned one.
-    #[error("LogFull")]
     LogFull,
     /// No packet of this number was sent.
-    #[error("NoSuchMessage")]
     NoSuchMessage,
     /// The task's last call has no answer yet.
-    #[error("TaskBusy")]
     TaskBusy,
     /// The task made its last call.
-    #[error("NumbersSpent")]
     NumbersSpent,
     /// The deck breaks a rule, first at this line, counted from 1.
-    #[error("BadDeck")]
     BadDeck { line: u32, reason: DeckReason },
     /// A number is outside its limits.
-    #[error("BadConfig")]
     BadConfig,
     /// A read or a write failed, a write took no byte, or the deck has more than 1,048,576 bytes.
-    #[error("Io")]
     Io,
 }
 

@@ -10,7 +10,7 @@ ghost use Rattle.rp_run.specs.Output.{names_of};
 use crate::labels::{cause_words, effect_words, line_at, message_words};
 use rp_base::{Fault, NodeId};
 use rp_codec::{Packet, Party};
-use rp_details::{Told, details};
+use rp_details::{EventPackets, details};
 use rp_drawing::{Kind, Label, Lane, Mark, Words};
 use rp_history::{Happened, Stage, delivered_by};
 use rp_machine::Machine;
@@ -69,12 +69,12 @@ impl Scene<'_> {
         match self.form {
             Form::Drawing => Ok(Vec::new(alloc)),
             Form::Page => {
-                let told = Told {
+                let packets = EventPackets {
                     tasks: self.stage.tasks,
                     delivered: delivered_by(event),
                     first,
                 };
-                details(alloc, cluster, self.options, &told)
+                details(alloc, cluster, self.options, &packets)
             }
         }
     }

@@ -17,7 +17,7 @@ use std::alloc::Global;
 
 /// What an event did to the packets of a run with n tasks.
 #[derive(Clone, Copy)]
-pub struct Told {
+pub struct EventPackets {
     /// How many tasks there are.
     pub tasks: u8,
     /// The number of the packet that it delivered, if it delivered one.
@@ -33,7 +33,7 @@ pub fn details<M: Machine, D: CutDevice>(
     alloc: Global,
     cluster: &Cluster<M, D>,
     options: &RunOptions<'_>,
-    told: &Told,
+    packets: &EventPackets,
 ) -> Result<Vec<u8>, Fault>
     requires { cluster.now.setup.config.nodes ≡ options.now.config.nodes }
     // claim: What a page says of an event is, line by line: the packet that was delivered and those
@@ -43,15 +43,15 @@ pub fn details<M: Machine, D: CutDevice>(
     //   each task how many replies it got, the last one, and the call that it waits for
     ensures { IfOk result (λ text. text.items ≡ details_text
         (run_setting M.next M.answers M.begin M.image cluster.now options.now)
-        told.now.tasks told.now.delivered told.now.first cluster.now.world) }
+        packets.now.tasks packets.now.delivered packets.now.first cluster.now.world) }
 {
     let mut text = Vec::new(alloc);
-    add_delivered(alloc, &mut text, cluster, options.tasks, told.delivered)?;
+    add_delivered(alloc, &mut text, cluster, options.tasks, packets.delivered)?;
     add_line(&mut text, "sent:")?;
-    add_packets(alloc, &mut text, cluster, options.tasks, told.first)?;
+    add_packets(alloc, &mut text, cluster, options.tasks, packets.first)?;
     add_line(&mut text, "nodes:")?;
     add_nodes(alloc, &mut text, cluster, options)?;
     add_line(&mut text, "tasks:")?;
-    add_tasks(alloc, &mut text, cluster, options.tasks, told.tasks)?;
+    add_tasks(alloc, &mut text, cluster, options.tasks, packets.tasks)?;
     Ok(text)
 }

@@ -18,4 +18,4 @@ mod nodes;
 mod packets;
 mod tasks;
 
-pub use event::{Told, details};
+pub use event::{EventPackets, details};

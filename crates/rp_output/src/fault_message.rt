@@ -2,11 +2,11 @@
 
 ghost use Rattle.std.specs.Prelude.{◌≡◌, ◌≤◌, ◌↔◌, IfErr, IsTrue, Some};
 ghost use Rattle.rp_model.specs.rp_base.specs.Fault.{code_of};
-ghost use Rattle.rp_output.specs.FaultMessage.{reason_text_of, fault_message_of, with_line_feed};
+ghost use Rattle.rp_output.specs.FaultMessage.{fault_message_of, with_line_feed};
 ghost use Rattle.rp_output.specs.Stream.{IsWriteFault, Writes};
 
 use crate::stream::report;
-use rp_base::{DeckReason, Fault};
+use rp_base::Fault;
 use std::fmt;
 use std::io::Write;
 
@@ -27,34 +27,12 @@ pub fn is_refusal(fault: &Fault) -> bool
 
 /// Writes the line for a fault: where and why the deck is bad, or the fault's number and name. `Io`
 /// if a write fails, and then a prefix of the line was written.
-pub fn tell<W: Write>(fault: &Fault, writer: &mut W) -> Result<(), Fault>
+pub fn report_fault<W: Write>(fault: &Fault, writer: &mut W) -> Result<(), Fault>
     ensures written { Writes (W.contents writer.old) (W.contents writer.new)
         (with_line_feed (fault_message_of fault.now)) result }
     ensures fault { IfErr result IsWriteFault }
 {
     report(writer, FaultMessage { fault: *fault })
-}
-
-/// The words for a reason.
-pub fn reason_text(reason: DeckReason) -> &'static str
-    ensures { result.now ≡ reason_text_of reason }
-{
-    match reason {
-        DeckReason::NodesExpected => "nodes expected",
-        DeckReason::UnknownWord => "unknown word",
-        DeckReason::WrongNumberOfWords => "wrong number of words",
-        DeckReason::BadNumber => "bad number",
-        DeckReason::BadName => "bad name",
-        DeckReason::DuplicateName => "duplicate name",
-        DeckReason::UnknownName => "unknown name",
-        DeckReason::TooMany => "too many",
-        DeckReason::BadExpression => "bad expression",
-        DeckReason::TaskExpected => "task expected",
-        DeckReason::ObjectExpected => "object expected",
-        DeckReason::EndExpected => "end expected",
-        DeckReason::ScriptExpected => "script expected",
-        DeckReason::NotInLive => "not in live",
-    }
 }
 
 /// The line for a fault.
@@ -69,7 +47,7 @@ impl fmt::Display for FaultMessage {
     fn fmt<W: fmt::Write>(&self, f: &mut fmt::Formatter<W>) -> fmt::Result {
         match self.fault {
             Fault::BadDeck { line, reason } => {
-                let reason = reason_text(reason);
+                let reason = reason.text();
                 write!(f, "deck line {line}: {reason}")
             }
             fault => {

@@ -6,7 +6,7 @@ ghost use Rattle.rp_c.specs.Status.{status_code};
 
 use crate::status::Status;
 use rp_base::Fault;
-use rp_script::{MOST_BYTES, report_fault, run_script};
+use rp_script::{MOST_BYTES, run_script, tell};
 use std::alloc::Global;
 
 /// Runs the script of a deck, and puts what it prints into the answer, and its length into `used`;
@@ -42,7 +42,7 @@ fn run(alloc: Global, deck: &[u8], traced: bool, answer: &mut [u8], used: &mut u
     let mut text = Vec::new(alloc);
     match run_script(alloc, &mut reader, traced, &mut text) {
         Ok(()) => put(text.as_slice(), answer, used, Status::Done),
-        Err(fault @ Fault::BadDeck { .. }) => match report_fault(&fault, &mut text) {
+        Err(fault @ Fault::BadDeck { .. }) => match tell(&fault, &mut text) {
             Ok(()) => put(text.as_slice(), answer, used, Status::BadDeck),
             Err(_) => Status::OutOfMemory,
         },

@@ -4,7 +4,7 @@ ghost use Rattle.std.specs.Prelude.{◌≡◌, IfSome, OnOk};
 ghost use Rattle.std.specs.Io.KnownBytes.{Appends};
 ghost use Rattle.rp_output.specs.Endings.{RefusesFor, ReportsFault, no_run_status, status_of};
 
-use crate::fault_message::report_fault;
+use crate::fault_message::tell;
 use crate::stream::write_out;
 use rp_base::Fault;
 use std::fmt::Display;
@@ -101,7 +101,7 @@ pub fn fail<E: Write>(errors: &mut E, fault: Fault) -> Ending
     ensures status { result.status ≡ status_of fault }
     ensures reported { ReportsFault fault (E.contents errors.old) (E.contents errors.new) result }
 {
-    let reported = report_fault(&fault, errors);
+    let reported = tell(&fault, errors);
     Ending {
         status: status(&fault),
         reported,

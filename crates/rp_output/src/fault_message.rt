@@ -27,7 +27,7 @@ pub fn is_refusal(fault: &Fault) -> bool
 
 /// Writes the line for a fault: where and why the deck is bad, or the fault's number and name. `Io`
 /// if a write fails, and then a prefix of the line was written.
-pub fn report_fault<W: Write>(fault: &Fault, writer: &mut W) -> Result<(), Fault>
+pub fn tell<W: Write>(fault: &Fault, writer: &mut W) -> Result<(), Fault>
     ensures written { Writes (W.contents writer.old) (W.contents writer.new)
         (with_line_feed (fault_message_of fault.now)) result }
     ensures fault { IfErr result IsWriteFault }

@@ -17,7 +17,7 @@ mod stream;
 mod trace;
 
 pub use ending::{Ending, NoRun, Streams, fail, refuse};
-pub use fault_message::{FaultMessage, is_refusal, report_fault};
+pub use fault_message::{FaultMessage, is_refusal, tell};
 pub use printed::{
     AgreedLine, DrainLimitLine, NodeLine, NodeState, RefusedLine, ReplyLine, ReplyText,
 };

@@ -20,6 +20,6 @@ pub use figures::FiguresLine;
 pub use live_run::{LiveRequest, run_live};
 pub use rp_output::{
     BodyText, FaultMessage, NodeLine, NodeState, PartyText, RefusedLine, ReplyLine, ReplyText,
-    TraceLine, is_refusal, print, report_fault, write_out, write_whole,
+    TraceLine, is_refusal, print, tell, write_out, write_whole,
 };
 pub use rp_run::{RunOptions, Settled, node_of_event, party_text, run_lines, sent_packet};

@@ -28,9 +28,9 @@ use Rattle.rp_console.specs.CommandLine.{live_args, subcommand_word}
 use Rattle.rp_console.specs.CommandLine.{seed_of, trace_of, turns_of, IsChartRequest, IsRequest}
 use Rattle.rp_console.specs.CommandLine.{IsLanguage, ReadsAs}
 use Rattle.rp_console.specs.RefusedWords.{RefusesAs}
-use Rattle.rp_bind_run.specs.rp_script.specs.Figures.{figures_line_of}
+use Rattle.rp_live_run.specs.Figures.{figures_line_of}
 use Rattle.rp_bind_run.specs.rp_script.specs.Given.{FailsRun}
-use Rattle.rp_bind_run.specs.rp_script.specs.LiveRun.{LiveBegins, LivePrints}
+use Rattle.rp_live_run.specs.LiveRun.{LiveBegins, LivePrints}
 use Rattle.rp_bind_run.specs.rp_output.specs.Endings.{ReportsFault, status_of}
 use Rattle.rp_bind_run.specs.rp_output.specs.FaultMessage.{fault_message_of, with_line_feed}
 use Rattle.rp_bind_run.specs.rp_output.specs.Stream.{IsReadFault, Writes}

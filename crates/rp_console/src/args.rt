@@ -12,8 +12,8 @@ use rp_bind::Language;
 use rp_chart::ChartRequest;
 use rp_explore_run::ExploreRequest;
 use rp_history::View;
+use rp_live_run::LiveRequest;
 use rp_page::Form;
-use rp_script::LiveRequest;
 use std::alloc::{AllocError, Global};
 use std::convert::AsStr;
 

@@ -1,5 +1,2 @@
-mod Crossings
-mod LiveEvents
-mod LivePrinting
 mod Kept
 pub mod Failing

@@ -2,9 +2,6 @@ pub mod Faults
 pub mod Given
 pub mod Output
 pub mod Agreeing
-pub mod LiveRun
-pub mod LiveOutput
-pub mod Figures
 pub use Rattle.rp_deck.specs.indexmap
 pub use Rattle.rp_deck.specs.rp_base
 pub use Rattle.rp_deck

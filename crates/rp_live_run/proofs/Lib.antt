@@ -1,0 +1,3 @@
+mod Crossings
+mod LiveEvents
+mod LivePrinting

@@ -1,7 +1,0 @@
--- The events so far are those of the lines so far.
-use Rattle.std.proofs.Common.{◌≡◌, take}
-use Rattle.rp_script.specs.LiveRun.{events_of}
-use Rattle.rp_script.proofs.live_run.events_of.Given as goal
-
-abbrev pub invariant-loop-line : goal.invariant-loop-line
-invariant-loop-line l = l.events.items ≡ events_of (take l.line-index l.script)

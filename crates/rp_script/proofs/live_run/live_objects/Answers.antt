@@ -1,7 +1,0 @@
-use denote.Param.Send.{sendable}
-use Rattle.std.proofs.Crossing.{crosses}
-use Rattle.rp_script.proofs.Crossings.{objects_send}
-use Rattle.rp_script.proofs.live_run.live_objects.Goals as goal
-
-pub live-requires-send-M : goal.live-requires-send-M
-live-requires-send-M g c κs within = search (crosses, sendable, objects_send) depth 16

@@ -18,7 +18,7 @@ use rp_base::{Config, Fault, MOST_NODES, MOST_TASKS, NodeId, TaskId};
 use rp_machine::Machine;
 use rp_replica::Replica;
 use rp_store::Device;
-use rp_world::{Task, are_empty};
+use rp_actors::{Task, are_empty};
 use std::alloc::{AllocError, Global};
 use std::marker::Model;
 use std::snapshot::Snapshot;

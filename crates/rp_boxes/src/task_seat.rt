@@ -20,7 +20,7 @@ use rp_codec::{Party, encode_onto};
 use rp_machine::Machine;
 use rp_model::Dropped;
 use rp_replica::Sent;
-use rp_world::{Task, asks, decode_reply};
+use rp_actors::{Task, asks, decode_reply};
 use std::alloc::{AllocError, Global};
 use std::marker::{Brand, Model};
 

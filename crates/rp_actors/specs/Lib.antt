@@ -5,11 +5,6 @@ pub mod Shape
 pub mod Callers
 pub mod Nodes
 pub mod Going
-pub use Rattle.rp_agreement
-pub use Rattle.rp_base
-pub use Rattle.rp_codec
-pub use Rattle.rp_model.specs.rp_machine
-pub use Rattle.rp_model
 pub use Rattle.rp_replica.specs.rp_outbox
 pub use Rattle.rp_replica
 pub use Rattle.rp_replica.specs.rp_rules

@@ -7,23 +7,23 @@ use Rattle.rp_base.specs.declared.record.Rec.{Rec}
 use Rattle.rp_codec.specs.Message.{Message, IsPacket}
 use Rattle.rp_codec.specs.Reading.{all_of}
 use Rattle.rp_codec.specs.Text.{text_of}
-use Rattle.rp_world.specs.rp_store.specs.Disk.{Disk}
+use Rattle.rp_actors.specs.rp_store.specs.Disk.{Disk}
 use Rattle.rp_model.specs.Effect as nodes
 use Rattle.rp_model.specs.Effect.{Setting, Done, NodeInput, effect_while, node_effect, cut_effect, cut_if, cut_part, turn_done, turn_done_if, goes_on_as}
 use Rattle.rp_model.specs.Parts.{NodePart, Running, Turn}
 use Rattle.rp_model.specs.rp_machine.specs.declared.machine.Machine.{Ghosts}
 use Rattle.rp_agreement.specs.Inputs.{IsInput}
-use Rattle.rp_world.specs.rp_replica.specs.State.{ReplicaState, with_text}
-use Rattle.rp_world.specs.rp_replica.specs.Inputs.{effect_if_given, input_effect, replica_effect}
-use Rattle.rp_world.specs.rp_rules.specs.Inputs.{IsLong, IsRightInput, packet_given, given_by}
-use Rattle.rp_world.specs.rp_replica.specs.Turning.{TurnsIf, FailsAt, IsCertain, Stops, StopsIf}
-use Rattle.rp_world.specs.rp_rules.specs.declared.input.Input.{Input}
-use Rattle.rp_world.specs.rp_rules.specs.declared.input.Input.TheVariants.{Receive, Lead, LeadRange, Interrupt, Tick, Report, Ask}
-use Rattle.rp_world.specs.rp_replica.specs.declared.sent.Sent.{Sent}
-use Rattle.rp_world.specs.Nodes.{Member, member_of, RunsAs, RepresentsWhile, IsLight}
-use Rattle.rp_world.proofs.Light.{light_turn}
-use Rattle.rp_world.proofs.Represented.{represents, represents_failed, as_running, as_resting}
-use Rattle.rp_world.proofs.Turning.{same_effect, is_cut, taken, false_true}
+use Rattle.rp_actors.specs.rp_replica.specs.State.{ReplicaState, with_text}
+use Rattle.rp_actors.specs.rp_replica.specs.Inputs.{effect_if_given, input_effect, replica_effect}
+use Rattle.rp_actors.specs.rp_rules.specs.Inputs.{IsLong, IsRightInput, packet_given, given_by}
+use Rattle.rp_actors.specs.rp_replica.specs.Turning.{TurnsIf, FailsAt, IsCertain, Stops, StopsIf}
+use Rattle.rp_actors.specs.rp_rules.specs.declared.input.Input.{Input}
+use Rattle.rp_actors.specs.rp_rules.specs.declared.input.Input.TheVariants.{Receive, Lead, LeadRange, Interrupt, Tick, Report, Ask}
+use Rattle.rp_actors.specs.rp_replica.specs.declared.sent.Sent.{Sent}
+use Rattle.rp_actors.specs.Nodes.{Member, member_of, RunsAs, RepresentsWhile, IsLight}
+use Rattle.rp_actors.proofs.Light.{light_turn}
+use Rattle.rp_actors.proofs.Represented.{represents, represents_failed, as_running, as_resting}
+use Rattle.rp_actors.proofs.Turning.{same_effect, is_cut, taken, false_true}
 use Rattle.rp_boxes.specs.Parts.{Part, OfNode, part_after}
 use Rattle.rp_boxes.specs.Rule.{HasOwnPackets}
 use Rattle.rp_boxes.specs.Seats.{SeatSetup, SeatState, IsNodeAt, IsNoted, HasInputRanges, IsGot, IsReason, IsTurn, IsCutTurn, IsLightTurn, IsNoTurn, setting_at}

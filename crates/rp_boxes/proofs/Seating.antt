@@ -4,10 +4,10 @@ use Rattle.std.proofs.lemmas.Bool.{ne_eqb, lt-ltb}
 use Rattle.atomic_table.specs.Seated.{TableId}
 use Rattle.rp_base.specs.declared.config.Config.{Config}
 use Rattle.rp_model.specs.Parts.{fresh_node, fresh_task}
-use Rattle.rp_world.specs.rp_replica.specs.State.{ReplicaState}
-use Rattle.rp_world.specs.Nodes.{member_of, RunsAs}
-use Rattle.rp_world.proofs.Fresh.{one_more}
-use Rattle.rp_world.proofs.Represented.{represents}
+use Rattle.rp_actors.specs.rp_replica.specs.State.{ReplicaState}
+use Rattle.rp_actors.specs.Nodes.{member_of, RunsAs}
+use Rattle.rp_actors.proofs.Fresh.{one_more}
+use Rattle.rp_actors.proofs.Represented.{represents}
 use Rattle.rp_boxes.specs.Parts.{Part, View, OfNode, OfTask, OfAudit, first_role, first_part, first_from}
 use Rattle.rp_boxes.specs.Plays.{Sight, IsSized, alone}
 use Rattle.rp_boxes.specs.Seats.{SeatState, IsAtTable, IsNodeAt}

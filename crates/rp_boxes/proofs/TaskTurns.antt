@@ -24,9 +24,9 @@ use Rattle.rp_model.specs.Tasks.{TaskInput, asks, next_call, may_call, calls_if,
 use Rattle.rp_agreement.specs.Inputs.{IsTaskInput, WaitsForOwn}
 use Rattle.rp_agreement.specs.Sound.{IsCall}
 use Rattle.rp_agreement.proofs.Lists.{some_same}
-use Rattle.rp_world.specs.rp_replica.specs.declared.sent.Sent.{Sent}
-use Rattle.rp_world.specs.Callers.{Caller}
-use Rattle.rp_world.specs.Going.{reply_in}
+use Rattle.rp_actors.specs.rp_replica.specs.declared.sent.Sent.{Sent}
+use Rattle.rp_actors.specs.Callers.{Caller}
+use Rattle.rp_actors.specs.Going.{reply_in}
 use Rattle.rp_boxes.specs.Parts.{Part, Role, OfTask, part_after}
 use Rattle.rp_boxes.specs.Seats.{SeatSetup, SeatState, IsNoted, setting_at}
 use Rattle.rp_boxes.specs.Steps.{HasEvent}

@@ -5,9 +5,9 @@ use Rattle.rp_base.specs.declared.action.Action.{Action}
 use Rattle.rp_base.specs.declared.reply.Answer.{Answer}
 use Rattle.rp_model.specs.rp_machine.specs.Replay.{kept_of}
 use Rattle.rp_model.specs.Parts.{NodePart, Running}
-use Rattle.rp_world.specs.rp_replica.specs.State.{ReplicaState, part_of}
-use Rattle.rp_world.specs.rp_server.specs.Free.{has_uncounted}
-use Rattle.rp_world.specs.Nodes.{Member, RestsAs, RunsAs, RepresentsWhile, member_of}
+use Rattle.rp_actors.specs.rp_replica.specs.State.{ReplicaState, part_of}
+use Rattle.rp_actors.specs.rp_server.specs.Free.{has_uncounted}
+use Rattle.rp_actors.specs.Nodes.{Member, RestsAs, RunsAs, RepresentsWhile, member_of}
 use Rattle.rp_boxes.specs.Parts.{Role, OfNode}
 use Rattle.rp_boxes.specs.Seats.{SeatState, IsNodeAt, HasUncounted}
 

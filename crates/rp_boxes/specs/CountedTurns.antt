@@ -2,11 +2,11 @@
 use Rattle.std.specs.Prelude.{◌≡◌, ℕ, Ok}
 use Rattle.rp_model.specs.Effect.{Setting, Done, NodeInput, node_effect}
 use Rattle.rp_model.specs.Parts.{NodePart}
-use Rattle.rp_world.specs.rp_replica.specs.State.{ReplicaState}
-use Rattle.rp_world.specs.rp_rules.specs.Inputs.{given_by}
-use Rattle.rp_world.specs.rp_rules.specs.declared.input.Input.{Input}
-use Rattle.rp_world.specs.rp_replica.specs.declared.sent.Sent.{Sent}
-use Rattle.rp_world.specs.Nodes.{member_of, RepresentsWhile, DescribesSent}
+use Rattle.rp_actors.specs.rp_replica.specs.State.{ReplicaState}
+use Rattle.rp_actors.specs.rp_rules.specs.Inputs.{given_by}
+use Rattle.rp_actors.specs.rp_rules.specs.declared.input.Input.{Input}
+use Rattle.rp_actors.specs.rp_replica.specs.declared.sent.Sent.{Sent}
+use Rattle.rp_actors.specs.Nodes.{member_of, RepresentsWhile, DescribesSent}
 use Rattle.rp_boxes.specs.Parts.{Part, OfNode, part_after}
 use Rattle.rp_boxes.specs.Steps.{IsCutStep}
 

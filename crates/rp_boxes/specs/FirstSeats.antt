@@ -5,7 +5,7 @@ use Rattle.atomic_table.specs.Seated.{TableId}
 use Rattle.rp_base.specs.declared.config.Config.{Config}
 use Rattle.rp_base.specs.declared.fault.Fault.{Fault}
 use Rattle.rp_base.specs.declared.fault.Fault.TheVariants.{OutOfMemory, Device}
-use Rattle.rp_world.specs.rp_store.specs.Disk.{Disk}
+use Rattle.rp_actors.specs.rp_store.specs.Disk.{Disk}
 use Rattle.rp_boxes.specs.Parts.{View, first_part, first_from}
 use Rattle.rp_boxes.specs.Plays.{Sight, IsSized, alone}
 use Rattle.rp_boxes.specs.Seats.{SeatState}

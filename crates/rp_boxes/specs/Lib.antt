@@ -17,6 +17,6 @@ pub use Rattle.atomic_table
 pub use Rattle.rp_agreement
 pub use Rattle.rp_model.specs.rp_machine
 pub use Rattle.rp_model
-pub use Rattle.rp_world.specs.rp_rules
-pub use Rattle.rp_world.specs.rp_store
-pub use Rattle.rp_world
+pub use Rattle.rp_actors.specs.rp_rules
+pub use Rattle.rp_actors.specs.rp_store
+pub use Rattle.rp_actors

@@ -24,15 +24,15 @@ use Rattle.rp_model.specs.rp_machine.specs.declared.machine.Machine.{Ghosts}
 use Rattle.rp_model.specs.Parts.{NodePart, Running}
 use Rattle.rp_agreement.specs.Answered.{setting_for}
 use Rattle.rp_agreement.specs.Sound.{IsMember}
-use Rattle.rp_world.specs.rp_replica.specs.State.{ReplicaState}
-use Rattle.rp_world.specs.rp_server.specs.Free.{has_uncounted}
-use Rattle.rp_world.specs.rp_rules.specs.Inputs.{IsLong, given_by}
-use Rattle.rp_world.specs.rp_rules.specs.declared.input.Input.{Input}
-use Rattle.rp_world.specs.rp_rules.specs.declared.input.Input.TheVariants.{Receive, Lead, LeadRange}
-use Rattle.rp_world.specs.rp_rules.specs.declared.input.Input.TheVariants.{Interrupt}
-use Rattle.rp_world.specs.rp_rules.specs.declared.input.Input.TheVariants.{Tick, Report, Ask}
-use Rattle.rp_world.specs.rp_replica.specs.declared.sent.Sent.{Sent}
-use Rattle.rp_world.specs.Nodes.{member_of, RepresentsWhile, DescribesSent, IsLight}
+use Rattle.rp_actors.specs.rp_replica.specs.State.{ReplicaState}
+use Rattle.rp_actors.specs.rp_server.specs.Free.{has_uncounted}
+use Rattle.rp_actors.specs.rp_rules.specs.Inputs.{IsLong, given_by}
+use Rattle.rp_actors.specs.rp_rules.specs.declared.input.Input.{Input}
+use Rattle.rp_actors.specs.rp_rules.specs.declared.input.Input.TheVariants.{Receive, Lead, LeadRange}
+use Rattle.rp_actors.specs.rp_rules.specs.declared.input.Input.TheVariants.{Interrupt}
+use Rattle.rp_actors.specs.rp_rules.specs.declared.input.Input.TheVariants.{Tick, Report, Ask}
+use Rattle.rp_actors.specs.rp_replica.specs.declared.sent.Sent.{Sent}
+use Rattle.rp_actors.specs.Nodes.{member_of, RepresentsWhile, DescribesSent, IsLight}
 use Rattle.rp_boxes.specs.declared.board.Setup.{Setup}
 use Rattle.rp_boxes.specs.Parts.{Part, Role, OfNode, part_in, part_after, with_put, with_got}
 use Rattle.rp_boxes.specs.Rule.{HasOwnPackets}

@@ -19,9 +19,9 @@ use Rattle.rp_model.specs.Tasks.{TaskInput, Take, asks, takes_reply, task_effect
 use Rattle.rp_model.specs.declared.effect.Dropped.TheVariants.{No}
 use Rattle.rp_agreement.specs.Answered.{AreItsCalls, named}
 use Rattle.rp_agreement.specs.Inputs.{WaitsForOwn}
-use Rattle.rp_world.specs.rp_outbox.specs.Packets.{texts_of}
-use Rattle.rp_world.specs.rp_replica.specs.declared.sent.Sent.{Sent}
-use Rattle.rp_world.specs.Callers.{Caller}
+use Rattle.rp_actors.specs.rp_outbox.specs.Packets.{texts_of}
+use Rattle.rp_actors.specs.rp_replica.specs.declared.sent.Sent.{Sent}
+use Rattle.rp_actors.specs.Callers.{Caller}
 use Rattle.rp_boxes.specs.Parts.{Part, Role, OfTask, task_of, part_after}
 use Rattle.rp_boxes.specs.Seats.{SeatSetup, SeatState}
 

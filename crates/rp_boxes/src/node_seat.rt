@@ -6,8 +6,8 @@ ghost use Rattle.rp_base.specs.declared.fault.Fault.TheVariants as faults;
 ghost use Rattle.rp_codec.specs.Message.{Message, IsPacket};
 ghost use Rattle.rp_codec.specs.declared.packet.Party.TheVariants.{Node};
 ghost use Rattle.rp_model.specs.Parts.{Running};
-ghost use Rattle.rp_world.specs.rp_rules.specs.Inputs.{IsRightInput};
-ghost use Rattle.rp_world.specs.rp_rules.specs.declared.input.Input.TheVariants.{Report};
+ghost use Rattle.rp_actors.specs.rp_rules.specs.Inputs.{IsRightInput};
+ghost use Rattle.rp_actors.specs.rp_rules.specs.declared.input.Input.TheVariants.{Report};
 ghost use Rattle.rp_boxes.specs.Seats.{IsGot, IsTurn, IsCutTurn, IsLightTurn, IsNoTurn, HasApplied, HasUncounted, IsRunning, IsStopped, IsReport};
 
 use crate::input::keeps_ranges;

@@ -14,13 +14,13 @@ ghost use Rattle.rp_boxes.specs.TaskSeats.{asked_of, DescribesPackets, reply_eff
 use crate::input::node_keeps_range;
 use crate::laws::order_laws;
 use crate::seat::{Fetch, Put, Seat};
+use rp_actors::{Task, asks, decode_reply};
 use rp_agreement::tasks_send_right_packets;
 use rp_base::{Action, Answer, Config, Fault, NodeId, Operation, Reply, TaskId};
 use rp_codec::{Party, encode_onto};
 use rp_machine::Machine;
 use rp_model::Dropped;
 use rp_replica::Sent;
-use rp_world::{Task, asks, decode_reply};
 use std::alloc::{AllocError, Global};
 use std::marker::{Brand, Model};
 

@@ -14,7 +14,7 @@ use Rattle.rp_run.specs.Runs.{Follows, Says}
 use Rattle.rp_run.specs.rp_output.specs.Stream.{Writes}
 use Rattle.rp_run.specs.declared.settled.Settled.{Settled}
 use Rattle.rp_run.specs.rp_output.proofs.Writing.{begins_nothing}
-use Rattle.rp_run.specs.rp_world.specs.Steps.{ClusterState, cluster_setting}
+use Rattle.rp_world.specs.rp_actors.specs.Steps.{ClusterState, cluster_setting}
 use Rattle.rp_run.specs.rp_world.proofs.Answering.{same_setting}
 use Rattle.rp_chart_run.specs.Charts.{HasWays, IsCharted}
 

@@ -9,7 +9,7 @@ use Rattle.rp_run.specs.Output.{Play}
 use Rattle.rp_run.specs.Runs.{Follows}
 use Rattle.rp_run.specs.Settled.{is_settled}
 use Rattle.rp_run.specs.declared.settled.Settled.{Settled}
-use Rattle.rp_run.specs.rp_world.specs.Steps.{ClusterState, cluster_setting}
+use Rattle.rp_world.specs.rp_actors.specs.Steps.{ClusterState, cluster_setting}
 use Rattle.rp_chart_run.specs.declared.walk.Walk.{Walk}
 
 -- the same messages are settled

@@ -14,7 +14,7 @@ use Rattle.rp_run.specs.rp_model.specs.Parts.{NodePart, Running}
 use Rattle.rp_run.specs.rp_model.specs.World.{World, Transition, part_at}
 use Rattle.rp_run.specs.rp_model.specs.declared.effect.Effect.{Effect}
 use Rattle.rp_run.specs.rp_model.specs.declared.event.Event.{Event}
-use Rattle.rp_run.specs.rp_world.specs.Nodes.{stored_length}
+use Rattle.rp_world.specs.rp_actors.specs.Nodes.{stored_length}
 
 -- how many actions a node with these records has applied, 0 if it is stopped
 abbrev pub applied_while : List Rec → Option Running → ℕ

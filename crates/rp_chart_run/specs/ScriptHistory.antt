@@ -34,7 +34,7 @@ use Rattle.rp_page.specs.declared.page.Form.TheVariants.{Drawing, Page}
 use Rattle.rp_run.specs.Output.{RunSetting, Play, transition_of, event_said, command_said, from_to}
 use Rattle.rp_run.specs.Output.{is_among, least_unsettled, opening_play}
 use Rattle.rp_run.specs.Runs.{run_setting}
-use Rattle.rp_run.specs.rp_world.specs.Steps.{ClusterState}
+use Rattle.rp_world.specs.rp_actors.specs.Steps.{ClusterState}
 use Rattle.rp_chart_run.specs.Causes.{cause_text, line_text, packet_text}
 use Rattle.rp_chart_run.specs.Effects.{effect_text, refusal_text}
 use Rattle.rp_chart_run.specs.Prospects.{happened_in}

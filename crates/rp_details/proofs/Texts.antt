@@ -17,8 +17,8 @@ use Rattle.rp_world.specs.rp_machine.specs.Replay.{one_to, replay_state}
 use Rattle.rp_world.specs.rp_model.specs.Parts.{NodePart, Running}
 use Rattle.rp_world.specs.rp_model.specs.World.{World, part_at}
 use Rattle.rp_world.specs.rp_server.specs.State.{ServerState}
-use Rattle.rp_world.specs.Nodes.{stored_length}
-use Rattle.rp_world.specs.Steps.{IsQueryAnswer, IsQueryAnswerUnlessMemory, IsRunningQueryAnswer, IsRunningServerOf, IsServerOf, IsStored}
+use Rattle.rp_world.specs.rp_actors.specs.Nodes.{stored_length}
+use Rattle.rp_world.specs.rp_actors.specs.Steps.{IsQueryAnswer, IsQueryAnswerUnlessMemory, IsRunningQueryAnswer, IsRunningServerOf, IsServerOf, IsStored}
 use Rattle.rp_run.specs.rp_output.specs.FaultMessage.{with_line_feed}
 use Rattle.rp_run.specs.rp_output.specs.Printed.{applied_line_of, stopped_line_of}
 use Rattle.rp_run.specs.rp_output.specs.Trace.{party_text_of}

@@ -19,7 +19,7 @@ use Rattle.rp_run.specs.rp_output.specs.Printed.{reply_text_of}
 use Rattle.rp_run.specs.rp_output.specs.Trace.{message_line_of, party_text_of}
 use Rattle.rp_run.specs.Items.{items_text}
 use Rattle.rp_run.specs.Output.{RunSetting, part_items}
-use Rattle.rp_world.specs.Nodes.{stored_length}
+use Rattle.rp_world.specs.rp_actors.specs.Nodes.{stored_length}
 use Rattle.rp_details.specs.Fields.{action_words, asked_words, bound_words, fields_words}
 
 -- a packet of this number: its line, as a trace prints it, and its fields below it

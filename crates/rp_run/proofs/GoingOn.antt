@@ -18,8 +18,8 @@ use Rattle.rp_model.specs.declared.event.Step.TheVariants.{Deliver}
 use Rattle.rp_output.specs.Faults.{IsRunFault}
 use Rattle.rp_output.specs.Stream.{Writes}
 use Rattle.rp_output.proofs.Writing.{writes_same}
-use Rattle.rp_world.specs.Deliveries.{only_sent, delivery_answer}
-use Rattle.rp_world.specs.Steps.{ClusterState, IsStep}
+use Rattle.rp_world.specs.rp_actors.specs.Deliveries.{only_sent, delivery_answer}
+use Rattle.rp_world.specs.rp_actors.specs.Steps.{ClusterState, IsStep}
 use Rattle.rp_run.specs.GoingOn.{RunGoesOn}
 use Rattle.rp_run.specs.Output.{is_among}
 use Rattle.rp_run.specs.Runs.{HasParts, printed_text}

@@ -11,7 +11,7 @@ use Rattle.rp_base.specs.declared.fault.Fault.{Fault}
 use Rattle.rp_base.specs.declared.record.Rec.{Rec}
 use Rattle.rp_model.specs.rp_machine.specs.Replay.{one_to, replay_state}
 use Rattle.rp_model.specs.Parts.{NodePart, Running}
-use Rattle.rp_world.specs.Steps.{IsQueryAnswer, IsRunningQueryAnswer, IsQueryAnswerUnlessMemory}
+use Rattle.rp_world.specs.rp_actors.specs.Steps.{IsQueryAnswer, IsRunningQueryAnswer, IsQueryAnswerUnlessMemory}
 use Rattle.rp_output.specs.Printed.{applied_line_of, stopped_line_of}
 use Rattle.rp_output.specs.FaultMessage.{with_line_feed}
 use Rattle.rp_model.specs.World.{World, part_at}

@@ -17,8 +17,8 @@ use Rattle.rp_model.specs.Events.{event_of}
 use Rattle.rp_model.specs.Parts.{fresh_node, fresh_task}
 use Rattle.rp_model.specs.World.{World, Transition, event_effect, node_of, opening_world, part_at}
 use Rattle.rp_world.specs.rp_agreement.proofs.PartPlaces.{put_there}
-use Rattle.rp_world.specs.Failures.{AreCounted, RisesAt, RisesOnly}
-use Rattle.rp_world.specs.Steps.{ClusterState, Setup, cluster_setting}
+use Rattle.rp_world.specs.rp_actors.specs.Failures.{AreCounted, RisesAt, RisesOnly}
+use Rattle.rp_world.specs.rp_actors.specs.Steps.{ClusterState, Setup, cluster_setting}
 use Rattle.rp_run.specs.Faults.{IsDeviceRunFault}
 use Rattle.rp_output.specs.Faults.{IsRunFault}
 use Rattle.rp_run.specs.Runs.{HasParts, run_setting}

@@ -1,7 +1,7 @@
 -- How a run goes on after an event (no public clause names it).
 use Rattle.std.specs.Prelude.{◌≡◌, ℕ, Result, IfErr, OnOk}
 use Rattle.rp_base.specs.declared.fault.Fault.{Fault}
-use Rattle.rp_world.specs.Steps.{ClusterState}
+use Rattle.rp_world.specs.rp_actors.specs.Steps.{ClusterState}
 use Rattle.rp_run.specs.Faults.{IsDeviceRunFault}
 use Rattle.rp_run.specs.Runs.{HasParts}
 

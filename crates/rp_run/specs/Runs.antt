@@ -9,7 +9,7 @@ use Rattle.rp_base.specs.declared.reply.Answer.{Answer}
 use Rattle.rp_model.specs.World.{World, Transition, opening_world}
 use Rattle.rp_model.specs.declared.effect.Effect.{Effect}
 use Rattle.rp_model.specs.declared.event.Event.{Event}
-use Rattle.rp_world.specs.Steps.{ClusterState, cluster_setting}
+use Rattle.rp_world.specs.rp_actors.specs.Steps.{ClusterState, cluster_setting}
 use Rattle.rp_run.specs.Items.{items_text}
 use Rattle.rp_run.specs.Output.{RunSetting, Play, Said, text_of_said, names_of, is_among}
 use Rattle.rp_run.specs.Output.{printed_items}

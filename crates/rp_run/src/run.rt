@@ -5,7 +5,7 @@ ghost use Rattle.rp_model.specs.World.{part_at};
 ghost use Rattle.rp_model.specs.declared.event.Event.{Event as EventOf};
 ghost use Rattle.rp_model.specs.declared.event.Event.TheVariants.{Node};
 ghost use Rattle.rp_model.specs.declared.event.Step.TheVariants.{Deliver};
-ghost use Rattle.rp_world.specs.Steps.{ClusterState, IsStep};
+ghost use Rattle.rp_world.specs.rp_actors.specs.Steps.{ClusterState, IsStep};
 ghost use Rattle.rp_deck.specs.Script.{FitsIn, IsEventWithin, IsMessage};
 ghost use Rattle.rp_run.specs.GoingOn.{RunGoesOn};
 ghost use Rattle.rp_run.specs.Items.{items_text};

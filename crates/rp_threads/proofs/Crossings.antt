@@ -44,7 +44,7 @@ use Rattle.rp_replica.specs.contracts.replica.Replica as Replica
 use Rattle.rp_replica.specs.contracts.replica.Replica.TheInside as replica
 use Rattle.rp_tasks.specs.contracts.line.FaultLine as FaultLine
 use Rattle.rp_tasks.specs.contracts.line.FaultLine.TheInside as line
-use Rattle.rp_boxes.specs.rp_world.specs.contracts.task.Task as Task
+use Rattle.rp_boxes.specs.rp_actors.specs.contracts.task.Task as Task
 use Rattle.rp_base.specs.contracts.number.Id as Id
 use Rattle.rp_codec.specs.declared.packet.Party.TheVariants.{Node, Task}
 use Rattle.rp_boxes.specs.declared.actors.Sits as sits

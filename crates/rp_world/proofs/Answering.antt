@@ -7,7 +7,7 @@ use Rattle.rp_model.specs.Effect.{Setting}
 use Rattle.rp_model.specs.Events.{Event}
 use Rattle.rp_model.specs.World.{World, event_effect}
 use Rattle.rp_model.specs.Answers.{Steps, Happen}
-use Rattle.rp_world.specs.Steps.{ClusterState, Setup, cluster_setting}
+use Rattle.rp_actors.specs.Steps.{ClusterState, Setup, cluster_setting}
 
 module _ {S : Type 0} (s : Setting S) where
   -- one event more happens

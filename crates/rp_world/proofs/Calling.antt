@@ -19,15 +19,15 @@ use Rattle.rp_model.specs.Parts.{TaskPart}
 use Rattle.rp_model.specs.Tasks.{TaskInput, Submit, Again, asks, next_call, may_call, calls_if, asks_again, task_effect}
 use Rattle.rp_model.specs.World.{World, Transition, part_at, with_part, task_done, task_done_if, task_takes}
 use Rattle.rp_model.specs.declared.effect.Effect.{Effect}
-use Rattle.rp_world.specs.Callers.{Caller}
-use Rattle.rp_world.specs.Going.{Goes, Answers, call_meant}
-use Rattle.rp_world.specs.Steps.{ClusterState}
+use Rattle.rp_actors.specs.Callers.{Caller}
+use Rattle.rp_actors.specs.Going.{Goes, Answers, call_meant}
+use Rattle.rp_actors.specs.Steps.{ClusterState}
 use Rattle.rp_replica.specs.rp_outbox.specs.Packets.{Sending}
-use Rattle.rp_world.proofs.Fields.{Fields, as_seen, cluster_with, first_seen, goes_to, now, world, world_with, made_of}
-use Rattle.rp_world.proofs.Lists.{part_same}
-use Rattle.rp_world.proofs.Moving.{task_here, number_here, tasks_moved}
-use Rattle.rp_world.proofs.Placing.{Found}
-use Rattle.rp_world.proofs.Reports.{at_err, describes_of, stated_count}
+use Rattle.rp_actors.proofs.Fields.{Fields, as_seen, cluster_with, first_seen, goes_to, now, world, world_with, made_of}
+use Rattle.rp_actors.proofs.Lists.{part_same}
+use Rattle.rp_actors.proofs.Moving.{task_here, number_here, tasks_moved}
+use Rattle.rp_actors.proofs.Placing.{Found}
+use Rattle.rp_actors.proofs.Reports.{at_err, describes_of, stated_count}
 
 -- ---- what a task may call
 

@@ -25,14 +25,14 @@ use Rattle.rp_replica.specs.rp_rules.specs.declared.input.Input.{Input}
 use Rattle.rp_replica.specs.rp_rules.specs.declared.input.Input.TheVariants as inputs
 use Rattle.rp_store.specs.Disk.{Disk}
 use Rattle.rp_world.specs.Choosing.{AreNodesOf, IsOf, IsOfNone, IsStepRefused}
-use Rattle.rp_world.specs.Nodes.{Represents, member_of}
-use Rattle.rp_world.specs.Shape.{part_by}
-use Rattle.rp_world.specs.declared.node.Node.{Node as OneNode}
-use Rattle.rp_world.proofs.Fields.{Fields, IsKept, as_seen, world}
-use Rattle.rp_world.proofs.Hearing.{cut_by_none, cut_heard, heard_record, heard_stepping}
-use Rattle.rp_world.proofs.Moving.{no_node, part_here, represents_here}
-use Rattle.rp_world.proofs.Messages.{SentTo}
-use Rattle.rp_world.proofs.Placing.{Found}
+use Rattle.rp_actors.specs.Nodes.{Represents, member_of}
+use Rattle.rp_actors.specs.Shape.{part_by}
+use Rattle.rp_actors.specs.declared.node.Node.{Node as OneNode}
+use Rattle.rp_actors.proofs.Fields.{Fields, IsKept, as_seen, world}
+use Rattle.rp_actors.proofs.Hearing.{cut_by_none, cut_heard, heard_record, heard_stepping}
+use Rattle.rp_actors.proofs.Moving.{no_node, part_here, represents_here}
+use Rattle.rp_actors.proofs.Messages.{SentTo}
+use Rattle.rp_actors.proofs.Placing.{Found}
 
 there_is : {A : Type 0} (xs : List A) (i : ℕ) → i < length xs → (x : A) × (slice_get xs i ≡ Some x)
 there_is {A = A} [] i within = absurd (omega (arith, within))

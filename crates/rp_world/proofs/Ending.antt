@@ -14,16 +14,16 @@ use Rattle.rp_model.specs.Parts.{NodePart, Running as Known}
 use Rattle.rp_model.specs.World.{World, Transition, part_at, with_part, node_done, node_done_if, stops, restarts}
 use Rattle.rp_replica.specs.rp_rules.specs.declared.input.Input.{Input}
 use Rattle.rp_replica.specs.rp_rules.specs.Inputs.{given_by}
-use Rattle.rp_world.specs.declared.node.Node.{Node}
-use Rattle.rp_world.specs.Failures.{RisesAt}
-use Rattle.rp_world.specs.Going.{Meant, Goes, Answers, AnswersRestart, IsRefusedWhole}
-use Rattle.rp_world.specs.Nodes.{Member, Represents, HasNotFailed, GoesBy, RefusedBy, IsCutBy, IsLeftTorn, IsNotStarted, IsResting, NotTaken, DescribesNothing, DescribesOpened, failures_in, node_step}
-use Rattle.rp_world.specs.Steps.{ClusterState}
-use Rattle.rp_world.proofs.Failing.{same_counts, rises_at}
-use Rattle.rp_world.proofs.Fields.{Fields, IsKept, as_seen, cluster_with, counts_of, member, now, world, made_of}
-use Rattle.rp_world.proofs.Moving.{IsEffect, part, no_node, is_here, represents_now, still_nodes, moved, stayed, goes, answered, represents_after}
-use Rattle.rp_world.proofs.Placing.{Changed}
-use Rattle.rp_world.proofs.Reports.{describes_of, stated_of, as_fault}
+use Rattle.rp_actors.specs.declared.node.Node.{Node}
+use Rattle.rp_actors.specs.Failures.{RisesAt}
+use Rattle.rp_actors.specs.Going.{Meant, Goes, Answers, AnswersRestart, IsRefusedWhole}
+use Rattle.rp_actors.specs.Nodes.{Member, Represents, HasNotFailed, GoesBy, RefusedBy, IsCutBy, IsLeftTorn, IsNotStarted, IsResting, NotTaken, DescribesNothing, DescribesOpened, failures_in, node_step}
+use Rattle.rp_actors.specs.Steps.{ClusterState}
+use Rattle.rp_actors.proofs.Failing.{same_counts, rises_at}
+use Rattle.rp_actors.proofs.Fields.{Fields, IsKept, as_seen, cluster_with, counts_of, member, now, world, made_of}
+use Rattle.rp_actors.proofs.Moving.{IsEffect, part, no_node, is_here, represents_now, still_nodes, moved, stayed, goes, answered, represents_after}
+use Rattle.rp_actors.proofs.Placing.{Changed}
+use Rattle.rp_actors.proofs.Reports.{describes_of, stated_of, as_fault}
 
 -- ---- what these effects send and report
 

@@ -5,13 +5,13 @@ use Rattle.rp_base.specs.declared.fault.Fault.{Fault}
 use Rattle.rp_model.specs.declared.effect.Effect.{Effect}
 use Rattle.rp_model.specs.Effect.{stop_effect, restart_part}
 use Rattle.rp_model.specs.World.{stops, restarts, part_at}
-use Rattle.rp_world.specs.Going.{AnswersStop, AnswersRestart}
-use Rattle.rp_world.specs.Steps.{ClusterState}
-use Rattle.rp_world.specs.Nodes.{Member, GoesBy, RefusedBy, IsLeftTorn, IsNotStarted, IsResting, DescribesNothing, DescribesOpened, failures_in}
+use Rattle.rp_actors.specs.Going.{AnswersStop, AnswersRestart}
+use Rattle.rp_actors.specs.Steps.{ClusterState}
+use Rattle.rp_actors.specs.Nodes.{Member, GoesBy, RefusedBy, IsLeftTorn, IsNotStarted, IsResting, DescribesNothing, DescribesOpened, failures_in}
 use Rattle.rp_world.proofs.Ending.{still, stopped, not_stopped, left_by_stop, restarted, not_restarted, left_by_restart}
-use Rattle.rp_world.proofs.Fields.{Fields, IsKept, as_seen, cluster_with, first_seen, member}
-use Rattle.rp_world.proofs.Placing.{Changed}
-use Rattle.rp_world.proofs.Reports.{stated_of}
+use Rattle.rp_actors.proofs.Fields.{Fields, IsKept, as_seen, cluster_with, first_seen, member}
+use Rattle.rp_actors.proofs.Placing.{Changed}
+use Rattle.rp_actors.proofs.Reports.{stated_of}
 
 module _ {S D P : Type 0} (f : Fields S D P) (change : Changed f.nodes) where
   abbrev me : ℕ

@@ -10,15 +10,15 @@ use Rattle.rp_model.specs.World.{commanded, chosen_cut, chosen_record, cut_step,
 use Rattle.rp_replica.specs.rp_rules.specs.Inputs.{given_by}
 use Rattle.rp_replica.specs.rp_rules.specs.declared.input.Input.{Input}
 use Rattle.rp_world.specs.Choosing.{IsOf}
-use Rattle.rp_world.specs.Going.{Meant, cut_meant, Goes, Answers}
-use Rattle.rp_world.specs.Nodes.{Member, IsCutBy, NotTaken, node_step}
-use Rattle.rp_world.specs.Shape.{part_by}
-use Rattle.rp_world.specs.Steps.{ClusterState}
+use Rattle.rp_actors.specs.Going.{Meant, cut_meant, Goes, Answers}
+use Rattle.rp_actors.specs.Nodes.{Member, IsCutBy, NotTaken, node_step}
+use Rattle.rp_actors.specs.Shape.{part_by}
+use Rattle.rp_actors.specs.Steps.{ClusterState}
 use Rattle.rp_world.proofs.Ending.{still, cut_so, not_cut, left_by_cut}
-use Rattle.rp_world.proofs.Fields.{Fields, IsKept, as_seen, cluster_with, first_seen, member, now, setting, world, setting_by}
-use Rattle.rp_world.proofs.Moving.{part, is_here}
-use Rattle.rp_world.proofs.Placing.{Changed}
-use Rattle.rp_world.proofs.Reports.{as_fault, stated_of}
+use Rattle.rp_actors.proofs.Fields.{Fields, IsKept, as_seen, cluster_with, first_seen, member, now, setting, world, setting_by}
+use Rattle.rp_actors.proofs.Moving.{part, is_here}
+use Rattle.rp_actors.proofs.Placing.{Changed}
+use Rattle.rp_actors.proofs.Reports.{as_fault, stated_of}
 
 -- what is answered, by what the node says: an effect that reports nothing, or the fault
 abbrev pub IsStated : ℕ → Result Unit Fault → Result Effect Fault → Type 0

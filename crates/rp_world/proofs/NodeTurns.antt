@@ -14,20 +14,20 @@ use Rattle.rp_model.specs.Events.{Deliver}
 use Rattle.rp_model.specs.Parts.{NodePart}
 use Rattle.rp_model.specs.World.{World, part_at, node_done_if, nothing_happens, commanded, chosen_record, stepping, step_writes}
 use Rattle.rp_replica.specs.rp_outbox.specs.Packets.{Sending}
-use Rattle.rp_world.specs.Going.{Meant, meant_by, step_meant, Goes, Answers, stated}
-use Rattle.rp_world.specs.Nodes.{Member, Represents, GoesBy, IsLight, NotTaken, DescribesSending, node_step}
-use Rattle.rp_world.specs.Deliveries.{only_sent}
-use Rattle.rp_world.specs.Steps.{IsLightStep, ClusterState}
-use Rattle.rp_world.specs.declared.node.Node.{Node}
+use Rattle.rp_actors.specs.Going.{Meant, meant_by, step_meant, Goes, Answers, stated}
+use Rattle.rp_actors.specs.Nodes.{Member, Represents, GoesBy, IsLight, NotTaken, DescribesSending, node_step}
+use Rattle.rp_actors.specs.Deliveries.{only_sent}
+use Rattle.rp_actors.specs.Steps.{IsLightStep, ClusterState}
+use Rattle.rp_actors.specs.declared.node.Node.{Node}
 use Rattle.rp_world.proofs.Ending.{none_here}
-use Rattle.rp_world.proofs.Fields.{Fields, IsKept, as_seen, cluster_with, first_seen, member, now, sent_seen, setting, setting_by, world}
-use Rattle.rp_world.proofs.Hearing.{nothing_goes, heard_by_audit, heard_by_none, heard_resting, heard_as, heard_running, heard_stepping, heard_record}
-use Rattle.rp_world.proofs.Light.{light_part}
-use Rattle.rp_world.proofs.Messages.{SentTo, at_place}
-use Rattle.rp_world.proofs.Moving.{part, is_here, represents_now, stayed}
-use Rattle.rp_world.proofs.Placing.{Found}
-use Rattle.rp_world.proofs.OnlySent.{only_sent_none, only_sent_more}
-use Rattle.rp_world.proofs.Reports.{at_err, stated_sent, as_fault}
+use Rattle.rp_actors.proofs.Fields.{Fields, IsKept, as_seen, cluster_with, first_seen, member, now, sent_seen, setting, setting_by, world}
+use Rattle.rp_actors.proofs.Hearing.{nothing_goes, heard_by_audit, heard_by_none, heard_resting, heard_as, heard_running, heard_stepping, heard_record}
+use Rattle.rp_actors.proofs.Light.{light_part}
+use Rattle.rp_actors.proofs.Messages.{SentTo, at_place}
+use Rattle.rp_actors.proofs.Moving.{part, is_here, represents_now, stayed}
+use Rattle.rp_actors.proofs.Placing.{Found}
+use Rattle.rp_actors.proofs.OnlySent.{only_sent_none, only_sent_more}
+use Rattle.rp_actors.proofs.Reports.{at_err, stated_sent, as_fault}
 use Rattle.rp_world.proofs.Taking.{still_turned, still_refused, turned, not_turned, given_is}
 
 -- the effect reports the number of the next message, and how many there are

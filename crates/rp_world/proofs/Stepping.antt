@@ -12,10 +12,10 @@ use Rattle.rp_model.specs.declared.effect.Effect.{Effect}
 use Rattle.rp_model.specs.declared.event.Event.{Event as Taken}
 use Rattle.rp_model.specs.Events.{Event, Step, Submit, Again, Makes, Cut, Stop, Restart, event_of}
 use Rattle.rp_model.specs.World.{Transition, event_effect, node_of}
-use Rattle.rp_world.specs.Failures.{AreCounted, RisesOnly}
-use Rattle.rp_world.specs.Going.{Meant, Goes, IsRefusedWhole, IsCutByDevice, Answers, AnswersStop, AnswersRestart, call_meant, cut_meant, step_meant}
-use Rattle.rp_world.specs.Steps.{ClusterState, IsStep, cluster_setting}
-use Rattle.rp_world.proofs.Reports.{as_fault}
+use Rattle.rp_actors.specs.Failures.{AreCounted, RisesOnly}
+use Rattle.rp_actors.specs.Going.{Meant, Goes, IsRefusedWhole, IsCutByDevice, Answers, AnswersStop, AnswersRestart, call_meant, cut_meant, step_meant}
+use Rattle.rp_actors.specs.Steps.{ClusterState, IsStep, cluster_setting}
+use Rattle.rp_actors.proofs.Reports.{as_fault}
 
 module _ {S P : Type 0} (next : S → Action → S) (answers : S → Action → List Answer) (begin : P → S) (old new : ClusterState P) (given : Taken) (event : Event) (is : event_of given ≡ event) where
   abbrev s : Setting S

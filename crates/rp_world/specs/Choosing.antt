@@ -9,9 +9,9 @@ use Rattle.rp_model.specs.World.{step_effect, cut_step, step_writes, stepping}
 use Rattle.rp_replica.specs.rp_rules.specs.Inputs.{given_by}
 use Rattle.rp_replica.specs.rp_rules.specs.declared.input.Input.{Input}
 use Rattle.rp_store.specs.Disk.{Disk}
-use Rattle.rp_world.specs.Callers.{Caller}
-use Rattle.rp_world.specs.Shape.{IsWorld, part_by}
-use Rattle.rp_world.specs.declared.node.Node.{Node}
+use Rattle.rp_actors.specs.Callers.{Caller}
+use Rattle.rp_actors.specs.Shape.{IsWorld, part_by}
+use Rattle.rp_actors.specs.declared.node.Node.{Node}
 
 -- the nodes are those of the world, in a cluster whose machine starts so
 pub record AreNodesOf {S D P : Type 0} (disk : D → Disk) (begin : S) (nodes : List (Node S D P))

@@ -1,13 +1,7 @@
-pub mod Steps
-pub mod Deliveries
-pub mod Failures
 pub mod Runs
 pub mod Agreeing
-pub mod Shape
-pub mod Callers
-pub mod Nodes
 pub mod Choosing
-pub mod Going
+pub use Rattle.rp_actors
 pub use Rattle.rp_agreement
 pub use Rattle.rp_base
 pub use Rattle.rp_codec

@@ -7,8 +7,8 @@ use Rattle.rp_model.specs.declared.event.Event.{Event}
 use Rattle.rp_model.specs.Events.{event_of}
 use Rattle.rp_model.specs.World.{World, node_of}
 use Rattle.rp_model.specs.Answers.{Happen, IsFaulted}
-use Rattle.rp_world.specs.Failures.{AreCounted}
-use Rattle.rp_world.specs.Steps.{ClusterState, cluster_setting}
+use Rattle.rp_actors.specs.Failures.{AreCounted}
+use Rattle.rp_actors.specs.Steps.{ClusterState, cluster_setting}
 use Rattle.rp_world.specs.declared.effect.Refused.{Refused}
 
 module _ {S P : Type 0} (next : S → Action → S) (answers : S → Action → List Answer) (start : P

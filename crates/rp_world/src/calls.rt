@@ -6,30 +6,17 @@ ghost use Rattle.rp_model.specs.World.{part_at, task_takes};
 ghost use Rattle.rp_codec.specs.Message.{IsCallBy};
 ghost use Rattle.rp_base.specs.Action.{IsRight};
 ghost use Rattle.rp_agreement.specs.Ranges.{IsRangedWorld};
-ghost use Rattle.rp_world.specs.Going.{Answers, call_meant};
+ghost use Rattle.rp_actors.specs.Going.{Answers, call_meant};
 
 use crate::effect::{no_effect, one_message};
 use crate::world::World;
+use rp_actors::asks;
 use rp_base::{Action, Fault, NodeId, Operation, TaskId};
-use rp_codec::{Body, Packet, Party};
 use rp_machine::Machine;
 use rp_model::Effect;
 use rp_outbox::Outbox;
 use rp_store::CutDevice;
 use std::alloc::AllocError;
-
-/// A task's call, as a packet to a node.
-pub fn asks(task: TaskId, node: NodeId, call: Action) -> Packet
-    requires own { IsCallBy task call }
-    requires right { IsRight call }
-    ensures { result ≡ tasks.asks task node call }
-{
-    Packet::new(
-        Party::Task(task),
-        Party::Node(node),
-        Body::Call { action: call },
-    )
-}
 
 /// A task's call goes to a node. Refused for memory, nothing is sent.
 #[inline(always)]

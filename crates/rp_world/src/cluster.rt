@@ -1,6 +1,6 @@
 //! The cluster: all nodes and tasks, and every message that was sent.
 
-ghost use Rattle.std.specs.Prelude.{◌≡◌, ◌<◌, ◌-◌, ◌^◌, ℕ, min, ◌↔◌, ◌⊎◌, length, map, All, List, [], Option, None, Some, IfOk, IfErr, IfSome, IsErrOf, IsOk, IsTrue};
+ghost use Rattle.std.specs.Prelude.{◌≡◌, ◌<◌, ◌-◌, ◌^◌, ℕ, min, ◌↔◌, ◌⊎◌, length, map, All, List, [], Option, None, Some, IfOk, IfErr, IfSome, IsErrOf, IsOk};
 ghost use Rattle.rp_base.specs.Config.{IsRightConfig};
 ghost use Rattle.rp_base.specs.Records.{applied_of};
 ghost use Rattle.rp_codec.specs.Message.{IsPacket};
@@ -24,15 +24,16 @@ ghost use Rattle.rp_agreement.specs.Order.{AllSent, IsPrefix};
 ghost use Rattle.rp_agreement.specs.Asked.{Says};
 ghost use Rattle.rp_agreement.specs.Worlds.{node_in};
 ghost use Rattle.rp_world.specs.Agreeing.{Agree, AsksIn, HasReported, HasWritten, HasWrittenPromise, IsOrdered};
-ghost use Rattle.rp_world.specs.Deliveries.{delivery_answer};
-ghost use Rattle.rp_world.specs.Failures.{SomeHasFailed};
-ghost use Rattle.rp_world.specs.Going.{stated};
+ghost use Rattle.rp_actors.specs.Deliveries.{delivery_answer};
+ghost use Rattle.rp_actors.specs.Failures.{SomeHasFailed};
+ghost use Rattle.rp_actors.specs.Going.{stated};
 ghost use Rattle.rp_world.specs.Runs.{IsRun};
-ghost use Rattle.rp_world.specs.Shape.{IsCluster};
-ghost use Rattle.rp_world.specs.Steps.{IsLightStep, IsStep, IsStored, IsQueryAnswer, IsQueryAnswerUnlessMemory, IsServerOf, cluster_setting};
+ghost use Rattle.rp_actors.specs.Shape.{IsCluster};
+ghost use Rattle.rp_actors.specs.Steps.{IsLightStep, IsStep, IsStored, IsQueryAnswer, IsQueryAnswerUnlessMemory, IsServerOf, cluster_setting};
 
 use crate::effect::{Refused, no_effect};
 use crate::world::World;
+use rp_actors::are_empty;
 use rp_agreement::{
     applied_lists_are_alike, applied_lists_are_prefixes, calls_count_in_order, decisions_are_one,
     decisions_stay, events_keep_ranges, events_keep_replies, offers_are_one,
@@ -43,7 +44,7 @@ use rp_base::{Action, Answer, Config, Fault, NodeId, TaskId};
 use rp_machine::{Machine, a_call_has_one_place};
 use rp_model::{Effect, Event, worlds_grow};
 use rp_server::Server;
-use rp_store::{CutDevice, Device, InfallibleDevice};
+use rp_store::{CutDevice, InfallibleDevice};
 use std::alloc::Global;
 use std::marker::Model;
 
@@ -56,8 +57,8 @@ pub struct Cluster<M: Machine, D: CutDevice> {
 }
 
 impl<M: Machine, D: CutDevice> Model for Cluster<M, D> {
-    ghost use Rattle.rp_world.specs.Steps.{ClusterState, cluster_setting};
-    ghost use Rattle.rp_world.specs.Shape.{IsCluster};
+    ghost use Rattle.rp_actors.specs.Steps.{ClusterState, cluster_setting};
+    ghost use Rattle.rp_actors.specs.Shape.{IsCluster};
 
     ghost Value = { ClusterState M.Program };
 
@@ -65,13 +66,6 @@ impl<M: Machine, D: CutDevice> Model for Cluster<M, D> {
 
     ghost invariant = { λ c. IsCluster (cluster_setting M.next M.answers M.begin c.world)
         c.world.world };
-}
-
-/// Whether each device is empty.
-pub fn are_empty<D: Device>(devices: &[D]) -> bool
-    ensures { IsTrue result ↔ All (λ device. (D.disk device).contents ≡ []) devices.now }
-{
-    devices.iter().all(|device| device.len() == 0)
 }
 
 impl<M: Machine, D: CutDevice> Cluster<M, D> {

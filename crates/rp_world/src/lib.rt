@@ -8,24 +8,18 @@
 //! - `calls`: what tasks ask for, and the replies to them
 //! - `stops`: stops and restarts of nodes
 //! - `effect`: the result of an event, as a step returns it
-//! - `node`: a node: a replica that runs, or a device that rests
-//! - `task`: a task: what it keeps of its calls, and the replies that it took
 #![tactic(auto)]
 
 mod calls;
 mod cluster;
 mod effect;
 mod headline;
-mod node;
 mod steps;
 mod stops;
-mod task;
 mod world;
 
-pub use calls::asks;
-pub use cluster::{Cluster, are_empty};
+pub use cluster::Cluster;
 pub use effect::{Refused, no_effect};
 pub use headline::histories_are_ordered;
+pub use rp_actors::{Task, are_empty, asks, decode_reply};
 pub use rp_model::{Dropped, Effect, Event, Interrupt, Step};
-pub use steps::decode_reply;
-pub use task::Task;

@@ -1,13 +1,11 @@
 //! The steps of nodes, whole or cut, and the function that makes the step of each event.
 
-ghost use Rattle.std.specs.Prelude.{◌≡◌, Ok, Some, IfOk, IfErr, OnErr, IsOk, option_copied, option_map};
+ghost use Rattle.std.specs.Prelude.{◌≡◌, Ok, Some, IfOk, IfErr, IsOk, option_copied, option_map};
 ghost use Rattle.std.specs.List.{AllByRecursion};
 ghost use Rattle.rp_base.specs.Config.{IsRightConfig};
 ghost use Rattle.rp_base.specs.Sets.{Has};
 ghost use Rattle.rp_codec.specs.Message.{Message, IsPacket};
 ghost use Rattle.rp_codec.specs.declared.packet.Party.TheVariants.{Node, Task};
-ghost use Rattle.rp_codec.specs.Decoding.{IsLongText};
-ghost use Rattle.rp_codec.specs.Reading.{all_of};
 ghost use Rattle.rp_codec.specs.Text.{text_of};
 ghost use Rattle.rp_model.specs.Effect.{Done, NodeInput, Setting, node_effect};
 ghost use Rattle.rp_model.specs.Parts.{NodePart};
@@ -18,23 +16,23 @@ ghost use Rattle.rp_model.specs.World.{part_at, commanded};
 ghost use Rattle.rp_agreement.specs.Ranges.{IsRangedWorld};
 ghost use Rattle.rp_replica.specs.rp_rules.specs.Inputs.{IsLong, IsRightInput, given_by};
 ghost use Rattle.rp_world.specs.Choosing.{AreNodesOf, IsMaker, IsStepRefused};
-ghost use Rattle.rp_world.specs.Deliveries.{delivery_answer};
-ghost use Rattle.rp_world.specs.Going.{Answers, cut_meant, meant_by, reply_read, stated, step_meant};
-ghost use Rattle.rp_world.specs.Nodes.{IsLight};
-ghost use Rattle.rp_world.specs.Steps.{IsLightStep, IsStep, cluster_setting};
+ghost use Rattle.rp_actors.specs.Deliveries.{delivery_answer};
+ghost use Rattle.rp_actors.specs.Going.{Answers, cut_meant, meant_by, stated, step_meant};
+ghost use Rattle.rp_actors.specs.Nodes.{IsLight};
+ghost use Rattle.rp_actors.specs.Steps.{IsLightStep, IsStep, cluster_setting};
 
 use crate::effect::{no_effect, of_step, taken};
-use crate::node;
 use crate::world::{World, put_back};
+use rp_actors::decode_reply;
 use rp_agreement::events_keep_ranges;
-use rp_base::{Fault, NodeId, Position, PositionRange, Reply, TaskId};
-use rp_codec::{Body, Party, decode, receiver_of, usual_reply};
+use rp_base::{Fault, NodeId, Position, PositionRange, TaskId};
+use rp_codec::{Party, receiver_of};
 use rp_machine::Machine;
 use rp_model::{Dropped, Effect, Event, Interrupt, Step};
 use rp_outbox::Outbox;
 use rp_replica::{Input, texts_are_packets};
 use rp_store::CutDevice;
-use std::alloc::{AllocError, Global};
+use std::alloc::Global;
 
 /// The text of the message of this number, from 1.
 #[inline(always)]
@@ -179,7 +177,7 @@ impl<M: Machine, D: CutDevice> World<M, D> {
     /// and as `range_for` if there is no range to lead at.
     fn step_to_cut<'a>(
         messages: &'a Outbox,
-        nodes: &[node::Node<M, D>],
+        nodes: &[rp_actors::Node<M, D>],
         step: Step,
     ) -> Result<(NodeId, Input<'a>), Fault>
         requires packets { (m : Message) → Has m messages.now.sent → IsPacket m }
@@ -223,7 +221,7 @@ impl<M: Machine, D: CutDevice> World<M, D> {
     /// `NotRunning` if the node is stopped; then `BadConfig` unless the count is 1 to 64, and
     /// `LogFull` if the last position would be above 65,535.
     fn range_for(
-        nodes: &[node::Node<M, D>],
+        nodes: &[rp_actors::Node<M, D>],
         node: NodeId,
         first: Position,
         count: u8,
@@ -397,25 +395,5 @@ impl<M: Machine, D: CutDevice> World<M, D> {
                 true
             }
         }
-    }
-}
-
-/// Decodes the number and the reply of a packet, if it is a reply. Only the text of a report or of
-/// a promise for a range takes memory.
-pub fn decode_reply(alloc: Global, text: &[u8]) -> Result<Option<(u32, Reply)>, AllocError>
-    // claim: The reply of a packet is read from its text of version 1 or 2; none is read where the
-    //   packet is no reply, or the bytes are no packet's
-    ensures reply { IfOk result (λ stated. stated ≡ reply_read (all_of text.now)) }
-    ensures memory { OnErr result (IsLongText text.now) }
-{
-    if let Ok(sent) = usual_reply(text) {
-        return Ok(Some((sent.number, sent.reply)));
-    }
-    let Ok(packet) = decode(alloc, text)? else {
-        return Ok(None);
-    };
-    match *packet.body() {
-        Body::Reply { number, reply } => Ok(Some((number, reply))),
-        _ => Ok(None),
     }
 }

@@ -1,7 +1,7 @@
 //! Stops and restarts of nodes.
 
 ghost use Rattle.rp_model.specs.World.{part_at, stops, restarts};
-ghost use Rattle.rp_world.specs.Going.{AnswersRestart, AnswersStop};
+ghost use Rattle.rp_actors.specs.Going.{AnswersRestart, AnswersStop};
 
 use crate::effect::{no_effect, opened};
 use crate::world::{World, put_back};

@@ -6,16 +6,15 @@ ghost use Rattle.rp_base.specs.declared.fault.Fault.TheVariants as faults;
 ghost use Rattle.rp_codec.specs.Text.{text_of};
 ghost use Rattle.rp_model.specs.Parts.{TaskPart};
 ghost use Rattle.rp_model.specs.World.{opening_world, part_at};
-ghost use Rattle.rp_world.specs.Failures.{SomeHasFailed};
-ghost use Rattle.rp_world.specs.Nodes.{failures_in};
-ghost use Rattle.rp_world.specs.Shape.{AreFresh, AreFreshTasks};
-ghost use Rattle.rp_world.specs.Steps.{IsStored, IsQueryAnswer, IsQueryAnswerUnlessMemory, IsReplicaOf, IsServerOf};
+ghost use Rattle.rp_actors.specs.Failures.{SomeHasFailed};
+ghost use Rattle.rp_actors.specs.Nodes.{failures_in};
+ghost use Rattle.rp_actors.specs.Shape.{AreFresh, AreFreshTasks};
+ghost use Rattle.rp_actors.specs.Steps.{IsStored, IsQueryAnswer, IsQueryAnswerUnlessMemory, IsReplicaOf, IsServerOf};
 ghost use Rattle.rp_base.specs.Records.{applied_of};
 ghost use Rattle.rp_model.specs.rp_machine.specs.Replay.{replay_state};
 
-use crate::node::Node;
 use crate::steps::text_of_number;
-use crate::task::Task;
+use rp_actors::{Node, Task};
 use rp_base::{Action, Answer, Config, Fault, NodeId, TaskId};
 use rp_machine::Machine;
 use rp_outbox::Outbox;
@@ -48,9 +47,9 @@ impl<M: Machine, D: CutDevice> Drop for World<M, D> {
 }
 
 impl<M: Machine, D: CutDevice> Model for World<M, D> {
-    ghost use Rattle.rp_world.specs.Steps.{ClusterState};
-    ghost use Rattle.rp_world.specs.Shape.{world_of, IsWorld};
-    ghost use Rattle.rp_world.specs.Nodes.{failures_in};
+    ghost use Rattle.rp_actors.specs.Steps.{ClusterState};
+    ghost use Rattle.rp_actors.specs.Shape.{world_of, IsWorld};
+    ghost use Rattle.rp_actors.specs.Nodes.{failures_in};
     ghost use Rattle.std.specs.Prelude.{map};
 
     ghost Value = { ClusterState M.Program };

@@ -11,7 +11,7 @@ use Rattle.rp_page.specs.Pages.{IsDrawnAs}
 use Rattle.rp_history.specs.declared.stage.Stage.{Stage}
 use Rattle.rp_run.proofs.RunParts.{sets_out, ends, no_line, line_goes_on}
 use Rattle.rp_run.proofs.Stepping.{same_run_setting, opening_parts}
-use Rattle.rp_run.specs.rp_world.specs.Steps.{cluster_setting}
+use Rattle.rp_world.specs.rp_actors.specs.Steps.{cluster_setting}
 use Rattle.rp_run.specs.rp_world.proofs.Answering.{same_setting}
 use Rattle.rp_chart_run.specs.ScriptHistory.{command_happens, drawn_run, lines_happen, script_happens}
 use Rattle.rp_chart_run.proofs.Charting.{goes_on as chart_goes_on, ends as chart_ends}

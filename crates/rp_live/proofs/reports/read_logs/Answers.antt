@@ -2,7 +2,7 @@
 use Rattle.std.proofs.Common.{◌≡◌, ◌∙◌, ℕ, All, length, arith, refl, sym, ap, subst}
 use Rattle.rp_boxes.specs.Audits.{known_of}
 use Rattle.rp_boxes.specs.Seats.{SeatSetup, HasApplied}
-use Rattle.rp_boxes.specs.rp_world.proofs.Fresh.{rest_of}
+use Rattle.rp_boxes.specs.rp_actors.proofs.Fresh.{rest_of}
 use Rattle.rp_threads.proofs.Places.{none_left, none_zipped, one_more_zipped, all_zipped}
 use Rattle.rp_live.specs.Ends.{HadNoFault}
 use Rattle.rp_live.specs.Seats.{AreNumbered, IsEndOfRun, IsRead, KnowsNothingAbove, StillRuns}

@@ -1,6 +1,6 @@
 -- One more thread is started.
 use Rattle.std.proofs.Common.{◌≡◌, All, [], sym, subst}
-use Rattle.rp_boxes.specs.rp_world.proofs.Fresh.{rest_of}
+use Rattle.rp_boxes.specs.rp_actors.proofs.Fresh.{rest_of}
 use Rattle.rp_threads.proofs.Places.{none_left, none_zipped, one_more_zipped, all_zipped}
 use Rattle.rp_threads.proofs.threads.start_nodes.Goals as goal
 

@@ -2,7 +2,7 @@
 use Rattle.std.proofs.Common.{◌≡◌, All, [], sym, subst}
 use Rattle.rp_boxes.specs.Parts.{fresh_part, OfTask}
 use Rattle.rp_replica.specs.rp_model.specs.Parts.{fresh_task}
-use Rattle.rp_boxes.specs.rp_world.proofs.Fresh.{rest_of}
+use Rattle.rp_boxes.specs.rp_actors.proofs.Fresh.{rest_of}
 use Rattle.rp_threads.proofs.Places.{none_left, none_zipped, one_more_zipped, all_zipped}
 use Rattle.rp_threads.proofs.threads.start_tasks.Goals as goal
 

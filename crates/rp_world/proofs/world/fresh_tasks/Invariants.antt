@@ -1,7 +1,7 @@
 use Rattle.std.proofs.Common.{◌≡◌, ◌+◌, ℕ, suc, length, slice_get}
 use Rattle.std.specs.Prelude.{IfSome}
 use Rattle.rp_model.specs.Parts.{fresh_task}
-use Rattle.rp_world.specs.Callers.{Caller}
+use Rattle.rp_actors.specs.Callers.{Caller}
 use Rattle.rp_world.proofs.world.fresh_tasks.Given as goal
 
 -- the tasks so far

@@ -2,8 +2,8 @@
 use Rattle.std.proofs.Common.{◌≡◌, ◌+◌, ℕ, [], ◌∷◌, ◌++◌, take, slice_get, arith, sym, ap, subst, ◌∙◌}
 use Rattle.std.specs.Prelude.{IfSome}
 use Rattle.std.proofs.lemmas.List.{take_all, take_more}
-use Rattle.rp_world.specs.Nodes.{failures_in}
-use Rattle.rp_world.proofs.Fresh.{one_more}
+use Rattle.rp_actors.specs.Nodes.{failures_in}
+use Rattle.rp_actors.proofs.Fresh.{one_more}
 use Rattle.rp_world.proofs.world.none_failed.Goals as goal
 
 pub loop-node-preserved : goal.loop-node-preserved

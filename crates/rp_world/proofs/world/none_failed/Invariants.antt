@@ -1,6 +1,6 @@
 use Rattle.std.proofs.Common.{◌≡◌, ℕ, take, slice_get}
 use Rattle.std.specs.Prelude.{IfSome}
-use Rattle.rp_world.specs.Nodes.{failures_in}
+use Rattle.rp_actors.specs.Nodes.{failures_in}
 use Rattle.rp_world.proofs.world.none_failed.Given as goal
 
 -- the nodes so far have not failed

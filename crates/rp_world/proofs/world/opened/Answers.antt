@@ -2,9 +2,9 @@ use Rattle.std.proofs.Common.{◌≡◌, ◌+◌, ℕ, suc, length, map, slice_g
 use Rattle.std.specs.Prelude.{IfSome}
 use Rattle.std.proofs.lemmas.List.{length-append}
 use Rattle.rp_model.specs.Parts.{fresh_node}
-use Rattle.rp_world.specs.Nodes.{failures_in, member_of, Represents}
-use Rattle.rp_world.proofs.Moving.{at_if}
-use Rattle.rp_world.proofs.Fresh.{counted_more, first_of, rest_of, one_more}
+use Rattle.rp_actors.specs.Nodes.{failures_in, member_of, Represents}
+use Rattle.rp_actors.proofs.Moving.{at_if}
+use Rattle.rp_actors.proofs.Fresh.{counted_more, first_of, rest_of, one_more}
 use Rattle.rp_world.proofs.world.opened.Goals as goal
 
 pub loop-device-init : goal.loop-device-init

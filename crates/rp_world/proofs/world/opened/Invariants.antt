@@ -1,7 +1,7 @@
 use Rattle.std.proofs.Common.{◌≡◌, ◌+◌, ℕ, suc, length, slice_get, All, [], ◌++◌, map}
 use Rattle.std.specs.Prelude.{IfSome}
 use Rattle.rp_model.specs.Parts.{fresh_node}
-use Rattle.rp_world.specs.Nodes.{failures_in, member_of, Represents}
+use Rattle.rp_actors.specs.Nodes.{failures_in, member_of, Represents}
 use Rattle.rp_world.proofs.world.opened.Given as goal
 
 -- the nodes so far, and the devices that are left

@@ -1,8 +1,8 @@
 -- A replica over an empty device is the node of its seat.
 use Rattle.std.proofs.Common.{◌≡◌, sym, ap, ◌∙◌, arith}
-use Rattle.rp_world.specs.Nodes.{member_of}
-use Rattle.rp_world.proofs.Moving.{at_if}
-use Rattle.rp_world.proofs.Represented.{runs_fresh}
+use Rattle.rp_actors.specs.Nodes.{member_of}
+use Rattle.rp_actors.proofs.Moving.{at_if}
+use Rattle.rp_actors.proofs.Represented.{runs_fresh}
 use Rattle.rp_boxes.specs.FirstSeats.{first_seat}
 use Rattle.rp_boxes.proofs.Seating.{node_at_first}
 use Rattle.rp_boxes.proofs.all_seats.Unseated.node.Given as given

@@ -1,7 +1,7 @@
 -- One more node has a seat.
 use Rattle.std.proofs.Common.{◌≡◌, ℕ, suc, length, drop, All, [], ◌∷◌, sym, ap, subst, ◌∙◌, arith}
 use Rattle.std.proofs.lemmas.List.{length-append}
-use Rattle.rp_world.proofs.Fresh.{first_of, rest_of}
+use Rattle.rp_actors.proofs.Fresh.{first_of, rest_of}
 use Rattle.rp_boxes.specs.FirstSeats.{AreFirstSeats, failures_of}
 use Rattle.rp_boxes.proofs.Seating.{after_none, after_one, at_drop, with_one}
 use Rattle.rp_boxes.proofs.all_seats.Unseated.nodes.Goals as goal

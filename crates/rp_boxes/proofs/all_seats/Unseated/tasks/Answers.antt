@@ -1,7 +1,7 @@
 -- One more task has a seat.
 use Rattle.std.proofs.Common.{◌≡◌, ◌+◌, length, [], ◌∷◌, refl, ap, arith}
 use Rattle.std.proofs.lemmas.List.{length-append}
-use Rattle.rp_world.proofs.Moving.{at_if}
+use Rattle.rp_actors.proofs.Moving.{at_if}
 use Rattle.rp_boxes.proofs.Seating.{after_one, with_one}
 use Rattle.rp_boxes.proofs.all_seats.Unseated.tasks.Goals as goal
 

@@ -11,7 +11,7 @@ use Rattle.rp_codec.specs.declared.packet.Body.TheVariants as bodies
 use Rattle.rp_model.specs.Tasks.{asks, next_call}
 use Rattle.rp_agreement.specs.Inputs.{IsTaskInput}
 use Rattle.rp_agreement.specs.Sound.{IsCall}
-use Rattle.rp_world.specs.Callers.{Caller}
+use Rattle.rp_actors.specs.Callers.{Caller}
 use Rattle.rp_boxes.specs.Seats.{SeatState}
 use Rattle.rp_boxes.specs.TaskSeats.{asked_of, IsTaskAt, IsTaskTurn, IsNoTaskTurn}
 use Rattle.rp_boxes.proofs.TaskTurns.{Submission, IsSubmitted, TaskEvent, waiting_for, asking_done, submit, submitted, waits_for_one, task_event, task_after, asked_state, at_fault, refused_state, no_memory_state}

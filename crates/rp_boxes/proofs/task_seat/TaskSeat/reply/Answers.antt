@@ -4,8 +4,8 @@ use Rattle.rp_base.specs.Number.{IsTask}
 use Rattle.rp_codec.specs.declared.packet.Party.TheVariants as parties
 use Rattle.rp_model.specs.Tasks.{Take}
 use Rattle.rp_agreement.specs.Inputs.{IsTaskInput}
-use Rattle.rp_world.specs.Callers.{Caller}
-use Rattle.rp_world.proofs.Replied.{reply_of_text}
+use Rattle.rp_actors.specs.Callers.{Caller}
+use Rattle.rp_actors.proofs.Replied.{reply_of_text}
 use Rattle.rp_boxes.specs.OneOrder.{HasOneOrder}
 use Rattle.rp_boxes.specs.Seats.{SeatState, IsGotText}
 use Rattle.rp_boxes.specs.TaskSeats.{reply_effect, IsReplyTurn}

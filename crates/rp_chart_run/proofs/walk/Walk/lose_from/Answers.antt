@@ -4,7 +4,7 @@ use Rattle.rp_history.specs.Histories.{Happening}
 use Rattle.rp_run.specs.rp_model.specs.World.{World}
 use Rattle.rp_run.specs.Settled.{is_settled}
 use Rattle.rp_run.specs.declared.settled.Settled.{Settled}
-use Rattle.rp_run.specs.rp_world.specs.Steps.{ClusterState}
+use Rattle.rp_world.specs.rp_actors.specs.Steps.{ClusterState}
 use Rattle.rp_chart_run.specs.Charts.{IsCharted}
 use Rattle.rp_chart_run.specs.ScriptHistory.{drawn_run, message_lost, unsettled_in}
 use Rattle.rp_chart_run.proofs.ScriptHistory.{lost_all, lost_more, lost_none}

@@ -3,7 +3,7 @@ use Rattle.std.proofs.Common.{◌≡◌, ◌∙◌, ℕ, suc, rules, ◌+◌, Li
 use Rattle.std.proofs.lemmas.List.{map-append}
 use Rattle.rp_history.specs.Histories.{Happening}
 use Rattle.rp_run.specs.rp_machine.specs.Replay.{one_to}
-use Rattle.rp_run.specs.rp_world.specs.Steps.{ClusterState}
+use Rattle.rp_world.specs.rp_actors.specs.Steps.{ClusterState}
 use Rattle.rp_chart_run.specs.Charts.{IsCharted}
 use Rattle.rp_chart_run.specs.ScriptHistory.{drawn_run, node_shown, nodes_shown}
 use Rattle.rp_chart_run.proofs.walk.Walk.show.Goals as goal

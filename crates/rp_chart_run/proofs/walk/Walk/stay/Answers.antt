@@ -2,7 +2,7 @@
 use Rattle.std.proofs.Common.{ℕ, length, sym, subst}
 use Rattle.rp_history.specs.rp_drawing.specs.Ways.{IsEndingWithin}
 use Rattle.rp_history.specs.Histories.{lost_of}
-use Rattle.rp_run.specs.rp_world.specs.Steps.{cluster_setting}
+use Rattle.rp_world.specs.rp_actors.specs.Steps.{cluster_setting}
 use Rattle.rp_chart_run.proofs.Charting.{has_ways}
 use Rattle.rp_chart_run.proofs.walk.Walk.stay.Goals as goal
 

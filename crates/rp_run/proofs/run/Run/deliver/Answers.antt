@@ -5,8 +5,8 @@ use Rattle.rp_model.specs.Events.{event_of}
 use Rattle.rp_model.specs.declared.event.Event.TheVariants.{Node}
 use Rattle.rp_model.specs.declared.event.Step.TheVariants.{Deliver}
 use Rattle.rp_output.proofs.Writing.{begins_nothing}
-use Rattle.rp_world.specs.Deliveries.{only_sent}
-use Rattle.rp_world.specs.Steps.{cluster_setting}
+use Rattle.rp_world.specs.rp_actors.specs.Deliveries.{only_sent}
+use Rattle.rp_world.specs.rp_actors.specs.Steps.{cluster_setting}
 use Rattle.rp_run.specs.Output.{event_said}
 use Rattle.rp_run.specs.Runs.{run_setting}
 use Rattle.rp_run.proofs.GoingOn.{numbered_from_one, happened_on, reported_step, unreported_step, settled_one, sent_unprinted}

@@ -2,7 +2,7 @@
 use Rattle.std.proofs.Common.{subst}
 use Rattle.rp_model.specs.declared.event.Event.TheVariants.{Node}
 use Rattle.rp_model.specs.declared.event.Step.TheVariants.{Deliver}
-use Rattle.rp_world.specs.Steps.{IsStep}
+use Rattle.rp_world.specs.rp_actors.specs.Steps.{IsStep}
 use Rattle.rp_run.proofs.run.Run.report_delivery.Goals as goal
 
 pub returns-in-Ok-clause-goes_on : goal.returns-in-Ok-clause-goes_on

@@ -2,8 +2,8 @@
 use Rattle.std.proofs.Common.{Result, Ok, ap, subst, ◌∙◌}
 use Rattle.rp_base.specs.declared.fault.Fault.{Fault}
 use Rattle.rp_model.specs.Events.{event_of}
-use Rattle.rp_world.specs.Going.{stated}
-use Rattle.rp_world.specs.Steps.{IsStep, cluster_setting}
+use Rattle.rp_world.specs.rp_actors.specs.Going.{stated}
+use Rattle.rp_world.specs.rp_actors.specs.Steps.{IsStep, cluster_setting}
 use Rattle.rp_run.proofs.GoingOn.{numbered_from_one}
 use Rattle.rp_run.proofs.run.Run.step.Goals as goal
 

@@ -3,7 +3,7 @@ use Rattle.std.specs.Prelude.{IfSome}
 use Rattle.rp_codec.specs.Message.{Message, IsPacket}
 use Rattle.rp_codec.specs.Text.{text_of}
 use Rattle.rp_model.specs.World.{part_at}
-use Rattle.rp_world.proofs.Messages.{packet_found}
+use Rattle.rp_actors.proofs.Messages.{packet_found}
 use Rattle.rp_world.proofs.cluster.Cluster.message.Goals as goal
 
 pub returns-clause-text : goal.returns-clause-text

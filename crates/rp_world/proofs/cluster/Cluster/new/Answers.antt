@@ -2,8 +2,8 @@
 use Rattle.std.proofs.Common.{◌≡◌, [], All, length, refl, sym, subst, arith}
 use Rattle.rp_base.specs.Config.{IsRightConfig}
 use Rattle.rp_model.specs.World.{opening_world}
-use Rattle.rp_world.specs.Shape.{IsCluster}
-use Rattle.rp_world.specs.Steps.{cluster_setting}
+use Rattle.rp_actors.specs.Shape.{IsCluster}
+use Rattle.rp_actors.specs.Steps.{cluster_setting}
 use Rattle.rp_world.proofs.cluster.Cluster.new.Goals as goal
 
 pub invariant_of-result : goal.invariant_of-result

@@ -2,7 +2,7 @@
 use Rattle.std.proofs.Common.{subst}
 use Rattle.rp_model.specs.Effect.{Setting}
 use Rattle.rp_agreement.specs.Answered.{IsKeptWorld}
-use Rattle.rp_world.specs.Steps.{cluster_setting}
+use Rattle.rp_actors.specs.Steps.{cluster_setting}
 use Rattle.rp_world.proofs.Answering.{same_setting}
 use Rattle.rp_world.proofs.Sounding.{agree, ordered}
 use Rattle.rp_world.proofs.cluster.Cluster.run.Goals as goal

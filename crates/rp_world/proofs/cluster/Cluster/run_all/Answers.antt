@@ -7,9 +7,9 @@ use Rattle.rp_model.specs.Events.{Event, event_of}
 use Rattle.rp_model.specs.Answers.{Steps, Happen, IsFaulted}
 use Rattle.rp_model.specs.World.{node_of}
 use Rattle.rp_base.specs.declared.fault.Fault.{Fault}
-use Rattle.rp_world.specs.Failures.{AreCounted}
-use Rattle.rp_world.proofs.Lists.{here_of}
-use Rattle.rp_world.specs.Steps.{cluster_setting}
+use Rattle.rp_actors.specs.Failures.{AreCounted}
+use Rattle.rp_actors.proofs.Lists.{here_of}
+use Rattle.rp_actors.specs.Steps.{cluster_setting}
 use Rattle.rp_world.specs.Runs.{LeadsTo}
 use Rattle.rp_world.proofs.Answering.{happen_more, same_setting}
 use Rattle.rp_world.proofs.Sounding.{sent_stays}

@@ -5,9 +5,9 @@ use Rattle.rp_model.specs.declared.event.Event.TheVariants.{Node}
 use Rattle.rp_model.specs.declared.event.Step.TheVariants as steps
 use Rattle.rp_model.specs.Effect.{Setting}
 use Rattle.rp_model.specs.Events.{Makes, Deliver}
-use Rattle.rp_world.specs.Deliveries.{delivery_answer}
-use Rattle.rp_world.specs.Shape.{IsCluster}
-use Rattle.rp_world.specs.Steps.{IsLightStep, IsStep, cluster_setting}
+use Rattle.rp_actors.specs.Deliveries.{delivery_answer}
+use Rattle.rp_actors.specs.Shape.{IsCluster}
+use Rattle.rp_actors.specs.Steps.{IsLightStep, IsStep, cluster_setting}
 use Rattle.rp_world.proofs.Answering.{same_setting}
 use Rattle.rp_world.proofs.Stepping.{made_whole}
 use Rattle.rp_world.proofs.cluster.Cluster.step_by_delivery.Goals as goal

@@ -1,6 +1,6 @@
 -- By what the step was.
 use Rattle.std.proofs.Common.{sym, subst}
-use Rattle.rp_world.specs.Steps.{IsLightStep, cluster_setting}
+use Rattle.rp_actors.specs.Steps.{IsLightStep, cluster_setting}
 use Rattle.rp_world.proofs.cluster.Cluster.step_into.Goals as goal
 
 pub returns-clause-certain : goal.returns-clause-certain

@@ -1,9 +1,9 @@
 use Rattle.std.proofs.Common.{◌≡◌, ◌<◌, ◌≤◌, Some, inl, refl, sym, ap, ◌∙◌, arith}
 use Rattle.rp_model.specs.World.{part_at}
 use Rattle.rp_world.proofs.Calling.{above, asks_nothing, again_runs_out, asks_more}
-use Rattle.rp_world.proofs.Fields.{fields_of}
-use Rattle.rp_world.proofs.Moving.{task_here}
-use Rattle.rp_world.proofs.Placing.{found_task}
+use Rattle.rp_actors.proofs.Fields.{fields_of}
+use Rattle.rp_actors.proofs.Moving.{task_here}
+use Rattle.rp_actors.proofs.Placing.{found_task}
 use Rattle.rp_world.proofs.world.World.again.Goals as goal
 
 pub returns-then-get-self : goal.returns-then-get-self

@@ -1,10 +1,10 @@
 use Rattle.std.proofs.Common.{◌≡◌, ◌-◌, ◌<◌, true, false, length, refl, sym, subst, arith}
 use Rattle.std.specs.Prelude.{IsTrue}
-use Rattle.rp_world.proofs.Fields.{fields_of, member}
-use Rattle.rp_world.proofs.Messages.{at_place, packet_to, place_below}
-use Rattle.rp_world.proofs.Moving.{part, represents_now}
+use Rattle.rp_actors.proofs.Fields.{fields_of, member}
+use Rattle.rp_actors.proofs.Messages.{at_place, packet_to, place_below}
+use Rattle.rp_actors.proofs.Moving.{part, represents_now}
 use Rattle.rp_world.proofs.NodeTurns.{goes_aside, goes_past, goes_resting, still_heard, goes_heard, goes_only_sending, still_unheard, answers_heard, light_heard, short_heard}
-use Rattle.rp_world.proofs.Placing.{found_at, placed_at}
+use Rattle.rp_actors.proofs.Placing.{found_at, placed_at}
 use Rattle.rp_world.proofs.world.World.deliver.Goals as goal
 
 pub returns-in-Audit-clause-answer : goal.returns-in-Audit-clause-answer

@@ -5,11 +5,11 @@ use Rattle.rp_base.specs.declared.fault.Fault.{Fault}
 use Rattle.rp_model.specs.declared.effect.Dropped.TheVariants.{No}
 use Rattle.rp_model.specs.declared.effect.Effect.{Effect}
 use Rattle.rp_model.specs.Events.{Deliver}
-use Rattle.rp_world.specs.Deliveries.{delivery_answer, only_sent}
-use Rattle.rp_world.specs.Going.{Answers, stated, step_meant}
-use Rattle.rp_world.specs.Steps.{cluster_setting}
-use Rattle.rp_world.proofs.OnlySent.{only_sent_more}
-use Rattle.rp_world.proofs.Reports.{stated_sent}
+use Rattle.rp_actors.specs.Deliveries.{delivery_answer, only_sent}
+use Rattle.rp_actors.specs.Going.{Answers, stated, step_meant}
+use Rattle.rp_actors.specs.Steps.{cluster_setting}
+use Rattle.rp_actors.proofs.OnlySent.{only_sent_more}
+use Rattle.rp_actors.proofs.Reports.{stated_sent}
 use Rattle.rp_world.proofs.world.World.deliver_into.Goals as goal
 
 -- a call that is answered by an effect has returned

@@ -1,10 +1,10 @@
 use Rattle.std.proofs.Common.{◌≡◌, ◌-◌, ◌<◌, true, false, length, inl, refl, ap, arith}
 use Rattle.rp_model.specs.World.{commanded, chosen_effect}
 use Rattle.rp_world.proofs.Ending.{none_seen}
-use Rattle.rp_world.proofs.Fields.{fields_of, member, setting_by}
-use Rattle.rp_world.proofs.Moving.{part, represents_now}
+use Rattle.rp_actors.proofs.Fields.{fields_of, member, setting_by}
+use Rattle.rp_actors.proofs.Moving.{part, represents_now}
 use Rattle.rp_world.proofs.NodeTurns.{goes_given, answers_given, light_given}
-use Rattle.rp_world.proofs.Placing.{found_at, placed_at}
+use Rattle.rp_actors.proofs.Placing.{found_at, placed_at}
 use Rattle.rp_world.proofs.Taking.{still_turned, still_refused}
 use Rattle.rp_world.proofs.world.World.give_input.Goals as goal
 

@@ -2,14 +2,14 @@ use Rattle.std.proofs.Common.{◌≡◌, Ok, Some, None, slice_set, refl, sym, a
 use Rattle.rp_codec.specs.Message.{IsParty}
 use Rattle.rp_model.specs.World.{part_at}
 use Rattle.rp_model.specs.Tasks.{takes_reply}
-use Rattle.rp_world.specs.Going.{reply_in}
-use Rattle.rp_world.proofs.Fields.{cluster_with, fields_of, sent_seen}
-use Rattle.rp_world.proofs.Hearing.{take_keeps}
-use Rattle.rp_world.proofs.Messages.{has_at, seen_to, text_found, text_is}
-use Rattle.rp_world.proofs.Moving.{still_tasks}
-use Rattle.rp_world.proofs.Placing.{found_task}
-use Rattle.rp_world.proofs.OnlySent.{only_sent_none, as_reported, as_unreported}
-use Rattle.rp_world.proofs.Replied.{Answered, heard_no_reply, took_reply, not_taken, reply_of_text}
+use Rattle.rp_actors.specs.Going.{reply_in}
+use Rattle.rp_actors.proofs.Fields.{cluster_with, fields_of, sent_seen}
+use Rattle.rp_actors.proofs.Hearing.{take_keeps}
+use Rattle.rp_actors.proofs.Messages.{has_at, seen_to, text_found, text_is}
+use Rattle.rp_actors.proofs.Moving.{still_tasks}
+use Rattle.rp_actors.proofs.Placing.{found_task}
+use Rattle.rp_actors.proofs.OnlySent.{only_sent_none, as_reported, as_unreported}
+use Rattle.rp_actors.proofs.Replied.{Answered, heard_no_reply, took_reply, not_taken, reply_of_text}
 use Rattle.rp_world.proofs.world.World.give_to_task.Goals.{in-Ok-Some, in-Ok-None, in-Err}
 use Rattle.rp_world.proofs.world.World.give_to_task.Goals as goal
 

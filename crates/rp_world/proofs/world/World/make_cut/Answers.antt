@@ -1,9 +1,9 @@
 use Rattle.std.proofs.Common.{◌+◌, inl, refl, sym, subst, arith}
 use Rattle.rp_agreement.specs.Ranges.{IsRangedWorld}
 use Rattle.rp_world.proofs.Choosing.{nodes_of, nodes_seen}
-use Rattle.rp_world.proofs.Fields.{fields_of, sent_seen, setting, world, setting_by}
+use Rattle.rp_actors.proofs.Fields.{fields_of, sent_seen, setting, world, setting_by}
 use Rattle.rp_world.proofs.NodeCuts.{IsStated, within, still_cut, answers_cut, stated_ok, stated_err}
-use Rattle.rp_world.proofs.Placing.{changed, placed_at}
+use Rattle.rp_actors.proofs.Placing.{changed, placed_at}
 use Rattle.rp_world.proofs.world.World.make_cut.Goals.{in-Ok-answer, in-Err-answer}
 use Rattle.rp_world.proofs.world.World.make_cut.Goals as goal
 

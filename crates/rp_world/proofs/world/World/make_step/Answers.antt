@@ -10,13 +10,13 @@ use Rattle.rp_model.specs.Events as events
 use Rattle.rp_model.specs.Events.{Step, step_of}
 use Rattle.rp_model.specs.Parts.{NodePart}
 use Rattle.rp_model.specs.World.{World, part_at, node_done, node_done_if, commanded, chosen_effect, step_effect}
-use Rattle.rp_world.specs.Going.{Answers, stated, step_meant}
-use Rattle.rp_world.specs.Steps.{IsLightStep, ClusterState, cluster_setting}
+use Rattle.rp_actors.specs.Going.{Answers, stated, step_meant}
+use Rattle.rp_actors.specs.Steps.{IsLightStep, ClusterState, cluster_setting}
 use Rattle.rp_world.proofs.Choosing.{its_node, nodes_seen}
-use Rattle.rp_world.proofs.Fields.{fields_of, setting_by}
-use Rattle.rp_world.proofs.Hearing.{same_input}
-use Rattle.rp_world.proofs.Light.{light_input}
-use Rattle.rp_world.proofs.Messages.{sends_are}
+use Rattle.rp_actors.proofs.Fields.{fields_of, setting_by}
+use Rattle.rp_actors.proofs.Hearing.{same_input}
+use Rattle.rp_actors.proofs.Light.{light_input}
+use Rattle.rp_actors.proofs.Messages.{sends_are}
 use Rattle.rp_world.proofs.world.World.make_step.Goals as goal
 
 -- what a cluster answers to a step

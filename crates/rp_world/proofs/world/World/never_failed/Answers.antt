@@ -1,8 +1,8 @@
 -- The counts of all nodes are 0.
 use Rattle.std.proofs.Common.{All, ℕ, ◌≡◌, slice_get, subst}
 use Rattle.std.specs.Prelude.{IfSome}
-use Rattle.rp_world.specs.Nodes.{failures_in}
-use Rattle.rp_world.proofs.Fresh.{all_zero}
+use Rattle.rp_actors.specs.Nodes.{failures_in}
+use Rattle.rp_actors.proofs.Fresh.{all_zero}
 use Rattle.rp_world.proofs.world.World.never_failed.Goals as goal
 
 pub returns : goal.returns

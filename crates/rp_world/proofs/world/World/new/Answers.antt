@@ -1,8 +1,8 @@
 use Rattle.std.proofs.Common.{ℕ, List, map, ap, ◌∙◌}
 use Rattle.rp_model.specs.World.{World, opening_world}
-use Rattle.rp_world.specs.Nodes.{failures_in}
-use Rattle.rp_world.specs.Steps.{ClusterState}
-use Rattle.rp_world.proofs.Fresh.{opening, fresh_are_world}
+use Rattle.rp_actors.specs.Nodes.{failures_in}
+use Rattle.rp_actors.specs.Steps.{ClusterState}
+use Rattle.rp_actors.proofs.Fresh.{opening, fresh_are_world}
 use Rattle.rp_world.proofs.world.World.new.Goals as goal
 
 pub returns-clause-opened : goal.returns-clause-opened

@@ -1,9 +1,9 @@
 use Rattle.std.proofs.Common.{◌≡◌, Some}
 use Rattle.rp_model.specs.Parts.{TaskPart}
 use Rattle.rp_model.specs.World.{part_at}
-use Rattle.rp_world.proofs.Fields.{as_seen, fields_of}
-use Rattle.rp_world.proofs.Moving.{task_here}
-use Rattle.rp_world.proofs.Placing.{found_task}
+use Rattle.rp_actors.proofs.Fields.{as_seen, fields_of}
+use Rattle.rp_actors.proofs.Moving.{task_here}
+use Rattle.rp_actors.proofs.Placing.{found_task}
 use Rattle.rp_world.proofs.world.World.outstanding.Goals as goal
 
 pub returns : goal.returns

@@ -5,9 +5,9 @@ use Rattle.rp_base.specs.Ranges.{range_of}
 use Rattle.rp_model.specs.Effect as inputs
 use Rattle.rp_replica.specs.rp_rules.specs.Inputs.{given_by}
 use Rattle.rp_replica.specs.rp_rules.specs.declared.input.Input.TheVariants.{LeadRange}
-use Rattle.rp_world.specs.Nodes.{member_of}
+use Rattle.rp_actors.specs.Nodes.{member_of}
 use Rattle.rp_world.proofs.Choosing.{none_among, one_among, represents_among, range_given, fault_of, no_node_leads, stopped_leads, leads_no_range}
-use Rattle.rp_world.proofs.Placing.{found_in, placed_at}
+use Rattle.rp_actors.proofs.Placing.{found_in, placed_at}
 use Rattle.rp_world.proofs.world.World.range_for.Goals as goal
 
 pub returns-then-is_running-clause-ok : goal.returns-then-is_running-clause-ok

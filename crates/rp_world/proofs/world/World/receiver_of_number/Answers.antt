@@ -1,5 +1,5 @@
 use Rattle.rp_model.specs.World.{part_at}
-use Rattle.rp_world.proofs.Messages.{packet_found, to_whom}
+use Rattle.rp_actors.proofs.Messages.{packet_found, to_whom}
 use Rattle.rp_world.proofs.world.World.receiver_of_number.Goals as goal
 
 pub receiver_of-requires : goal.receiver_of-requires

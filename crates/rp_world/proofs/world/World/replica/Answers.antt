@@ -1,6 +1,6 @@
 use Rattle.rp_world.proofs.Asked.{replica_of}
-use Rattle.rp_world.proofs.Fields.{fields_of}
-use Rattle.rp_world.proofs.Placing.{found_in}
+use Rattle.rp_actors.proofs.Fields.{fields_of}
+use Rattle.rp_actors.proofs.Placing.{found_in}
 use Rattle.rp_world.proofs.world.World.replica.Goals as goal
 
 pub returns : goal.returns

@@ -1,9 +1,9 @@
 use Rattle.std.proofs.Common.{inl, refl, ap, arith}
 use Rattle.rp_model.specs.World.{restarts}
 use Rattle.rp_world.proofs.Ending.{none_seen}
-use Rattle.rp_world.proofs.Fields.{fields_of}
+use Rattle.rp_actors.proofs.Fields.{fields_of}
 use Rattle.rp_world.proofs.Leaving.{still_by_restart, restart_ok, restart_err}
-use Rattle.rp_world.proofs.Placing.{changed, placed_at}
+use Rattle.rp_actors.proofs.Placing.{changed, placed_at}
 use Rattle.rp_world.proofs.world.World.restart.Goals.{in-Ok, in-Err}
 use Rattle.rp_world.proofs.world.World.restart.Goals as goal
 

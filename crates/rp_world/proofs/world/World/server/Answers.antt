@@ -1,6 +1,6 @@
 use Rattle.rp_world.proofs.Asked.{server_found, no_server}
-use Rattle.rp_world.proofs.Fields.{fields_of}
-use Rattle.rp_world.proofs.Placing.{found_in}
+use Rattle.rp_actors.proofs.Fields.{fields_of}
+use Rattle.rp_actors.proofs.Placing.{found_in}
 use Rattle.rp_world.proofs.world.World.server.Goals as goal
 
 pub returns-in-Some-replica : goal.returns-in-Some-replica

@@ -5,8 +5,8 @@ use Rattle.std.specs.Int.{w64}
 use Rattle.std.proofs.lemmas.Int.{to_z-of_z}
 use Rattle.rp_model.specs.Events.{Submit, Makes, IsRightEvent, event_of, step_of}
 use Rattle.rp_model.specs.World.{event_effect}
-use Rattle.rp_world.specs.Going.{Answers, call_meant, stated}
-use Rattle.rp_world.specs.Steps.{IsLightStep, IsStep, cluster_setting}
+use Rattle.rp_actors.specs.Going.{Answers, call_meant, stated}
+use Rattle.rp_actors.specs.Steps.{IsLightStep, IsStep, cluster_setting}
 use Rattle.rp_world.proofs.Stepping.{submitted, asked, made_whole, made_cut, stopped, restarted}
 use Rattle.rp_world.proofs.world.World.step_into.Goals as goal
 use Rattle.rp_world.proofs.world.World.step_into.Goals.{in-Submit, in-Again, in-Cut, in-Stop, in-Restart}

@@ -8,7 +8,7 @@ use Rattle.rp_replica.specs.rp_rules.specs.Inputs.{packet_given}
 use Rattle.rp_replica.specs.rp_rules.specs.declared.input.Input.TheVariants.{Receive}
 use Rattle.rp_world.specs.Choosing.{IsOf, IsOfNone}
 use Rattle.rp_world.proofs.Choosing.{as_many, no_text, no_message, for_no_node, past_all, delivered, none_chosen, one_chosen}
-use Rattle.rp_world.proofs.Messages.{packet_found}
+use Rattle.rp_actors.proofs.Messages.{packet_found}
 use Rattle.rp_world.proofs.world.World.step_to_cut.Goals.{in-Lead, in-LeadRange+in-Ok, in-Interrupt, in-Tick, in-Report, in-Ask}
 use Rattle.rp_world.proofs.world.World.step_to_cut.Goals as goal
 

@@ -1,9 +1,9 @@
 use Rattle.std.proofs.Common.{refl, ap, arith}
 use Rattle.rp_model.specs.World.{stops}
 use Rattle.rp_world.proofs.Ending.{none_seen}
-use Rattle.rp_world.proofs.Fields.{fields_of}
+use Rattle.rp_actors.proofs.Fields.{fields_of}
 use Rattle.rp_world.proofs.Leaving.{still_by_stop, stop_ok, stop_err}
-use Rattle.rp_world.proofs.Placing.{changed, placed_at}
+use Rattle.rp_actors.proofs.Placing.{changed, placed_at}
 use Rattle.rp_world.proofs.world.World.stop.Goals.{in-Ok, in-Err}
 use Rattle.rp_world.proofs.world.World.stop.Goals as goal
 

@@ -2,11 +2,11 @@ use Rattle.std.proofs.Common.{◌-◌, ◌≤◌, ℕ, Result, Err, length, refl
 use Rattle.std.proofs.lemmas.Bool.{ltb-false}
 use Rattle.rp_base.specs.declared.fault.Fault.{Fault}
 use Rattle.rp_base.specs.declared.fault.Fault.TheVariants.{BadConfig}
-use Rattle.rp_world.specs.Steps.{IsStored}
+use Rattle.rp_actors.specs.Steps.{IsStored}
 use Rattle.rp_world.proofs.Asked.{stored_of}
 use Rattle.rp_world.proofs.Ending.{none_seen}
-use Rattle.rp_world.proofs.Fields.{fields_of}
-use Rattle.rp_world.proofs.Placing.{found_in, placed_at}
+use Rattle.rp_actors.proofs.Fields.{fields_of}
+use Rattle.rp_actors.proofs.Placing.{found_in, placed_at}
 use Rattle.rp_world.proofs.world.World.stored.Goals as goal
 
 pub returns-in-Some : goal.returns-in-Some

@@ -1,11 +1,11 @@
 use Rattle.std.proofs.Common.{ap}
 use Rattle.std.specs.Int.{w64}
 use Rattle.std.proofs.lemmas.Int.{to_z-of_z}
-use Rattle.rp_world.specs.Callers.{Caller}
+use Rattle.rp_actors.specs.Callers.{Caller}
 use Rattle.rp_world.proofs.Calling.{asks_of, may_not, call_own, call_is_right, call_runs_out, called}
-use Rattle.rp_world.proofs.Fields.{fields_of}
-use Rattle.rp_world.proofs.Moving.{still_tasks}
-use Rattle.rp_world.proofs.Placing.{found_task}
+use Rattle.rp_actors.proofs.Fields.{fields_of}
+use Rattle.rp_actors.proofs.Moving.{still_tasks}
+use Rattle.rp_actors.proofs.Placing.{found_task}
 use Rattle.rp_world.proofs.world.World.submit.Goals as goal
 
 pub returns-in_err-call : goal.returns-in_err-call

@@ -1,0 +1,15 @@
+pub mod Lists
+pub mod Placing
+pub mod Reports
+pub mod OnlySent
+pub mod Messages
+pub mod Represented
+pub mod Turning
+pub mod Resting
+pub mod Fields
+pub mod Moving
+pub mod Hearing
+pub mod Fresh
+pub mod Failing
+pub mod Replied
+pub mod Light

@@ -1,0 +1,12 @@
+pub mod Steps
+pub mod Deliveries
+pub mod Failures
+pub mod Shape
+pub mod Callers
+pub mod Nodes
+pub mod Going
+pub use Rattle.rp_replica.specs.rp_outbox
+pub use Rattle.rp_replica
+pub use Rattle.rp_replica.specs.rp_rules
+pub use Rattle.rp_replica.specs.rp_server
+pub use Rattle.rp_store

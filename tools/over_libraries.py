@@ -117,7 +117,7 @@ class NewLibraries(Libraries):
             return True
         made = super().at(name)
         try:
-            if not os.path.exists(f"{made}/format") or not self.since <= changed(made) <= time.time() - AGE:
+            if os.stat(f"{made}/format").st_ctime < self.since or changed(made) > time.time() - AGE:
                 return False
             os.makedirs(self.links, exist_ok=True)
             with tempfile.TemporaryDirectory(prefix="link-", dir=self.links) as room:

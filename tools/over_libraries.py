@@ -8,9 +8,6 @@ import time
 HOME = os.path.dirname(os.path.dirname(os.path.abspath(__file__)))
 # Another checkout whose libraries are used, for a trial of the tools.
 LIBRARIES = os.environ.get("LIBRARIES", HOME)
-# How far what runs beside `rt ci` stands back: so far that the proofs that others wait for are hardly slower, and so little that most
-# of it is done when `rt ci` ends.
-NICE = 8
 # The seconds between two looks at the libraries, and the age at which a library is whole.
 PAUSE, AGE = 0.5, 1
 
@@ -152,5 +149,5 @@ def chosen(words):
         words.error("--beside and --until go together")
     if not asked.beside:
         return Libraries()
-    os.nice(NICE)
+    os.nice(19)
     return NewLibraries(asked.since, asked.until)

@@ -1,5 +1,6 @@
-"""Calls the toolchain over the libraries that `rt ci` leaves in crates/*/out/rlib."""
+"""Calls the toolchain over the libraries that `rt ci` leaves in crates/*/out/rlib, or makes there."""
 import os
+import re
 import subprocess
 
 HOME = os.path.dirname(os.path.dirname(os.path.abspath(__file__)))
@@ -50,6 +51,10 @@ class Libraries:
         """Whether the library of a crate is there, whole."""
         return os.path.exists(f"{self.at(name)}/format")
 
+    def is_over(self):
+        """Whether no more libraries will come."""
+        return True
+
     def absent(self, name):
         """The libraries below a crate that are not there."""
         return [it for it in below(name, self.crates) if not self.is_there(it)]
@@ -67,3 +72,22 @@ class Libraries:
         for it in below(name, self.crates):
             given += ["-L", f"dependency={os.path.dirname(self.at(it))}"]
         return given + ["--antt-project", f"{kit}/rattle/logic/antt-project.json", "--logic-built", f"{kit}/logic_built"]
+
+
+class ComingLibraries(Libraries):
+    """The libraries of an `rt ci` that runs beside: each is whole once the file that holds what `rt ci` prints says so. The
+    file ends in the line `ended` once no more will come."""
+
+    def __init__(self, said):
+        super().__init__()
+        self.said = said
+        self.whole = set()
+
+    def is_over(self):
+        with open(self.said, errors="replace") as file:
+            text = file.read()
+        self.whole.update(re.findall(r"(?m)^rt: (\w+) (?:proved|is kept: .*)\n", text))
+        return text.endswith("\nended\n")
+
+    def is_there(self, name):
+        return name in self.whole and super().is_there(name)

@@ -23,19 +23,19 @@ use Rattle.rp_explore_run.specs.declared.answer.Verdict.{Verdict}
 use Rattle.rp_explore_run.specs.declared.answer.Verdict.TheVariants as verdicts
 use Rattle.rp_chart.specs.declared.chart.ChartRequest.{ChartRequest}
 use Rattle.rp_bind_run.specs.rp_script.specs.Agreeing.{ScriptBegins, ScriptPrints}
-use Rattle.rp_console.specs.CommandLine.{bind_option, chart_option, console, explore_option}
-use Rattle.rp_console.specs.CommandLine.{live_args, subcommand_word}
-use Rattle.rp_console.specs.CommandLine.{seed_of, trace_of, turns_of, IsChartRequest, IsRequest}
-use Rattle.rp_console.specs.CommandLine.{IsLanguage, ReadsAs}
-use Rattle.rp_console.specs.RefusedWords.{RefusesAs}
+use Rattle.rp_command_line.specs.CommandLine.{bind_option, chart_option, console, explore_option}
+use Rattle.rp_command_line.specs.CommandLine.{seed_of, subcommand_word, trace_of, turns_of}
+use Rattle.rp_command_line.specs.CommandLine.{IsChartRequest, IsLanguage, IsRequest, ReadsAs}
+use Rattle.rp_command_line.specs.RefusedWords.{RefusesAs}
 use Rattle.rp_live_run.specs.Figures.{figures_line_of}
 use Rattle.rp_bind_run.specs.rp_script.specs.Given.{FailsRun}
 use Rattle.rp_live_run.specs.LiveRun.{LiveBegins, LivePrints}
 use Rattle.rp_bind_run.specs.rp_output.specs.Endings.{ReportsFault, status_of}
 use Rattle.rp_bind_run.specs.rp_output.specs.FaultMessage.{fault_message_of, with_line_feed}
 use Rattle.rp_bind_run.specs.rp_output.specs.Stream.{IsReadFault, Writes}
-use Rattle.rp_console.specs.declared.args.Args.{Args}
-use Rattle.rp_console.specs.declared.args.Args.TheVariants.{Script, Live, Chart, Explore, Bind}
+use Rattle.rp_command_line.specs.declared.args.Args.{Args}
+use Rattle.rp_command_line.specs.declared.args.Args.TheVariants.{Script, Live, Chart, Explore}
+use Rattle.rp_command_line.specs.declared.args.Args.TheVariants.{Bind}
 use Rattle.rp_console.specs.declared.console.Report.{Report}
 use Rattle.rp_console.specs.declared.console.Report.TheVariants.{Nothing, Figures, TooLong}
 use Rattle.rp_console.specs.declared.console.Report.TheVariants.{Searched}
@@ -53,7 +53,7 @@ pub record AsksFor (words : List Text) (args : Args) : Type 0 where
   pub traced : trace_of words ≡ Some (codes "true") → args ≡ Script true
   pub quiet : trace_of words ≡ Some (codes "false") → args ≡ Script false
   pub live : (seed turns : ℕ) → ReadsAs 32 (seed_of words) seed
-      → ReadsAs 32 (turns_of words) turns → args ≡ live_args seed turns
+      → ReadsAs 32 (turns_of words) turns → args ≡ Live seed turns
   pub chart : (request : ChartRequest) → args ≡ Chart request
       → IsChartRequest (chart_option words) request
   pub explore : (request : ExploreRequest) → args ≡ Explore request
@@ -66,8 +66,8 @@ pub record AsksFor (words : List Text) (args : Args) : Type 0 where
 -- there are none.
 abbrev pub Prints : Args → Content → Content → Content → Report → Type 0
 Prints (Script traced) given old new Nothing = ScriptPrints traced given old new
-Prints (Live request) given old new (Figures line) =
-    LivePrints request.seed request.turns given old new line.figures
+Prints (Live seed turns) given old new (Figures line) =
+    LivePrints seed turns given old new line.figures
 Prints (Chart request) given old new Nothing = Draws Drawn request given old new
 Prints (Chart request) given old new TooLong = Draws outcomes.TooLong request given old new
 Prints (Explore request) given old new (Searched verdict) = Explores request given old new verdict
@@ -79,7 +79,7 @@ Prints args given old new report = ⊥
 -- what a run that a fault ends has printed: nothing, or a prefix of that
 abbrev pub HasBegun : Args → Content → Content → Content → Type 0
 HasBegun (Script traced) given old new = ScriptBegins traced given old new
-HasBegun (Live request) given old new = LiveBegins request.seed request.turns given old new
+HasBegun (Live seed turns) given old new = LiveBegins seed turns given old new
 HasBegun (Chart request) given old new = DrawingBegins request given old new
 HasBegun (Explore request) given old new = ExploreBegins request given old new
 HasBegun (Bind language) given old new = BindingBegins language given old new
@@ -87,7 +87,7 @@ HasBegun (Bind language) given old new = BindingBegins language given old new
 -- the fault of what was asked for, by the deck as it is read for that
 abbrev pub IsFaultOf : Args → Content → Content → Content → Fault → Type 0
 IsFaultOf (Script traced) given old new fault = FailsRun modes.Script given old new fault
-IsFaultOf (Live request) given old new fault = FailsRun modes.Live given old new fault
+IsFaultOf (Live seed turns) given old new fault = FailsRun modes.Live given old new fault
 IsFaultOf (Chart request) given old new fault = FailsRun modes.Script given old new fault
 IsFaultOf (Explore request) given old new fault = FailsExplore given old new fault
 IsFaultOf (Bind language) given old new fault = FailsBinding given old new fault
@@ -121,7 +121,7 @@ search_status verdicts.NotShown = 7
 -- how the deck is read for what was asked for
 abbrev pub mode_of : Args → Mode
 mode_of (Script traced) = modes.Script
-mode_of (Live request) = modes.Live
+mode_of (Live seed turns) = modes.Live
 mode_of (Chart request) = modes.Script
 mode_of (Explore request) = modes.Script
 mode_of (Bind language) = modes.Script

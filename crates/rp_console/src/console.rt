@@ -7,15 +7,14 @@ ghost use Rattle.rp_bind_run.specs.rp_output.specs.FaultMessage.{with_line_feed}
 ghost use Rattle.rp_bind_run.specs.rp_output.specs.Stream.{Writes};
 ghost use Rattle.rp_bind_run.specs.rp_script.specs.Given.{most_bytes};
 
-use crate::args::{Args, read_args};
-use crate::words::refuse_words;
 use rp_base::Fault;
 use rp_bind_run::bind_deck;
 use rp_chart::{Outcome, draw_script};
+use rp_command_line::{Args, read_args, refuse_words};
 use rp_deck::Mode;
 use rp_deck_hints::{Hint, hint_for};
 use rp_explore_run::{Verdict, explore_deck};
-use rp_live_run::{FiguresLine, run_live};
+use rp_live_run::{FiguresLine, LiveRequest, run_live};
 use rp_output::{Ending, Streams, fail, report};
 use rp_script::{read_whole, run_script};
 use std::alloc::Global;
@@ -115,7 +114,7 @@ fn mode_of(args: &Args) -> Mode
     ensures { result ≡ mode_of args.now }
 {
     match args {
-        Args::Live(_) => Mode::Live,
+        Args::Live { .. } => Mode::Live,
         _ => Mode::Script,
     }
 }
@@ -162,10 +161,13 @@ fn run_as<T: Threads + Wait + Clock + Sync, R: Read, W: Write>(
             Ok(()) => Ok(Report::Nothing),
             Err(fault) => Err(fault),
         },
-        Args::Live(request) => match run_live(rt, alloc, reader, request, writer) {
-            Ok(figures) => Ok(Report::Figures(figures)),
-            Err(fault) => Err(fault),
-        },
+        Args::Live { seed, turns } => {
+            let request = LiveRequest { seed, turns };
+            match run_live(rt, alloc, reader, request, writer) {
+                Ok(figures) => Ok(Report::Figures(figures)),
+                Err(fault) => Err(fault),
+            }
+        }
         Args::Chart(request) => match draw_script(alloc, reader, request, writer) {
             Ok(Outcome::Drawn) => Ok(Report::Nothing),
             Ok(Outcome::TooLong) => Ok(Report::TooLong),

@@ -3,21 +3,16 @@
 //!
 //! In reading order:
 //! - `console`: does what the words of the command line ask for, and reports its faults
-//! - `args`: what the words of the command line ask for
-//! - `words`: refuses words that ask for no run
 #![tactic(auto)]
 
-mod args;
 mod console;
-mod words;
 
-use args::command;
 use console::obey;
 use rp_base::Fault;
+use rp_command_line::{command, given_words, refuse_unread};
 use rp_output::{Streams, fail};
 use std::io::BufWriter;
 use std::process::ExitCode;
-use words::{given_words, refuse_unread};
 
 fn main(rt: HostRuntime) -> ExitCode {
     let mut errors = rt.stderr();

@@ -1,4 +1,4 @@
--- What follows from the invariant for the order of a world (no public clause names it).
+-- What follows from the invariant for the order of a world.
 use Rattle.std.specs.Prelude.{◌≡◌, ℕ, suc, ◌≤◌, Some, List, slice_get}
 use Rattle.rp_base.specs.declared.action.Action.{Action}
 use Rattle.rp_base.specs.declared.reply.Answer.{Answer}

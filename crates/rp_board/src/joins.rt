@@ -1,4 +1,4 @@
-//! Places are joined and split, and the audit's seat looks at the table together with that of a task.
+//! Places are joined and split, and the audit's seat looks at the table with the seat of a task.
 
 ghost use Rattle.std.specs.Prelude.{◌≡◌, ◌+◌, ◌++◌, ◌∷◌, ℕ, []};
 ghost use Rattle.rp_board.specs.Looks.{HasWorld};

@@ -104,9 +104,9 @@ impl<M: Machine> Audit<M> {
     /// Takes the packet out of the box from that party to the audit, and returns its text, or
     /// `None` if the box is not full. It is a report, which that party has sent.
     pub fn fetch(&mut self, from: Party) -> Option<Vec<u8>>
-        // claim: A packet that the audit fetches is to it and from the one asked, which has sent it
-        //   in a world that keeps the rule and has its view; its seat has then got it. `None` only
-        //   if the box was not full
+        // claim (some, sent, none, missed): A packet that the audit fetches is to it and from the
+        //   one asked, which has sent it in a world that keeps the rule and has its seat's view; the
+        //   seat has then got it. `None` only if the box was not full
         ensures some { IfSome result (λ text. IsFetched from parties.Audit text.items
             self.old.seat self.new.seat) }
         ensures sent { IfSome result (λ text. WasSent M.next M.answers M.begin from parties.Audit

@@ -16,7 +16,7 @@ ghost use Rattle.rp_board.specs.Seats.{table_setting};
 
 use crate::board::{Known, Place, Slots};
 use crate::events::Fact;
-use crate::look::look;
+use crate::looks::look;
 use crate::spares::spare;
 use atomic_table::Play;
 use rp_machine::Machine;

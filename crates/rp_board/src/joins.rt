@@ -7,7 +7,7 @@ ghost use Rattle.rp_board.specs.Plays.{IsSized, alone};
 ghost use Rattle.rp_board.specs.Seats.{setting_at, table_setting};
 
 use crate::board::{Known, Place, Slots};
-use crate::look::look;
+use crate::looks::look;
 use crate::seat::{AuditSeat, Seat};
 use atomic_table::{Join, Split};
 use rp_base::TaskId;

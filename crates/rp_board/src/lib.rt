@@ -7,7 +7,7 @@
 //! - `spares`: buffers that a seat keeps for later packets
 //! - `boxes`: the steps at a box: its sender fills it, its receiver empties it
 //! - `actors`: who sits at the table, and the numbers of the actors there
-//! - `look`: a look at the table: what follows from a seat's knowledge about all that happened
+//! - `looks`: a look at the table: what follows from a seat's knowledge about all that happened
 //! - `seat`: a seat at the table, and what every seat does with its boxes: it fetches packets, and
 //!   puts packets
 //! - `joins`: places are joined and split: two seats look at the table together
@@ -19,7 +19,7 @@ mod boxes;
 mod events;
 mod joins;
 mod laws;
-mod look;
+mod looks;
 mod seat;
 mod spares;
 
@@ -28,5 +28,5 @@ pub use board::{Board, Known, Law, Place, Setup, Slots};
 pub use events::Fact;
 pub use joins::{split, take_in};
 pub use laws::order_laws;
-pub use look::look;
+pub use looks::look;
 pub use seat::{AuditSeat, Fetch, Put, Seat};

@@ -14,7 +14,7 @@ use crate::board::{Board, Place};
 use crate::boxes::{empty, fill};
 use crate::events::{Fact, Turns};
 use crate::laws::events_keep;
-use crate::look::look;
+use crate::looks::look;
 use crate::spares::{keep, keep_left, spare_buffer};
 use rp_codec::Party;
 use rp_machine::Machine;

@@ -3,7 +3,7 @@ use Rattle.std.proofs.Common.{◌<◌, arith}
 use Rattle.rp_board.specs.Parts.{part_in}
 use Rattle.rp_board.specs.Seats.{table_setting}
 use Rattle.rp_board.proofs.WorldLooks.{look_allows}
-use Rattle.rp_board.proofs.look.look.Goals as goal
+use Rattle.rp_board.proofs.looks.look.Goals as goal
 
 pub load-requires : goal.load-requires
 load-requires g c =

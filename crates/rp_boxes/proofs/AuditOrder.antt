@@ -16,13 +16,13 @@ use Rattle.rp_agreement.specs.Computed.{order_of}
 use Rattle.rp_agreement.specs.Order.{IsPrefix}
 use Rattle.rp_agreement.specs.Sound.{IsReported, IsSound}
 use Rattle.rp_agreement.specs.Asked.{Says}
+use Rattle.rp_board.specs.Looks.{HasWorld, IsWorldOf, WasSent}
+use Rattle.rp_board.specs.OrderLaws.{OrderLaws}
+use Rattle.rp_board.specs.Parts.{Part, View}
+use Rattle.rp_board.specs.Rule.{node_among, all_sent}
+use Rattle.rp_board.specs.Seats.{SeatState, setting_at}
 use Rattle.rp_boxes.specs.Audits.{Audited, ReportSays, AreAllReported, known_of, report}
-use Rattle.rp_boxes.specs.Looks.{HasWorld, IsWorldOf, WasSent}
 use Rattle.rp_boxes.specs.OneOrder.{ReportOneOrder, AreOfOneOrder}
-use Rattle.rp_boxes.specs.OrderLaws.{OrderLaws}
-use Rattle.rp_boxes.specs.Parts.{Part, View}
-use Rattle.rp_boxes.specs.Rule.{node_among, all_sent}
-use Rattle.rp_boxes.specs.Seats.{SeatState, setting_at}
 use Rattle.rp_boxes.proofs.Listed.{at_taken, at_dropped, begins_by}
 use Rattle.rp_boxes.proofs.WorldOrder.{world_order}
 

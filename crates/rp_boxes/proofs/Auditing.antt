@@ -10,11 +10,11 @@ use Rattle.rp_base.specs.declared.action.Action.{Action}
 use Rattle.rp_base.proofs.Members.{has_left}
 use Rattle.rp_codec.specs.Message.{Message, IsPacket}
 use Rattle.rp_model.specs.World.{with_part}
-use Rattle.rp_boxes.specs.Parts.{Part, with_got}
+use Rattle.rp_board.specs.Parts.{Part, with_got}
+use Rattle.rp_board.proofs.Opening.{always_at}
 use Rattle.rp_boxes.specs.Audits.{Audited, ReportSays, AreAllReported, IsJoined, known_of, report, with_reported}
 use Rattle.rp_boxes.specs.declared.audit.Added.TheVariants as added
 use Rattle.rp_boxes.proofs.Listed.{at_appended, at_taken}
-use Rattle.rp_boxes.proofs.Opening.{always_at}
 
 -- ---- a packet is got
 

@@ -1,24 +1,11 @@
-pub mod Worlds
-pub mod Turns
-pub mod BoxSteps
-pub mod Filling
-pub mod Emptying
-pub mod Goodness
-pub mod Sights
 pub mod SeatTurns
-pub mod SeatBoxes
-pub mod Opening
 pub mod Reporting
-pub mod Splitting
 pub mod Seating
 pub mod Listed
 pub mod Auditing
-pub mod WorldLooks
 pub mod TaskTurns
 pub mod WorldOrder
 pub mod TaskOrder
-pub mod Joining
 pub mod AuditOrder
 pub mod OneWorld
-pub mod Carrying
 mod Uncounted

@@ -14,20 +14,20 @@ use Rattle.rp_agreement.specs.Answered.{calls_so_far, named}
 use Rattle.rp_agreement.specs.Computed.{order_of}
 use Rattle.rp_agreement.specs.Order.{IsPrefix}
 use Rattle.rp_agreement.specs.Sound.{IsSound}
+use Rattle.rp_board.specs.Looks.{IsWorldOf}
+use Rattle.rp_board.specs.OrderLaws.{OrderLaws}
+use Rattle.rp_board.specs.Parts.{Part, View, node_of, task_of}
+use Rattle.rp_board.specs.Plays.{Sight, alone}
+use Rattle.rp_board.specs.Rule.{IsGotInOrder, node_among, all_sent}
+use Rattle.rp_board.specs.Seats.{SeatState, setting_at}
+use Rattle.rp_board.proofs.Worlds.{is_sent}
 use Rattle.rp_boxes.specs.Audits.{Audited, ReportSays, AreAllReported, known_of, report}
-use Rattle.rp_boxes.specs.Looks.{IsWorldOf}
 use Rattle.rp_boxes.specs.OneOrder.{IsWorldOrder}
-use Rattle.rp_boxes.specs.OrderLaws.{OrderLaws}
-use Rattle.rp_boxes.specs.Parts.{Part, View, node_of, task_of}
-use Rattle.rp_boxes.specs.Plays.{Sight, alone}
-use Rattle.rp_boxes.specs.Rule.{IsGotInOrder, node_among, all_sent}
-use Rattle.rp_boxes.specs.Seats.{SeatState, setting_at}
 use Rattle.rp_boxes.specs.Together.{AreTogether, IsNodeOf, IsTaskOf, known_together, of_node, of_task}
 use Rattle.rp_boxes.proofs.Auditing.{says_among}
 use Rattle.rp_boxes.proofs.AuditOrder.{ReportsFollow, known_begins}
 use Rattle.rp_boxes.proofs.TaskOrder.{of_order}
 use Rattle.rp_boxes.proofs.WorldOrder.{world_order}
-use Rattle.rp_boxes.proofs.Worlds.{is_sent}
 
 -- ---- places are taken in, one after the other
 

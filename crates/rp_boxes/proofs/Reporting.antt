@@ -11,9 +11,9 @@ use Rattle.rp_codec.specs.declared.packet.Body.{Body}
 use Rattle.rp_codec.specs.declared.packet.Body.TheVariants.{Promise, Accept, Accepted, Decided, Nack, Report, PromiseRange}
 use Rattle.rp_codec.specs.declared.packet.Party.{Party}
 use Rattle.rp_codec.specs.declared.packet.Party.TheVariants.{Node, Task, Audit}
+use Rattle.rp_board.specs.Parts.{with_got}
+use Rattle.rp_board.specs.Seats.{SeatState, IsFetched}
 use Rattle.rp_boxes.specs.Audits.{IsGotReport, report}
-use Rattle.rp_boxes.specs.Parts.{with_got}
-use Rattle.rp_boxes.specs.Seats.{SeatState, IsFetched}
 
 -- who reports to the audit is a node, and sends a report
 stated_by : (from : Party) (body : Body) → MaySay from Audit body

@@ -24,12 +24,13 @@ use Rattle.rp_actors.specs.Nodes.{Member, member_of, RunsAs, RepresentsWhile, Is
 use Rattle.rp_actors.proofs.Light.{light_turn}
 use Rattle.rp_actors.proofs.Represented.{represents, represents_failed, as_running, as_resting}
 use Rattle.rp_actors.proofs.Turning.{same_effect, is_cut, taken, false_true}
-use Rattle.rp_boxes.specs.Parts.{Part, OfNode, part_after}
-use Rattle.rp_boxes.specs.Rule.{HasOwnPackets}
-use Rattle.rp_boxes.specs.Seats.{SeatSetup, SeatState, IsNodeAt, IsNoted, HasInputRanges, IsGot, IsReason, IsTurn, IsCutTurn, IsLightTurn, IsNoTurn, setting_at}
-use Rattle.rp_boxes.specs.Steps.{IsEvent, HasEvent}
+use Rattle.rp_board.specs.Parts.{Part, OfNode, part_after}
+use Rattle.rp_board.specs.Rule.{HasOwnPackets}
+use Rattle.rp_board.specs.Seats.{SeatSetup, SeatState, IsNoted, setting_at}
+use Rattle.rp_board.specs.Steps.{IsEvent, HasEvent}
+use Rattle.rp_board.proofs.SeatBoxes.{seat_with, with_failures}
+use Rattle.rp_boxes.specs.NodeSeats.{IsNodeAt, HasInputRanges, IsGot, IsReason, IsTurn, IsCutTurn, IsLightTurn, IsNoTurn}
 use Rattle.rp_boxes.specs.CountedTurns.{HasStepped, HasStopped}
-use Rattle.rp_boxes.proofs.SeatBoxes.{seat_with, with_failures}
 
 -- a record that is written is no failure
 written_failures : (written : Option Rec) (disk : Disk) → (with_text disk written).failures ≡ disk.failures

@@ -8,10 +8,11 @@ use Rattle.rp_actors.specs.rp_replica.specs.State.{ReplicaState}
 use Rattle.rp_actors.specs.Nodes.{member_of, RunsAs}
 use Rattle.rp_actors.proofs.Fresh.{one_more}
 use Rattle.rp_actors.proofs.Represented.{represents}
-use Rattle.rp_boxes.specs.Parts.{Part, View, OfNode, OfTask, OfAudit, first_role, first_part, first_from}
-use Rattle.rp_boxes.specs.Plays.{Sight, IsSized, alone}
-use Rattle.rp_boxes.specs.Seats.{SeatState, IsAtTable, IsNodeAt}
-use Rattle.rp_boxes.specs.FirstSeats.{AreFirstSeats, AreSeats, IsRest, Unseated, after_seats, others_in, first_seat}
+use Rattle.rp_board.specs.Parts.{Part, View, OfNode, OfTask, OfAudit, first_role, first_part, first_from, others_in}
+use Rattle.rp_board.specs.Plays.{Sight, IsSized, alone}
+use Rattle.rp_board.specs.Seats.{SeatState, IsAtTable}
+use Rattle.rp_boxes.specs.NodeSeats.{IsNodeAt}
+use Rattle.rp_boxes.specs.FirstSeats.{AreFirstSeats, AreSeats, IsRest, Unseated, after_seats, first_seat}
 
 -- ---- the rest of the actors
 

@@ -11,15 +11,15 @@ use Rattle.rp_model.specs.Tasks.{asks}
 use Rattle.rp_agreement.specs.Answered.{AreItsCalls, named}
 use Rattle.rp_agreement.specs.Computed.{order_of}
 use Rattle.rp_agreement.specs.Asked.{Asks}
-use Rattle.rp_boxes.specs.Looks.{HasWorld, IsWorldOf}
+use Rattle.rp_board.specs.Looks.{HasWorld, IsWorldOf}
+use Rattle.rp_board.specs.OrderLaws.{OrderLaws}
+use Rattle.rp_board.specs.Parts.{Part, View, task_of}
+use Rattle.rp_board.specs.Rule.{node_among, task_among, all_sent}
+use Rattle.rp_board.specs.Seats.{SeatState, setting_at}
+use Rattle.rp_board.proofs.Worlds.{sent_by, is_sent}
 use Rattle.rp_boxes.specs.OneOrder.{HasOneOrder}
-use Rattle.rp_boxes.specs.OrderLaws.{OrderLaws}
-use Rattle.rp_boxes.specs.Parts.{Part, View, task_of}
-use Rattle.rp_boxes.specs.Rule.{node_among, task_among, all_sent}
-use Rattle.rp_boxes.specs.Seats.{SeatState, setting_at}
 use Rattle.rp_boxes.specs.TaskSeats.{IsOfOrder}
 use Rattle.rp_boxes.proofs.WorldOrder.{world_order}
-use Rattle.rp_boxes.proofs.Worlds.{sent_by, is_sent}
 
 module _ {S : Type 0} (s : Setting S) (view : View) (parts : ℕ → Part) (world : IsWorldOf s view parts) (number : ℕ) (part : Part) (known : Has (7 + number, part) view) where
   was : parts (7 + number) ≡ part

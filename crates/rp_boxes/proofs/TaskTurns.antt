@@ -1,6 +1,6 @@
 -- What an event of a task is for its seat.
 use Rattle.std.proofs.Common.{◌≡◌, ℕ, ◌+◌, ◌++◌, Bool, true, false, if◌then◌else◌, Option, Some, None, Result, Ok, Err, List, [], ◌∷◌, length, inl, inr, refl, sym, ap, subst, ◌∙◌}
-use Rattle.std.specs.Prelude.{ℤ, nat_lt, not, ◌||◌, IfErr, IsErrAnd}
+use Rattle.std.specs.Prelude.{ℤ, nat_lt, not, ◌||◌}
 use Rattle.rp_base.specs.Action.{is_right}
 use Rattle.rp_base.specs.Calls.{are_exhausted}
 use Rattle.rp_base.specs.Number.{IsTask}
@@ -27,11 +27,11 @@ use Rattle.rp_agreement.proofs.Lists.{some_same}
 use Rattle.rp_actors.specs.rp_replica.specs.declared.sent.Sent.{Sent}
 use Rattle.rp_actors.specs.Callers.{Caller}
 use Rattle.rp_actors.specs.Going.{reply_in}
-use Rattle.rp_boxes.specs.Parts.{Part, Role, OfTask, part_after}
-use Rattle.rp_boxes.specs.Seats.{SeatSetup, SeatState, IsNoted, setting_at}
-use Rattle.rp_boxes.specs.Steps.{HasEvent}
+use Rattle.rp_board.specs.Parts.{Part, Role, OfTask, part_after}
+use Rattle.rp_board.specs.Seats.{SeatSetup, SeatState, IsNoted, setting_at}
+use Rattle.rp_board.specs.Steps.{HasEvent}
+use Rattle.rp_board.proofs.SeatBoxes.{seat_with}
 use Rattle.rp_boxes.specs.TaskSeats.{IsTaskAt, asked_of, DescribesPackets, IsTaskTurn, IsNoTaskTurn, reply_effect, IsReplyTurn}
-use Rattle.rp_boxes.proofs.SeatBoxes.{seat_with}
 
 -- ---- the result of an input
 
@@ -231,10 +231,3 @@ module _ {P : Type 0} (event : TaskEvent P) where
         after = after_is;
         stated = stated;
       }
-
--- ---- the seat where nothing happened
-
--- what holds at the error that an answer is
-pub at_fault : {A E : Type 0} (Q : E → Type 0) (fault : E) (r : Result A E) → IsErrAnd r (λ e. e ≡ fault) → Q fault → IfErr r Q
-at_fault Q fault (Ok stated) is q = tt
-at_fault Q fault (Err other) is q = subst Q (sym is) q

@@ -8,8 +8,9 @@ use Rattle.rp_model.specs.Parts.{NodePart, Running}
 use Rattle.rp_actors.specs.rp_replica.specs.State.{ReplicaState, part_of}
 use Rattle.rp_actors.specs.rp_server.specs.Free.{has_uncounted}
 use Rattle.rp_actors.specs.Nodes.{Member, RestsAs, RunsAs, RepresentsWhile, member_of}
-use Rattle.rp_boxes.specs.Parts.{Role, OfNode}
-use Rattle.rp_boxes.specs.Seats.{SeatState, IsNodeAt, HasUncounted}
+use Rattle.rp_board.specs.Parts.{Role, OfNode}
+use Rattle.rp_board.specs.Seats.{SeatState}
+use Rattle.rp_boxes.specs.NodeSeats.{IsNodeAt, HasUncounted}
 
 same_node : (role : Role) (a b : NodePart) → role ≡ OfNode a → role ≡ OfNode b → a ≡ b
 same_node role a b is_a is_b = let e : OfNode a ≡ OfNode b = sym is_a ∙ is_b in cc

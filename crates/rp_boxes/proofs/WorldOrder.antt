@@ -10,11 +10,11 @@ use Rattle.rp_agreement.specs.Answered.{AreMade, calls_so_far, named}
 use Rattle.rp_agreement.specs.Asked.{Asks}
 use Rattle.rp_agreement.specs.Computed.{order_of}
 use Rattle.rp_agreement.proofs.ItsCalls.{as_many}
-use Rattle.rp_boxes.specs.Looks.{IsWorldOf}
+use Rattle.rp_board.specs.Looks.{IsWorldOf}
+use Rattle.rp_board.specs.OrderLaws.{OrderLaws}
+use Rattle.rp_board.specs.Parts.{Part, View}
+use Rattle.rp_board.specs.Rule.{node_among, task_among, all_sent}
 use Rattle.rp_boxes.specs.OneOrder.{IsWorldOrder}
-use Rattle.rp_boxes.specs.OrderLaws.{OrderLaws}
-use Rattle.rp_boxes.specs.Parts.{Part, View}
-use Rattle.rp_boxes.specs.Rule.{node_among, task_among, all_sent}
 
 -- a task that made a call asked for one
 some_asked : (sent : List Message) (t : ℕ) (part : TaskPart) (made : List Action) → AreMade sent t part made → 1 ≤ calls_so_far part → (action : Action) × Asks sent t action

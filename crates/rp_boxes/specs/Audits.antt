@@ -9,8 +9,8 @@ use Rattle.rp_codec.specs.Text.{text_of}
 use Rattle.rp_codec.specs.declared.packet.Body.TheVariants.{Report}
 use Rattle.rp_codec.specs.declared.packet.Party.TheVariants.{Node, Audit}
 use Rattle.rp_model.specs.World.{part_at, with_part}
-use Rattle.rp_boxes.specs.Parts.{Part}
-use Rattle.rp_boxes.specs.Seats.{SeatState}
+use Rattle.rp_board.specs.Parts.{Part}
+use Rattle.rp_board.specs.Seats.{SeatState}
 use Rattle.rp_boxes.specs.declared.audit.Added.{Added}
 use Rattle.rp_boxes.specs.declared.audit.Added.TheVariants as added
 

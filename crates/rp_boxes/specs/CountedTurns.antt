@@ -7,8 +7,8 @@ use Rattle.rp_actors.specs.rp_rules.specs.Inputs.{given_by}
 use Rattle.rp_actors.specs.rp_rules.specs.declared.input.Input.{Input}
 use Rattle.rp_actors.specs.rp_replica.specs.declared.sent.Sent.{Sent}
 use Rattle.rp_actors.specs.Nodes.{member_of, RepresentsWhile, DescribesSent}
-use Rattle.rp_boxes.specs.Parts.{Part, OfNode, part_after}
-use Rattle.rp_boxes.specs.Steps.{IsCutStep}
+use Rattle.rp_board.specs.Parts.{Part, OfNode, part_after}
+use Rattle.rp_board.specs.Steps.{IsCutStep}
 
 module _ {S : Type 0} (s : Setting S) (number : ℕ) (before : Part) (input : Input)
     (replica : ReplicaState S) where

@@ -1,23 +1,14 @@
 -- How the seats are made: actors get seats one after another, in the order of their numbers.
-use Rattle.std.specs.Prelude.{◌≡◌, ◌⊎◌, ℕ, suc, ◌+◌, ◌<◌, IfSome, List, [], ◌∷◌, length, map}
+use Rattle.std.specs.Prelude.{◌≡◌, ◌⊎◌, ℕ, suc, ◌+◌, ◌<◌, IfSome, List, [], length, map}
 use Rattle.std.specs.Prelude.{slice_get, slice_index}
 use Rattle.atomic_table.specs.Seated.{TableId}
 use Rattle.rp_base.specs.declared.config.Config.{Config}
 use Rattle.rp_base.specs.declared.fault.Fault.{Fault}
 use Rattle.rp_base.specs.declared.fault.Fault.TheVariants.{OutOfMemory, Device}
 use Rattle.rp_actors.specs.rp_store.specs.Disk.{Disk}
-use Rattle.rp_boxes.specs.Parts.{View, first_part, first_from}
-use Rattle.rp_boxes.specs.Plays.{Sight, IsSized, alone}
-use Rattle.rp_boxes.specs.Seats.{SeatState}
-
--- the first actor of a view alone, and the others
-abbrev pub first_in : View → View
-first_in [] = []
-first_in (known ∷ others) = known ∷ []
-
-abbrev pub others_in : View → View
-others_in [] = []
-others_in (known ∷ others) = others
+use Rattle.rp_board.specs.Parts.{first_part, first_from}
+use Rattle.rp_board.specs.Plays.{Sight, IsSized, alone}
+use Rattle.rp_board.specs.Seats.{SeatState}
 
 -- The table, what all nodes at it share, and the number of the first actor that has no seat.
 pub record Unseated (P : Type 0) : Type 0 where

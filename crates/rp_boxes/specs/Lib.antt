@@ -1,17 +1,9 @@
-pub mod Parts
-pub mod Rule
-pub mod Steps
-pub mod Laws
-pub mod Plays
-pub mod Seats
+pub mod NodeSeats
 pub mod CountedTurns
 pub mod FirstSeats
 pub mod Audits
 pub mod TaskSeats
-pub mod Looks
 pub mod OneOrder
-pub mod OrderLaws
-pub mod Moments
 pub mod Together
 pub use Rattle.atomic_table
 pub use Rattle.rp_agreement
@@ -20,3 +12,4 @@ pub use Rattle.rp_model
 pub use Rattle.rp_actors.specs.rp_rules
 pub use Rattle.rp_actors.specs.rp_store
 pub use Rattle.rp_actors
+pub use Rattle.rp_board

@@ -8,11 +8,11 @@ use Rattle.rp_model.specs.Effect.{Setting}
 use Rattle.rp_model.specs.Facts.{IsOrder}
 use Rattle.rp_agreement.specs.Answered.{named, calls_so_far}
 use Rattle.rp_agreement.specs.Order.{IsPrefix}
+use Rattle.rp_board.specs.Looks.{IsWorldOf}
+use Rattle.rp_board.specs.Parts.{Part, View}
+use Rattle.rp_board.specs.Rule.{all_sent, task_among}
+use Rattle.rp_board.specs.Seats.{SeatState, setting_at}
 use Rattle.rp_boxes.specs.Audits.{Audited, ReportSays, known_of}
-use Rattle.rp_boxes.specs.Looks.{IsWorldOf}
-use Rattle.rp_boxes.specs.Parts.{Part, View}
-use Rattle.rp_boxes.specs.Rule.{all_sent, task_among}
-use Rattle.rp_boxes.specs.Seats.{SeatState, setting_at}
 use Rattle.rp_boxes.specs.TaskSeats.{IsOfOrder}
 
 -- The list is the order of a world that contains this view: the longest list whose action at each

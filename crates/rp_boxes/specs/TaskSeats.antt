@@ -22,8 +22,8 @@ use Rattle.rp_agreement.specs.Inputs.{WaitsForOwn}
 use Rattle.rp_actors.specs.rp_outbox.specs.Packets.{texts_of}
 use Rattle.rp_actors.specs.rp_replica.specs.declared.sent.Sent.{Sent}
 use Rattle.rp_actors.specs.Callers.{Caller}
-use Rattle.rp_boxes.specs.Parts.{Part, Role, OfTask, task_of, part_after}
-use Rattle.rp_boxes.specs.Seats.{SeatSetup, SeatState}
+use Rattle.rp_board.specs.Parts.{Part, Role, OfTask, task_of, part_after}
+use Rattle.rp_board.specs.Seats.{SeatSetup, SeatState}
 
 -- The stub is the task of a seat with this setup, of this role; it knows what all nodes share, and
 -- waits only for a valid call of its own.

@@ -5,11 +5,11 @@ use Rattle.rp_base.specs.Sets.{Has}
 use Rattle.rp_base.specs.declared.action.Action.{Action}
 use Rattle.rp_base.specs.declared.reply.Answer.{Answer}
 use Rattle.rp_agreement.specs.Order.{IsPrefix}
+use Rattle.rp_board.specs.Parts.{Part, View, node_of}
+use Rattle.rp_board.specs.Rule.{IsGotInOrder}
+use Rattle.rp_board.specs.Seats.{SeatState, setting_at}
 use Rattle.rp_boxes.specs.Audits.{Audited, ReportSays, known_of}
 use Rattle.rp_boxes.specs.OneOrder.{IsWorldOrder}
-use Rattle.rp_boxes.specs.Parts.{Part, View, node_of}
-use Rattle.rp_boxes.specs.Rule.{IsGotInOrder}
-use Rattle.rp_boxes.specs.Seats.{SeatState, setting_at}
 use Rattle.rp_boxes.specs.TaskSeats.{IsOfOrder}
 
 -- what the place of a node's seat knows, and of a task's

@@ -1,21 +1,18 @@
 //! Makes the seats: one table, and a place at it for each node, each task and the audit.
 
-ghost use Rattle.std.specs.Prelude.{◌≡◌, ◌+◌, ◌≤◌, ◌<◌, ◌⊎◌, ◌↔◌, ℕ, ◌∷◌, [], All, length, IfOk, IfErr, OnOk, IsErrOf};
+ghost use Rattle.std.specs.Prelude.{◌≡◌, ◌+◌, ◌≤◌, ◌<◌, ◌⊎◌, ◌↔◌, [], All, length, IfOk, IfErr, OnOk, IsErrOf};
 ghost use Rattle.rp_base.specs.Config.{IsRightConfig};
 ghost use Rattle.rp_base.specs.declared.fault.Fault.TheVariants as faults;
-ghost use Rattle.rp_boxes.specs.FirstSeats.{AreFirstSeats, AreSeats, CanFail, IsFirstPlace, IsRest, IsResourceFault, after_seats, failures_of, first_in, first_seat, others_in};
-ghost use Rattle.rp_boxes.specs.Parts.{Part, View, actor_of};
-ghost use Rattle.rp_boxes.specs.Plays.{IsSized};
+ghost use Rattle.rp_board.specs.Parts.{actor_of};
+ghost use Rattle.rp_boxes.specs.FirstSeats.{AreFirstSeats, AreSeats, CanFail, IsFirstPlace, IsRest, IsResourceFault, after_seats, failures_of, first_seat};
 
-use crate::actors::Sits;
-use crate::board::{Board, Known, Place, Setup, Slots};
 use crate::node_seat::NodeSeat;
-use crate::seat::{AuditSeat, Seat};
 use crate::task_seat::TaskSeat;
-use atomic_table::{Split, Table};
+use atomic_table::Table;
 use rp_actors::{Task, are_empty};
 use rp_agreement::replies_follow_the_order;
 use rp_base::{Config, Fault, MOST_NODES, MOST_TASKS, NodeId, TaskId};
+use rp_board::{AuditSeat, Board, Place, Seat, Setup, Sits, split};
 use rp_machine::Machine;
 use rp_replica::Replica;
 use rp_store::Device;
@@ -37,30 +34,6 @@ pub struct AllSeats<M: Machine, D: Device> {
     pub nodes: Vec<NodeSeat<M, D>>,
     pub tasks: Vec<TaskSeat<M>>,
     pub audit: AuditSeat<M>,
-}
-
-/// Splits a place: the first actor that it knows gets a place of its own.
-struct First;
-
-impl Split<Known> for First {
-    ghost use Rattle.rp_boxes.specs.FirstSeats.{first_in, others_in};
-
-    ghost left = { others_in };
-
-    ghost right = { first_in };
-}
-
-/// Splits off the first actor that this place knows, and returns the place of that actor.
-pub(crate) fn split<M: Machine>(slots: &Slots<M>, place: &mut Place) -> Place
-    requires table { place.old.table_id ≡ slots.now.table_id }
-    requires sized { IsSized slots.now.table_id }
-    requires some { (first : ℕ × Part) × (others : View) × (place.old.me.0 ≡ first ∷ others) }
-    ensures same { (place.new.table_id ≡ place.old.table_id)
-        × (result.table_id ≡ place.old.table_id) }
-    ensures others { place.new.me ≡ (others_in place.old.me.0, place.old.me.1) }
-    ensures first { result.me ≡ (first_in place.old.me.0, []) }
-{
-    slots.split_seat::<First>(place)
 }
 
 /// A table with nothing in any box, and the place that knows all actors.

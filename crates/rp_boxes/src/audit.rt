@@ -1,21 +1,20 @@
 //! The audit: what it knows of each node from the reports that it got.
 
-ghost use Rattle.std.specs.Prelude.{◌≡◌, ◌≤◌, ◌+◌, ℕ, List, [], length, replicate, IfOk, IfSome, IfNone, OnOk, OnErr, IsOkUnless};
+ghost use Rattle.std.specs.Prelude.{◌≡◌, ◌≤◌, ◌+◌, ◌∷◌, ℕ, List, [], length, replicate, IfOk, IfSome, IfNone, OnOk, OnErr, IsOkUnless};
 ghost use Rattle.rp_base.specs.Sets.{Has};
 ghost use Rattle.rp_base.specs.declared.fault.Fault.TheVariants as faults;
 ghost use Rattle.rp_codec.specs.Message.{IsPacket};
 ghost use Rattle.rp_codec.specs.declared.packet.Party.TheVariants as parties;
+ghost use Rattle.rp_board.specs.Looks.{HasWorld, WasSent};
+ghost use Rattle.rp_board.specs.Moments.{WasNotFull};
+ghost use Rattle.rp_board.specs.Seats.{IsFetched, setting_at};
 ghost use Rattle.rp_boxes.specs.Audits.{AreAllReported, IsAdded, IsGotReport, IsJoined, known_of, report, with_reported};
-ghost use Rattle.rp_boxes.specs.Looks.{WasSent};
-ghost use Rattle.rp_boxes.specs.Moments.{WasNotFull};
 ghost use Rattle.rp_boxes.specs.OneOrder.{AreOfOneOrder, ShareOneOrder};
-ghost use Rattle.rp_boxes.specs.Seats.{IsFetched};
 
-use crate::laws::order_laws;
-use crate::seat::{AuditSeat, Fetch};
 use crate::task_seat::TaskSeat;
 use rp_agreement::reports_follow_the_order;
 use rp_base::{Action, Fault, MOST_NODES, NodeId, Position};
+use rp_board::{AuditSeat, Fetch, order_laws};
 use rp_codec::{Body, Party, decode};
 use rp_machine::Machine;
 use std::alloc::{AllocError, Global};
@@ -66,6 +65,19 @@ fn put_reported(list: &mut Vec<Action>, first: usize, actions: &[Action]) -> Res
     Ok(())
 }
 
+/// The audit's seat looks at the table together with a task of the same table: one world contains
+/// what the two know.
+fn look_with_task<M: Machine>(audit: AuditSeat<M>, task: TaskSeat<M>) -> (AuditSeat<M>, TaskSeat<M>)
+    requires { audit.setup.table ≡ task.setup.table }
+    ensures same { (result.0 ≡ audit) × (result.1 ≡ task) }
+    ensures world { HasWorld (setting_at M.next M.answers M.begin task)
+        ((7 + task.setup.number, task.part) ∷ (0, audit.part) ∷ []) }
+{
+    let TaskSeat { config, task, seat } = task;
+    let (audit, seat) = audit.look_with_seat(seat);
+    (audit, TaskSeat { config, task, seat })
+}
+
 impl<M: Machine> Audit<M> {
     /// An audit that knows nothing. It allocates no memory.
     pub fn new(alloc: Global, seat: AuditSeat<M>) -> Self
@@ -92,7 +104,9 @@ impl<M: Machine> Audit<M> {
     /// Takes the packet out of the box from that party to the audit, and returns its text, or
     /// `None` if the box is not full. It is a report, which that party has sent.
     pub fn fetch(&mut self, from: Party) -> Option<Vec<u8>>
-        // claim as Fetch::fetch
+        // claim (some, sent, none, missed): A packet that the audit fetches is to it and from the
+        //   one asked, which has sent it in a world that keeps the rule and has its seat's view; the
+        //   seat has then got it. `None` only if the box was not full
         ensures some { IfSome result (λ text. IsFetched from parties.Audit text.items
             self.old.seat self.new.seat) }
         ensures sent { IfSome result (λ text. WasSent M.next M.answers M.begin from parties.Audit
@@ -213,7 +227,7 @@ impl<M: Machine> Audit<M> {
         reports_follow_the_order();
         order_laws::<M>();
         let Audit { seat, known } = self;
-        let (seat, task) = seat.look_with_task(task);
+        let (seat, task) = look_with_task(seat, task);
         (Audit { seat, known }, task)
     }
 }

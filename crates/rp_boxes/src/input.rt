@@ -2,7 +2,7 @@
 
 ghost use Rattle.std.specs.Prelude.{◌<◌, ◌^◌};
 ghost use Rattle.rp_base.specs.Number.{IsNode};
-ghost use Rattle.rp_boxes.specs.Seats.{HasInputRanges};
+ghost use Rattle.rp_boxes.specs.NodeSeats.{HasInputRanges};
 
 use rp_base::{NodeId, Position};
 use rp_replica::Input;

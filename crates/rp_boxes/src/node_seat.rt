@@ -8,11 +8,11 @@ ghost use Rattle.rp_codec.specs.declared.packet.Party.TheVariants.{Node};
 ghost use Rattle.rp_model.specs.Parts.{Running};
 ghost use Rattle.rp_actors.specs.rp_rules.specs.Inputs.{IsRightInput};
 ghost use Rattle.rp_actors.specs.rp_rules.specs.declared.input.Input.TheVariants.{Report};
-ghost use Rattle.rp_boxes.specs.Seats.{IsGot, IsTurn, IsCutTurn, IsLightTurn, IsNoTurn, HasApplied, HasUncounted, IsRunning, IsStopped, IsReport};
+ghost use Rattle.rp_boxes.specs.NodeSeats.{IsGot, IsTurn, IsCutTurn, IsLightTurn, IsNoTurn, HasApplied, HasUncounted, IsRunning, IsStopped, IsReport};
 
 use crate::input::keeps_ranges;
-use crate::seat::{Fetch, Put, Seat};
 use rp_base::{Fault, NodeId, Position};
+use rp_board::{Fetch, Put, Seat};
 use rp_codec::Party;
 use rp_machine::Machine;
 use rp_replica::{Input, Replica, Sent, texts_are_packets};
@@ -31,7 +31,8 @@ pub struct NodeSeat<M: Machine, D: Device> {
 }
 
 impl<M: Machine, D: Device> Model for NodeSeat<M, D> {
-    ghost use Rattle.rp_boxes.specs.Seats.{SeatState, IsNodeAt};
+    ghost use Rattle.rp_board.specs.Seats.{SeatState};
+    ghost use Rattle.rp_boxes.specs.NodeSeats.{IsNodeAt};
 
     ghost Value = { SeatState M.Program };
 

@@ -5,18 +5,17 @@ ghost use Rattle.rp_base.specs.Action.{IsRight};
 ghost use Rattle.rp_base.specs.declared.fault.Fault.TheVariants.{OutOfMemory};
 ghost use Rattle.rp_codec.specs.Message.{IsCallBy};
 ghost use Rattle.rp_model.specs.Tasks.{Submit, Again};
+ghost use Rattle.rp_board.specs.Parts.{task_of};
+ghost use Rattle.rp_board.specs.Seats.{IsGotText};
 ghost use Rattle.rp_boxes.specs.OneOrder.{HasOneOrder};
-ghost use Rattle.rp_boxes.specs.Parts.{task_of};
-ghost use Rattle.rp_boxes.specs.Seats.{IsGotText};
 ghost use Rattle.rp_boxes.specs.TaskSeats.{IsTaskTurn, IsNoTaskTurn, IsReplyTurn};
 ghost use Rattle.rp_boxes.specs.TaskSeats.{asked_of, DescribesPackets, reply_effect};
 
 use crate::input::node_keeps_range;
-use crate::laws::order_laws;
-use crate::seat::{Fetch, Put, Seat};
 use rp_actors::{Task, asks, decode_reply};
 use rp_agreement::tasks_send_right_packets;
 use rp_base::{Action, Answer, Config, Fault, NodeId, Operation, Reply, TaskId};
+use rp_board::{Fetch, Put, Seat, order_laws};
 use rp_codec::{Party, encode_onto};
 use rp_machine::Machine;
 use rp_model::Dropped;
@@ -35,7 +34,7 @@ pub struct TaskSeat<M: Machine> {
 }
 
 impl<M: Machine> Model for TaskSeat<M> {
-    ghost use Rattle.rp_boxes.specs.Seats.{SeatState};
+    ghost use Rattle.rp_board.specs.Seats.{SeatState};
     ghost use Rattle.rp_boxes.specs.TaskSeats.{IsTaskAt};
 
     ghost Value = { SeatState M.Program };

@@ -1,22 +1,16 @@
 //! All seats look at the table together, for the last time.
 
 ghost use Rattle.std.specs.Prelude.{◌≡◌, ◌+◌, ◌++◌, ◌∷◌, ℕ, All, map};
-ghost use Rattle.rp_boxes.specs.Looks.{HasWorld};
-ghost use Rattle.rp_boxes.specs.Parts.{actor_in, part_in};
-ghost use Rattle.rp_boxes.specs.Plays.{IsSized, alone};
-ghost use Rattle.rp_boxes.specs.Seats.{setting_at, table_setting};
+ghost use Rattle.rp_board.specs.Looks.{HasWorld};
+ghost use Rattle.rp_board.specs.Plays.{IsSized, alone};
+ghost use Rattle.rp_board.specs.Seats.{setting_at, table_setting};
 ghost use Rattle.rp_boxes.specs.Together.{AreTogether, of_node, of_task};
 
-use crate::actors::Sits;
 use crate::audit::Audit;
-use crate::audit_look::Both;
-use crate::board::{Place, Slots};
-use crate::laws::order_laws;
-use crate::look::look;
 use crate::node_seat::NodeSeat;
-use crate::seat::Seat;
 use crate::task_seat::TaskSeat;
 use rp_agreement::{applied_lists_are_prefixes, reports_follow_the_order};
+use rp_board::{AuditSeat, Place, Seat, Sits, Slots, look, order_laws, take_in};
 use rp_machine::Machine;
 use rp_store::Device;
 use std::marker::Brand;
@@ -25,7 +19,7 @@ use std::marker::Brand;
 trait Leaves: Drop {
     ghost use Rattle.std.specs.Prelude.{ℕ};
     ghost use Rattle.atomic_table.specs.Seated.{TableId};
-    ghost use Rattle.rp_boxes.specs.Parts.{Part};
+    ghost use Rattle.rp_board.specs.Parts.{Part};
 
     ghost at: { Self → TableId };
 
@@ -37,7 +31,7 @@ trait Leaves: Drop {
 }
 
 impl<M: Machine, S: Sits> Leaves for Seat<M, S> {
-    ghost use Rattle.rp_boxes.specs.Parts.{actor_of};
+    ghost use Rattle.rp_board.specs.Parts.{actor_of};
 
     ghost at = { λ seat. seat.setup.table };
 
@@ -70,18 +64,6 @@ impl<M: Machine> Leaves for TaskSeat<M> {
     fn into_place(self) -> Place {
         self.seat.into_place()
     }
-}
-
-/// Joins the place of one actor to another place.
-fn take_in<M: Machine>(slots: &Slots<M>, all: &mut Place, other: Place)
-    requires table { (all.old.table_id ≡ slots.now.table_id)
-        × (other.table_id ≡ slots.now.table_id) }
-    requires sized { IsSized slots.now.table_id }
-    requires other { other.me ≡ alone (actor_in other.me.0) (part_in other.me.0) }
-    ensures table { all.new.table_id ≡ all.old.table_id }
-    ensures both { all.new.me ≡ (all.old.me.0 ++ other.me.0, all.old.me.1) }
-{
-    slots.join_seat::<Both>(all, other);
 }
 
 /// Joins the places of seats that end to another place.
@@ -117,23 +99,25 @@ fn look_as_one<M: Machine, D: Device>(
     look::<M, Brand>(slots, &mut all);
 }
 
-impl<M: Machine> Seat<M, ()> {
-    /// Looks at the table together with nodes and tasks of the same table: one world contains what
-    /// all of them know.
-    fn look_with<D: Device>(self, nodes: Vec<NodeSeat<M, D>>, tasks: Vec<TaskSeat<M>>)
-        requires nodes { All (λ seat. seat.setup.table ≡ self.setup.table) nodes.items }
-        requires tasks { All (λ seat. seat.setup.table ≡ self.setup.table) tasks.items }
-        ensures { HasWorld (setting_at M.next M.answers M.begin self)
-            (((0, self.part) ∷ map of_node nodes.items) ++ map of_task tasks.items) }
-    {
-        let Seat {
-            number: _none,
-            place,
-            board,
-            spares: _spares,
-        } = self;
-        look_as_one(&board.shared, place, nodes, tasks);
-    }
+/// The audit looks at the table together with nodes and tasks of the same table: one world contains
+/// what all of them know.
+fn look_with<M: Machine, D: Device>(
+    audit: AuditSeat<M>,
+    nodes: Vec<NodeSeat<M, D>>,
+    tasks: Vec<TaskSeat<M>>,
+)
+    requires nodes { All (λ seat. seat.setup.table ≡ audit.setup.table) nodes.items }
+    requires tasks { All (λ seat. seat.setup.table ≡ audit.setup.table) tasks.items }
+    ensures { HasWorld (setting_at M.next M.answers M.begin audit)
+        (((0, audit.part) ∷ map of_node nodes.items) ++ map of_task tasks.items) }
+{
+    let Seat {
+        number: _none,
+        place,
+        board,
+        spares: _spares,
+    } = audit;
+    look_as_one(&board.shared, place, nodes, tasks);
 }
 
 impl<M: Machine> Audit<M> {
@@ -163,6 +147,6 @@ impl<M: Machine> Audit<M> {
             seat,
             known: _known,
         } = self;
-        seat.look_with(nodes, tasks);
+        look_with(seat, nodes, tasks);
     }
 }

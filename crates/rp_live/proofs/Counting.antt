@@ -4,6 +4,8 @@ use Rattle.rp_threads.specs.rp_base.specs.Sets.{Has}
 use Rattle.rp_threads.specs.rp_base.specs.declared.action.Action.{Action}
 use Rattle.rp_threads.specs.rp_codec.specs.Message.{Message}
 use Rattle.rp_threads.specs.rp_codec.specs.declared.packet.Body.TheVariants as bodies
+use Rattle.rp_board.specs.Parts.{task_of}
+use Rattle.rp_board.specs.Seats.{SeatState}
 use Rattle.rp_boxes.specs.rp_machine.specs.Calls.{CallName, calls_of}
 use Rattle.rp_boxes.specs.rp_machine.specs.Replay.{one_to}
 use Rattle.rp_boxes.specs.rp_machine.proofs.Numbering.{length-one_to}
@@ -12,8 +14,6 @@ use Rattle.rp_boxes.specs.rp_model.specs.Tasks.{asks}
 use Rattle.rp_boxes.specs.rp_agreement.specs.Answered.{AreItsCalls, AreMade, calls_by, calls_so_far, named}
 use Rattle.rp_boxes.specs.rp_agreement.specs.Order.{IsPrefix}
 use Rattle.rp_boxes.specs.rp_agreement.proofs.Lists.{get_mapped, get_unmapped, get_one_to}
-use Rattle.rp_boxes.specs.Parts.{task_of}
-use Rattle.rp_boxes.specs.Seats.{SeatState}
 use Rattle.rp_boxes.proofs.Listed.{begins_by}
 use Rattle.rp_threads.specs.Tasks.{AsksForOne, HasMade, Waits, call_after}
 use Rattle.rp_threads.specs.declared.tasks.TaskCall.{TaskCall}

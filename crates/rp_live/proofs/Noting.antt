@@ -3,9 +3,9 @@ use Rattle.std.proofs.Common.{◌≡◌, ℕ, zero, suc, ◌-◌, ◌<◌, Optio
 use Rattle.std.specs.List.{AllZip}
 use Rattle.rp_threads.specs.rp_base.specs.declared.action.Action.{Action}
 use Rattle.rp_threads.specs.rp_base.specs.declared.reply.Answer.{Answer}
+use Rattle.rp_board.specs.Seats.{SeatState}
 use Rattle.rp_boxes.specs.rp_model.specs.declared.event.Event.{Event}
 use Rattle.rp_boxes.specs.rp_rules.specs.declared.input.Input.{Input}
-use Rattle.rp_boxes.specs.Seats.{SeatState}
 use Rattle.rp_threads.proofs.Places.{zip_on}
 use Rattle.rp_threads.proofs.Steps.{event_same}
 use Rattle.rp_live.specs.Noted.{AreNoted, IsNotedInput, noted_by}

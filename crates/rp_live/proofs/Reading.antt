@@ -5,8 +5,8 @@ use Rattle.std.specs.List.{AllZip}
 use Rattle.std.specs.Prelude.{IfSome}
 use Rattle.rp_threads.specs.rp_base.specs.declared.action.Action.{Action}
 use Rattle.rp_threads.specs.rp_base.specs.declared.reply.Answer.{Answer}
+use Rattle.rp_board.specs.Seats.{SeatState}
 use Rattle.rp_boxes.specs.Audits.{known_of}
-use Rattle.rp_boxes.specs.Seats.{SeatState}
 use Rattle.rp_threads.specs.declared.loops.NodeEnd.{NodeEnd}
 use Rattle.rp_threads.proofs.Places.{AreZippedSoFar}
 use Rattle.rp_live.specs.Seats.{AreNumbered, IsRead, KnowsNothingAbove, KnowsSameBut}

@@ -13,11 +13,12 @@ use Rattle.rp_threads.specs.rp_codec.specs.declared.packet.Party.TheVariants.{No
 use Rattle.rp_boxes.specs.rp_model.specs.Plans.{report_of}
 use Rattle.rp_boxes.specs.rp_model.specs.World.{with_part}
 use Rattle.rp_threads.specs.rp_replica.specs.declared.sent.Sent.{Sent}
+use Rattle.rp_board.specs.Parts.{Part}
+use Rattle.rp_board.specs.Moments.{WasInUse, WasPut}
+use Rattle.rp_board.specs.Seats.{SeatState, IsPut, IsSentText}
 use Rattle.rp_boxes.specs.Audits.{Audited, IsAdded, known_of, report, with_reported}
 use Rattle.rp_boxes.specs.declared.audit.Added.{Added}
-use Rattle.rp_boxes.specs.Parts.{Part}
-use Rattle.rp_boxes.specs.Moments.{WasInUse, WasPut}
-use Rattle.rp_boxes.specs.Seats.{SeatState, HasApplied, IsPut, IsReport, IsSentText}
+use Rattle.rp_boxes.specs.NodeSeats.{HasApplied, IsReport}
 use Rattle.rp_boxes.proofs.Auditing.{each_with}
 use Rattle.rp_threads.specs.Turns.{IsOfferedToBox}
 use Rattle.rp_threads.proofs.Puts.{HasOnlyPut, given_back, offer_puts, went_in}

@@ -5,7 +5,8 @@ use Rattle.rp_threads.specs.rp_base.specs.declared.action.Action.{Action}
 use Rattle.rp_threads.specs.rp_base.specs.declared.fault.Fault.{Fault}
 use Rattle.rp_threads.specs.rp_base.specs.declared.fault.Fault.TheVariants.{OutOfMemory}
 use Rattle.rp_threads.specs.rp_base.specs.declared.reply.Answer.{Answer}
-use Rattle.rp_boxes.specs.Seats.{SeatState, IsReason, IsCutTurn, IsNoTurn, setting_at}
+use Rattle.rp_board.specs.Seats.{SeatState, setting_at}
+use Rattle.rp_boxes.specs.NodeSeats.{IsReason, IsCutTurn, IsNoTurn}
 use Rattle.rp_boxes.specs.rp_model.specs.Effect.{Setting, NodeInput, Interrupt, Tick, Report, effect_while}
 use Rattle.rp_boxes.specs.rp_model.specs.Parts.{NodePart, Running}
 use Rattle.rp_boxes.specs.rp_rules.specs.Inputs.{given_by}

@@ -10,10 +10,10 @@ use Rattle.rp_threads.specs.rp_base.specs.declared.fault.Fault.TheVariants.{BadC
 use Rattle.rp_boxes.specs.rp_store.specs.Disk.{disk_of}
 use Rattle.rp_boxes.specs.atomic_table.specs.Seated.{TableId}
 use Rattle.rp_threads.specs.rp_base.specs.declared.config.Config.{Config}
+use Rattle.rp_board.specs.Parts.{OfNode, OfTask, OfAudit, first_role, fresh_part}
+use Rattle.rp_board.specs.Seats.{SeatState}
 use Rattle.rp_boxes.specs.rp_model.specs.Parts.{fresh_node, fresh_task}
 use Rattle.rp_boxes.specs.FirstSeats.{AreFirstSeats, CanFail, IsResourceFault, first_seat}
-use Rattle.rp_boxes.specs.Parts.{OfNode, OfTask, OfAudit, first_role, fresh_part}
-use Rattle.rp_boxes.specs.Seats.{SeatState}
 use Rattle.rp_boxes.proofs.Seating.{node_role}
 use Rattle.rp_threads.specs.Rounds.{Runs}
 

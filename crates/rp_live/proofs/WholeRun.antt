@@ -15,9 +15,9 @@ use Rattle.rp_boxes.specs.rp_model.specs.declared.event.Event.{Event}
 use Rattle.rp_boxes.specs.rp_agreement.specs.Answered.{named}
 use Rattle.rp_boxes.specs.rp_store.specs.Disk.{Memory}
 use Rattle.rp_threads.specs.rp_tasks.specs.Line.{Line}
+use Rattle.rp_board.specs.Seats.{SeatSetup, SeatState}
 use Rattle.rp_boxes.specs.atomic_table.specs.Seated.{TableId}
 use Rattle.rp_boxes.specs.FirstSeats.{first_seat}
-use Rattle.rp_boxes.specs.Seats.{SeatSetup, SeatState}
 use Rattle.rp_boxes.specs.Together.{IsTaskOf}
 use Rattle.rp_threads.specs.Rounds.{Runs}
 use Rattle.rp_threads.specs.Tasks.{HasMade}

@@ -1,6 +1,6 @@
 -- How a run in threads went, in numbers.
 use Rattle.std.specs.Prelude.{ℕ, ◌+◌, ◌-◌, ◌^◌, min, max, List, [], ◌∷◌, length, map}
-use Rattle.rp_boxes.specs.Parts.{task_of}
+use Rattle.rp_board.specs.Parts.{task_of}
 use Rattle.rp_live.specs.declared.figures.Figures.{Figures}
 use Rattle.rp_threads.specs.declared.loops.NodeEnd.{NodeEnd}
 use Rattle.rp_threads.specs.declared.tasks.TaskEnd.{TaskEnd}

@@ -7,6 +7,8 @@ use Rattle.rp_threads.specs.rp_base.specs.declared.action.Action.{Action}
 use Rattle.rp_threads.specs.rp_base.specs.declared.config.Config.{Config}
 use Rattle.rp_threads.specs.rp_base.specs.declared.reply.Answer.{Answer}
 use Rattle.rp_threads.specs.rp_codec.specs.declared.packet.Party.TheVariants.{Node, Task}
+use Rattle.rp_board.specs.Parts.{task_of}
+use Rattle.rp_board.specs.Seats.{SeatState}
 use Rattle.rp_boxes.specs.rp_machine.specs.Places.{IsPlace}
 use Rattle.rp_boxes.specs.rp_machine.specs.Replay.{kept_of}
 use Rattle.rp_boxes.specs.rp_model.specs.declared.event.Event.{Event}
@@ -14,8 +16,6 @@ use Rattle.rp_boxes.specs.rp_store.specs.Disk.{Memory}
 use Rattle.rp_boxes.specs.rp_agreement.specs.Answered.{named}
 use Rattle.rp_boxes.specs.Audits.{Audited, known_of}
 use Rattle.rp_boxes.specs.FirstSeats.{AreSeats}
-use Rattle.rp_boxes.specs.Parts.{task_of}
-use Rattle.rp_boxes.specs.Seats.{SeatState}
 use Rattle.rp_boxes.specs.Together.{AreTogether}
 use Rattle.rp_threads.specs.Threads.{IsLooped, IsTaskLooped}
 use Rattle.rp_threads.specs.declared.loops.NodeEnd.{NodeEnd}

@@ -2,6 +2,7 @@
 use Rattle.std.specs.Prelude.{◌≡◌, ℕ, zero, suc, ◌-◌, Option, Some, None, List, set, slice_get}
 use Rattle.rp_threads.specs.rp_base.specs.declared.action.Action.{Action}
 use Rattle.rp_threads.specs.rp_base.specs.declared.reply.Answer.{Answer}
+use Rattle.rp_board.specs.Seats.{SeatState}
 use Rattle.rp_boxes.specs.rp_model.specs.declared.event.Event.{Event}
 use Rattle.rp_boxes.specs.rp_model.specs.declared.event.Event.TheVariants.{Submit, Again, Node, Cut}
 use Rattle.rp_boxes.specs.rp_model.specs.declared.event.Event.TheVariants.{Stop, Restart}
@@ -11,7 +12,6 @@ use Rattle.rp_boxes.specs.rp_model.specs.declared.event.Step.TheVariants.{Interr
 use Rattle.rp_boxes.specs.rp_model.specs.declared.event.Step.TheVariants.{Tick, Report, Ask}
 use Rattle.rp_boxes.specs.rp_rules.specs.declared.input.Input.{Input}
 use Rattle.rp_boxes.specs.rp_rules.specs.declared.input.Input.TheVariants as inputs
-use Rattle.rp_boxes.specs.Seats.{SeatState}
 use Rattle.rp_threads.specs.Turns.{IsEventBy}
 use Rattle.rp_threads.specs.declared.turns.PacketCounts.{PacketCounts}
 

@@ -6,8 +6,9 @@ use Rattle.rp_threads.specs.rp_base.specs.Action.{IsIndex, IsCount}
 use Rattle.rp_threads.specs.rp_base.specs.declared.action.Action.{Action}
 use Rattle.rp_threads.specs.rp_base.specs.declared.reply.Answer.{Answer}
 use Rattle.rp_threads.specs.rp_codec.specs.declared.packet.Party.TheVariants.{Node}
+use Rattle.rp_board.specs.Seats.{SeatState}
 use Rattle.rp_boxes.specs.Audits.{known_of}
-use Rattle.rp_boxes.specs.Seats.{SeatState, HasApplied, IsReport}
+use Rattle.rp_boxes.specs.NodeSeats.{HasApplied, IsReport}
 use Rattle.rp_boxes.specs.rp_rules.specs.declared.input.Input.{Input}
 use Rattle.rp_boxes.specs.rp_rules.specs.declared.input.Input.TheVariants.{Receive, Lead, LeadRange}
 use Rattle.rp_boxes.specs.rp_rules.specs.declared.input.Input.TheVariants.{Interrupt}

@@ -1,7 +1,7 @@
 //! How a run went, in numbers for a reader.
 
 ghost use Rattle.std.specs.Prelude.{◌≡◌, map, length};
-ghost use Rattle.rp_boxes.specs.Parts.{task_of};
+ghost use Rattle.rp_board.specs.Parts.{task_of};
 ghost use Rattle.rp_live.specs.Figures.{figures_of, sum_from, greatest_from};
 
 use rp_machine::Machine;

@@ -2,8 +2,9 @@
 
 ghost use Rattle.std.specs.Prelude.{◌≡◌, ℕ, ◌↔◌, ◌+◌, ◌<◌, ◌≤◌, ◌^◌, All, Bool, None, length, IsTrue, IfSome, IfOk, OnOk, IsOkUnless};
 ghost use Rattle.std.specs.List.{AllZip};
+ghost use Rattle.rp_board.specs.Seats.{IsSentText};
 ghost use Rattle.rp_boxes.specs.Audits.{known_of};
-ghost use Rattle.rp_boxes.specs.Seats.{HasApplied, IsReport, IsSentText};
+ghost use Rattle.rp_boxes.specs.NodeSeats.{HasApplied, IsReport};
 ghost use Rattle.rp_threads.specs.rp_codec.specs.declared.packet.Party.TheVariants.{Node};
 ghost use Rattle.rp_threads.specs.Turns.{IsOfferedToBox};
 ghost use Rattle.rp_live.specs.Ends.{HadNoFault};

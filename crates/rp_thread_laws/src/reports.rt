@@ -4,7 +4,7 @@ ghost use Rattle.std.specs.Prelude.{◌≡◌, ◌+◌, ◌-◌, ◌<◌, ◌≤
 ghost use Rattle.rp_threads.specs.rp_base.specs.declared.action.Action.{Action};
 ghost use Rattle.rp_threads.specs.rp_codec.specs.Message.{IsParty};
 ghost use Rattle.rp_threads.specs.rp_codec.specs.declared.packet.Party.{Party};
-ghost use Rattle.rp_threads.specs.rp_boxes.specs.Parts.{actor_of, box_of};
+ghost use Rattle.rp_threads.specs.rp_board.specs.Parts.{actor_of, box_of};
 ghost use Rattle.rp_threads.specs.rp_boxes.specs.Audits.{with_reported};
 
 /// The audit that knows the first m actions of an order, and gets n of them from position `first`

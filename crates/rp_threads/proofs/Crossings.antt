@@ -47,9 +47,9 @@ use Rattle.rp_tasks.specs.contracts.line.FaultLine.TheInside as line
 use Rattle.rp_boxes.specs.rp_actors.specs.contracts.task.Task as Task
 use Rattle.rp_base.specs.contracts.number.Id as Id
 use Rattle.rp_codec.specs.declared.packet.Party.TheVariants.{Node, Task}
-use Rattle.rp_boxes.specs.declared.actors.Sits as sits
-use Rattle.rp_boxes.specs.contracts.seat.Seat as Seat
-use Rattle.rp_boxes.specs.contracts.seat.Seat.TheInside as seat
+use Rattle.rp_board.specs.declared.actors.Sits as sits
+use Rattle.rp_board.specs.contracts.seat.Seat as Seat
+use Rattle.rp_board.specs.contracts.seat.Seat.TheInside as seat
 use Rattle.rp_boxes.specs.contracts.node_seat.NodeSeat as NodeSeat
 use Rattle.rp_boxes.specs.contracts.node_seat.NodeSeat.TheInside as node_seat
 use Rattle.rp_boxes.specs.contracts.task_seat.TaskSeat as TaskSeat

@@ -8,8 +8,8 @@ use Rattle.rp_codec.specs.Message.{Message, IsPacket}
 use Rattle.rp_codec.specs.Text.{text_of, IsTextBefore}
 use Rattle.rp_codec.proofs.VersionLaws.{latest_before}
 use Rattle.rp_replica.specs.rp_outbox.specs.Packets.{texts_of}
-use Rattle.rp_boxes.specs.Parts.{Part}
-use Rattle.rp_boxes.specs.Seats.{IsSentText}
+use Rattle.rp_board.specs.Parts.{Part}
+use Rattle.rp_board.specs.Seats.{IsSentText}
 use Rattle.rp_threads.specs.Turns.{AreSentTexts}
 
 -- n bytes are the text of the first packet, and the others follow

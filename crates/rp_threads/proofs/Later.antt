@@ -9,8 +9,9 @@ use Rattle.rp_codec.specs.declared.packet.Party.TheVariants.{Node}
 use Rattle.rp_replica.specs.rp_rules.specs.declared.input.Input.{Input}
 use Rattle.rp_replica.specs.declared.sent.Sent.{Sent}
 use Rattle.rp_tasks.specs.Line.{Line}
-use Rattle.rp_boxes.specs.Parts.{Part, OfNode, with_got}
-use Rattle.rp_boxes.specs.Seats.{SeatState, IsStopped, IsTurn, IsCutTurn, IsNoTurn, setting_at}
+use Rattle.rp_board.specs.Parts.{Part, OfNode, with_got}
+use Rattle.rp_board.specs.Seats.{SeatState, setting_at}
+use Rattle.rp_boxes.specs.NodeSeats.{IsStopped, IsTurn, IsCutTurn, IsNoTurn}
 use Rattle.rp_threads.specs.Lines.{given_on}
 use Rattle.rp_threads.specs.Loops.{events_made, events_of, is_refusal}
 use Rattle.rp_threads.specs.Rounds.{WorkerAt, IsIdleTurn, IsLeadAnew, IsMade, IsOwnUnmade, IsUnmade, IsMadeOrSkipped, Runs}

@@ -9,8 +9,9 @@ use Rattle.rp_base.specs.declared.reply.Answer.{Answer}
 use Rattle.rp_codec.specs.declared.packet.Party.{Party}
 use Rattle.rp_codec.specs.declared.packet.Party.TheVariants.{Node}
 use Rattle.rp_replica.specs.rp_model.specs.Parts.{NodePart, Running}
-use Rattle.rp_boxes.specs.Parts.{Part}
-use Rattle.rp_boxes.specs.Seats.{SeatState, HasApplied, HasUncounted, IsStopped}
+use Rattle.rp_board.specs.Parts.{Part}
+use Rattle.rp_board.specs.Seats.{SeatState}
+use Rattle.rp_boxes.specs.NodeSeats.{HasApplied, HasUncounted, IsStopped}
 use Rattle.rp_threads.specs.Loops.{is_idle, is_to_lead, sender_at}
 use Rattle.rp_patience.specs.Patience.{waits, is_over, after_quiet}
 use Rattle.rp_threads.specs.Rounds.{HasWaited, IsToLeadAt, NeedNotLead, still_waits, no_position_left, CountsQuiet, IsLeadAnew, WorkerAt, IsMade, IsUnmade}

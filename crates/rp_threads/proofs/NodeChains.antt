@@ -8,7 +8,7 @@ use Rattle.rp_base.specs.declared.reply.Answer.{Answer}
 use Rattle.rp_codec.specs.declared.packet.Party.{Party}
 use Rattle.rp_codec.specs.declared.packet.Party.TheVariants.{Node}
 use Rattle.rp_tasks.specs.Line.{Line}
-use Rattle.rp_boxes.specs.Seats.{SeatSetup, SeatState}
+use Rattle.rp_board.specs.Seats.{SeatSetup, SeatState}
 use Rattle.rp_threads.specs.Loops.{events_made, is_refusal, is_to_lead, lead_period, sender_at, total_of, turns_off}
 use Rattle.rp_threads.specs.LoopTurns.{HasEnded}
 use Rattle.rp_threads.specs.Rounds.{NodeAt, IsCountedTurn, IsUncountedTurn, IsNodeFault, Runs, before_turns, node_party, node_rests}

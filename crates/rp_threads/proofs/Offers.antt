@@ -13,8 +13,8 @@ use Rattle.rp_codec.specs.declared.packet.Party.{Party}
 use Rattle.rp_replica.specs.rp_outbox.specs.Packets.{texts_of}
 use Rattle.rp_replica.specs.declared.sent.Sent.{Sent}
 use Rattle.rp_replica.specs.rp_outbox.proofs.Joined.{texts_append}
-use Rattle.rp_boxes.specs.Parts.{Part}
-use Rattle.rp_boxes.specs.Seats.{SeatState, IsSentText}
+use Rattle.rp_board.specs.Parts.{Part}
+use Rattle.rp_board.specs.Seats.{SeatState, IsSentText}
 use Rattle.rp_threads.specs.Turns.{AreGivenOut, AreOffered, AreOfferedInPart, AreSent, AreSentTexts, AreTextsOffered, AreTextsOfferedInPart, IsAllOffered, IsOfferedToBox, IsOfferedInPart}
 use Rattle.rp_threads.proofs.Puts.{HasOnlyPut, offers_put}
 

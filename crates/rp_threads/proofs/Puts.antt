@@ -5,8 +5,8 @@ use Rattle.rp_base.specs.declared.reply.Answer.{Answer}
 use Rattle.rp_codec.specs.Message.{Message}
 use Rattle.rp_codec.specs.Text.{text_of}
 use Rattle.rp_codec.specs.declared.packet.Party.{Party}
-use Rattle.rp_boxes.specs.Moments.{WasInUse, WasPut}
-use Rattle.rp_boxes.specs.Seats.{SeatState, IsPut}
+use Rattle.rp_board.specs.Moments.{WasInUse, WasPut}
+use Rattle.rp_board.specs.Seats.{SeatState, IsPut}
 use Rattle.rp_threads.specs.Turns.{AreOffered, IsOfferedToBox}
 
 -- The seat is the same in all but the packets that its actor put.

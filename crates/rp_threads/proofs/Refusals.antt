@@ -19,7 +19,7 @@ use Rattle.rp_replica.specs.rp_model.specs.Parts.{NodePart, Running, Turn}
 use Rattle.rp_replica.specs.rp_rules.specs.declared.input.Input.{Input}
 use Rattle.rp_replica.specs.rp_rules.specs.declared.input.Input.TheVariants as inputs
 use Rattle.rp_replica.specs.rp_rules.specs.Inputs.{given_by, packet_given}
-use Rattle.rp_boxes.specs.Seats.{IsReason}
+use Rattle.rp_boxes.specs.NodeSeats.{IsReason}
 use Rattle.rp_threads.specs.Loops.{is_refusal}
 use Rattle.rp_threads.specs.Turns.{IsReceipt}
 

@@ -4,8 +4,9 @@ use Rattle.std.specs.Prelude.{IsSome}
 use Rattle.rp_base.specs.declared.action.Action.{Action}
 use Rattle.rp_base.specs.declared.fault.Fault.{Fault}
 use Rattle.rp_base.specs.declared.reply.Answer.{Answer}
-use Rattle.rp_boxes.specs.Parts.{Part, Role, OfNode}
-use Rattle.rp_boxes.specs.Seats.{SeatState, IsStopped, IsTurn, setting_at}
+use Rattle.rp_board.specs.Parts.{Part, Role, OfNode}
+use Rattle.rp_board.specs.Seats.{SeatState, setting_at}
+use Rattle.rp_boxes.specs.NodeSeats.{IsStopped, IsTurn}
 use Rattle.rp_replica.specs.rp_model.specs.Effect.{Setting, Done, NodeInput, turn_done, turn_done_if, effect_while, running_effect}
 use Rattle.rp_replica.specs.rp_model.specs.Parts.{NodePart, Running, Turn}
 use Rattle.rp_replica.specs.rp_rules.specs.declared.input.Input.{Input}

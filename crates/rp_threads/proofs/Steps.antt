@@ -14,8 +14,9 @@ use Rattle.rp_replica.specs.rp_outbox.specs.Packets.{texts_of}
 use Rattle.rp_replica.specs.rp_rules.specs.declared.input.Input.{Input}
 use Rattle.rp_replica.specs.declared.sent.Sent.{Sent}
 use Rattle.rp_tasks.specs.Line.{Line}
-use Rattle.rp_boxes.specs.Parts.{Part, Role, OfNode, part_after}
-use Rattle.rp_boxes.specs.Seats.{SeatState, IsTurn}
+use Rattle.rp_board.specs.Parts.{Part, Role, OfNode, part_after}
+use Rattle.rp_board.specs.Seats.{SeatState}
+use Rattle.rp_boxes.specs.NodeSeats.{IsTurn}
 use Rattle.rp_threads.specs.Turns.{IsBrought, IsLost, turn_of, IsReceipt, AreGivenOut, AreSent, IsAllOffered, IsOfferedInPart, IsEventBy, IsUnsent, IsStopBy, Works, Fails, IsNodeTurn, IsStoppedTurn}
 use Rattle.rp_threads.specs.Lines.{given_on, line_after}
 use Rattle.rp_threads.specs.declared.turns.PacketCounts.{PacketCounts}

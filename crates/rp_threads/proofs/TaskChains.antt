@@ -14,8 +14,8 @@ use Rattle.rp_codec.specs.declared.packet.Party.TheVariants.{Node, Task}
 use Rattle.rp_replica.specs.rp_model.specs.Parts.{TaskPart, fresh_task}
 use Rattle.rp_replica.specs.rp_model.specs.Tasks.{TaskInput, Submit, Again, asks_again, calls_if, may_call}
 use Rattle.rp_tasks.specs.Line.{Line}
-use Rattle.rp_boxes.specs.Parts.{OfTask, fresh_part}
-use Rattle.rp_boxes.specs.Seats.{SeatSetup, SeatState}
+use Rattle.rp_board.specs.Parts.{OfTask, fresh_part}
+use Rattle.rp_board.specs.Seats.{SeatSetup, SeatState}
 use Rattle.rp_threads.specs.Lines.{given_on, line_after}
 use Rattle.rp_threads.specs.LoopTurns.{HasEnded}
 use Rattle.rp_threads.specs.Loops.{node_at}

@@ -20,9 +20,9 @@ use Rattle.rp_replica.specs.rp_model.specs.Effect.{Done, goes_on_as}
 use Rattle.rp_replica.specs.rp_model.specs.Parts.{TaskPart, fresh_task}
 use Rattle.rp_replica.specs.rp_model.specs.Tasks.{TaskInput, Submit, Again, asks, may_call, calls_if, asks_again, task_hears}
 use Rattle.rp_replica.specs.declared.sent.Sent.{Sent}
+use Rattle.rp_board.specs.Parts.{Part, Role, OfTask, part_after, with_got, fresh_part}
+use Rattle.rp_board.specs.Seats.{SeatState}
 use Rattle.rp_boxes.specs.rp_actors.specs.Going.{reply_in}
-use Rattle.rp_boxes.specs.Parts.{Part, Role, OfTask, part_after, with_got, fresh_part}
-use Rattle.rp_boxes.specs.Seats.{SeatState}
 use Rattle.rp_boxes.specs.TaskSeats.{IsTaskTurn, IsReplyTurn, reply_effect}
 use Rattle.rp_boxes.proofs.TaskTurns.{reply_effect_is, reply_quiet}
 use Rattle.rp_threads.specs.Tasks.{Waits, AsksForOne, call_after, first_asked, HasMade}

@@ -10,8 +10,8 @@ use Rattle.rp_base.proofs.Members.{has_left}
 use Rattle.rp_codec.specs.Message.{Message}
 use Rattle.rp_codec.specs.declared.packet.Party.{Party}
 use Rattle.rp_tasks.specs.Line.{Line, word_of, drawn, accepted, picked, released}
-use Rattle.rp_boxes.specs.Moments.{WasNotFull}
-use Rattle.rp_boxes.specs.Seats.{SeatState, IsFetched}
+use Rattle.rp_board.specs.Moments.{WasNotFull}
+use Rattle.rp_board.specs.Seats.{SeatState, IsFetched}
 use Rattle.rp_threads.specs.Lines.{IsTextAmong, HoldsTextsOf, line_with, given_on, left_of}
 use Rattle.rp_threads.specs.Turns.{MayFetch, IsBrought, IsLost}
 

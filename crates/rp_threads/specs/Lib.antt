@@ -9,6 +9,7 @@ pub mod Threads
 pub mod Runs
 pub use Rattle.rp_boxes.specs.atomic_table
 pub use Rattle.rp_base
+pub use Rattle.rp_board
 pub use Rattle.rp_boxes
 pub use Rattle.rp_codec
 pub use Rattle.rp_replica.specs.rp_model

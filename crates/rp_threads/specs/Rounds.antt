@@ -12,8 +12,9 @@ use Rattle.rp_replica.specs.rp_model.specs.Parts.{NodePart, Running}
 use Rattle.rp_replica.specs.rp_rules.specs.declared.input.Input.{Input}
 use Rattle.rp_replica.specs.rp_rules.specs.declared.input.Input.TheVariants.{Lead}
 use Rattle.rp_tasks.specs.Line.{Line}
-use Rattle.rp_boxes.specs.Parts.{Part, OfNode}
-use Rattle.rp_boxes.specs.Seats.{SeatState, HasApplied, HasUncounted, IsRunning, IsStopped}
+use Rattle.rp_board.specs.Parts.{Part, OfNode}
+use Rattle.rp_board.specs.Seats.{SeatState}
+use Rattle.rp_boxes.specs.NodeSeats.{HasApplied, HasUncounted, IsRunning, IsStopped}
 use Rattle.rp_threads.specs.Loops.{sender_at, is_to_lead, is_refusal, is_uneventful, no_turns}
 use Rattle.rp_threads.specs.Loops.{counted}
 use Rattle.rp_patience.specs.Patience.{fresh_wait, waits, is_over, after_quiet}

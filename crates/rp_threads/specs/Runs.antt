@@ -7,7 +7,7 @@ use Rattle.rp_base.specs.declared.fault.Fault.{Fault}
 use Rattle.rp_base.specs.declared.reply.Answer.{Answer}
 use Rattle.rp_codec.specs.declared.packet.Party.{Party}
 use Rattle.rp_replica.specs.rp_model.specs.Parts.{fresh_task}
-use Rattle.rp_boxes.specs.Parts.{OfTask, fresh_part}
+use Rattle.rp_board.specs.Parts.{OfTask, fresh_part}
 use Rattle.rp_threads.specs.Threads.{IsLooped, IsTaskLooped}
 use Rattle.rp_threads.specs.declared.loops.NodeEnd.{NodeEnd}
 use Rattle.rp_threads.specs.declared.starts.NodeStart.{NodeStart}

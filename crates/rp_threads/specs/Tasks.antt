@@ -10,8 +10,8 @@ use Rattle.rp_codec.specs.declared.packet.Party.TheVariants.{Task}
 use Rattle.rp_replica.specs.rp_model.specs.Parts.{TaskPart}
 use Rattle.rp_replica.specs.rp_model.specs.Tasks.{asks}
 use Rattle.rp_tasks.specs.Line.{Line}
-use Rattle.rp_boxes.specs.Parts.{OfTask}
-use Rattle.rp_boxes.specs.Seats.{SeatState}
+use Rattle.rp_board.specs.Parts.{OfTask}
+use Rattle.rp_board.specs.Seats.{SeatState}
 use Rattle.rp_threads.specs.declared.tasks.Caller.{Caller}
 use Rattle.rp_threads.specs.declared.tasks.Calls.{Calls}
 use Rattle.rp_threads.specs.declared.tasks.TaskCall.{TaskCall}

@@ -7,7 +7,7 @@ use Rattle.rp_base.specs.declared.fault.Fault.TheVariants.{Device}
 use Rattle.rp_base.specs.declared.reply.Answer.{Answer}
 use Rattle.rp_codec.specs.declared.packet.Party.{Party}
 use Rattle.rp_codec.specs.declared.packet.Party.TheVariants.{Node, Task}
-use Rattle.rp_boxes.specs.Seats.{SeatState}
+use Rattle.rp_board.specs.Seats.{SeatState}
 use Rattle.rp_tasks.specs.Line.{Line, saturating_sum}
 use Rattle.rp_threads.specs.LoopTurns.{HasEnded}
 use Rattle.rp_threads.specs.Loops.{lead_period, total_of, turns_off}

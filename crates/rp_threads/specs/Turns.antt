@@ -17,9 +17,10 @@ use Rattle.rp_replica.specs.rp_rules.specs.declared.input.Input.TheVariants.{Lea
 use Rattle.rp_replica.specs.rp_rules.specs.declared.input.Input.TheVariants.{Tick, Report, Ask}
 use Rattle.rp_replica.specs.declared.sent.Sent.{Sent}
 use Rattle.rp_tasks.specs.Line.{Line}
-use Rattle.rp_boxes.specs.Moments.{WasPut, WasInUse, WasNotFull}
-use Rattle.rp_boxes.specs.Parts.{Part}
-use Rattle.rp_boxes.specs.Seats.{SeatState, IsFetched, IsPut, IsTurn, IsCutTurn, IsNoTurn}
+use Rattle.rp_board.specs.Moments.{WasPut, WasInUse, WasNotFull}
+use Rattle.rp_board.specs.Parts.{Part}
+use Rattle.rp_board.specs.Seats.{SeatState, IsFetched, IsPut}
+use Rattle.rp_boxes.specs.NodeSeats.{IsTurn, IsCutTurn, IsNoTurn}
 use Rattle.rp_threads.specs.Lines.{line_with, given_on, line_after}
 use Rattle.rp_threads.specs.declared.turns.Turn.{Turn}
 use Rattle.rp_threads.specs.declared.turns.Turn.TheVariants.{Received, Led, Idle}

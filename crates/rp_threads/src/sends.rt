@@ -2,7 +2,7 @@
 
 ghost use Rattle.std.specs.Prelude.{◌≡◌, IfOk, OnErr};
 ghost use Rattle.rp_codec.specs.declared.packet.Party.TheVariants.{Node};
-ghost use Rattle.rp_boxes.specs.Seats.{IsSentText};
+ghost use Rattle.rp_board.specs.Seats.{IsSentText};
 ghost use Rattle.rp_threads.specs.Turns.{AreSent, AreSentTexts, AreTextsOffered, AreTextsOfferedInPart, IsAllOffered, IsOfferedToBox, IsOfferedInPart};
 
 use rp_boxes::{NodeSeat, Put};

@@ -1,7 +1,7 @@
 //! Starts the loop of a node or a task in its own thread.
 
 ghost use Rattle.std.specs.Prelude.{◌≡◌, ◌≤◌, [], IfOk};
-ghost use Rattle.rp_boxes.specs.Parts.{fresh_part, OfTask};
+ghost use Rattle.rp_board.specs.Parts.{fresh_part, OfTask};
 ghost use Rattle.rp_replica.specs.rp_model.specs.Parts.{fresh_task};
 ghost use Rattle.rp_threads.specs.Threads.{IsLooped, IsTaskLooped};
 

@@ -2,8 +2,8 @@
 
 ghost use Rattle.std.specs.Prelude.{◌≡◌, ◌≤◌, [], Some, IfOk, IfErr, OnOk};
 ghost use Rattle.rp_base.specs.declared.fault.Fault.TheVariants.{OutOfMemory};
-ghost use Rattle.rp_boxes.specs.Parts.{fresh_part, OfTask};
-ghost use Rattle.rp_boxes.specs.Seats.{IsSentText};
+ghost use Rattle.rp_board.specs.Parts.{fresh_part, OfTask};
+ghost use Rattle.rp_board.specs.Seats.{IsSentText};
 ghost use Rattle.rp_codec.specs.declared.packet.Party.TheVariants as parties;
 ghost use Rattle.rp_replica.specs.rp_model.specs.Parts.{fresh_task};
 ghost use Rattle.rp_replica.specs.rp_model.specs.Tasks.{Again};

@@ -2,7 +2,7 @@
 
 ghost use Rattle.std.specs.Prelude.{◌≡◌, ◌≤◌, [], All, IfOk, OnErr, length, true};
 ghost use Rattle.std.specs.List.{AllZip};
-ghost use Rattle.rp_boxes.specs.Parts.{fresh_part, OfTask};
+ghost use Rattle.rp_board.specs.Parts.{fresh_part, OfTask};
 ghost use Rattle.rp_replica.specs.rp_model.specs.Parts.{fresh_task};
 ghost use Rattle.rp_threads.specs.Runs.{MayRun, HaveRun, RunsOrStops, IsNodeEnd, IsTaskEnd};
 

@@ -18,9 +18,10 @@ use Rattle.rp_threads.specs.rp_model.specs.Parts.{TaskPart, fresh_task}
 use Rattle.rp_threads.specs.rp_model.specs.Tasks.{Submit, asks, calls_if, may_call, next_call}
 use Rattle.rp_threads.specs.rp_outbox.specs.Packets.{texts_of}
 use Rattle.rp_threads.specs.rp_replica.specs.declared.sent.Sent.{Sent}
+use Rattle.rp_threads.specs.rp_board.specs.Parts.{OfTask, fresh_part}
+use Rattle.rp_threads.specs.rp_board.specs.Seats.{SeatState, IsSentText, IsFetched}
 use Rattle.rp_threads.specs.rp_boxes.specs.FirstSeats.{AreFirstSeats}
-use Rattle.rp_threads.specs.rp_boxes.specs.Parts.{OfTask, fresh_part}
-use Rattle.rp_threads.specs.rp_boxes.specs.Seats.{SeatState, IsSentText, IsFetched, IsReport}
+use Rattle.rp_threads.specs.rp_boxes.specs.NodeSeats.{IsReport}
 use Rattle.rp_threads.specs.rp_boxes.specs.TaskSeats.{IsTaskTurn}
 use Rattle.rp_threads.specs.rp_tasks.specs.Line.{Line}
 use Rattle.rp_threads.specs.Lines.{HoldsTextsOf}

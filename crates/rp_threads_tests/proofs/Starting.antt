@@ -5,9 +5,9 @@ use Rattle.std.proofs.lemmas.List.Elements.{All-push}
 use Rattle.rp_threads.specs.atomic_table.specs.Seated.{TableId}
 use Rattle.rp_threads.specs.rp_base.specs.declared.config.Config.{Config}
 use Rattle.rp_threads.specs.rp_model.specs.Parts.{fresh_task}
+use Rattle.rp_threads.specs.rp_board.specs.Parts.{fresh_part, OfTask}
+use Rattle.rp_threads.specs.rp_board.specs.Seats.{SeatState}
 use Rattle.rp_threads.specs.rp_boxes.specs.FirstSeats.{AreFirstSeats}
-use Rattle.rp_threads.specs.rp_boxes.specs.Parts.{fresh_part, OfTask}
-use Rattle.rp_threads.specs.rp_boxes.specs.Seats.{SeatState}
 
 -- the first of them is this one
 pub first_is : {A : Type 0} (P : A → Type 0) (xs : List A) (x : A) → 0 < length xs → x ≡ slice_index_or xs 0 x → IfSome (slice_get xs 0) P → P x

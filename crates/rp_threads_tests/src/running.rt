@@ -1,7 +1,7 @@
 //! Nodes and a task run, each in a thread.
 
 ghost use Rattle.std.specs.Prelude.{◌≡◌, ◌<◌, [], All, IfSome, length, slice_get};
-ghost use Rattle.rp_threads.specs.rp_boxes.specs.Parts.{fresh_part, OfTask};
+ghost use Rattle.rp_threads.specs.rp_board.specs.Parts.{fresh_part, OfTask};
 ghost use Rattle.rp_threads.specs.rp_model.specs.Parts.{fresh_task};
 
 use crate::setup::{all_seats, empty_devices, node, one_tally};

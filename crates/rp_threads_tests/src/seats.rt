@@ -1,4 +1,4 @@
-ghost use Rattle.rp_threads.specs.rp_boxes.specs.Seats.{IsSentText};
+ghost use Rattle.rp_threads.specs.rp_board.specs.Seats.{IsSentText};
 
 use crate::setup::{all_seats, empty_devices, expect_packet, one_tally, receive, receive_each};
 use rp_base::{NodeId, Operation, Position, TaskId};

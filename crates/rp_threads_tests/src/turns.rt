@@ -1,5 +1,5 @@
 ghost use Rattle.std.specs.Prelude.{◌≡◌, []};
-ghost use Rattle.rp_threads.specs.rp_boxes.specs.Parts.{fresh_part, OfTask};
+ghost use Rattle.rp_threads.specs.rp_board.specs.Parts.{fresh_part, OfTask};
 ghost use Rattle.rp_threads.specs.rp_model.specs.Parts.{fresh_task};
 
 use crate::setup::{all_seats, empty_devices, expect_packet, node, one_tally};

@@ -2,7 +2,7 @@
 use Rattle.std.proofs.Common.{◌≡◌, ℕ, zero, suc, [], replicate, slice_index, refl}
 use Rattle.rp_agreement.specs.Answered.{setting_for}
 use Rattle.rp_model.specs.World.{opening_world}
-use Rattle.rp_boxes.proofs.Opening.{opens}
+use Rattle.rp_board.proofs.Opening.{opens}
 use Rattle.rp_boxes.proofs.all_seats.new_table.Goals as goal
 
 zeros : (count i : ℕ) → slice_index (replicate count 0) i ≡ 0

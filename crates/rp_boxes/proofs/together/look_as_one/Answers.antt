@@ -1,8 +1,8 @@
 -- The place knows all, and looks.
 use Rattle.std.proofs.Common.{◌++◌, map, ap, subst, ◌∙◌}
-use Rattle.rp_boxes.specs.Looks.{HasWorld}
-use Rattle.rp_boxes.specs.Plays.{Sight}
-use Rattle.rp_boxes.specs.Seats.{table_setting}
+use Rattle.rp_board.specs.Looks.{HasWorld}
+use Rattle.rp_board.specs.Plays.{Sight}
+use Rattle.rp_board.specs.Seats.{table_setting}
 use Rattle.rp_boxes.specs.Together.{of_task}
 use Rattle.rp_boxes.proofs.together.look_as_one.Goals as goal
 

@@ -1,7 +1,7 @@
 -- One more place is taken in.
 use Rattle.std.proofs.Common.{◌≡◌, ◌++◌, All, map, refl, sym, ap, subst, ◌∙◌, arith}
 use Rattle.rp_actors.proofs.Fresh.{first_of, rest_of}
-use Rattle.rp_boxes.specs.Plays.{Sight}
+use Rattle.rp_board.specs.Plays.{Sight}
 use Rattle.rp_boxes.proofs.OneWorld.{one_taken, all_taken}
 use Rattle.rp_boxes.proofs.together.take_seats.Goals as goal
 

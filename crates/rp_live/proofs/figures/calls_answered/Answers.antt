@@ -2,7 +2,7 @@
 use Rattle.std.proofs.Common.{◌+◌, min, ap, ◌∙◌, rules}
 use Rattle.std.specs.List.{fold}
 use Rattle.std.specs.Prelude.{length}
-use Rattle.rp_boxes.specs.Parts.{task_of}
+use Rattle.rp_board.specs.Parts.{task_of}
 use Rattle.rp_live.proofs.Sums.{sum_folded}
 use Rattle.rp_live.proofs.figures.calls_answered.Goals as goal
 

@@ -2,7 +2,7 @@
 use Rattle.std.proofs.Common.{◌≡◌, ◌∙◌, ◌-◌, ◌<◌, ℕ, length, refl, set, arith, subst, sym}
 use Rattle.std.proofs.lemmas.List.Elements.{All-set}
 use Rattle.std.proofs.lemmas.Result.{IfOk-weaker}
-use Rattle.rp_boxes.specs.Seats.{SeatState}
+use Rattle.rp_board.specs.Seats.{SeatState}
 use Rattle.rp_threads.specs.Rounds.{Runs}
 use Rattle.rp_live.specs.Noted.{IsTakenAt}
 use Rattle.rp_live.proofs.Noting.{found_at}

@@ -1,7 +1,7 @@
 -- One task more has its seat and its replies in the lists.
 use Rattle.std.proofs.Common.{All, sym, ap, subst, ◌∙◌}
-use Rattle.rp_boxes.specs.Parts.{task_of}
-use Rattle.rp_boxes.specs.Seats.{SeatState}
+use Rattle.rp_board.specs.Parts.{task_of}
+use Rattle.rp_board.specs.Seats.{SeatState}
 use Rattle.rp_threads.proofs.Places.{none_left}
 use Rattle.rp_live.specs.Ends.{HadMemory}
 use Rattle.rp_live.specs.LiveOutcome.{replies_at}

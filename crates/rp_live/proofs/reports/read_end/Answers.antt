@@ -2,8 +2,8 @@
 use Rattle.std.proofs.Common.{◌≡◌, sym, subst}
 use Rattle.rp_threads.specs.rp_base.specs.declared.fault.Fault.{Fault}
 use Rattle.rp_threads.specs.rp_base.specs.declared.fault.Fault.TheVariants.{OutOfMemory}
-use Rattle.rp_boxes.specs.Seats.{SeatState}
-use Rattle.rp_boxes.proofs.TaskTurns.{at_fault}
+use Rattle.rp_board.specs.Seats.{SeatState}
+use Rattle.rp_board.proofs.SeatBoxes.{at_fault}
 use Rattle.rp_threads.specs.Rounds.{Runs}
 use Rattle.rp_live.proofs.reports.read_end.Goals as goal
 

@@ -1,7 +1,7 @@
 -- One report more, which made more known, or made nothing more known.
 use Rattle.std.proofs.Common.{◌≡◌, ◌≤◌, ℕ, ap, subst, ◌∙◌, length, arith}
+use Rattle.rp_board.specs.Seats.{SeatSetup}
 use Rattle.rp_boxes.specs.Audits.{known_of}
-use Rattle.rp_boxes.specs.Seats.{SeatSetup}
 use Rattle.rp_live.specs.Seats.{KnowsSameBut}
 use Rattle.rp_live.proofs.Reporting.{more_on, no_more_read, one_more_report, only_reported, reported_on, role_applied, same_known_on}
 use Rattle.rp_live.proofs.reports.read_log.Goals as goal

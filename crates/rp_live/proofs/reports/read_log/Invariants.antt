@@ -1,7 +1,7 @@
 -- The node has only reported, and this is what the audit knows of it.
 use Rattle.std.proofs.Common.{◌≡◌, ◌-◌, ℕ, length}
 use Rattle.rp_boxes.specs.Audits.{known_of}
-use Rattle.rp_boxes.specs.Seats.{HasApplied}
+use Rattle.rp_boxes.specs.NodeSeats.{HasApplied}
 use Rattle.rp_live.specs.Seats.{AreReports, HasOnlyReported, KnowsMore, KnowsSameBut}
 use Rattle.rp_live.proofs.reports.read_log.Given as goal
 

@@ -1,7 +1,8 @@
 -- One node more has reported.
 use Rattle.std.proofs.Common.{◌≡◌, ◌∙◌, ℕ, All, length, arith, refl, sym, ap, subst}
+use Rattle.rp_board.specs.Seats.{SeatSetup}
 use Rattle.rp_boxes.specs.Audits.{known_of}
-use Rattle.rp_boxes.specs.Seats.{SeatSetup, HasApplied}
+use Rattle.rp_boxes.specs.NodeSeats.{HasApplied}
 use Rattle.rp_boxes.specs.rp_actors.proofs.Fresh.{rest_of}
 use Rattle.rp_threads.proofs.Places.{none_left, none_zipped, one_more_zipped, all_zipped}
 use Rattle.rp_live.specs.Ends.{HadNoFault}

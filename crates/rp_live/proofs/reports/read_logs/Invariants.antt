@@ -1,7 +1,7 @@
 -- The nodes so far have reported.
 use Rattle.std.proofs.Common.{◌≡◌, All, length}
 use Rattle.std.specs.List.{AllZip}
-use Rattle.rp_boxes.specs.Seats.{HasApplied}
+use Rattle.rp_boxes.specs.NodeSeats.{HasApplied}
 use Rattle.rp_threads.proofs.Places.{AreZippedSoFar}
 use Rattle.rp_live.specs.Ends.{HadNoFault}
 use Rattle.rp_live.specs.Seats.{AreNumbered, HasOnlyReported, IsEndOfRun, KnowsNothingAbove, StillRuns}

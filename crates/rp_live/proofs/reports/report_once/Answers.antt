@@ -1,6 +1,6 @@
 -- What the audit fetches is a report, and it stays at its seat.
 use Rattle.std.proofs.Common.{ℕ, List, sym, ap, subst, ◌∙◌}
-use Rattle.rp_boxes.specs.Seats.{SeatSetup, SeatState}
+use Rattle.rp_board.specs.Seats.{SeatSetup, SeatState}
 use Rattle.rp_threads.specs.rp_codec.specs.declared.packet.Party.TheVariants.{Node}
 use Rattle.rp_boxes.specs.Audits.{IsGotReport}
 use Rattle.rp_threads.specs.rp_base.specs.declared.action.Action.{Action}

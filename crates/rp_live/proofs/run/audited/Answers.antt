@@ -1,7 +1,8 @@
 -- What was reported of nodes and tasks, and the look at the table.
 use Rattle.std.proofs.Common.{◌≡◌, ◌↔◌, ℕ, true, All, List, length, ap, arith, sym, subst, ◌∙◌}
+use Rattle.rp_board.specs.Seats.{SeatSetup, SeatState}
 use Rattle.rp_boxes.specs.Audits.{Audited}
-use Rattle.rp_boxes.specs.Seats.{SeatSetup, SeatState, HasApplied}
+use Rattle.rp_boxes.specs.NodeSeats.{HasApplied}
 use Rattle.rp_boxes.specs.Together.{AreTogether}
 use Rattle.rp_live.specs.Figures.{figures_of}
 use Rattle.rp_live.specs.LiveOutcome.{KnowsAll}

@@ -1,9 +1,9 @@
 -- All seats are of the one table, and the result of the run is reported.
 use Rattle.std.proofs.Common.{◌≡◌, ℕ, All, length, arith, sym, ap, subst}
 use Rattle.std.proofs.lemmas.Result.{IfOk-weaker}
+use Rattle.rp_board.specs.Parts.{OfTask, fresh_part}
+use Rattle.rp_board.specs.Seats.{SeatState}
 use Rattle.rp_boxes.specs.rp_model.specs.Parts.{fresh_task}
-use Rattle.rp_boxes.specs.Parts.{OfTask, fresh_part}
-use Rattle.rp_boxes.specs.Seats.{SeatState}
 use Rattle.rp_threads.specs.Threads.{IsLooped}
 use Rattle.rp_live.specs.Events.{IsLive}
 use Rattle.rp_live.specs.Pace.{paced, heard, over, ended}

@@ -1,7 +1,7 @@
 -- Where there is none nothing is put. One packet alone is put as it is, and of several each is copied.
 use Rattle.std.proofs.Common.{List, ℕ, ◌∙◌, sym, subst}
 use Rattle.std.specs.Prelude.{IfOk, OnErr}
-use Rattle.rp_boxes.specs.Seats.{SeatState}
+use Rattle.rp_board.specs.Seats.{SeatState}
 use Rattle.rp_codec.specs.declared.packet.Party.TheVariants.{Node}
 use Rattle.rp_threads.specs.Turns.{AreTextsOffered, AreTextsOfferedInPart, IsAllOffered, IsOfferedInPart}
 use Rattle.rp_threads.proofs.Offers.{sent_alone, none_is_offered, one_if_is, one_is_offered, all_if_offered, not_all_if_part}

@@ -1,7 +1,7 @@
 -- The text of the first packet is split off and put, as long as there is one.
 use Rattle.std.proofs.Common.{ℕ, ◌+◌, ◌≤◌, List, take, drop, length, ◌∙◌, sym, ap, subst, arith}
 use Rattle.rp_codec.specs.declared.packet.Party.TheVariants.{Node}
-use Rattle.rp_boxes.specs.Seats.{SeatState, IsSentText}
+use Rattle.rp_board.specs.Seats.{SeatState, IsSentText}
 use Rattle.rp_boxes.proofs.Auditing.{on_any_error}
 use Rattle.rp_threads.specs.Turns.{AreSentTexts, AreTextsOfferedInPart, IsOfferedToBox}
 use Rattle.rp_threads.proofs.Cuts.{begins, is_first, none_left, some_left}

@@ -1,6 +1,6 @@
 -- What the line gives on is the text of a packet that the seat got.
 use Rattle.std.proofs.Common.{Option, List, ℕ, refl, ap, subst}
-use Rattle.rp_boxes.specs.Seats.{SeatState}
+use Rattle.rp_board.specs.Seats.{SeatState}
 use Rattle.rp_boxes.specs.TaskSeats.{IsReplyTurn}
 use Rattle.rp_threads.specs.TaskRounds.{Hears}
 use Rattle.rp_threads.proofs.Texts.{released_holds}

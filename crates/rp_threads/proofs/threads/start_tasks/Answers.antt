@@ -1,6 +1,6 @@
 -- One more thread is started.
 use Rattle.std.proofs.Common.{◌≡◌, All, [], sym, subst}
-use Rattle.rp_boxes.specs.Parts.{fresh_part, OfTask}
+use Rattle.rp_board.specs.Parts.{fresh_part, OfTask}
 use Rattle.rp_replica.specs.rp_model.specs.Parts.{fresh_task}
 use Rattle.rp_boxes.specs.rp_actors.proofs.Fresh.{rest_of}
 use Rattle.rp_threads.proofs.Places.{none_left, none_zipped, one_more_zipped, all_zipped}

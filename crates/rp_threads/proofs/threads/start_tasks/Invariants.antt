@@ -1,6 +1,6 @@
 -- The threads so far, and the tasks that are left.
 use Rattle.std.proofs.Common.{◌≡◌, All, []}
-use Rattle.rp_boxes.specs.Parts.{fresh_part, OfTask}
+use Rattle.rp_board.specs.Parts.{fresh_part, OfTask}
 use Rattle.rp_replica.specs.rp_model.specs.Parts.{fresh_task}
 use Rattle.rp_threads.proofs.Places.{AreZippedSoFar}
 use Rattle.rp_threads.proofs.threads.start_tasks.Given as goal

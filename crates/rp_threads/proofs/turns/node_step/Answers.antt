@@ -2,7 +2,7 @@
 use Rattle.std.proofs.Common.{◌≡◌}
 use Rattle.rp_base.specs.declared.fault.Fault.{Fault}
 use Rattle.rp_base.specs.declared.fault.Fault.TheVariants.{OutOfMemory}
-use Rattle.rp_boxes.proofs.TaskTurns.{at_fault}
+use Rattle.rp_board.proofs.SeatBoxes.{at_fault}
 use Rattle.rp_threads.specs.Turns.{IsStopBy}
 use Rattle.rp_threads.proofs.Steps.{sent_by, event_by, event_got, stop_got, unsent_by}
 use Rattle.rp_threads.proofs.turns.node_step.Goals as goal

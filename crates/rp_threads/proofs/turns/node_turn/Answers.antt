@@ -1,6 +1,6 @@
 -- The packet that was fetched, and the work after it.
 use Rattle.std.proofs.Common.{inl}
-use Rattle.rp_boxes.proofs.TaskTurns.{at_fault}
+use Rattle.rp_board.proofs.SeatBoxes.{at_fault}
 use Rattle.rp_codec.specs.declared.packet.Party.TheVariants.{Node}
 use Rattle.rp_threads.proofs.Steps.{is_turn, is_stopped}
 use Rattle.rp_threads.proofs.Texts.{is_brought, fetched_held, is_lost}

@@ -1,6 +1,6 @@
 -- What the line gives on is the text of a packet that the seat got.
 use Rattle.std.proofs.Common.{refl, sym, subst}
-use Rattle.rp_boxes.specs.Seats.{SeatState}
+use Rattle.rp_board.specs.Seats.{SeatState}
 use Rattle.rp_threads.specs.Lines.{HoldsTextsOf, IsTextAmong, given_on}
 use Rattle.rp_threads.specs.Turns.{Works}
 use Rattle.rp_threads.proofs.Texts.{released_holds, given_holds}

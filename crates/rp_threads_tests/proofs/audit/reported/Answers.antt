@@ -3,7 +3,7 @@ use Rattle.std.proofs.Common.{Result, refl, subst}
 use Rattle.std.specs.Prelude.{IfOk}
 use Rattle.rp_threads.specs.rp_base.specs.declared.fault.Fault.{Fault}
 use Rattle.rp_threads.specs.rp_replica.specs.declared.sent.Sent.{Sent}
-use Rattle.rp_threads.specs.rp_boxes.specs.Seats.{IsReport}
+use Rattle.rp_threads.specs.rp_boxes.specs.NodeSeats.{IsReport}
 use Rattle.rp_threads_tests.proofs.Asking.{reported_is_sent}
 use Rattle.rp_threads_tests.proofs.audit.reported.Goals as goal
 

@@ -1,6 +1,6 @@
 -- The one task that is to start.
 use Rattle.std.proofs.Common.{◌≡◌, [], sym, subst}
-use Rattle.rp_threads.specs.rp_boxes.specs.Parts.{fresh_part, OfTask}
+use Rattle.rp_threads.specs.rp_board.specs.Parts.{fresh_part, OfTask}
 use Rattle.rp_threads.specs.rp_model.specs.Parts.{fresh_task}
 use Rattle.rp_threads_tests.proofs.Starting.{first_is, none_of, one_more_of}
 use Rattle.rp_threads_tests.proofs.running.task_starts.Goals as goal

@@ -3,7 +3,7 @@ use Rattle.std.proofs.Common.{Result, subst}
 use Rattle.std.specs.Prelude.{IfOk}
 use Rattle.rp_threads.specs.rp_base.specs.declared.fault.Fault.{Fault}
 use Rattle.rp_threads.specs.rp_replica.specs.declared.sent.Sent.{Sent}
-use Rattle.rp_threads.specs.rp_boxes.specs.Seats.{IsSentText}
+use Rattle.rp_threads.specs.rp_board.specs.Seats.{IsSentText}
 use Rattle.rp_threads_tests.proofs.Asking.{sent_if}
 use Rattle.rp_threads_tests.proofs.seats.first_call.Goals as goal
 

@@ -5,8 +5,8 @@ use Rattle.std.specs.declared.alloc.Global.{Global}
 use Rattle.rp_base.specs.declared.action.Action.{Action}
 use Rattle.rp_codec.specs.declared.packet.Party.{Party}
 use Rattle.rp_codec.specs.declared.packet.Party.TheVariants.{Audit}
+use Rattle.rp_board.specs.Seats.{SeatState, IsFetched}
 use Rattle.rp_boxes.specs.Audits.{AreAllReported, IsGotReport}
-use Rattle.rp_boxes.specs.Seats.{SeatState, IsFetched}
 use Rattle.rp_boxes.proofs.AuditOrder.{order_still}
 use Rattle.rp_boxes.proofs.Auditing.{lists, stated_still}
 use Rattle.rp_boxes.proofs.Reporting.{all_got, got_still}

@@ -1,8 +1,8 @@
 -- The order of the world that was seen.
 use Rattle.std.proofs.Common.{sym, subst}
+use Rattle.rp_board.specs.Seats.{SeatState}
 use Rattle.rp_boxes.specs.Audits.{Audited}
 use Rattle.rp_boxes.specs.OneOrder.{AreOfOneOrder}
-use Rattle.rp_boxes.specs.Seats.{SeatState}
 use Rattle.rp_boxes.proofs.Auditing.{lists}
 use Rattle.rp_boxes.proofs.AuditOrder.{of_one_order, report_order}
 use Rattle.rp_boxes.proofs.audit.Audit.look.Goals as goal

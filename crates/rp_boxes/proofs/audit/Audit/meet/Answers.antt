@@ -1,10 +1,10 @@
 -- The order of the world that the two saw.
 use Rattle.std.proofs.Common.{◌+◌, [], ◌∷◌, inl, inr, refl, sym, subst}
 use Rattle.rp_agreement.specs.Computed.{order_of}
+use Rattle.rp_board.specs.Rule.{all_sent}
+use Rattle.rp_board.specs.Seats.{SeatState, setting_at}
 use Rattle.rp_boxes.specs.Audits.{Audited}
 use Rattle.rp_boxes.specs.OneOrder.{ShareOneOrder}
-use Rattle.rp_boxes.specs.Rule.{all_sent}
-use Rattle.rp_boxes.specs.Seats.{SeatState, setting_at}
 use Rattle.rp_boxes.proofs.Auditing.{lists}
 use Rattle.rp_boxes.proofs.AuditOrder.{known_begins}
 use Rattle.rp_boxes.proofs.TaskOrder.{of_order}

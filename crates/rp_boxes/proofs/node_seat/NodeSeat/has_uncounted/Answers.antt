@@ -1,6 +1,6 @@
 -- A seat whose device failed has a node that is stopped; otherwise its replica is the node.
 use Rattle.std.proofs.Common.{sym, subst, ◌∙◌}
-use Rattle.rp_boxes.specs.Seats.{HasUncounted}
+use Rattle.rp_boxes.specs.NodeSeats.{HasUncounted}
 use Rattle.rp_boxes.proofs.Uncounted.{none_counted, none_failed, some_uncounted}
 use Rattle.rp_boxes.proofs.node_seat.NodeSeat.has_uncounted.Goals as goal
 

@@ -2,8 +2,9 @@
 use Rattle.std.proofs.Common.{◌≡◌, true, false, Result, Err, inl, inr, sym, subst, ◌∙◌}
 use Rattle.rp_base.specs.declared.fault.Fault.{Fault}
 use Rattle.rp_actors.specs.rp_replica.specs.declared.sent.Sent.{Sent}
-use Rattle.rp_boxes.specs.Seats.{SeatState, IsGot, IsTurn, IsCutTurn, IsLightTurn, IsNoTurn}
-use Rattle.rp_boxes.proofs.SeatBoxes.{with_failures}
+use Rattle.rp_board.specs.Seats.{SeatState}
+use Rattle.rp_board.proofs.SeatBoxes.{with_failures}
+use Rattle.rp_boxes.specs.NodeSeats.{IsGot, IsTurn, IsCutTurn, IsLightTurn, IsNoTurn}
 use Rattle.rp_boxes.proofs.SeatTurns.{NodeStep, input_given, was_stopped, has_stepped, light_made, light_runs, stopped_event, stepped_seat, stepped_state, stopped_seat, stopped_state, unstepped_state}
 use Rattle.rp_boxes.proofs.node_seat.NodeSeat.turn.Given as given
 use Rattle.rp_boxes.proofs.node_seat.NodeSeat.turn.Goals as goal

@@ -1,6 +1,6 @@
 -- What is said of the node's part once its turn is counted.
+use Rattle.rp_board.specs.Seats.{setting_at}
 use Rattle.rp_boxes.specs.CountedTurns.{HasStepped, HasStopped}
-use Rattle.rp_boxes.specs.Seats.{setting_at}
 use Rattle.rp_boxes.proofs.node_seat.NodeSeat.turn.Given as goal
 
 abbrev pub ghosts-note : goal.ghosts-note

@@ -1,6 +1,6 @@
 -- A node gets what its seat at the table got.
-use Rattle.rp_boxes.specs.Seats.{IsNodeAt}
-use Rattle.rp_boxes.proofs.SeatBoxes.{fetched_stays}
+use Rattle.rp_board.proofs.SeatBoxes.{fetched_stays}
+use Rattle.rp_boxes.specs.NodeSeats.{IsNodeAt}
 use Rattle.rp_boxes.proofs.node_seat.NodeSeatFetch.fetch.Goals as goal
 
 pub invariant_of-self : goal.invariant_of-self

@@ -1,7 +1,8 @@
 -- A node puts what its seat at the table put.
 use Rattle.std.proofs.Common.{sym, subst}
-use Rattle.rp_boxes.specs.Seats.{SeatState, IsSentText, IsNodeAt}
-use Rattle.rp_boxes.proofs.SeatBoxes.{put_stays}
+use Rattle.rp_board.specs.Seats.{SeatState, IsSentText}
+use Rattle.rp_board.proofs.SeatBoxes.{put_stays}
+use Rattle.rp_boxes.specs.NodeSeats.{IsNodeAt}
 use Rattle.rp_boxes.proofs.node_seat.NodeSeatPut.put.Goals as goal
 
 pub put-requires : goal.put-requires

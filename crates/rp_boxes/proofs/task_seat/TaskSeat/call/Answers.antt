@@ -12,9 +12,10 @@ use Rattle.rp_model.specs.Tasks.{asks, next_call}
 use Rattle.rp_agreement.specs.Inputs.{IsTaskInput}
 use Rattle.rp_agreement.specs.Sound.{IsCall}
 use Rattle.rp_actors.specs.Callers.{Caller}
-use Rattle.rp_boxes.specs.Seats.{SeatState}
+use Rattle.rp_board.specs.Seats.{SeatState}
+use Rattle.rp_board.proofs.SeatBoxes.{at_fault}
 use Rattle.rp_boxes.specs.TaskSeats.{asked_of, IsTaskAt, IsTaskTurn, IsNoTaskTurn}
-use Rattle.rp_boxes.proofs.TaskTurns.{Submission, IsSubmitted, TaskEvent, waiting_for, asking_done, submit, submitted, waits_for_one, task_event, task_after, asked_state, at_fault, refused_state, no_memory_state}
+use Rattle.rp_boxes.proofs.TaskTurns.{Submission, IsSubmitted, TaskEvent, waiting_for, asking_done, submit, submitted, waits_for_one, task_event, task_after, asked_state, refused_state, no_memory_state}
 use Rattle.rp_boxes.proofs.task_seat.TaskSeat.call.Given as given
 use Rattle.rp_boxes.proofs.task_seat.TaskSeat.call.Goals as goal
 use Rattle.rp_boxes.proofs.task_seat.TaskSeat.call.Goals.{In_ok-next, After-call}

@@ -6,10 +6,10 @@ use Rattle.rp_model.specs.Tasks.{Take}
 use Rattle.rp_agreement.specs.Inputs.{IsTaskInput}
 use Rattle.rp_actors.specs.Callers.{Caller}
 use Rattle.rp_actors.proofs.Replied.{reply_of_text}
+use Rattle.rp_board.specs.Seats.{SeatState, IsGotText}
+use Rattle.rp_board.proofs.SeatBoxes.{same_party}
 use Rattle.rp_boxes.specs.OneOrder.{HasOneOrder}
-use Rattle.rp_boxes.specs.Seats.{SeatState, IsGotText}
 use Rattle.rp_boxes.specs.TaskSeats.{reply_effect, IsReplyTurn}
-use Rattle.rp_boxes.proofs.SeatBoxes.{same_party}
 use Rattle.rp_boxes.proofs.TaskOrder.{one_order}
 use Rattle.rp_boxes.proofs.TaskTurns.{TaskEvent, reply_results, reply_quiet, task_event, replied_state}
 use Rattle.rp_boxes.proofs.task_seat.TaskSeat.reply.Given as given

@@ -5,9 +5,10 @@ use Rattle.std.proofs.lemmas.Bool.{lt-ltb, le-ltb}
 use Rattle.rp_base.specs.declared.config.Config.{Config}
 use Rattle.rp_base.specs.declared.fault.Fault.TheVariants.{OutOfMemory, BadConfig}
 use Rattle.rp_model.specs.Tasks.{Again}
-use Rattle.rp_boxes.specs.Seats.{SeatState}
+use Rattle.rp_board.specs.Seats.{SeatState}
+use Rattle.rp_board.proofs.SeatBoxes.{at_fault}
 use Rattle.rp_boxes.specs.TaskSeats.{asked_of, IsTaskAt, IsTaskTurn, IsNoTaskTurn}
-use Rattle.rp_boxes.proofs.TaskTurns.{TaskEvent, asking_done, again_results, again_above, task_event, task_after, asked_state, at_fault, refused_state, no_memory_state}
+use Rattle.rp_boxes.proofs.TaskTurns.{TaskEvent, asking_done, again_results, again_above, task_event, task_after, asked_state, refused_state, no_memory_state}
 use Rattle.rp_boxes.proofs.task_seat.TaskSeat.retry.Given as given
 use Rattle.rp_boxes.proofs.task_seat.TaskSeat.retry.Goals as goal
 use Rattle.rp_boxes.proofs.task_seat.TaskSeat.retry.Goals.{Else-get-self, In_ok-sent}

@@ -1,6 +1,6 @@
 -- A task gets what its seat at the table got.
+use Rattle.rp_board.proofs.SeatBoxes.{fetched_stays}
 use Rattle.rp_boxes.specs.TaskSeats.{IsTaskAt}
-use Rattle.rp_boxes.proofs.SeatBoxes.{fetched_stays}
 use Rattle.rp_boxes.proofs.task_seat.TaskSeatFetch.fetch.Goals as goal
 
 pub invariant_of-self : goal.invariant_of-self

@@ -1,8 +1,8 @@
 -- A task puts what its seat at the table put.
 use Rattle.std.proofs.Common.{sym, subst}
+use Rattle.rp_board.specs.Seats.{SeatState, IsSentText}
+use Rattle.rp_board.proofs.SeatBoxes.{put_stays}
 use Rattle.rp_boxes.specs.TaskSeats.{IsTaskAt}
-use Rattle.rp_boxes.specs.Seats.{SeatState, IsSentText}
-use Rattle.rp_boxes.proofs.SeatBoxes.{put_stays}
 use Rattle.rp_boxes.proofs.task_seat.TaskSeatPut.put.Goals as goal
 
 pub put-requires : goal.put-requires

@@ -1,7 +1,7 @@
 -- The turn is counted, and the node rests after it or not.
 use Rattle.std.proofs.Common.{ℕ, ◌+◌, refl, ap, ◌∙◌, arith}
 use Rattle.rp_base.specs.declared.fault.Fault.{Fault}
-use Rattle.rp_boxes.proofs.TaskTurns.{at_fault}
+use Rattle.rp_board.proofs.SeatBoxes.{at_fault}
 use Rattle.rp_threads.specs.Loops.{total_of}
 use Rattle.rp_threads.specs.Rounds.{IsUncountedTurn, node_state}
 use Rattle.rp_threads.specs.declared.loops.NodeLoop.{NodeLoop}

@@ -1,6 +1,6 @@
 -- The turn was busy; or it was idle, and the node led anew or need not.
 use Rattle.std.proofs.Common.{refl, sym, ◌∙◌}
-use Rattle.rp_boxes.proofs.TaskTurns.{at_fault}
+use Rattle.rp_board.proofs.SeatBoxes.{at_fault}
 use Rattle.rp_threads.specs.Rounds.{WorkerAt, IsUnmade, worker_at}
 use Rattle.rp_threads.proofs.Leads.{busy_turn, idle_of, idle_turn, led_anew, not_led_anew, unmade}
 use Rattle.rp_threads.proofs.loops.Worker.work.Goals as goal

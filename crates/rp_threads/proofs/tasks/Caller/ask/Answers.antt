@@ -2,7 +2,7 @@
 use Rattle.std.proofs.Common.{◌≡◌, ◌∙◌, Option, Some, None, Bool, length, refl, sym, ap, subst}
 use Rattle.std.proofs.lemmas.Option.{slice_get_read, slice_get_past}
 use Rattle.rp_base.specs.declared.fault.Fault.{Fault}
-use Rattle.rp_boxes.proofs.TaskTurns.{at_fault}
+use Rattle.rp_board.proofs.SeatBoxes.{at_fault}
 use Rattle.rp_replica.specs.rp_model.specs.Tasks.{TaskInput}
 use Rattle.rp_threads.specs.TaskRounds.{Asks, IsTaskRefused, asked_in}
 use Rattle.rp_threads.proofs.TaskChains.{asked_next, made_next}

@@ -1,7 +1,7 @@
 -- What was brought and heard, and what was asked then.
 use Rattle.std.proofs.Common.{◌∙◌, ap, refl}
 use Rattle.rp_base.specs.declared.fault.Fault.{Fault}
-use Rattle.rp_boxes.proofs.TaskTurns.{at_fault}
+use Rattle.rp_board.proofs.SeatBoxes.{at_fault}
 use Rattle.rp_codec.specs.declared.packet.Party.TheVariants.{Node, Task}
 use Rattle.rp_threads.specs.Tasks.{TaskAt}
 use Rattle.rp_threads.specs.TaskRounds.{IsUnmadeTurn, with_lost}

@@ -1,0 +1,13 @@
+pub mod Worlds
+pub mod Turns
+pub mod BoxSteps
+pub mod Filling
+pub mod Emptying
+pub mod Goodness
+pub mod Sights
+pub mod SeatBoxes
+pub mod Opening
+pub mod Splitting
+pub mod WorldLooks
+pub mod Joining
+pub mod Carrying

@@ -1,0 +1,13 @@
+pub mod Parts
+pub mod Rule
+pub mod Steps
+pub mod Laws
+pub mod Plays
+pub mod Seats
+pub mod Looks
+pub mod OrderLaws
+pub mod Moments
+pub use Rattle.atomic_table
+pub use Rattle.rp_agreement
+pub use Rattle.rp_model.specs.rp_machine
+pub use Rattle.rp_model

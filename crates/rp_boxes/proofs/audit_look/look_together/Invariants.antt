@@ -1,7 +1,0 @@
--- The look shows that what the place knows is a piece of a world.
-use Rattle.rp_boxes.specs.Looks.{HasWorld}
-use Rattle.rp_boxes.specs.Seats.{table_setting}
-use Rattle.rp_boxes.proofs.audit_look.look_together.Given as goal
-
-abbrev pub ghosts-look : goal.ghosts-look
-ghosts-look g a = record { says = λ part. HasWorld (table_setting g.M.Machine a.slots.now.key) a.place.now.me.0 }

@@ -7,7 +7,7 @@ ghost use Rattle.rp_acceptor.specs.Comparing.{compared_at, followed_by, combined
 use rp_base::{Ballot, Position, PositionRange};
 
 /// How a ballot compares with the bounds at some positions.
-#[derive(Clone, Copy, Debug, PartialEq, Eq)]
+#[derive(Clone, Copy)]
 pub enum Comparison {
     /// The ballot is above each of them.
     Above,

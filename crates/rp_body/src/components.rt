@@ -8,7 +8,7 @@ ghost use Rattle.rp_body.specs.Ranges.{IsNumbered};
 use std::marker::Model;
 
 /// How many components an object has of each kind.
-#[derive(Clone, Copy, Debug, PartialEq, Eq)]
+#[derive(Clone, Copy)]
 pub struct Limits {
     /// The number of whole-number components.
     pub ints: u8,
@@ -17,7 +17,7 @@ pub struct Limits {
 }
 
 /// A whole-number component: its range, both ends counted, and its value.
-#[derive(Clone, Copy, Debug, PartialEq, Eq)]
+#[derive(Clone, Copy)]
 pub struct Ranged {
     /// The least value.
     pub low: i64,
@@ -49,7 +49,7 @@ pub const MOST_OF_A_KIND: usize = 8;
 
 /// The components of an object: at most 8 whole numbers and at most 8 Booleans, in place. Those of
 /// a kind are named by the numbers from 0 in the order in which they were added.
-#[derive(Clone, Debug, Drop)]
+#[derive(Clone, Drop)]
 pub struct Components {
     ints: [Ranged; MOST_OF_A_KIND],
     bools: [bool; MOST_OF_A_KIND],

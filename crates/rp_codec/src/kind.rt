@@ -6,7 +6,7 @@ ghost use Rattle.rp_codec.specs.Kind.{kind_of, kind_in, kind_of_body, number_of_
 use crate::packet::Body;
 
 /// Which variant of `Body` a packet has.
-#[derive(Clone, Copy, Debug, PartialEq, Eq)]
+#[derive(Clone, Copy, PartialEq, Eq)]
 pub enum Kind {
     Call,
     Prepare,

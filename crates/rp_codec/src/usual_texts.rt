@@ -20,7 +20,7 @@ use rp_base::{Action, Ballot, NodeId, PacketReason, Position, Reply, TaskId};
 
 /// The sender and the receiver of a packet, its position and its ballot: what most packets between
 /// nodes have before the action.
-#[derive(Clone, Copy, Debug)]
+#[derive(Clone, Copy)]
 pub struct Header {
     pub from: NodeId,
     pub to: NodeId,
@@ -29,7 +29,7 @@ pub struct Header {
 }
 
 /// A decision that one node sends to another.
-#[derive(Clone, Copy, Debug)]
+#[derive(Clone, Copy)]
 pub struct SentDecision {
     pub from: NodeId,
     pub to: NodeId,
@@ -38,7 +38,7 @@ pub struct SentDecision {
 }
 
 /// A reply that a node sends to a task.
-#[derive(Clone, Copy, Debug)]
+#[derive(Clone, Copy)]
 pub struct SentReply {
     pub from: NodeId,
     pub task: TaskId,
@@ -47,7 +47,7 @@ pub struct SentReply {
 }
 
 /// A call that a task sends to a node.
-#[derive(Clone, Copy, Debug)]
+#[derive(Clone, Copy)]
 pub struct SentCall {
     pub task: TaskId,
     pub to: NodeId,

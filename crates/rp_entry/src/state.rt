@@ -18,7 +18,7 @@ use std::alloc::{AllocError, Global};
 use std::marker::Model;
 
 /// A call that waits at an entry: the `number`th call of the task.
-#[derive(Clone, Copy, Debug, PartialEq, Eq)]
+#[derive(Clone, Copy)]
 pub struct Waiting {
     pub task: TaskId,
     pub number: u32,
@@ -26,7 +26,7 @@ pub struct Waiting {
 }
 
 /// The state of a call once the protected action that it began has ended.
-#[derive(Clone, Copy, Debug, PartialEq, Eq)]
+#[derive(Clone, Copy)]
 pub enum CallOutcome {
     /// It is over, with this reply.
     Reply(Reply),
@@ -36,7 +36,7 @@ pub enum CallOutcome {
 
 /// What a protected action gives: its own caller's outcome, and the answers of the callers that
 /// were served from the entry queues, in the order in which they were served.
-#[derive(Debug, Drop)]
+#[derive(Drop)]
 pub struct Done {
     pub outcome: CallOutcome,
     pub served: Answers,
@@ -66,7 +66,7 @@ fn reply_of(outcome: Outcome) -> Reply
 }
 
 /// The calls that wait at one entry, the first one first: at most 8.
-#[derive(Debug, Drop)]
+#[derive(Drop)]
 pub struct Queue {
     calls: HeapCircularBuffer<Waiting>,
 }
@@ -133,7 +133,7 @@ impl Queue {
 }
 
 /// The components of an object, and a queue for each of its entries.
-#[derive(Debug, Drop)]
+#[derive(Drop)]
 pub struct State {
     components: Components,
     queues: Vec<Queue>,

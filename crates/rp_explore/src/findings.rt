@@ -57,7 +57,7 @@ impl Given {
 }
 
 /// What the actions after an order lead to: only states that were found, only its own state.
-#[derive(Clone, Copy, Debug, PartialEq, Eq)]
+#[derive(Clone, Copy)]
 pub struct Tried {
     pub is_whole: bool,
     pub is_quiet: bool,

@@ -42,12 +42,23 @@ pub enum Decision {
 /// position are let go when it is settled. The window is a ring that `new` makes, so a learner
 /// takes the same memory however many positions there are. What is known of a position has one
 /// place in the ring, which goes by the position alone.
-#[derive(Debug, Drop)]
 pub struct Learner {
     nodes: u8,
     max_positions: u16,
     first: u32,
     places: Vec<PositionState>,
+}
+
+// Not derived, so that to drop it is one step of a proof and not one for each of its parts.
+impl Drop for Learner {
+    fn drop(self) {
+        let Learner {
+            nodes: _,
+            max_positions: _,
+            first: _,
+            places: _,
+        } = self;
+    }
 }
 
 impl Model for Learner {

@@ -13,7 +13,7 @@ use std::alloc::{AllocError, Global};
 use std::marker::Model;
 
 /// What is known of a position.
-#[derive(Clone, Copy, Debug)]
+#[derive(Clone, Copy)]
 pub enum Stage {
     /// No vote was heard.
     Unheard,
@@ -25,7 +25,7 @@ pub enum Stage {
 
 /// The state of one position. Its votes count only in the stage where they are heard, so that
 /// another stage begins by a write of one byte.
-#[derive(Debug, Drop)]
+#[derive(Drop)]
 pub struct PositionState {
     stage: Stage,
     votes: VoteCounts,
@@ -40,7 +40,7 @@ impl Model for PositionState {
 }
 
 /// A vote that a node cast.
-#[derive(Clone, Copy, Debug)]
+#[derive(Clone, Copy)]
 pub struct Cast<'a> {
     pub from: NodeId,
     pub ballot: Ballot,

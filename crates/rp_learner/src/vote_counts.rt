@@ -12,7 +12,7 @@ use std::alloc::{AllocError, Global};
 use std::marker::Model;
 
 /// A vote, and who cast it.
-#[derive(Debug, Drop)]
+#[derive(Drop)]
 pub struct VoteCount {
     vote: Vote,
     senders: Senders,
@@ -20,7 +20,7 @@ pub struct VoteCount {
 
 /// The votes heard at a position. Where one ballot decides there is one count, which takes no
 /// memory of its own.
-#[derive(Debug, Drop)]
+#[derive(Drop)]
 pub struct VoteCounts {
     first: VoteCount,
     others: Vec<VoteCount>,

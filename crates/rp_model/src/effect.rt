@@ -15,7 +15,7 @@ pub enum Dropped {
 }
 
 /// The result of an event.
-#[derive(Clone, Copy, Debug, PartialEq, Eq)]
+#[derive(Clone, Copy)]
 pub struct Effect {
     /// The number of the first message that was sent, or would have been.
     pub first: u64,

@@ -8,7 +8,7 @@ use crate::interrupt::Interrupt;
 use rp_base::{NodeId, Operation, Position, TaskId};
 
 /// One step of a node, or the delivery of a message to a task.
-#[derive(Clone, Copy, Debug, PartialEq, Eq)]
+#[derive(Clone, Copy)]
 pub enum Step {
     /// A message that was sent, by its number from 1, is delivered to its receiver, a node or a
     /// task. A message may be delivered any number of times, or never.
@@ -48,7 +48,7 @@ pub enum Step {
 }
 
 /// One step of one actor, or a stop or a restart of a node.
-#[derive(Clone, Copy, Debug, PartialEq, Eq)]
+#[derive(Clone, Copy)]
 pub enum Event {
     /// A task makes its next call, and asks a node.
     Submit {

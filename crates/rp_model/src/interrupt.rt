@@ -4,7 +4,7 @@ ghost use Rattle.rp_base.specs.Action.{IsIndex, IsCount};
 
 /// An occurrence of an interrupt. The type keeps the ranges, so that no event names an interrupt
 /// that is not right.
-#[derive(Clone, Copy, Debug, PartialEq, Eq)]
+#[derive(Clone, Copy)]
 pub struct Interrupt {
     /// 1 to 8.
     pub source: u8,

@@ -8,7 +8,7 @@ use std::marker::Model;
 
 /// An action that is right. Contracts see a list of them as the list of what they hold, so that the
 /// definitions need not speak of ranges.
-#[derive(Clone, Copy, Debug, PartialEq, Eq)]
+#[derive(Clone, Copy)]
 pub struct RightAction {
     action: Action,
 }

@@ -18,14 +18,14 @@ pub const MOST_TIMERS: u8 = MOST_OPERATIONS;
 
 /// What runs at an interrupt, or when the time of a timing event has come: a procedure of an
 /// object, both counted from 1 (Ada Reference Manual, sections C.3 and D.15).
-#[derive(Clone, Copy, Debug, PartialEq, Eq)]
+#[derive(Clone, Copy)]
 pub struct Handler {
     pub object: u8,
     pub procedure: u8,
 }
 
 /// What a program may declare.
-#[derive(Clone, Copy, Debug, PartialEq, Eq)]
+#[derive(Clone, Copy, PartialEq, Eq)]
 pub enum Profile {
     /// An object has one entry at most, at which one call waits at most (section D.13).
     Ravenscar,
@@ -51,7 +51,7 @@ pub struct ObjectDeclaration {
 }
 
 /// A timing event.
-#[derive(Debug, Drop)]
+#[derive(Drop)]
 pub struct TimingEvent {
     pub name: String,
     pub handler: Handler,

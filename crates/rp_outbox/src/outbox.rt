@@ -28,7 +28,7 @@ const ROOM: usize = 1536;
 
 /// Packets that are sent: their texts in one run of bytes, with the place where each ends. After
 /// the texts there is room; what is put into it takes no memory, and moves no more than its bytes.
-#[derive(Debug, Drop)]
+#[derive(Drop)]
 pub struct Outbox {
     bytes: Vec<u8>,
     used: usize,

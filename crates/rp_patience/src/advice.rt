@@ -7,7 +7,7 @@ use crate::patience::Patience;
 use rp_base::{NodeId, Position};
 
 /// What a node knows that decides what it is to do.
-#[derive(Clone, Copy, Debug)]
+#[derive(Clone, Copy)]
 pub struct Situation {
     pub node: NodeId,
     /// How many actions it has applied.
@@ -21,7 +21,7 @@ pub struct Situation {
 }
 
 /// What a node is to do.
-#[derive(Clone, Copy, Debug, PartialEq, Eq)]
+#[derive(Clone, Copy, PartialEq, Eq)]
 pub enum Advice {
     Nothing,
     /// It leads at this position, the first that it has not applied.

@@ -18,7 +18,7 @@ const MOST_DOUBLINGS: u32 = 6;
 /// new is applied, the wait and the tries start again from 0. It has the layout that a C caller
 /// reads, and is all zero at first.
 #[repr(C)]
-#[derive(Clone, Copy, Debug, PartialEq, Eq)]
+#[derive(Clone, Copy)]
 pub struct Patience {
     /// How many actions were applied when the wait began.
     pub applied: u32,

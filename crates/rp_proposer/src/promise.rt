@@ -4,7 +4,7 @@ use rp_base::{Ballot, NodeId, PlacedVote, PositionRange, Vote};
 use std::marker::Model;
 
 /// A promise: who sent it, and the last vote that it reports.
-#[derive(Clone, Copy, Debug)]
+#[derive(Clone, Copy)]
 pub(crate) struct HeardPromise {
     pub(crate) from: NodeId,
     pub(crate) last: Option<Vote>,

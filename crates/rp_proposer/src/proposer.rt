@@ -28,7 +28,6 @@ const MOST_RUNNING: usize = 64;
 /// At most 64 run, and it counts those that have an action of their own. While their positions
 /// ascend, it knows without a search that none runs before the first or after the last. Questions
 /// take `&self`; what takes effect is noted, after the record that goes before it.
-#[derive(Drop)]
 pub struct Proposer {
     node: NodeId,
     nodes: u8,
@@ -37,6 +36,21 @@ pub struct Proposer {
     own_actions: usize,
     started: Option<Ballot>,
     refused: Option<Ballot>,
+}
+
+// Not derived, so that to drop it is one step of a proof and not one for each of its parts.
+impl Drop for Proposer {
+    fn drop(self) {
+        let Proposer {
+            node: _,
+            nodes: _,
+            proposals: _,
+            ascending: _,
+            own_actions: _,
+            started: _,
+            refused: _,
+        } = self;
+    }
 }
 
 impl Model for Proposer {

@@ -58,37 +58,35 @@ impl<M: Machine, D: Device> Replica<M, D> {
         ensures certain { TakesNoMemory self.old.running
             (turn_of_plan M.next M.answers (server_of self.old) plan.now) → IsOk result }
     {
-        match plan {
+        match *plan {
             Plan::Pass(_) => return Ok(()),
-            Plan::Promise(header, last) => return self.promise(out, header, last),
-            Plan::Vote(header, action) => return self.vote(out, header, action),
-            Plan::PromiseRange(promise) => return self.promise_range(alloc, out, promise),
-            Plan::Lead(position, ballot, own) => {
-                return self.begin(out, *position, *ballot, own);
+            Plan::Promise(ref header, ref last) => return self.promise(out, header, last),
+            Plan::Vote(ref header, ref action) => return self.vote(out, header, action),
+            Plan::PromiseRange(ref promise) => return self.promise_range(alloc, out, promise),
+            Plan::Lead(position, ballot, ref own) => return self.begin(out, position, ballot, own),
+            Plan::LeadRange(range, ballot) => return self.begin_range(out, range, ballot),
+            Plan::OfferPrepared(position, ballot, ref action) => {
+                return self.offer_prepared(out, position, ballot, action);
             }
-            Plan::LeadRange(range, ballot) => return self.begin_range(out, *range, *ballot),
-            Plan::OfferPrepared(position, ballot, action) => {
-                return self.offer_prepared(out, *position, *ballot, action);
+            Plan::Learn(position, ref action) => {
+                return self.learn_by_votes(out, position, action, None);
             }
-            Plan::Learn(position, action) => {
-                return self.learn_by_votes(out, *position, action, None);
+            Plan::Follow(from, position, ref action) => {
+                return self.learn_by_decision(out, from, position, action, None);
             }
-            Plan::Follow(from, position, action) => {
-                return self.learn_by_decision(out, *from, *position, action, None);
+            Plan::Offer(ref promise, ref action) => return self.offer(out, promise, action),
+            Plan::CountVote(from, position, ref vote) => {
+                return self.hear(alloc, from, position, vote);
             }
-            Plan::Offer(promise, action) => return self.offer(out, promise, action),
-            Plan::CountVote(from, position, vote) => return self.hear(
-                alloc, *from, *position, vote,
-            ),
-            Plan::CountPromise(promise) => self.note_promise(promise),
-            Plan::CountRangePromise(promise) => self.note_range(promise),
+            Plan::CountPromise(ref promise) => self.note_promise(promise),
+            Plan::CountRangePromise(ref promise) => self.note_range(promise),
             Plan::Yield {
                 position,
                 ballot,
                 bound,
-            } => self.note_refusal(*position, *ballot, *bound),
-            Plan::Await(item) => self.add(*item),
-            Plan::AskMissing(to) => return self.ask_missing(out, *to),
+            } => self.note_refusal(position, ballot, bound),
+            Plan::Await(item) => self.add(item),
+            Plan::AskMissing(to) => return self.ask_missing(out, to),
             _ => return self.send(alloc, out, plan),
         }
         Ok(())

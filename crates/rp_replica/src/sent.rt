@@ -3,7 +3,7 @@
 use rp_model::Dropped;
 
 /// What a step sends.
-#[derive(Debug, Drop)]
+#[derive(Drop)]
 pub struct Sent {
     /// The texts of the packets, joined in order.
     pub bytes: Vec<u8>,

@@ -6,7 +6,7 @@ ghost use Rattle.rp_requests.specs.Buffers.{IsPutInFront, Puts, PutsOr, with_fro
 use crate::refusal::Refusal;
 
 /// The length of an answer: first are the bytes to be stored, then the others.
-#[derive(Clone, Copy, Debug, PartialEq, Eq)]
+#[derive(Clone, Copy)]
 pub struct Lengths {
     /// How many of the answer's first bytes are to be stored.
     pub stored: usize,

@@ -9,7 +9,7 @@ use rp_base::Fault;
 
 /// Why a request is refused. Nothing has changed after any of these, unless the variant says
 /// otherwise.
-#[derive(Clone, Copy, Debug, PartialEq, Eq)]
+#[derive(Clone, Copy)]
 pub enum Refusal {
     /// A fault of the deck, the node or the task.
     Fault(Fault),

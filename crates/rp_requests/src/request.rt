@@ -10,7 +10,7 @@ use rp_base::{MOST_SOURCES, NodeId, Position, PositionRange, TaskId};
 use rp_replica::Input;
 
 /// A caller's request to a node.
-#[derive(Clone, Copy, Debug)]
+#[derive(Clone, Copy)]
 pub(crate) enum Request<'a> {
     /// A step.
     Step(Input<'a>),

@@ -8,7 +8,7 @@ ghost use Rattle.rp_requests.specs.TaskRequests.{task_asked, task_asked_of, arg_
 use rp_base::{MOST_OBJECTS, NodeId, Operation};
 
 /// A caller's request to a task.
-#[derive(Debug, Drop)]
+#[derive(Drop)]
 pub(crate) enum TaskRequest<'a> {
     /// The packet of its next call, through a node.
     Call {

@@ -3,7 +3,7 @@
 use rp_base::{NodeId, Position, PositionRange};
 
 /// What a node may be given: one of these makes one step.
-#[derive(Clone, Copy, Debug)]
+#[derive(Clone, Copy)]
 pub enum Input<'a> {
     /// The text of a packet, as it came.
     Receive(&'a [u8]),

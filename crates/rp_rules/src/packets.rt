@@ -62,10 +62,10 @@ fn on_node<M: Machine>(
     ensures memory { IfErr result (λ fault. (fault ≡ faults.OutOfMemory)
         × IsLongBody packet.now.body) }
 {
-    match packet.body() {
-        Body::Prepare { position, ballot } => on_prepare(server, from, *position, *ballot, plan),
+    match *packet.body() {
+        Body::Prepare { position, ballot } => on_prepare(server, from, position, ballot, plan),
         Body::PrepareRange { range, ballot } => {
-            *plan = on_prepare_range(server, from, *range, *ballot);
+            *plan = on_prepare_range(server, from, range, ballot);
         }
         Body::Promise {
             position,
@@ -75,58 +75,61 @@ fn on_node<M: Machine>(
             server,
             CountedPromise {
                 from,
-                position: *position,
-                ballot: *ballot,
-                last: *last,
+                position,
+                ballot,
+                last,
             },
             plan,
         ),
         Body::PromiseRange {
             range,
             ballot,
-            votes,
+            ref votes,
         } => *plan = Plan::CountRangePromise(CountedRange {
             from,
-            range: *range,
-            ballot: *ballot,
+            range,
+            ballot,
             votes: votes.clone()?,
         }),
         Body::Accept {
             position,
             ballot,
-            action,
+            ref action,
         } => {
             let header = Header {
                 from,
                 to: server.me(),
-                position: *position,
-                ballot: *ballot,
+                position,
+                ballot,
             };
             on_accept(server, &header, action, plan);
         }
         Body::Accepted {
             position,
             ballot,
-            action,
+            ref action,
         } => {
             let header = Header {
                 from,
                 to: server.me(),
-                position: *position,
-                ballot: *ballot,
+                position,
+                ballot,
             };
             on_accepted(server, &header, action, plan);
         }
-        Body::Decided { position, action } => on_decided(server, from, *position, action, plan),
-        Body::Ask { position } => *plan = on_ask(server, from, *position),
+        Body::Decided {
+            position,
+            ref action,
+        } => on_decided(server, from, position, action, plan),
+        Body::Ask { position } => *plan = on_ask(server, from, position),
         Body::Nack {
             position,
             ballot,
             bound,
         } => *plan = Plan::Yield {
-            position: *position,
-            ballot: *ballot,
-            bound: *bound,
+            position,
+            ballot,
+            bound,
         },
         _ => *plan = Plan::Pass(Dropped::No),
     }

@@ -8,7 +8,7 @@ use rp_base::{Action, Ballot, History, NodeId, Position, Vote};
 use std::marker::Model;
 
 /// What a learner noted.
-#[derive(Debug, Drop)]
+#[derive(Drop)]
 pub(crate) enum Note {
     /// A node's vote at a position.
     Heard(NodeId, Position, Ballot, Action),

@@ -30,7 +30,7 @@ pub struct ChartRequest {
 }
 
 /// What became of a drawing or a page.
-#[derive(Clone, Copy, Debug, PartialEq, Eq)]
+#[derive(Clone, Copy)]
 pub enum Outcome {
     /// It was written.
     Drawn,

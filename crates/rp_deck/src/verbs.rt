@@ -6,7 +6,7 @@ ghost use Rattle.rp_deck.specs.ScriptLines.{verb_named, is_live, takes};
 use crate::deck::Mode;
 
 /// The first word of a line of the script.
-#[derive(Clone, Copy, Debug)]
+#[derive(Clone, Copy)]
 pub enum Verb {
     /// A task calls an operation of an object.
     Call,

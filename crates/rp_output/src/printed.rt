@@ -7,7 +7,7 @@ use rp_base::{Fault, NodeId, Reply};
 use std::fmt;
 
 /// The words for a reply, as `value 5`.
-#[derive(Clone, Copy, Debug, PartialEq, Eq)]
+#[derive(Clone, Copy)]
 pub struct ReplyText {
     pub reply: Reply,
 }
@@ -28,7 +28,7 @@ impl fmt::Display for ReplyText {
 }
 
 /// A task takes the reply to one of its calls: `reply a 1 value 5`.
-#[derive(Clone, Copy, Debug)]
+#[derive(Clone, Copy)]
 pub struct ReplyLine<'a> {
     pub task: &'a str,
     pub number: u32,
@@ -47,7 +47,7 @@ impl fmt::Display for ReplyLine<'_> {
 }
 
 /// A step of the script was refused: `line 11: refused 7 LogFull`.
-#[derive(Clone, Copy, Debug, PartialEq, Eq)]
+#[derive(Clone, Copy)]
 pub struct RefusedLine {
     pub line: u32,
     pub fault: Fault,
@@ -65,7 +65,7 @@ impl fmt::Display for RefusedLine {
 }
 
 /// The state of a node, or what changed in it.
-#[derive(Clone, Copy, Debug, PartialEq, Eq)]
+#[derive(Clone, Copy)]
 pub enum NodeState {
     /// It was stopped and runs again: `open records 3 cut 5`. It found n records, and truncated the
     /// bytes after them.
@@ -81,7 +81,7 @@ pub enum NodeState {
 }
 
 /// The line of a node: `node 2 stopped`.
-#[derive(Clone, Copy, Debug, PartialEq, Eq)]
+#[derive(Clone, Copy)]
 pub struct NodeLine {
     pub node: NodeId,
     pub state: NodeState,
@@ -105,7 +105,7 @@ impl fmt::Display for NodeLine {
 }
 
 /// `drain` delivered as many messages as it may, and more are left: `line 8: drain limit`.
-#[derive(Clone, Copy, Debug, PartialEq, Eq)]
+#[derive(Clone, Copy)]
 pub struct DrainLimitLine {
     pub line: u32,
 }
@@ -120,7 +120,7 @@ impl fmt::Display for DrainLimitLine {
 }
 
 /// What each node has applied is a prefix of one order: `logs agree`.
-#[derive(Clone, Copy, Debug, PartialEq, Eq)]
+#[derive(Clone, Copy)]
 pub struct AgreedLine;
 
 impl fmt::Display for AgreedLine {

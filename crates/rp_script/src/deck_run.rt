@@ -81,14 +81,16 @@ pub fn run_deck<W: Write>(
         (W.contents writer.old) (W.contents writer.new)) }
     ensures fault { IfErr result IsRunFault }
 {
+    let devices = MemDevice::several(alloc, deck.config.nodes)?;
     let Deck {
         config,
         program,
         tasks,
+        objects: _,
+        interrupts: _,
+        timers: _,
         script,
-        ..
     } = deck;
-    let devices = MemDevice::several(alloc, config.nodes)?;
     let lines = script.as_slice();
     let options = RunOptions {
         config,
@@ -97,7 +99,7 @@ pub fn run_deck<W: Write>(
         traced,
         most: DRAIN_LIMIT,
     };
-    match program {
+    let ran = match program {
         DeckProgram::Tally(program) => {
             scripts_agree::<Tally>(&options);
             run_lines::<Tally, MemDevice, W>(alloc, &options, program, devices, writer)
@@ -106,5 +108,8 @@ pub fn run_deck<W: Write>(
             scripts_agree::<Objects>(&options);
             run_lines::<Objects, MemDevice, W>(alloc, &options, program, devices, writer)
         }
-    }
+    };
+    drop(tasks);
+    drop(script);
+    ran
 }

@@ -1,7 +1,7 @@
 //! The lines that a run prints. The caller ends each with a line feed.
 
 ghost use Rattle.std.specs.Prelude.{Some};
-ghost use Rattle.rp_output.specs.Printed.{reply_text_of, reply_line_of, refused_line_of, node_line_of, limit_line_of, agreed_line};
+ghost use Rattle.rp_output.specs.Printed.{reply_text_of, reply_line_of, refused_line_of, node_state_of, node_line_of, limit_line_of, agreed_line};
 
 use rp_base::{Fault, NodeId, Reply};
 use std::fmt;
@@ -80,6 +80,20 @@ pub enum NodeState {
     Stopped,
 }
 
+impl fmt::Display for NodeState {
+    ghost output = { λ s. Some (node_state_of s) };
+
+    fn fmt<W: fmt::Write>(&self, f: &mut fmt::Formatter<W>) -> fmt::Result {
+        match *self {
+            NodeState::Opened { records, bytes } => write!(f, "open records {records} cut {bytes}"),
+            NodeState::Running => write!(f, "already running"),
+            NodeState::Full => write!(f, "pending full"),
+            NodeState::Applied(applied) => write!(f, "applied {applied}"),
+            NodeState::Stopped => write!(f, "stopped"),
+        }
+    }
+}
+
 /// The line of a node: `node 2 stopped`.
 #[derive(Clone, Copy)]
 pub struct NodeLine {
@@ -92,15 +106,8 @@ impl fmt::Display for NodeLine {
 
     fn fmt<W: fmt::Write>(&self, f: &mut fmt::Formatter<W>) -> fmt::Result {
         let node = self.node.get();
-        match self.state {
-            NodeState::Opened { records, bytes } => {
-                write!(f, "node {node} open records {records} cut {bytes}")
-            }
-            NodeState::Running => write!(f, "node {node} already running"),
-            NodeState::Full => write!(f, "node {node} pending full"),
-            NodeState::Applied(applied) => write!(f, "node {node} applied {applied}"),
-            NodeState::Stopped => write!(f, "node {node} stopped"),
-        }
+        let state = &self.state;
+        write!(f, "node {node} {state}")
     }
 }
 

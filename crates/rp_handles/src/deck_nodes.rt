@@ -28,11 +28,19 @@ pub(crate) fn node_of_deck(
     ensures tail { IfOk result (λ opened. opened.tail ≡ tail_of (drop opened.kept bytes.now)) }
     ensures err { IfErr result (OpensNoNode deck.now number) }
 {
-    let deck = deck_of(alloc, deck)?;
-    let node = node_of(deck.config.nodes, number)?;
-    match &deck.program {
+    let Deck {
+        config,
+        program,
+        tasks: _,
+        objects: _,
+        interrupts: _,
+        timers: _,
+        script: _,
+    } = deck_of(alloc, deck)?;
+    let node = node_of(config.nodes, number)?;
+    match program {
         DeckProgram::Tally(_) => Err(Refusal::NoObjects),
-        DeckProgram::Objects(program) => Node::open(alloc, node, deck.config, program, bytes),
+        DeckProgram::Objects(program) => Node::open(alloc, node, config, &program, bytes),
     }
 }
 

@@ -10,7 +10,7 @@ use crate::deck_nodes::{deck_of, node_of};
 use crate::declared::declared_part;
 use crate::handle::Handle;
 use rp_base::{Config, NodeId};
-use rp_deck::DeckProgram;
+use rp_deck::{Deck, DeckProgram};
 use rp_requests::Refusal;
 use sha2::{Digest, Sha256};
 use std::alloc::Global;
@@ -28,12 +28,17 @@ pub fn device_header(alloc: Global, deck: &[u8], number: u8) -> Result<[u8; HEAD
     // claim (err): A node of a deck has no header for the one reason for which it is not opened
     ensures err { IfErr result (OpensNoNode deck.now number) }
 {
-    let read = deck_of(alloc, deck)?;
-    let config = read.config;
-    let has_objects = has_objects(&read.program);
-    drop(read);
+    let Deck {
+        config,
+        program,
+        tasks: _,
+        objects: _,
+        interrupts: _,
+        timers: _,
+        script: _,
+    } = deck_of(alloc, deck)?;
     let node = node_of(config.nodes, number)?;
-    if !has_objects {
+    if !has_objects(&program) {
         return Err(Refusal::NoObjects);
     }
     Ok(header_of(node, config, deck))

@@ -99,7 +99,7 @@ pub fn run_deck<W: Write>(
         traced,
         most: DRAIN_LIMIT,
     };
-    let ran = match program {
+    match program {
         DeckProgram::Tally(program) => {
             scripts_agree::<Tally>(&options);
             run_lines::<Tally, MemDevice, W>(alloc, &options, program, devices, writer)
@@ -108,8 +108,5 @@ pub fn run_deck<W: Write>(
             scripts_agree::<Objects>(&options);
             run_lines::<Objects, MemDevice, W>(alloc, &options, program, devices, writer)
         }
-    };
-    drop(tasks);
-    drop(script);
-    ran
+    }
 }

@@ -6,14 +6,14 @@ ghost use Rattle.rp_bind.specs.Texts.{ada_lines, c_lines, inline_body, inline_fu
 use std::fmt;
 
 /// The language of packages.
-#[derive(Clone, Copy, Debug, PartialEq, Eq)]
+#[derive(Clone, Copy)]
 pub enum Language {
     Ada,
     C,
 }
 
 /// What an operation is, and what a function returns.
-#[derive(Clone, Copy, Debug, PartialEq, Eq)]
+#[derive(Clone, Copy)]
 pub enum Kind {
     /// A function that returns a number.
     Value,
@@ -24,7 +24,7 @@ pub enum Kind {
 }
 
 /// A task or an object, by its name and its number.
-#[derive(Clone, Copy, Debug)]
+#[derive(Clone, Copy)]
 pub struct Party<'a> {
     pub language: Language,
     pub name: &'a str,
@@ -32,7 +32,7 @@ pub struct Party<'a> {
 }
 
 /// The number of a task.
-#[derive(Clone, Copy, Debug)]
+#[derive(Clone, Copy)]
 pub struct TaskLine<'a> {
     pub task: Party<'a>,
 }
@@ -50,7 +50,7 @@ impl fmt::Display for TaskLine<'_> {
 }
 
 /// What begins an object.
-#[derive(Clone, Copy, Debug)]
+#[derive(Clone, Copy)]
 pub struct ObjectHead<'a> {
     pub object: Party<'a>,
 }
@@ -68,7 +68,7 @@ impl fmt::Display for ObjectHead<'_> {
 }
 
 /// What ends an object.
-#[derive(Clone, Copy, Debug)]
+#[derive(Clone, Copy)]
 pub struct ObjectEnd<'a> {
     pub object: Party<'a>,
 }
@@ -86,7 +86,7 @@ impl fmt::Display for ObjectEnd<'_> {
 }
 
 /// An operation of an object.
-#[derive(Clone, Copy, Debug)]
+#[derive(Clone, Copy)]
 pub struct OperationLines<'a> {
     pub object: Party<'a>,
     pub name: &'a str,
@@ -115,7 +115,7 @@ impl fmt::Display for OperationLines<'_> {
 
 /// The subprograms of an operation in a package of Ada: a procedure or an entry is there with its
 /// result and without it.
-#[derive(Clone, Copy, Debug)]
+#[derive(Clone, Copy)]
 struct AdaLines<'a> {
     operation: OperationLines<'a>,
 }
@@ -174,7 +174,7 @@ impl fmt::Display for AdaLines<'_> {
 }
 
 /// The inline function of an operation in a header of C.
-#[derive(Clone, Copy, Debug)]
+#[derive(Clone, Copy)]
 struct CLines<'a> {
     operation: OperationLines<'a>,
 }
@@ -200,7 +200,7 @@ impl fmt::Display for CLines<'_> {
 }
 
 /// A subprogram of a package of Ada: an instance of this generic one.
-#[derive(Clone, Copy, Debug)]
+#[derive(Clone, Copy)]
 struct Subprogram<'a> {
     word: &'a str,
     calls: &'a str,
@@ -232,7 +232,7 @@ impl fmt::Display for Subprogram<'_> {
 }
 
 /// An inline function of C, which calls this one.
-#[derive(Clone, Copy, Debug)]
+#[derive(Clone, Copy)]
 struct Inline<'a> {
     result: &'a str,
     calls: &'a str,
@@ -251,7 +251,7 @@ impl fmt::Display for Inline<'_> {
 }
 
 /// What it is called with.
-#[derive(Clone, Copy, Debug)]
+#[derive(Clone, Copy)]
 struct InlineHead<'a> {
     inline: Inline<'a>,
 }
@@ -272,7 +272,7 @@ impl fmt::Display for InlineHead<'_> {
 }
 
 /// What it calls.
-#[derive(Clone, Copy, Debug)]
+#[derive(Clone, Copy)]
 struct InlineBody<'a> {
     inline: Inline<'a>,
 }

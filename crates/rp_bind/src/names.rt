@@ -86,7 +86,7 @@ const RESERVED: [&str; 74] = [
 ];
 
 /// Why a name of a deck is none of Ada.
-#[derive(Clone, Copy, Debug, PartialEq, Eq)]
+#[derive(Clone, Copy)]
 pub enum NameReason {
     /// Ada reserves it.
     Reserved,
@@ -97,7 +97,7 @@ pub enum NameReason {
 }
 
 /// A name that is none of Ada, and why.
-#[derive(Clone, Copy, Debug)]
+#[derive(Clone, Copy)]
 pub struct BadName<'a> {
     pub name: &'a str,
     pub reason: NameReason,

@@ -11,7 +11,7 @@ use std::alloc::Global;
 
 /// What a node is to do, in the layout that a C caller reads.
 #[repr(C)]
-#[derive(Clone, Copy, Debug, PartialEq, Eq)]
+#[derive(Clone, Copy)]
 pub struct NodeAdvice {
     /// 0 nothing, 1 to lead, 2 to ask another node for the positions that it misses.
     pub kind: u8,

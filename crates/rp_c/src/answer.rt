@@ -7,7 +7,7 @@ use rp_requests::{Lengths, Refusal};
 
 /// The length of an answer, in the layout that a C caller reads.
 #[repr(C)]
-#[derive(Clone, Copy, Debug, PartialEq, Eq)]
+#[derive(Clone, Copy)]
 pub struct AnswerLengths {
     /// How many of the answer's first bytes are to be stored.
     pub stored: usize,

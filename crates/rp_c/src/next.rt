@@ -10,7 +10,7 @@ use rp_script::MOST_BYTES;
 use std::alloc::Global;
 
 /// How a request for the next deck ends.
-#[derive(Clone, Copy, Debug, PartialEq, Eq)]
+#[derive(Clone, Copy)]
 pub enum NextEnding {
     /// The deck is in the answer.
     Done,

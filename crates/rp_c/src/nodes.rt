@@ -18,7 +18,7 @@ use std::alloc::Global;
 
 /// What a node found on its device, or why its deck is bad, in the layout that a C caller reads.
 #[repr(C)]
-#[derive(Clone, Copy, Debug, PartialEq, Eq)]
+#[derive(Clone, Copy)]
 pub struct NodeFound {
     /// How many records the device holds.
     pub records: usize,

@@ -7,7 +7,7 @@ ghost use Rattle.rp_c.specs.Status.{status_code, reason_code, deck_reason_code};
 use rp_base::{DeckReason, PacketReason};
 
 /// How a call ends.
-#[derive(Clone, Copy, Debug, PartialEq, Eq)]
+#[derive(Clone, Copy)]
 pub enum Status {
     /// The call succeeded.
     Done,

@@ -17,7 +17,7 @@ use std::alloc::Global;
 /// The length of a node's answer, and what its last step gave besides, in the layout that a C caller
 /// reads.
 #[repr(C)]
-#[derive(Clone, Copy, Debug, PartialEq, Eq)]
+#[derive(Clone, Copy)]
 pub struct StepLengths {
     /// How many of the answer's first bytes are to be stored.
     pub stored: usize,

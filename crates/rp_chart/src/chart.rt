@@ -30,7 +30,7 @@ pub struct ChartRequest {
 }
 
 /// What became of a drawing or a page.
-#[derive(Clone, Copy, Debug, PartialEq, Eq)]
+#[derive(Clone, Copy)]
 pub enum Outcome {
     /// It was written.
     Drawn,
@@ -90,15 +90,17 @@ fn draw_deck(
     ensures { IfOk result (λ page. IsChartIfShort deck (map (λ line. line.now) lines.now) request
         (option_map string_bytes page)) }
 {
+    let devices = MemDevice::several(alloc, deck.config.nodes)?;
+    let lanes = lanes_of(alloc, &deck.tasks, deck.config.nodes)?;
     let Deck {
         config,
         program,
         tasks,
+        objects: _,
+        interrupts: _,
+        timers: _,
         script,
-        ..
     } = deck;
-    let devices = MemDevice::several(alloc, config.nodes)?;
-    let lanes = lanes_of(alloc, &tasks, config.nodes)?;
     let options = RunOptions {
         config,
         tasks: &tasks,

@@ -1,2 +1,3 @@
 mod DeckLemmas
 pub mod ScriptLemmas
+mod WordLemmas

@@ -7,7 +7,7 @@ use rp_model::Event;
 use rp_object::Handler;
 
 /// How a deck runs, which says what lines its script may hold.
-#[derive(Clone, Copy, Debug, PartialEq, Eq)]
+#[derive(Clone, Copy)]
 pub enum Mode {
     /// Line by line, each when the one before is done.
     Script,
@@ -16,7 +16,7 @@ pub enum Mode {
 }
 
 /// What a line of the script asks for.
-#[derive(Clone, Copy, Debug, PartialEq, Eq)]
+#[derive(Clone, Copy)]
 pub enum Command {
     /// An event of the cluster.
     Take(Event),
@@ -29,7 +29,7 @@ pub enum Command {
 }
 
 /// A line of the script.
-#[derive(Clone, Copy, Debug, PartialEq, Eq)]
+#[derive(Clone, Copy)]
 pub struct Line {
     /// Counted from 1, among all lines of the deck.
     pub number: u32,
@@ -37,7 +37,6 @@ pub struct Line {
 }
 
 /// A deck: a cluster, a program and a script.
-#[derive(Drop)]
 pub struct Deck {
     pub config: Config,
     pub program: DeckProgram,
@@ -47,4 +46,19 @@ pub struct Deck {
     pub interrupts: IndexMap<String, Handler>,
     pub timers: IndexMap<String, Handler>,
     pub script: Vec<Line>,
+}
+
+// Not derived, so that to drop it is one step of a proof and not one for each of its parts.
+impl Drop for Deck {
+    fn drop(self) {
+        let Deck {
+            config: _,
+            program: _,
+            tasks: _,
+            objects: _,
+            interrupts: _,
+            timers: _,
+            script: _,
+        } = self;
+    }
 }

@@ -13,7 +13,7 @@ use rp_model::{Event, Step};
 use std::alloc::{AllocError, Global};
 
 /// An action that a line of the script asks a node for.
-#[derive(Clone, Copy, Debug)]
+#[derive(Clone, Copy)]
 pub struct PlannedAction {
     pub action: Action,
     pub node: NodeId,

@@ -49,7 +49,7 @@ pub enum RuleKind {
 }
 
 /// A function that returns a Boolean, by the numbers that a call of it has.
-#[derive(Clone, Copy, Debug, PartialEq, Eq)]
+#[derive(Clone, Copy)]
 pub struct Truth {
     pub object: u8,
     /// A function.
@@ -57,7 +57,7 @@ pub struct Truth {
 }
 
 /// What has to hold.
-#[derive(Debug, Drop)]
+#[derive(Drop)]
 pub enum Rule {
     /// These are never all true at once.
     Never(Vec<Truth>),
@@ -70,7 +70,7 @@ pub enum Rule {
 }
 
 /// A rule of a deck.
-#[derive(Debug, Drop)]
+#[derive(Drop)]
 pub struct PlacedRule {
     /// The number of its line, counted from 1.
     pub line: u32,

@@ -8,7 +8,7 @@ use rp_output::ReplyLine;
 use std::fmt;
 
 /// How far a search went: `states 219 steps 476 depth 6 complete`.
-#[derive(Clone, Copy, Debug, PartialEq, Eq)]
+#[derive(Clone, Copy)]
 pub struct FiguresLine {
     /// How many states were found.
     pub states: usize,
@@ -43,7 +43,7 @@ fn extent(is_whole: bool) -> &'static str
 }
 
 /// What some order of what may happen leads to.
-#[derive(Clone, Copy, Debug, PartialEq, Eq)]
+#[derive(Clone, Copy)]
 pub enum Outcome {
     /// A task gets this reply to a call: `reply car 1 value 1`.
     Reply(Answer),
@@ -54,7 +54,7 @@ pub enum Outcome {
 }
 
 /// The words for an outcome, with the name of its task.
-#[derive(Clone, Copy, Debug)]
+#[derive(Clone, Copy)]
 pub struct OutcomeText<'a> {
     pub task: &'a str,
     pub outcome: Outcome,
@@ -82,7 +82,7 @@ impl fmt::Display for OutcomeText<'_> {
 
 /// A rule of the deck that no state breaks: `line 27 holds`, or `line 27 holds so far` where the
 /// search is not complete.
-#[derive(Clone, Copy, Debug, PartialEq, Eq)]
+#[derive(Clone, Copy)]
 pub struct HeldLine {
     pub line: u32,
     pub is_whole: bool,

@@ -17,7 +17,7 @@ use rp_order_deck::{Source, order_deck};
 use std::alloc::{AllocError, Global};
 
 /// What a search is asked for.
-#[derive(Clone, Copy, Debug, PartialEq, Eq)]
+#[derive(Clone, Copy)]
 pub struct ExploreRequest {
     /// At most how many states are found, 1 to 10,000,000.
     pub states: u32,
@@ -26,7 +26,7 @@ pub struct ExploreRequest {
 }
 
 /// What became of a search.
-#[derive(Clone, Copy, Debug, PartialEq, Eq)]
+#[derive(Clone, Copy)]
 pub enum Verdict {
     /// It is complete, and no rule is broken.
     Complete,

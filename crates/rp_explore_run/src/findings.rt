@@ -12,14 +12,14 @@ use rp_explore_report::{FiguresLine, Outcome, Report};
 use std::alloc::{AllocError, Global};
 
 /// A rule of the deck, by its line, and the place of the first order that breaks it, if one does.
-#[derive(Clone, Copy, Debug, PartialEq, Eq)]
+#[derive(Clone, Copy)]
 pub struct Judged {
     pub line: u32,
     pub broken: Option<usize>,
 }
 
 /// An outcome, and what leads to it.
-#[derive(Clone, Copy, Debug, PartialEq, Eq)]
+#[derive(Clone, Copy)]
 pub struct Found {
     pub outcome: Outcome,
     /// The place of the order.

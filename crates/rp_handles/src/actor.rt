@@ -17,14 +17,14 @@ pub enum Actor {
 }
 
 /// The kind of an actor.
-#[derive(Clone, Copy, Debug, PartialEq, Eq)]
+#[derive(Clone, Copy)]
 pub enum ActorKind {
     Node,
     Task,
 }
 
 /// What a node's last step gave besides the bytes of its answer.
-#[derive(Clone, Copy, Debug, PartialEq, Eq)]
+#[derive(Clone, Copy)]
 pub struct LastStep {
     /// How many packets it sent.
     pub packets: usize,

@@ -17,7 +17,7 @@ use std::alloc::Global;
 use std::mem::replace;
 
 /// What a node found on its device.
-#[derive(Clone, Copy, Debug, PartialEq, Eq)]
+#[derive(Clone, Copy)]
 pub struct Found {
     /// How many records the device holds.
     pub records: usize,

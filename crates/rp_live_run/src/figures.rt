@@ -8,7 +8,7 @@ use std::time::{Clock, Instant};
 use std::{fmt, io};
 
 /// How a run in threads went, for a person to read.
-#[derive(Clone, Copy, Debug)]
+#[derive(Clone, Copy)]
 pub struct FiguresLine {
     pub figures: Figures,
     /// How long the threads and the audit took, if the clock could be read.
@@ -30,7 +30,7 @@ impl fmt::Display for FiguresLine {
 }
 
 /// The line without the time.
-#[derive(Clone, Copy, Debug)]
+#[derive(Clone, Copy)]
 struct CallsLine {
     figures: Figures,
 }

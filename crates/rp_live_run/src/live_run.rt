@@ -30,7 +30,7 @@ use std::thread::Threads;
 use std::time::{Clock, Instant};
 
 /// The options of a live run.
-#[derive(Clone, Copy, Debug, PartialEq, Eq)]
+#[derive(Clone, Copy)]
 pub struct LiveRequest {
     /// The seed: it determines which packets are lost, duplicated and reordered.
     pub seed: u32,

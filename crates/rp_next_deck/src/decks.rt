@@ -1,14 +1,16 @@
 //! The next deck.
 
 ghost use Rattle.std.specs.Arc.{arc_value};
-ghost use Rattle.std.specs.Prelude.{◌≡◌, ◌+◌, ◌<◌, ◌^◌, length, IfOk, IfSome, IsTrue, IsOkUnless};
+ghost use Rattle.std.specs.Prelude.{ℕ, ◌≡◌, ◌+◌, ◌<◌, ◌^◌, length, IfOk, IfSome, IsTrue, IsOkUnless};
 ghost use Rattle.rp_deck.specs.rp_base.specs.declared.fault.Fault.TheVariants as faults;
+ghost use Rattle.rp_deck.specs.rp_deck_declarations.specs.declared.deck_program.DeckProgram.TheVariants.{Objects};
+ghost use Rattle.rp_deck.specs.rp_object.specs.declared.program.Program.{Program};
 ghost use Rattle.rp_next_deck.specs.NextDecks.{IsNextDeck, StartsAs, start_image};
 
 use crate::lines::put_lines;
 use crate::shown::clock_shown;
 use rp_base::{Action, Config, Fault};
-use rp_deck::{Mode, read_deck};
+use rp_deck::{Deck, Mode, read_deck};
 use rp_deck_declarations::DeckProgram;
 use rp_object::{Objects, Program};
 use std::alloc::{AllocError, Global};
@@ -63,13 +65,31 @@ fn starts_so(alloc: Global, text: &[u8], config: Config, image: &[u8]) -> Result
         Err(Fault::OutOfMemory) => return Err(Fault::OutOfMemory),
         Err(_) => return Ok(false),
     };
+    let starts = deck_starts_so(alloc, &deck, config, image);
+    drop(deck);
+    Ok(starts?)
+}
+
+/// Whether the deck has protected objects and this configuration, and they start as the image shows.
+fn deck_starts_so(
+    alloc: Global,
+    deck: &Deck,
+    config: Config,
+    image: &[u8],
+) -> Result<bool, AllocError>
+    requires { length image.now + 1 < 2 ^ 32 }
+    ensures same { IfOk result (λ is. IsTrue is → deck.now.config ≡ config) }
+    ensures shows { IfOk result (λ is. IsTrue is → (program : Program)
+        × (deck.now.program ≡ Objects program)
+        × ((now : ℕ) × (start_image (arc_value program.declarations) now ≡ image.now))) }
+{
     let DeckProgram::Objects(program) = &deck.program else {
         return Ok(false);
     };
     if !is_same(deck.config, config) {
         return Ok(false);
     }
-    Ok(shows(alloc, program, clock_shown(image), image)?)
+    shows(alloc, program, clock_shown(image), image)
 }
 
 /// Whether a program shows the image at its start, once the clock has this time.
@@ -79,6 +99,15 @@ fn shows(alloc: Global, program: &Program, now: u32, image: &[u8]) -> Result<boo
 {
     let mut objects = Objects::start(alloc, program)?;
     objects.apply(&Action::Tick { now });
+    let shows = shows_now(alloc, &objects, image);
+    drop(objects);
+    shows
+}
+
+/// Whether objects show the image.
+fn shows_now(alloc: Global, objects: &Objects, image: &[u8]) -> Result<bool, AllocError>
+    ensures { IfOk result (λ is. IsTrue is → objects_image objects.now ≡ image.now) }
+{
     let shown = objects.image(alloc)?;
     Ok(shown.as_slice() == image)
 }

@@ -64,6 +64,15 @@ node_line_of node states.Full = full_line_of node
 node_line_of node (states.Applied applied) = applied_line_of node applied
 node_line_of node states.Stopped = stopped_line_of node
 
+-- what that line has after the node's number
+abbrev pub node_state_of : NodeState → List ℕ
+node_state_of (states.Opened records bytes) =
+    codes "open records " ++ (decimal records ++ (codes " cut " ++ decimal bytes))
+node_state_of states.Running = codes "already running"
+node_state_of states.Full = codes "pending full"
+node_state_of (states.Applied applied) = codes "applied " ++ decimal applied
+node_state_of states.Stopped = codes "stopped"
+
 -- the line that `drain` delivered as many messages as it may, and more are left
 abbrev pub limit_line_of : ℕ → List ℕ
 limit_line_of line = codes "line " ++ (decimal line ++ codes ": drain limit")

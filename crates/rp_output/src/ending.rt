@@ -29,7 +29,7 @@ pub struct Ending {
 }
 
 /// Why the words of the command line ask for no run.
-#[derive(Clone, Copy, Debug, PartialEq, Eq)]
+#[derive(Clone, Copy)]
 pub enum NoRun {
     /// Memory ran out while they were read.
     OutOfMemory,

@@ -36,7 +36,7 @@ pub fn tell<W: Write>(fault: &Fault, writer: &mut W) -> Result<(), Fault>
 }
 
 /// The line for a fault.
-#[derive(Clone, Copy, Debug, PartialEq, Eq)]
+#[derive(Clone, Copy)]
 pub struct FaultMessage {
     pub fault: Fault,
 }

@@ -1,13 +1,13 @@
 //! The lines that a run prints. The caller ends each with a line feed.
 
 ghost use Rattle.std.specs.Prelude.{Some};
-ghost use Rattle.rp_output.specs.Printed.{reply_text_of, reply_line_of, refused_line_of, node_line_of, limit_line_of, agreed_line};
+ghost use Rattle.rp_output.specs.Printed.{reply_text_of, reply_line_of, refused_line_of, node_state_of, node_line_of, limit_line_of, agreed_line};
 
 use rp_base::{Fault, NodeId, Reply};
 use std::fmt;
 
 /// The words for a reply, as `value 5`.
-#[derive(Clone, Copy, Debug, PartialEq, Eq)]
+#[derive(Clone, Copy)]
 pub struct ReplyText {
     pub reply: Reply,
 }
@@ -28,7 +28,7 @@ impl fmt::Display for ReplyText {
 }
 
 /// A task takes the reply to one of its calls: `reply a 1 value 5`.
-#[derive(Clone, Copy, Debug)]
+#[derive(Clone, Copy)]
 pub struct ReplyLine<'a> {
     pub task: &'a str,
     pub number: u32,
@@ -47,7 +47,7 @@ impl fmt::Display for ReplyLine<'_> {
 }
 
 /// A step of the script was refused: `line 11: refused 7 LogFull`.
-#[derive(Clone, Copy, Debug, PartialEq, Eq)]
+#[derive(Clone, Copy)]
 pub struct RefusedLine {
     pub line: u32,
     pub fault: Fault,
@@ -65,7 +65,7 @@ impl fmt::Display for RefusedLine {
 }
 
 /// The state of a node, or what changed in it.
-#[derive(Clone, Copy, Debug, PartialEq, Eq)]
+#[derive(Clone, Copy)]
 pub enum NodeState {
     /// It was stopped and runs again: `open records 3 cut 5`. It found n records, and truncated the
     /// bytes after them.
@@ -80,8 +80,22 @@ pub enum NodeState {
     Stopped,
 }
 
+impl fmt::Display for NodeState {
+    ghost output = { λ s. Some (node_state_of s) };
+
+    fn fmt<W: fmt::Write>(&self, f: &mut fmt::Formatter<W>) -> fmt::Result {
+        match *self {
+            NodeState::Opened { records, bytes } => write!(f, "open records {records} cut {bytes}"),
+            NodeState::Running => write!(f, "already running"),
+            NodeState::Full => write!(f, "pending full"),
+            NodeState::Applied(applied) => write!(f, "applied {applied}"),
+            NodeState::Stopped => write!(f, "stopped"),
+        }
+    }
+}
+
 /// The line of a node: `node 2 stopped`.
-#[derive(Clone, Copy, Debug, PartialEq, Eq)]
+#[derive(Clone, Copy)]
 pub struct NodeLine {
     pub node: NodeId,
     pub state: NodeState,
@@ -92,20 +106,13 @@ impl fmt::Display for NodeLine {
 
     fn fmt<W: fmt::Write>(&self, f: &mut fmt::Formatter<W>) -> fmt::Result {
         let node = self.node.get();
-        match self.state {
-            NodeState::Opened { records, bytes } => {
-                write!(f, "node {node} open records {records} cut {bytes}")
-            }
-            NodeState::Running => write!(f, "node {node} already running"),
-            NodeState::Full => write!(f, "node {node} pending full"),
-            NodeState::Applied(applied) => write!(f, "node {node} applied {applied}"),
-            NodeState::Stopped => write!(f, "node {node} stopped"),
-        }
+        let state = &self.state;
+        write!(f, "node {node} {state}")
     }
 }
 
 /// `drain` delivered as many messages as it may, and more are left: `line 8: drain limit`.
-#[derive(Clone, Copy, Debug, PartialEq, Eq)]
+#[derive(Clone, Copy)]
 pub struct DrainLimitLine {
     pub line: u32,
 }
@@ -120,7 +127,7 @@ impl fmt::Display for DrainLimitLine {
 }
 
 /// What each node has applied is a prefix of one order: `logs agree`.
-#[derive(Clone, Copy, Debug, PartialEq, Eq)]
+#[derive(Clone, Copy)]
 pub struct AgreedLine;
 
 impl fmt::Display for AgreedLine {

@@ -8,7 +8,7 @@ use rp_codec::Body;
 use std::fmt;
 
 /// A node's number, a task's name, or the audit.
-#[derive(Clone, Copy, Debug)]
+#[derive(Clone, Copy)]
 pub enum PartyText<'a> {
     Node(NodeId),
     Task(&'a str),
@@ -33,7 +33,7 @@ impl fmt::Display for PartyText<'_> {
 }
 
 /// A position and a ballot: `1 9`.
-#[derive(Clone, Copy, Debug, PartialEq, Eq)]
+#[derive(Clone, Copy)]
 struct BallotText {
     position: Position,
     ballot: Ballot,
@@ -52,7 +52,7 @@ impl fmt::Display for BallotText {
 }
 
 /// A range, as its first position and its count, and a ballot: `1 4 9`.
-#[derive(Clone, Copy, Debug, PartialEq, Eq)]
+#[derive(Clone, Copy)]
 struct RangeText {
     range: PositionRange,
     ballot: Ballot,

@@ -16,7 +16,7 @@ use rp_machine::Machine;
 use std::alloc::{AllocError, Global};
 
 /// What is made of a run.
-#[derive(Clone, Copy, Debug, PartialEq, Eq)]
+#[derive(Clone, Copy)]
 pub enum Form {
     /// Its drawing, as SVG.
     Drawing,

@@ -1,6 +1,6 @@
 //! Reads a deck from a reader.
 
-ghost use Rattle.std.specs.Prelude.{◌≡◌, ◌≤◌, length, IfErr, IfOk, IfSome};
+ghost use Rattle.std.specs.Prelude.{◌≡◌, ◌≤◌, [], length, IfErr, IfOk, IfSome, OnOk};
 ghost use Rattle.rp_output.specs.Stream.{IsReadFault};
 ghost use Rattle.rp_script.specs.Faults.{IsProgramFault};
 ghost use Rattle.rp_script.specs.Given.{IsMeant, MeansDeck, most_bytes};
@@ -54,6 +54,17 @@ pub fn read_whole<R: Read>(alloc: Global, reader: &mut R) -> Result<Vec<u8>, Fau
     ensures fault { IfErr result IsReadFault }
 {
     let mut bytes = Vec::new(alloc);
+    read_into(reader, &mut bytes)?;
+    Ok(bytes)
+}
+
+/// Reads all that the reader gives into a vector that is empty, as `read_whole`.
+fn read_into<R: Read>(reader: &mut R, bytes: &mut Vec<u8>) -> Result<(), Fault>
+    requires { bytes.old.items ≡ [] }
+    ensures whole { OnOk result (IfSome (R.remaining reader.old) (λ all. bytes.new.items ≡ all)) }
+    ensures size { OnOk result (length bytes.new.items ≤ most_bytes) }
+    ensures fault { IfErr result IsReadFault }
+{
     for _ in 0..MOST_READS {
         let mut chunk = [0; CHUNK];
         let count = match reader.read(&mut chunk) {
@@ -62,7 +73,7 @@ pub fn read_whole<R: Read>(alloc: Global, reader: &mut R) -> Result<Vec<u8>, Fau
             Err(_) => return Err(Fault::Io),
         };
         if count == 0 {
-            return Ok(bytes);
+            return Ok(());
         }
         if count > MOST_BYTES - bytes.len() {
             return Err(Fault::Io);

@@ -81,14 +81,16 @@ pub fn run_deck<W: Write>(
         (W.contents writer.old) (W.contents writer.new)) }
     ensures fault { IfErr result IsRunFault }
 {
+    let devices = MemDevice::several(alloc, deck.config.nodes)?;
     let Deck {
         config,
         program,
         tasks,
+        objects: _,
+        interrupts: _,
+        timers: _,
         script,
-        ..
     } = deck;
-    let devices = MemDevice::several(alloc, config.nodes)?;
     let lines = script.as_slice();
     let options = RunOptions {
         config,

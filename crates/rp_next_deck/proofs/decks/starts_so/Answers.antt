@@ -1,17 +1,16 @@
 -- The deck that was read starts so.
-use Rattle.std.proofs.Common.{rules, ◌≡◌}
 use Rattle.rp_next_deck.proofs.decks.starts_so.Goals as goal
 
 pub returns-clause-so : goal.returns-clause-so
 returns-clause-so c = λ is.
-    let same : c.in-Ok.deck.config ≡ c.args.config = search rules in
+    let shows = c.deck_starts_so.ensures.shows is in
     record {
       deck = c.in-Ok.deck;
       meaning = c.in-Ok.ensures.meaning;
       right = c.in-Ok.ensures.deck;
-      same = same;
-      program = c.in-Objects.program;
-      objects = c.in-Objects.is;
-      now = c.clock_shown.result;
-      shows = c.in_ok-shows.ensures is;
+      same = c.deck_starts_so.ensures.same is;
+      program = shows.0;
+      objects = shows.1.0;
+      now = shows.1.1.0;
+      shows = shows.1.1.1;
     }

@@ -233,13 +233,16 @@ pub fn usual_decided(bytes: &[u8]) -> Result<SentDecision, PacketReason>
 pub fn usual_call(bytes: &[u8]) -> Result<SentCall, PacketReason>
     ensures { IfOk result (λ call. IsDecoded bytes.now (Ok (call_sent call))) }
 {
-    let mut head = head_of(bytes, Kind::Call, 21)?;
-    let task = task_of(head.from)?;
-    let to = node_of(head.to)?;
-    let from = Party::Task(task);
-    let action = read_own_call(&mut head.body, Version::V2, &from)?;
-    end(&head.body)?;
-    Ok(SentCall { task, to, action })
+    let Head { from, to, mut body } = head_of(bytes, Kind::Call, 21)?;
+    let task = task_of(from)?;
+    let node = node_of(to)?;
+    let action = read_own_call(&mut body, Version::V2, &Party::Task(task))?;
+    end(&body)?;
+    Ok(SentCall {
+        task,
+        to: node,
+        action,
+    })
 }
 
 /// The same, of a reply with a value.
@@ -247,14 +250,14 @@ pub fn usual_call(bytes: &[u8]) -> Result<SentCall, PacketReason>
 pub fn usual_reply(bytes: &[u8]) -> Result<SentReply, PacketReason>
     ensures { IfOk result (λ sent. IsDecoded bytes.now (Ok (reply_sent sent))) }
 {
-    let mut head = head_of(bytes, Kind::Reply, 17)?;
-    let from = node_of(head.from)?;
-    let task = task_of(head.to)?;
-    let number = read_count(&mut head.body)?;
-    let reply = read_reply(&mut head.body)?;
-    end(&head.body)?;
+    let Head { from, to, mut body } = head_of(bytes, Kind::Reply, 17)?;
+    let node = node_of(from)?;
+    let task = task_of(to)?;
+    let number = read_count(&mut body)?;
+    let reply = read_reply(&mut body)?;
+    end(&body)?;
     Ok(SentReply {
-        from,
+        from: node,
         task,
         number,
         reply,

@@ -7,3 +7,4 @@ pub mod Starting
 pub mod Due
 pub mod Firing
 pub mod Clock
+pub mod Declared

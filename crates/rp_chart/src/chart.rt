@@ -90,17 +90,20 @@ fn draw_deck(
     ensures { IfOk result (λ page. IsChartIfShort deck (map (λ line. line.now) lines.now) request
         (option_map string_bytes page)) }
 {
-    let devices = MemDevice::several(alloc, deck.config.nodes)?;
-    let lanes = lanes_of(alloc, &deck.tasks, deck.config.nodes)?;
     let Deck {
         config,
         program,
         tasks,
-        objects: _,
-        interrupts: _,
-        timers: _,
+        objects,
+        interrupts,
+        timers,
         script,
     } = deck;
+    drop(objects);
+    drop(interrupts);
+    drop(timers);
+    let devices = MemDevice::several(alloc, config.nodes)?;
+    let lanes = lanes_of(alloc, &tasks, config.nodes)?;
     let options = RunOptions {
         config,
         tasks: &tasks,

@@ -37,6 +37,7 @@ pub struct Line {
 }
 
 /// A deck: a cluster, a program and a script.
+#[derive(Drop)]
 pub struct Deck {
     pub config: Config,
     pub program: DeckProgram,
@@ -46,19 +47,4 @@ pub struct Deck {
     pub interrupts: IndexMap<String, Handler>,
     pub timers: IndexMap<String, Handler>,
     pub script: Vec<Line>,
-}
-
-// Not derived, so that to drop it is one step of a proof and not one for each of its parts.
-impl Drop for Deck {
-    fn drop(self) {
-        let Deck {
-            config: _,
-            program: _,
-            tasks: _,
-            objects: _,
-            interrupts: _,
-            timers: _,
-            script: _,
-        } = self;
-    }
 }

@@ -10,7 +10,7 @@ ghost use Rattle.rp_deck.specs.Meaning.{meaning_of};
 use crate::deck::{Deck, Mode};
 use crate::script::read_script;
 use rp_base::{Config, Fault, Position};
-use rp_deck_declarations::{Declared, read_declarations};
+use rp_deck_declarations::read_declarations;
 use rp_words::Lines;
 use std::alloc::Global;
 
@@ -50,26 +50,16 @@ pub fn read_deck(alloc: Global, text: &[u8], mode: Mode) -> Result<Deck, Fault>
     let mut lines = Lines::new(text);
     let declared = read_declarations(alloc, &mut lines)?;
     let script = read_script(alloc, &mut lines, &declared, mode)?;
-    let Declared {
-        nodes,
-        positions,
-        program,
-        tasks,
-        objects,
-        operations: _,
-        interrupts,
-        timers,
-    } = declared;
     Ok(Deck {
         config: Config {
-            nodes,
-            max_positions: most_positions(positions),
+            nodes: declared.nodes,
+            max_positions: most_positions(declared.positions),
         },
-        program,
-        tasks,
-        objects,
-        interrupts,
-        timers,
+        program: declared.program,
+        tasks: declared.tasks,
+        objects: declared.objects,
+        interrupts: declared.interrupts,
+        timers: declared.timers,
         script,
     })
 }

@@ -22,6 +22,7 @@ use rp_words::{LineError, Lines, TextLine, is_word};
 use std::alloc::Global;
 
 /// What a deck declares before its script, each kind in declared order.
+#[derive(Drop)]
 pub struct Declared {
     /// 3 to 7.
     pub nodes: u8,
@@ -34,22 +35,6 @@ pub struct Declared {
     pub operations: Vec<OperationNames>,
     pub interrupts: IndexMap<String, Handler>,
     pub timers: IndexMap<String, Handler>,
-}
-
-// Not derived, so that to drop it is one step of a proof and not one for each of its parts.
-impl Drop for Declared {
-    fn drop(self) {
-        let Declared {
-            nodes: _,
-            positions: _,
-            program: _,
-            tasks: _,
-            objects: _,
-            operations: _,
-            interrupts: _,
-            timers: _,
-        } = self;
-    }
 }
 
 impl Declared {

@@ -86,9 +86,9 @@ fn make(alloc: Global, draft: &Draft, drafts: Vec<ObjectDraft>) -> Result<Object
         return tally(alloc, draft.objects.len() as u8);
     }
     let priorities = priorities_of(alloc, &draft.tasks)?;
-    let (objects, operations) = object_declarations(alloc, drafts)?;
     let interrupts = handlers_of(alloc, &draft.interrupts)?;
     let timers = timing_events(alloc, &draft.timers)?;
+    let (objects, operations) = object_declarations(alloc, drafts)?;
     let declarations = Declarations {
         profile: draft.profile(),
         priorities,

@@ -31,11 +31,7 @@ pub(crate) fn node_of_deck(
     let Deck {
         config,
         program,
-        tasks: _,
-        objects: _,
-        interrupts: _,
-        timers: _,
-        script: _,
+        ..
     } = deck_of(alloc, deck)?;
     let node = node_of(config.nodes, number)?;
     match program {

@@ -31,11 +31,7 @@ pub fn device_header(alloc: Global, deck: &[u8], number: u8) -> Result<[u8; HEAD
     let Deck {
         config,
         program,
-        tasks: _,
-        objects: _,
-        interrupts: _,
-        timers: _,
-        script: _,
+        ..
     } = deck_of(alloc, deck)?;
     let node = node_of(config.nodes, number)?;
     if !has_objects(&program) {

@@ -81,16 +81,19 @@ pub fn run_deck<W: Write>(
         (W.contents writer.old) (W.contents writer.new)) }
     ensures fault { IfErr result IsRunFault }
 {
-    let devices = MemDevice::several(alloc, deck.config.nodes)?;
     let Deck {
         config,
         program,
         tasks,
-        objects: _,
-        interrupts: _,
-        timers: _,
+        objects,
+        interrupts,
+        timers,
         script,
     } = deck;
+    drop(objects);
+    drop(interrupts);
+    drop(timers);
+    let devices = MemDevice::several(alloc, config.nodes)?;
     let lines = script.as_slice();
     let options = RunOptions {
         config,

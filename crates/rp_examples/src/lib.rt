@@ -10,8 +10,6 @@
 mod counter;
 mod mirrored;
 mod program;
-#[cfg(test)]
-mod tests;
 
 pub use counter::BoundedCounter;
 pub use mirrored::MirroredDevice;

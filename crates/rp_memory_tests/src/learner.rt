@@ -6,7 +6,6 @@ use rp_base::{Action, Ballot, NodeId, Position};
 use rp_learner::*;
 use std::alloc::Global;
 use std::process::Abort;
-use std::test::Fail;
 
 /// The node of this number, which is one of the learner's nodes.
 pub(crate) fn node_of(rt: &impl Abort, number: u8, nodes: u8) -> NodeId
@@ -73,6 +72,7 @@ fn note_all(
         let from = node_of(rt, from, nodes);
         note_noop(rt, &mut learner, alloc, from, (ballot, status));
     }
+    drop(learner);
 }
 
 /// A new learner, tried again if memory ran out once.
@@ -108,10 +108,9 @@ const OF_SEVEN: [(u8, u64, VoteStatus); 7] = [
 ];
 
 #[test]
-fn a_majority_is_of_one_ballot_and_of_different_nodes(rt: HostRuntime) -> Result<(), Fail> {
+fn a_majority_is_of_one_ballot_and_of_different_nodes(rt: HostRuntime) {
     note_all(&rt, rt.alloc(), 4, 1, &OF_FOUR);
     note_all(&rt, rt.alloc(), 7, 65_535, &OF_SEVEN);
-    Ok(())
 }
 
 fn position(rt: &impl Abort, number: u16) -> Position {
@@ -163,7 +162,7 @@ fn note(rt: &impl Abort, learner: &mut Learner, alloc: Global, cast: (u8, u16), 
 }
 
 #[test]
-fn a_majority_is_for_one_action(rt: HostRuntime) -> Result<(), Fail> {
+fn a_majority_is_for_one_action(rt: HostRuntime) {
     let mut learner = learner_of_three(&rt, rt.alloc(), 2);
     let tick = Action::Tick { now: 5 };
     note(&rt, &mut learner, rt.alloc(), (1, 2), &tick);
@@ -171,7 +170,7 @@ fn a_majority_is_for_one_action(rt: HostRuntime) -> Result<(), Fail> {
     expect_status(&rt, &learner, (2, 2), &Action::Noop, VoteStatus::Counting);
     expect_status(&rt, &learner, (2, 1), &tick, VoteStatus::Counting);
     expect_status(&rt, &learner, (2, 2), &tick, VoteStatus::Learned);
-    Ok(())
+    drop(learner);
 }
 
 /// The learner has this decision at a position.
@@ -180,7 +179,7 @@ fn expect_decided(rt: &impl Abort, learner: &Learner, at: u16, decision: Decisio
 }
 
 #[test]
-fn a_settled_position_is_known_and_no_other(rt: HostRuntime) -> Result<(), Fail> {
+fn a_settled_position_is_known_and_no_other(rt: HostRuntime) {
     same_learners_answer_alike();
     let noop = Action::Noop;
     let mut learner = learner_of_three(&rt, rt.alloc(), 2);
@@ -192,7 +191,7 @@ fn a_settled_position_is_known_and_no_other(rt: HostRuntime) -> Result<(), Fail>
     expect_status(&rt, &learner, (1, 1), &noop, VoteStatus::Known);
     expect_status(&rt, &learner, (1, 2), &noop, VoteStatus::Counting);
     expect_status(&rt, &learner, (1, 3), &noop, VoteStatus::Counting);
-    Ok(())
+    drop(learner);
 }
 
 /// Node 1 votes at positions 64 and 65, of which only the first is in the window.
@@ -226,7 +225,7 @@ fn expect_moved_by_one(rt: &impl Abort, learner: &Learner)
 }
 
 #[test]
-fn votes_are_counted_in_a_window_that_moves_on(rt: HostRuntime) -> Result<(), Fail> {
+fn votes_are_counted_in_a_window_that_moves_on(rt: HostRuntime) {
     let noop = Action::Noop;
     let mut learner = learner_of_three(&rt, rt.alloc(), 1000);
     vote_at_the_window_s_end(&rt, &mut learner, rt.alloc());
@@ -239,5 +238,5 @@ fn votes_are_counted_in_a_window_that_moves_on(rt: HostRuntime) -> Result<(), Fa
     learner.advance(200, 1);
     expect_decided(&rt, &learner, 66, Decision::Known);
     expect_status(&rt, &learner, (1, 200), &noop, VoteStatus::Known);
-    Ok(())
+    drop(learner);
 }

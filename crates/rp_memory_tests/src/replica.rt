@@ -10,7 +10,6 @@ use rp_replica::*;
 use rp_store::{CutDevice, Device, MemDevice};
 use std::alloc::Global;
 use std::process::Abort;
-use std::test::Fail;
 
 /// A node's input, how many packets the node then sends, and how many bytes its device then holds.
 type Case = (&'static str, Input<'static>, usize, u64);
@@ -209,6 +208,7 @@ fn expect_steps<M: Machine, D: Device>(
     let report = Input::Report(Position::first());
     let case = ("the wish for a report", report, 1, stored);
     expect_step(rt, alloc, &mut node, &case);
+    drop(node);
 }
 
 fn program(rt: &impl Abort) -> TallyProgram {
@@ -216,10 +216,9 @@ fn program(rt: &impl Abort) -> TallyProgram {
 }
 
 #[test]
-fn a_step_that_memory_refused_has_the_same_result_later(rt: HostRuntime) -> Result<(), Fail> {
+fn a_step_that_memory_refused_has_the_same_result_later(rt: HostRuntime) {
     let device = MemDevice::new(rt.alloc());
     expect_steps::<Tally, MemDevice>(&rt, rt.alloc(), &program(&rt), device, &CASES);
-    Ok(())
 }
 
 /// How many bytes are left if a node stops within its first step, retried once if memory ran out.
@@ -241,11 +240,10 @@ fn left_by_a_cut<M: Machine, D: CutDevice>(
 }
 
 #[test]
-fn a_cut_that_memory_refused_gives_the_node_back(rt: HostRuntime) -> Result<(), Fail> {
+fn a_cut_that_memory_refused_gives_the_node_back(rt: HostRuntime) {
     let device = MemDevice::new(rt.alloc());
     let left = left_by_a_cut::<Tally, MemDevice>(&rt, rt.alloc(), &program(&rt), device, 9);
     expect_eq(&rt, left, 9);
-    Ok(())
 }
 
 /// What node 3 hears about ballot 9 at position 1 from node 1: a Prepare, an Accept and a decision.
@@ -351,6 +349,7 @@ fn hears_all<M: Machine, D: Device>(
     }
     heard.stored = node.stored();
     heard.image = image_of(rt, alloc, &node);
+    drop(node);
     heard
 }
 
@@ -402,12 +401,11 @@ fn expect_heard(rt: &impl Abort, heard: &Heard, failure: &Failure) {
 }
 
 #[test]
-fn a_device_that_fails_once_loses_no_vote(rt: HostRuntime) -> Result<(), Fail> {
+fn a_device_that_fails_once_loses_no_vote(rt: HostRuntime) {
     let program = program(&rt);
     for failure in FAILURES {
         let device = FailingDevice::new(rt.alloc(), failure.0);
         let heard = hears_all::<Tally, FailingDevice>(&rt, rt.alloc(), &program, device, &HEARD);
         expect_heard(&rt, &heard, &failure);
     }
-    Ok(())
 }

@@ -5,7 +5,6 @@ use rp_base::{Action, Ballot, Fault, Operation, Position, Rec, TaskId, WriteFaul
 use rp_store::*;
 use std::alloc::Global;
 use std::process::Abort;
-use std::test::Fail;
 
 /// A `Started` of version 1.
 const OLD_STARTED: [u8; 10] = [1, 1, 0, 0, 0, 0, 0, 0, 0, 9];
@@ -143,7 +142,7 @@ fn torn<D: CutDevice>(rt: &impl Abort, store: Store<D>, rec: &Rec, kept: u64) ->
 }
 
 #[test]
-fn whole_records_are_returned_and_the_rest_is_truncated(rt: HostRuntime) -> Result<(), Fail> {
+fn whole_records_are_returned_and_the_rest_is_truncated(rt: HostRuntime) {
     let started = [started(&rt)];
     let cases: [(&[u8], &[Rec], u64); 4] = [
         (&[], &[], 0),
@@ -155,7 +154,6 @@ fn whole_records_are_returned_and_the_rest_is_truncated(rt: HostRuntime) -> Resu
         let device = holding(&rt, MemDevice::new(rt.alloc()), bytes);
         opens(&rt, rt.alloc(), device, records, *cut_bytes);
     }
-    Ok(())
 }
 
 /// The device of a node that started in version 1 and promises in version 2.
@@ -167,12 +165,11 @@ fn goes_on<D: Device>(rt: &impl Abort, alloc: Global, device: D) -> D {
 }
 
 #[test]
-fn a_device_of_version_1_goes_on_in_version_2(rt: HostRuntime) -> Result<(), Fail> {
+fn a_device_of_version_1_goes_on_in_version_2(rt: HostRuntime) {
     let device = goes_on(&rt, rt.alloc(), MemDevice::new(rt.alloc()));
     let device = expect_holds(&rt, rt.alloc(), device, &GONE_ON);
     let records = [started(&rt), promised(&rt)];
     opens(&rt, rt.alloc(), device, &records, 0);
-    Ok(())
 }
 
 /// The store of a device that holds a `Started`.
@@ -189,7 +186,7 @@ fn stops_in_a_vote<D: CutDevice>(rt: &impl Abort, alloc: Global, device: D, kept
 }
 
 #[test]
-fn a_stop_keeps_what_was_put_and_a_whole_record_after_it(rt: HostRuntime) -> Result<(), Fail> {
+fn a_stop_keeps_what_was_put_and_a_whole_record_after_it(rt: HostRuntime) {
     let records = [started(&rt), voted(&rt)];
     let started = [started(&rt)];
     let cases: [(u64, &[Rec], u64); 4] = [
@@ -202,7 +199,6 @@ fn a_stop_keeps_what_was_put_and_a_whole_record_after_it(rt: HostRuntime) -> Res
         let device = stops_in_a_vote(&rt, rt.alloc(), MemDevice::new(rt.alloc()), *kept);
         opens(&rt, rt.alloc(), device, records, *cut_bytes);
     }
-    Ok(())
 }
 
 /// The device after it was opened and closed, and after a stop that keeps only stable bytes.
@@ -213,12 +209,11 @@ fn stops_once_opened<D: CutDevice>(rt: &impl Abort, alloc: Global, device: D) ->
 }
 
 #[test]
-fn what_an_opening_read_stays_through_a_stop(rt: HostRuntime) -> Result<(), Fail> {
+fn what_an_opening_read_stays_through_a_stop(rt: HostRuntime) {
     let device = holding(&rt, MemDevice::new(rt.alloc()), &TORN);
     let device = stops_once_opened(&rt, rt.alloc(), device);
     expect_eq(&rt, device.len(), 10);
     opens(&rt, rt.alloc(), device, &[started(&rt)], 0);
-    Ok(())
 }
 
 /// The device of a node that started and voted, after a stop that keeps only stable bytes.
@@ -232,12 +227,11 @@ fn stops_after_a_vote<D: CutDevice>(rt: &impl Abort, alloc: Global, device: D) -
 }
 
 #[test]
-fn a_put_refused_for_memory_writes_nothing(rt: HostRuntime) -> Result<(), Fail> {
+fn a_put_refused_for_memory_writes_nothing(rt: HostRuntime) {
     let device = stops_after_a_vote(&rt, rt.alloc(), MemDevice::new(rt.alloc()));
     let device = expect_holds(&rt, rt.alloc(), device, &STARTED_AND_VOTED);
     let records = [started(&rt), voted(&rt)];
     found(&rt, rt.alloc(), device, &records, 0);
-    Ok(())
 }
 
 /// A device in memory that holds these bytes, none of them stable, and whose sync of this number
@@ -265,12 +259,11 @@ fn fails_at_a_vote<D: Device>(rt: &impl Abort, alloc: Global, device: D) -> Stor
 }
 
 #[test]
-fn an_opening_syncs_once_whatever_the_device_holds(rt: HostRuntime) -> Result<(), Fail> {
+fn an_opening_syncs_once_whatever_the_device_holds(rt: HostRuntime) {
     let cases: [&[u8]; 4] = [&[], &STARTED, &TORN, &WRONG];
     for bytes in &cases {
         fails_at_a_vote(&rt, rt.alloc(), failing(&rt, rt.alloc(), bytes, 2));
     }
-    Ok(())
 }
 
 /// The device after opening it fails. The opening is retried once if memory ran out.
@@ -291,19 +284,17 @@ fn writes_no_more<D: Device>(rt: &impl Abort, alloc: Global, device: D) -> D {
 }
 
 #[test]
-fn a_failed_sync_is_reported_and_the_store_writes_no_more(rt: HostRuntime) -> Result<(), Fail> {
+fn a_failed_sync_is_reported_and_the_store_writes_no_more(rt: HostRuntime) {
     let device = failing(&rt, rt.alloc(), &STARTED, 2);
     let device = writes_no_more(&rt, rt.alloc(), device);
     let records = [started(&rt), voted(&rt)];
     opens(&rt, rt.alloc(), device, &records, 0);
-    Ok(())
 }
 
 #[test]
-fn an_opening_whose_sync_fails_keeps_the_records(rt: HostRuntime) -> Result<(), Fail> {
+fn an_opening_whose_sync_fails_keeps_the_records(rt: HostRuntime) {
     let device = failing(&rt, rt.alloc(), &TORN, 1);
     let device = not_opened(&rt, rt.alloc(), device);
     expect_eq(&rt, device.len(), 10);
     opens(&rt, rt.alloc(), device, &[started(&rt)], 0);
-    Ok(())
 }

@@ -3,7 +3,7 @@
 ghost use Rattle.rp_object.specs.rp_base.specs.Action.{IsRight};
 
 use rp_base::{Action, Answers, Reply, TaskId};
-use rp_body::{Components, Cond, Expr, Ranged};
+use rp_body::{Components, Expr, Ranged};
 use rp_machine::Machine;
 use std::alloc::Global;
 use std::fmt::Debug;
@@ -16,13 +16,13 @@ pub(crate) fn expect_eq<T: PartialEq + Debug + Drop>(rt: &impl Abort, found: T, 
 }
 
 /// Ends the test unless both values are equal, and says of what they are.
-pub(crate) fn expect_at<N: Debug, T: PartialEq + Debug + Drop>(
+pub(crate) fn expect_at<N: PartialEq + Debug, T: PartialEq + Debug + Drop>(
     rt: &impl Abort,
     name: &N,
     found: T,
     expected: T,
 ) {
-    assert_eq!(rt; found, expected, "{name:?}");
+    expect_eq(rt, (name, found), (name, expected));
 }
 
 /// Ends the test unless the action is right.
@@ -114,12 +114,4 @@ pub(crate) fn two<T: Drop>(rt: &impl Abort, alloc: Global, first: T, second: T) 
 
 pub(crate) fn add(rt: &impl Abort, alloc: Global, a: Expr, b: Expr) -> Expr {
     Expr::Add(boxed(rt, alloc, a), boxed(rt, alloc, b))
-}
-
-pub(crate) fn sub(rt: &impl Abort, alloc: Global, a: Expr, b: Expr) -> Expr {
-    Expr::Sub(boxed(rt, alloc, a), boxed(rt, alloc, b))
-}
-
-pub(crate) fn not(rt: &impl Abort, alloc: Global, cond: Cond) -> Cond {
-    Cond::Not(boxed(rt, alloc, cond))
 }

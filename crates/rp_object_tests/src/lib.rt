@@ -1,13 +1,14 @@
-//! Tests of bodies, objects and machines by their public calls: worked rows, happy paths. They are
-//! above the crates, so that each crate is proved once.
+//! Tests of objects and machines by their public calls: what no deck can ask for, since a deck says
+//! what it calls by names; and of the examples. They are above the crates, so that each crate is
+//! proved once.
 #![tactic(auto)]
 
-#[cfg(test)]
-mod body;
 #[cfg(test)]
 mod building;
 #[cfg(test)]
 mod entry;
+#[cfg(test)]
+mod examples;
 #[cfg(test)]
 mod machine;
 #[cfg(test)]

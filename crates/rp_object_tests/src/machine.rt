@@ -55,15 +55,6 @@ fn expect_effect(
 }
 
 #[test]
-fn each_action_gives_its_reply_and_its_sums(rt: HostRuntime) {
-    let alloc = rt.alloc();
-    let add = Operation::Procedure(1);
-    let five = Some(Reply::Value(5));
-    expect_effect(&rt, alloc, &call(1, 1, add, 5), five, "tally o1=5 o2=0\n");
-    expect_effect(&rt, alloc, &call(1, 2, add, 5), five, "tally o1=0 o2=5\n");
-}
-
-#[test]
 fn an_unknown_operation_leaves_the_sums(rt: HostRuntime) {
     let unknown = Some(Reply::NoSuchOperation);
     for (object, operation) in [
@@ -91,33 +82,6 @@ fn what_is_no_call_has_no_reply_and_leaves_the_sums(rt: HostRuntime) {
 /// Call `number` of the first task, which adds `arg` to the first object.
 fn adds(number: u32, arg: i64) -> Action {
     call(number, 1, Operation::Procedure(1), arg)
-}
-
-/// Adds to the sum of the first object. The one reply.
-fn added(rt: &impl Abort, tally: &mut Tally, arg: i64) -> Option<Reply> {
-    let action = adds(1, arg);
-    expect_action(rt, &action);
-    let answers = answers_to(tally, &action);
-    expect_eq(rt, answers.len(), 1);
-    last_reply(&answers)
-}
-
-#[test]
-fn a_sum_stays_within_64_bits(rt: HostRuntime) {
-    let highest = "tally o1=9223372036854775807\n";
-    let lowest = "tally o1=-9223372036854775808\n";
-    for (first, second, reply, image) in [
-        (i64::MAX, 1, Reply::ConstraintError, highest),
-        (i64::MIN, -1, Reply::ConstraintError, lowest),
-        (i64::MAX - 1, 1, Reply::Value(i64::MAX), highest),
-        (i64::MIN + 1, -1, Reply::Value(i64::MIN), lowest),
-    ] {
-        let mut tally = start_of(&rt, rt.alloc(), 1);
-        added(&rt, &mut tally, first);
-        let last = added(&rt, &mut tally, second);
-        expect_at(&rt, &first, last, Some(reply));
-        expect_image(&rt, rt.alloc(), &tally, image);
-    }
 }
 
 /// How many objects the tally has that is declared with this many, if it may be.
@@ -187,6 +151,7 @@ fn expect_calls<M: Machine>(
         expect_counted(rt, &mut log, action, *reply, *counted);
     }
     expect_image(rt, alloc, log.machine(), image);
+    drop(log);
 }
 
 #[test]
@@ -204,34 +169,4 @@ fn a_call_counts_once_and_in_order(rt: HostRuntime) {
     ];
     let log = log_of_one(&rt, rt.alloc());
     expect_calls(&rt, rt.alloc(), log, &steps, "tally o1=12\n");
-}
-
-/// An interrupt has no reply, and the last of its source is then this one, and none of another.
-fn expect_occurrence<M: Machine>(
-    rt: &impl Abort,
-    log: &mut Numbered<M>,
-    occurrence: u32,
-    last: u32,
-) {
-    let action = Action::Interrupt {
-        source: 8,
-        occurrence,
-    };
-    expect_eq(rt, applied_to(rt, log, &action), None);
-    let found = (log.last_occurrence(8), log.last_occurrence(1));
-    expect_eq(rt, found, (last, 0));
-}
-
-/// After each occurrence of an interrupt in the log, this one is the last of its source.
-fn expect_occurrences<M: Machine>(rt: &impl Abort, log: Numbered<M>, occurrences: &[(u32, u32)]) {
-    let mut log = log;
-    for (occurrence, last) in occurrences {
-        expect_occurrence(rt, &mut log, *occurrence, *last);
-    }
-}
-
-#[test]
-fn an_interrupt_counts_above_the_last_of_its_source(rt: HostRuntime) {
-    let log = log_of_one(&rt, rt.alloc());
-    expect_occurrences(&rt, log, &[(2, 2), (1, 2), (2, 2), (7, 7)]);
 }

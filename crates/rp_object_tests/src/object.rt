@@ -128,35 +128,22 @@ fn log_of(rt: &impl Abort, alloc: Global) -> Numbered<Objects> {
     Numbered::new(alloc, &program(rt, alloc)).expect(rt, "memory for the objects")
 }
 
-/// What happens to the objects.
+/// A task's call of this number: an operation of an object, with an argument.
 #[derive(Clone, Copy)]
-enum Input {
-    /// A task's call of this number: an operation of an object, with an argument.
-    Call(u8, u32, u8, Operation, i64),
-    /// The first occurrence of the interrupt of a source.
-    Interrupt(u8),
-    /// The clock shows this time.
-    Tick(u32),
-}
+struct Input(u8, u32, u8, Operation, i64);
 
 fn action_of(rt: &impl Abort, input: Input) -> Action {
-    match input {
-        Input::Call(task, number, object, operation, arg) => Action::Call {
-            task: task_of(rt, task),
-            number,
-            object,
-            operation,
-            arg,
-        },
-        Input::Interrupt(source) => Action::Interrupt {
-            source,
-            occurrence: 1,
-        },
-        Input::Tick(now) => Action::Tick { now },
+    let Input(task, number, object, operation, arg) = input;
+    Action::Call {
+        task: task_of(rt, task),
+        number,
+        object,
+        operation,
+        arg,
     }
 }
 
-/// What happens, and the answers: each by its task, the number of its call and its reply.
+/// A call, and the answers: each by its task, the number of its call and its reply.
 type Step<'a> = (Input, &'a [(u8, u32, Reply)]);
 
 /// Takes a step in a log, which has the answers of the step.
@@ -169,121 +156,64 @@ fn expect_step(rt: &impl Abort, log: &mut Numbered<Objects>, step: &Step) {
     expect_answers(rt, &answers, expected);
 }
 
-fn expect_steps(rt: &impl Abort, log: &mut Numbered<Objects>, steps: &[Step]) {
-    for step in steps {
-        expect_step(rt, log, step);
-    }
-}
-
-/// A log takes these steps, after which this text shows its machine, and then more steps.
-fn expect_story(rt: &impl Abort, alloc: Global, steps: &[Step], image: &str, more: &[Step]) {
+/// A log takes these steps, after which this text shows its machine.
+fn expect_story(rt: &impl Abort, alloc: Global, steps: &[Step], image: &str) {
     let mut log = log_of(rt, alloc);
-    expect_steps(rt, &mut log, steps);
+    for step in steps {
+        expect_step(rt, &mut log, step);
+    }
     expect_image(rt, alloc, log.machine(), image);
-    expect_steps(rt, &mut log, more);
+    drop(log);
 }
 
 const DONE: Reply = Reply::Value(0);
 
 const ABSENT: Reply = Reply::NoSuchOperation;
 
-/// Both events are due at 5, x once it is set again; x calls inc and y dbl.
-static DUE_TOGETHER: [Step<'static>; 7] = [
-    (
-        Input::Call(EQUAL, 1, BOX, Operation::SetTimer(2), 5),
-        &[(EQUAL, 1, DONE)],
-    ),
-    (
-        Input::Call(EQUAL, 2, BOX, Operation::SetTimer(1), 9),
-        &[(EQUAL, 2, DONE)],
-    ),
-    (
-        Input::Call(EQUAL, 3, BOX, Operation::SetTimer(1), 5),
-        &[(EQUAL, 3, DONE)],
-    ),
-    (Input::Tick(7), &[]),
-    (Input::Tick(3), &[]),
-    (
-        Input::Call(EQUAL, 4, BOX, Operation::CancelTimer(1), 0),
-        &[(EQUAL, 4, Reply::Truth(false))],
-    ),
-    (Input::Interrupt(2), &[]),
-];
-
-#[test]
-fn events_that_are_due_together_fire_in_order_and_the_clock_stays(rt: HostRuntime) {
-    let image =
-        "object box n=2\nobject gate up=false queue none\nclock 7\ntimer x off\ntimer y off\n";
-    expect_story(&rt, rt.alloc(), &DUE_TOGETHER, image, &[]);
-}
-
-/// Task 1 waits at the gate, and others call and interrupt the box.
-static WAITS: [Step<'static>; 3] = [
-    (Input::Call(EQUAL, 1, GATE, Operation::Entry(1), 7), &[]),
-    (
-        Input::Call(OTHER, 1, BOX, Operation::SetTimer(2), 9),
-        &[(OTHER, 1, DONE)],
-    ),
-    (Input::Interrupt(1), &[]),
-];
-
-/// Task 3 puts the gate up.
-static OPENS: [Step<'static>; 1] = [(
-    Input::Call(OTHER, 2, GATE, Operation::Procedure(1), 0),
-    &[(OTHER, 2, DONE), (EQUAL, 1, DONE)],
-)];
-
-#[test]
-fn a_caller_waits_and_is_answered_by_who_opens(rt: HostRuntime) {
-    let image =
-        "object box n=1\nobject gate up=false queue task 1 call 1 arg 7\nclock 0\ntimer x off\ntimer y at 9\n";
-    expect_story(&rt, rt.alloc(), &WAITS, image, &OPENS);
-}
-
 /// Calls of what is declared and of what is not, below the ceiling and above it.
 static FIRST_CALLS: [Step<'static>; 11] = [
     (
-        Input::Call(ABOVE, 1, GATE, Operation::Procedure(1), 0),
+        Input(ABOVE, 1, GATE, Operation::Procedure(1), 0),
         &[(ABOVE, 1, Reply::ProgramError)],
     ),
     (
-        Input::Call(ABOVE, 2, GATE, Operation::Procedure(2), 0),
+        Input(ABOVE, 2, GATE, Operation::Procedure(2), 0),
         &[(ABOVE, 2, ABSENT)],
     ),
     (
-        Input::Call(ABOVE, 3, GATE, Operation::Function(1), 0),
+        Input(ABOVE, 3, GATE, Operation::Function(1), 0),
         &[(ABOVE, 3, ABSENT)],
     ),
     (
-        Input::Call(ABOVE, 4, BOX, Operation::Procedure(1), 0),
+        Input(ABOVE, 4, BOX, Operation::Procedure(1), 0),
         &[(ABOVE, 4, DONE)],
     ),
     (
-        Input::Call(ABOVE, 5, GATE, Operation::Entry(2), 0),
+        Input(ABOVE, 5, GATE, Operation::Entry(2), 0),
         &[(ABOVE, 5, ABSENT)],
     ),
     (
-        Input::Call(ABOVE, 6, BOX, Operation::Entry(1), 0),
+        Input(ABOVE, 6, BOX, Operation::Entry(1), 0),
         &[(ABOVE, 6, ABSENT)],
     ),
     (
-        Input::Call(ABOVE, 7, GATE, Operation::SetTimer(1), 0),
+        Input(ABOVE, 7, GATE, Operation::SetTimer(1), 0),
         &[(ABOVE, 7, ABSENT)],
     ),
     (
-        Input::Call(ABOVE, 8, BOX, Operation::SetTimer(3), 0),
+        Input(ABOVE, 8, BOX, Operation::SetTimer(3), 0),
         &[(ABOVE, 8, ABSENT)],
     ),
     (
-        Input::Call(ABOVE, 9, 3, Operation::Procedure(1), 0),
+        Input(ABOVE, 9, 3, Operation::Procedure(1), 0),
         &[(ABOVE, 9, ABSENT)],
     ),
     (
-        Input::Call(UNDECLARED, 1, BOX, Operation::Procedure(1), 0),
+        Input(UNDECLARED, 1, BOX, Operation::Procedure(1), 0),
         &[(UNDECLARED, 1, ABSENT)],
     ),
     (
-        Input::Call(EQUAL, 1, GATE, Operation::Procedure(1), 0),
+        Input(EQUAL, 1, GATE, Operation::Procedure(1), 0),
         &[(EQUAL, 1, DONE)],
     ),
 ];
@@ -292,7 +222,7 @@ static FIRST_CALLS: [Step<'static>; 11] = [
 fn what_is_not_declared_is_refused_before_the_ceiling(rt: HostRuntime) {
     let image =
         "object box n=1\nobject gate up=true queue none\nclock 0\ntimer x off\ntimer y off\n";
-    expect_story(&rt, rt.alloc(), &FIRST_CALLS, image, &[]);
+    expect_story(&rt, rt.alloc(), &FIRST_CALLS, image);
 }
 
 /// A task waits or not, and the last of its calls that counted has this number and keeps this
@@ -315,13 +245,14 @@ fn expect_log(rt: &impl Abort, alloc: Global, steps: &[(Step, Caller)], image: &
         expect_caller(rt, &log, *caller);
     }
     expect_image(rt, alloc, log.machine(), image);
+    drop(log);
 }
 
-const PASSES: Input = Input::Call(EQUAL, 1, GATE, Operation::Entry(1), 0);
+const PASSES: Input = Input(EQUAL, 1, GATE, Operation::Entry(1), 0);
 
-const COUNTS: Input = Input::Call(EQUAL, 2, BOX, Operation::Procedure(1), 0);
+const COUNTS: Input = Input(EQUAL, 2, BOX, Operation::Procedure(1), 0);
 
-const LIFTS: Input = Input::Call(OTHER, 1, GATE, Operation::Procedure(1), 0);
+const LIFTS: Input = Input(OTHER, 1, GATE, Operation::Procedure(1), 0);
 
 /// Task 1 passes, and calls the box while it waits and again when task 3 has put the gate up.
 static SERVED_IN_A_LOG: [(Step<'static>, Caller); 6] = [

@@ -16,3 +16,5 @@ mod log;
 mod proposer;
 #[cfg(test)]
 mod tasks;
+#[cfg(test)]
+mod values;

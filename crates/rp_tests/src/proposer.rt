@@ -1,6 +1,7 @@
 ghost use Rattle.std.specs.Prelude.{◌≡◌, ◌≤◌};
 
 use crate::compare::{expect_at, expect_eq};
+use crate::values::{ballot, position};
 use rp_base::{Action, Ballot, Fault, NodeId, Position, Rec, Vote};
 use rp_proposer::*;
 use std::alloc::Global;
@@ -13,10 +14,6 @@ fn node(rt: &impl Abort, number: u8) -> NodeId
     let node = NodeId::new(number).expect(rt, "a node");
     assert!(rt; node.get() <= 3, "one of three");
     node
-}
-
-fn ballot(rt: &impl Abort, number: u64) -> Ballot {
-    Ballot::new(number).expect(rt, "a ballot")
 }
 
 fn vote(rt: &impl Abort, number: u64, action: Action) -> Option<Vote> {
@@ -107,32 +104,43 @@ fn later_leader(rt: &impl Abort, alloc: Global) -> Proposer
     proposer
 }
 
+/// Ends the test unless a promise makes this of its proposal.
+fn expect_progress(rt: &impl Abort, found: Progress, expected: Progress) {
+    expect_eq(rt, found, expected);
+}
+
+/// The proposer's next ballot, and the ballot of the proposal at position 1, are these.
+fn expect_ballots(rt: &impl Abort, proposer: &Proposer, next: u64, running: Option<u64>) {
+    let found = match proposer.ballot() {
+        Ok(ballot) => ballot.get(),
+        Err(_) => 0,
+    };
+    let runs = match proposer.runs(Position::first()) {
+        Some(ballot) => Some(ballot.get()),
+        None => None,
+    };
+    expect_eq(rt, (found, runs), (next, running));
+}
+
 #[test]
 fn a_majority_offers_the_highest_vote(rt: HostRuntime) {
     let mut proposer = later_leader(&rt, rt.alloc());
     let leading = ballot(&rt, 18);
-    expect_eq(&rt, proposer.runs(Position::first()), Some(leading));
+    expect_ballots(&rt, &proposer, 26, Some(18));
     let low = vote(&rt, 9, A);
     let first = promised(&rt, &mut proposer, 1, leading, &low);
-    expect_eq(&rt, first, Progress::Waiting);
+    expect_progress(&rt, first, Progress::Waiting);
     let again = promised(&rt, &mut proposer, 1, leading, &low);
-    expect_eq(&rt, again, Progress::Waiting);
+    expect_progress(&rt, again, Progress::Waiting);
     let majority = progress(&rt, &proposer, 3, leading, vote(&rt, 10, B));
-    expect_eq(&rt, majority, Progress::Offer(B));
-}
-
-#[test]
-fn a_promise_in_a_ballot_that_does_not_run_is_stale(rt: HostRuntime) {
-    let mut proposer = later_leader(&rt, rt.alloc());
-    let leading = ballot(&rt, 18);
-    let low = vote(&rt, 9, A);
-    promised(&rt, &mut proposer, 1, leading, &low);
-    let earlier = progress(&rt, &proposer, 3, ballot(&rt, 17), None);
-    expect_eq(&rt, earlier, Progress::Stale);
+    let stale = progress(&rt, &proposer, 3, ballot(&rt, 17), None);
     proposer.nack(Position::first(), leading, ballot(&rt, 27));
-    expect_eq(&rt, proposer.ballot(), Ok(ballot(&rt, 34)));
     let refused = progress(&rt, &proposer, 3, leading, None);
-    expect_eq(&rt, refused, Progress::Stale);
+    expect_ballots(&rt, &proposer, 34, None);
+    drop(proposer);
+    expect_progress(&rt, majority, Progress::Offer(B));
+    expect_progress(&rt, stale, Progress::Stale);
+    expect_progress(&rt, refused, Progress::Stale);
 }
 
 #[test]
@@ -141,58 +149,67 @@ fn the_own_action_is_offered_once_where_no_vote_is_reported(rt: HostRuntime) {
     let mut proposer = leader(&rt, rt.alloc());
     let leading = ballot(&rt, 9);
     let other = promised(&rt, &mut proposer, 2, leading, &None);
-    expect_eq(&rt, other, Progress::Waiting);
     let own = promised(&rt, &mut proposer, 1, leading, &None);
-    expect_eq(&rt, own, Progress::Offer(A));
     let last = promised(&rt, &mut proposer, 3, leading, &None);
-    expect_eq(&rt, last, Progress::Stale);
+    drop(proposer);
+    expect_progress(&rt, other, Progress::Waiting);
+    expect_progress(&rt, own, Progress::Offer(A));
+    expect_progress(&rt, last, Progress::Stale);
 }
 
-/// The proposer's next ballot, and the ballot of the proposal at position 1, are these.
-fn expect_ballots(rt: &impl Abort, proposer: &Proposer, next: u64, running: Option<u64>) {
-    expect_eq(rt, proposer.ballot(), Ok(ballot(rt, next)));
-    let runs = proposer.runs(Position::first());
-    expect_eq(rt, runs.map(|ballot| ballot.get()), running);
+/// The proposal of a leader is refused in another ballot, and then in its own.
+fn refuses(rt: &impl Abort, proposer: &mut Proposer) {
+    let first = Position::first();
+    let ten = ballot(rt, 10);
+    proposer.nack(first, ten, ballot(rt, 18));
+    expect_ballots(rt, proposer, 17, Some(9));
+    proposer.nack(first, ballot(rt, 9), ten);
+    expect_ballots(rt, proposer, 17, None);
+}
+
+/// A leader that leads again, with `B` of its own.
+fn replaces(rt: &impl Abort, proposer: &mut Proposer)
+    ensures { proposer.new.nodes ≡ proposer.old.nodes }
+{
+    let first = Position::first();
+    lead(rt, proposer, first, B);
+    expect_ballots(rt, proposer, 25, Some(17));
+    let second = position(rt, 2);
+    let own = (
+        proposer.is_own_elsewhere(first, &B),
+        proposer.is_own_elsewhere(second, &B),
+    );
+    expect_eq(rt, own, (false, true));
+    let before = (
+        proposer.is_own_elsewhere(first, &A),
+        proposer.is_own_elsewhere(second, &A),
+    );
+    expect_eq(rt, before, (false, false));
+}
+
+#[test]
+fn a_proposal_runs_until_it_is_replaced_or_settled(rt: HostRuntime) {
+    let mut proposer = leader(&rt, rt.alloc());
+    replaces(&rt, &mut proposer);
+    proposer.settled(Position::first());
+    expect_ballots(&rt, &proposer, 25, None);
+    drop(proposer);
 }
 
 #[test]
 fn a_proposal_runs_until_it_is_refused(rt: HostRuntime) {
     let mut proposer = leader(&rt, rt.alloc());
-    let first = Position::first();
-    let ten = ballot(&rt, 10);
-    proposer.nack(first, ten, ballot(&rt, 18));
-    expect_eq(&rt, proposer.runs(first), Some(ballot(&rt, 9)));
-    proposer.nack(first, ballot(&rt, 9), ten);
-    expect_ballots(&rt, &proposer, 17, None);
+    refuses(&rt, &mut proposer);
+    drop(proposer);
 }
 
-#[test]
-fn a_proposal_runs_until_it_is_settled(rt: HostRuntime) {
-    let mut proposer = leader(&rt, rt.alloc());
-    proposer.settled(Position::first());
-    expect_ballots(&rt, &proposer, 17, None);
-}
-
-#[test]
-fn a_proposal_runs_until_it_is_replaced(rt: HostRuntime) {
-    let mut proposer = leader(&rt, rt.alloc());
-    let first = Position::first();
-    let second = Position::new(2).expect(&rt, "position 2");
-    expect_eq(&rt, lead(&rt, &mut proposer, first, B), ballot(&rt, 17));
-    expect_ballots(&rt, &proposer, 25, Some(17));
-    expect_eq(&rt, proposer.is_own_elsewhere(first, &B), false);
-    expect_eq(&rt, proposer.is_own_elsewhere(second, &B), true);
-    expect_eq(&rt, proposer.is_own_elsewhere(first, &A), false);
-    expect_eq(&rt, proposer.is_own_elsewhere(second, &A), false);
-}
-
-/// The next ballot of a node that started the last round's ballot of node 1. A refusal changes
-/// nothing.
+/// The next ballot of a node that started the last round's ballot of node 1.
 fn expect_next(rt: &impl Abort, alloc: Global, number: u8, next: &Result<Ballot, Fault>) {
     let last = Rec::Started(ballot(rt, 34_359_738_361));
     let proposer = restored(rt, alloc, number, &[last]);
-    expect_eq(rt, proposer.ballot(), *next);
-    expect_eq(rt, proposer.ballot(), *next);
+    let found = proposer.ballot();
+    drop(proposer);
+    expect_eq(rt, found, *next);
 }
 
 #[test]
@@ -204,20 +221,26 @@ fn the_last_ballot_of_a_node_is_refused(rt: HostRuntime) {
 
 /// Leads at a position where there is room. Whether a proposal then runs there.
 fn leads_where_there_is_room(rt: &impl Abort, proposer: &mut Proposer, number: u16) -> bool {
-    let position = Position::new(number).expect(rt, "a position");
+    let position = position(rt, number);
     if proposer.has_room(position) {
         lead(rt, proposer, position, A);
     }
     proposer.runs(position).is_some()
 }
 
+/// At each of 64 positions a proposal runs, at no other, and one may begin again at the first.
+fn fills(rt: &impl Abort, proposer: &mut Proposer) {
+    for number in 1..=65 {
+        let running = leads_where_there_is_room(rt, proposer, number);
+        expect_at(rt, &number, running, number <= 64);
+    }
+    expect_eq(rt, proposer.has_room(Position::first()), true);
+}
+
 #[test]
 fn at_most_64_proposals_run(rt: HostRuntime) {
     a_window_has_room();
     let mut proposer = restored(&rt, rt.alloc(), 1, &[]);
-    for number in 1..=65 {
-        let running = leads_where_there_is_room(&rt, &mut proposer, number);
-        expect_at(&rt, &number, running, number <= 64);
-    }
-    expect_eq(&rt, proposer.has_room(Position::first()), true);
+    fills(&rt, &mut proposer);
+    drop(proposer);
 }

@@ -1,9 +1,9 @@
 ghost use Rattle.std.specs.Prelude.{List, ℕ};
 ghost use Rattle.rp_threads.specs.rp_boxes.specs.Audits.{IsGotReport};
 
-use crate::setup::{all_seats, empty_devices, node, one_tally, receive_each};
+use crate::setup::{all_seats, empty_devices, expect_eq, node, one_tally, receive_each};
 use rp_base::{Action, NodeId, Position};
-use rp_boxes::{Added, Audit, NodeSeat, Put};
+use rp_boxes::{Added, AllSeats, Audit, NodeSeat, Put};
 use rp_codec::Party;
 use rp_machine::{Machine, Tally};
 use rp_replica::Input;
@@ -106,25 +106,42 @@ struct Heard {
 
 /// Node 1 reports before it has applied anything, and after one action, two and three. The report
 /// of one is added after that of two.
+fn heard_by<M: Machine, D: Device>(
+    rt: &impl Abort,
+    alloc: Global,
+    nodes: &mut [NodeSeat<M, D>],
+    audit: &mut Audit<M>,
+) -> Heard {
+    let gap = adds_next(rt, alloc, nodes, audit, 3);
+    tick(rt, alloc, nodes, 1);
+    let [second, following] = adds_late(rt, alloc, nodes, audit);
+    tick(rt, alloc, nodes, 3);
+    let third = adds_next(rt, alloc, nodes, audit, 3);
+    Heard {
+        outcomes: [gap, second, following, third],
+        known: known_of(rt, audit, alloc),
+    }
+}
+
+/// What the audit of a cluster hears of the first node.
 fn hear<R: Abort, M: Machine, D: Device>(
     rt: &R,
     alloc: Global,
     program: &M::Program,
     devices: Vec<D>,
 ) -> Heard {
-    let all = all_seats::<R, M, D>(rt, alloc, program, devices);
-    let mut seats = all.nodes;
-    let nodes = seats.as_mut_slice();
-    let mut audit = Audit::new(alloc, all.audit);
-    let gap = adds_next(rt, alloc, nodes, &mut audit, 3);
-    tick(rt, alloc, nodes, 1);
-    let [second, following] = adds_late(rt, alloc, nodes, &mut audit);
-    tick(rt, alloc, nodes, 3);
-    let third = adds_next(rt, alloc, nodes, &mut audit, 3);
-    Heard {
-        outcomes: [gap, second, following, third],
-        known: known_of(rt, &audit, alloc),
-    }
+    let AllSeats {
+        nodes,
+        tasks,
+        audit,
+    } = all_seats::<R, M, D>(rt, alloc, program, devices);
+    drop(tasks);
+    let mut nodes = nodes;
+    let mut audit = Audit::new(alloc, audit);
+    let heard = heard_by(rt, alloc, nodes.as_mut_slice(), &mut audit);
+    drop(audit);
+    drop(nodes);
+    heard
 }
 
 #[test]
@@ -139,11 +156,11 @@ fn an_audit_knows_what_was_reported_without_a_gap(rt: HostRuntime) {
         Added::Added { node, known: 2 },
         Added::Added { node, known: 3 },
     ];
-    assert_eq!(rt; heard.outcomes.as_slice(), outcomes.as_slice());
+    expect_eq(&rt, heard.outcomes.as_slice(), outcomes.as_slice());
     let ticks = [
         Action::Tick { now: 1 },
         Action::Tick { now: 2 },
         Action::Tick { now: 3 },
     ];
-    assert_eq!(rt; heard.known.as_slice(), ticks.as_slice());
+    expect_eq(&rt, heard.known.as_slice(), ticks.as_slice());
 }

@@ -4,7 +4,7 @@ ghost use Rattle.std.specs.Prelude.{◌≡◌, ◌<◌, [], All, IfSome, length,
 ghost use Rattle.rp_threads.specs.rp_board.specs.Parts.{fresh_part, OfTask};
 ghost use Rattle.rp_threads.specs.rp_model.specs.Parts.{fresh_task};
 
-use crate::setup::{all_seats, empty_devices, node, one_tally};
+use crate::setup::{all_seats, empty_devices, expect_eq, node, one_tally};
 use rp_base::{Fault, NodeId, Operation, Position};
 use rp_boxes::{Added, Audit, NodeSeat, TaskSeat};
 use rp_codec::{Body, Party, decode, packet_len};
@@ -167,6 +167,7 @@ fn task_starts<M: Machine>(
 {
     let mut seats = seats;
     let first = task_start(rt, alloc, seats.remove(0));
+    drop(seats);
     let mut starts = Vec::new(alloc);
     let Ok(()) = starts.push(first) else {
         rt.panic("memory for the start");
@@ -230,7 +231,7 @@ fn outcome_at<M: Machine, D: Device>(
     audit: &mut Audit<M>,
     alloc: Global,
 ) -> NodeOutcome {
-    assert_eq!(rt; end.fault, None);
+    expect_eq(rt, end.fault, None);
     let applied = end.seat.applied().expect(rt, "a node that runs");
     let report = node_step(&mut end.seat, alloc, &Input::Report(Position::first()));
     report.expect(rt, "a report");
@@ -277,7 +278,7 @@ fn asked<M: Machine>(task: &mut TaskSeat<M>, alloc: Global) -> bool {
 /// How many calls the task made, and whether the last has a reply or waits for it.
 fn asked_by<M: Machine>(rt: &impl Abort, ends: &mut [TaskEnd<M>], alloc: Global) -> (usize, bool) {
     let end = ends.first_mut().expect(rt, "task 1");
-    assert_eq!(rt; end.fault, None);
+    expect_eq(rt, end.fault, None);
     (end.made, asked(&mut end.seat, alloc))
 }
 
@@ -344,22 +345,25 @@ where
     let ends = run_threads(rt, nodes, tasks, options);
     let (mut nodes, mut tasks) = ends.ok().expect(rt, "threads");
     let mut audit = Audit::new(alloc, all.audit);
-    outcome_of(
+    let outcome = outcome_of(
         rt,
         alloc,
         nodes.as_mut_slice(),
         tasks.as_mut_slice(),
         &mut audit,
-    )
+    );
+    drop(nodes);
+    drop(tasks);
+    drop(audit);
+    outcome
 }
 
 /// Each node received packets, skipped no turn, and reported all that it had applied.
 fn expect_reported(rt: &impl Abort, nodes: &[NodeOutcome]) {
-    assert_eq!(rt; nodes.len(), 3);
+    expect_eq(rt, nodes.len(), 3);
     for node in nodes {
-        assert_eq!(rt; node.skipped, 0);
-        assert!(rt; node.received > 0);
-        assert!(rt; node.known >= node.applied);
+        let whole = node.received > 0 && node.known >= node.applied;
+        expect_eq(rt, (node.skipped, whole), (0, true));
     }
 }
 
@@ -370,10 +374,9 @@ fn three_nodes_and_a_task_run_in_threads(rt: HostRuntime) {
     let devices = empty_devices(&rt, alloc);
     let program = one_tally(&rt);
     let stated = run_three::<_, Tally, MemDevice, _>(&rt, alloc, &program, devices, &gate);
-    assert_eq!(rt; gate.late.load(Ordering::SeqCst), 0);
+    expect_eq(&rt, gate.late.load(Ordering::SeqCst), 0);
     expect_reported(&rt, stated.nodes.as_slice());
-    assert!(rt; stated.agree);
-    assert_eq!(rt; stated.made, 1);
-    assert!(rt; stated.asked);
-    assert!(rt; stated.ballot > 9);
+    expect_eq(&rt, (stated.agree, stated.asked), (true, true));
+    expect_eq(&rt, stated.made, 1);
+    expect_eq(&rt, stated.ballot > 9, true);
 }

@@ -1,8 +1,10 @@
 ghost use Rattle.rp_threads.specs.rp_board.specs.Seats.{IsSentText};
 
-use crate::setup::{all_seats, empty_devices, expect_packet, one_tally, receive, receive_each};
+use crate::setup::{
+    all_seats, empty_devices, expect_eq, expect_packet, one_tally, receive, receive_each,
+};
 use rp_base::{NodeId, Operation, Position, TaskId};
-use rp_boxes::{AllSeats, Fetch, NodeSeat, Put, TaskSeat};
+use rp_boxes::{Fetch, NodeSeat, Put, TaskSeat};
 use rp_codec::Party;
 use rp_machine::{Machine, Tally};
 use rp_replica::Input;
@@ -52,10 +54,13 @@ fn put_twice<R: Abort, M: Machine, D: Device>(
     let mut all = all_seats::<R, M, D>(rt, alloc, program, devices);
     let back = put_both(rt, all.tasks.first_mut().expect(rt, "task 1"), alloc);
     let node = all.nodes.first_mut().expect(rt, "node 1");
+    let first = node.fetch(Party::Task(TaskId::first()));
+    let second = node.fetch(Party::Task(TaskId::first()));
+    drop(all);
     Boxed {
         back,
-        first: node.fetch(Party::Task(TaskId::first())),
-        second: node.fetch(Party::Task(TaskId::first())),
+        first,
+        second,
     }
 }
 
@@ -139,18 +144,15 @@ fn one_call<R: Abort, M: Machine, D: Device>(
     program: &M::Program,
     devices: Vec<D>,
 ) -> Outcome {
-    let all = all_seats::<R, M, D>(rt, alloc, program, devices);
-    let AllSeats {
-        mut nodes,
-        mut tasks,
-        audit: _audit,
-    } = all;
-    let task = tasks.first_mut().expect(rt, "task 1");
+    let mut all = all_seats::<R, M, D>(rt, alloc, program, devices);
+    let task = all.tasks.first_mut().expect(rt, "task 1");
     calls(rt, task, alloc);
-    decide(rt, nodes.as_mut_slice(), alloc);
-    let applied = applied_by(rt, nodes.as_slice(), alloc);
+    decide(rt, all.nodes.as_mut_slice(), alloc);
+    let applied = applied_by(rt, all.nodes.as_slice(), alloc);
+    let task = all.tasks.first_mut().expect(rt, "task 1");
     let reply = task.fetch(Party::Node(NodeId::first()));
-    let report = report_of(rt, nodes.as_mut_slice(), alloc);
+    let report = report_of(rt, all.nodes.as_mut_slice(), alloc);
+    drop(all);
     Outcome {
         reply,
         report,
@@ -163,7 +165,7 @@ fn one_call_is_decided_by_seats(rt: HostRuntime) {
     let alloc = rt.alloc();
     let devices = empty_devices(&rt, alloc);
     let stated = one_call::<_, Tally, MemDevice>(&rt, alloc, &one_tally(&rt), devices);
-    assert_eq!(rt; stated.applied.as_slice(), [1, 1, 1].as_slice());
+    expect_eq(&rt, stated.applied.as_slice(), [1, 1, 1].as_slice());
     expect_packet(
         &rt,
         stated.reply,

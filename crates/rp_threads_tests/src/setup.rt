@@ -1,5 +1,6 @@
 //! What the tests share. A test ends where one of these finds what it does not expect: so their
-//! callers hold no results, which are long to prove.
+//! callers hold no results, which are long to prove. Whoever holds seats to its end gives them to
+//! `drop`: where a function lets them go by itself, the prover goes through all of their fields.
 
 ghost use Rattle.rp_threads.specs.rp_boxes.specs.FirstSeats.{AreSeats, failures_of};
 
@@ -11,6 +12,7 @@ use rp_replica::Input;
 use rp_store::{Device, MemDevice};
 use rp_threads::node_step;
 use std::alloc::Global;
+use std::fmt::Debug;
 use std::process::Abort;
 
 /// Three nodes with a log of 1,000 positions.
@@ -73,5 +75,10 @@ pub(crate) fn receive_each<M: Machine, D: Device>(
 /// Ends the test unless this is the packet of that text.
 pub(crate) fn expect_packet(rt: &impl Abort, found: Option<Vec<u8>>, text: &[u8]) {
     let packet = found.expect(rt, "a packet");
-    assert_eq!(rt; packet.as_slice(), text);
+    expect_eq(rt, packet.as_slice(), text);
+}
+
+/// Ends the test unless both values are equal. A call is shorter to prove than an `assert_eq!`.
+pub(crate) fn expect_eq<T: PartialEq + Debug + Drop>(rt: &impl Abort, found: T, expected: T) {
+    assert_eq!(rt; found, expected);
 }

@@ -2,7 +2,7 @@ ghost use Rattle.std.specs.Prelude.{◌≡◌, []};
 ghost use Rattle.rp_threads.specs.rp_board.specs.Parts.{fresh_part, OfTask};
 ghost use Rattle.rp_threads.specs.rp_model.specs.Parts.{fresh_task};
 
-use crate::setup::{all_seats, empty_devices, expect_packet, node, one_tally};
+use crate::setup::{all_seats, empty_devices, expect_eq, expect_packet, node, one_tally};
 use rp_base::{Fault, NodeId, Operation, TaskId};
 use rp_boxes::{Fetch, NodeSeat, TaskSeat};
 use rp_codec::Party;
@@ -38,6 +38,7 @@ fn leads<M: Machine, D: Device>(rt: &impl Abort, seat: &mut NodeSeat<M, D>, allo
     let mut link = empty_link(rt, alloc);
     let from = node(rt, 1);
     let turned = node_turn(seat, &mut link, alloc, Party::Node(from), true).expect(rt, "a turn");
+    drop(link);
     Made {
         turn: turned.turn,
         sent: turned.packets.sent,
@@ -53,7 +54,9 @@ fn first_leads<R: Abort, M: Machine, D: Device>(
     devices: Vec<D>,
 ) -> Made {
     let mut all = all_seats::<R, M, D>(rt, alloc, program, devices);
-    leads(rt, all.nodes.first_mut().expect(rt, "node 1"), alloc)
+    let made = leads(rt, all.nodes.first_mut().expect(rt, "node 1"), alloc);
+    drop(all);
+    made
 }
 
 #[test]
@@ -61,8 +64,8 @@ fn an_empty_line_lets_a_node_lead(rt: HostRuntime) {
     let alloc = rt.alloc();
     let devices = empty_devices(&rt, alloc);
     let made = first_leads::<_, Tally, MemDevice>(&rt, alloc, &one_tally(&rt), devices);
-    assert_eq!(rt; made.turn, Turn::Led);
-    assert_eq!(rt; made.sent, 3);
+    expect_eq(&rt, made.turn, Turn::Led);
+    expect_eq(&rt, made.sent, 3);
     expect_packet(
         &rt,
         made.packet,
@@ -86,7 +89,9 @@ fn makes_a_call<M: Machine>(rt: &impl Abort, task: TaskSeat<M>, alloc: Global) -
         turns: 1,
     };
     let end = task_loop(task, &[call], empty_link(rt, alloc), 3, options);
-    end.made
+    let made = end.made;
+    drop(end);
+    made
 }
 
 /// The first task of a cluster makes one turn: how many calls it made, and the packet that is then
@@ -100,7 +105,9 @@ fn calls<R: Abort, M: Machine, D: Device>(
     let mut all = all_seats::<R, M, D>(rt, alloc, program, devices);
     let made = makes_a_call(rt, all.tasks.swap_remove(0), alloc);
     let node = all.nodes.first_mut().expect(rt, "node 1");
-    (made, node.fetch(Party::Task(TaskId::first())))
+    let packet = node.fetch(Party::Task(TaskId::first()));
+    drop(all);
+    (made, packet)
 }
 
 #[test]
@@ -108,7 +115,7 @@ fn a_task_makes_its_first_call_in_its_first_turn(rt: HostRuntime) {
     let alloc = rt.alloc();
     let devices = empty_devices(&rt, alloc);
     let (made, packet) = calls::<_, Tally, MemDevice>(&rt, alloc, &one_tally(&rt), devices);
-    assert_eq!(rt; made, 1);
+    expect_eq(&rt, made, 1);
     expect_packet(
         &rt,
         packet,
@@ -170,7 +177,10 @@ fn idles<R: Abort, M: Machine, D: Device>(
         turns: 10,
     };
     let end = node_loop(node, empty_link(rt, alloc), 3, options);
-    end.counts.idle
+    let idle = end.counts.idle;
+    drop(end);
+    drop(all);
+    idle
 }
 
 #[test]
@@ -181,15 +191,8 @@ fn a_loop_ends_when_the_gate_says_that_the_run_is_over(rt: HostRuntime) {
     };
     let devices = empty_devices(&rt, alloc);
     let idle = idles::<_, Tally, MemDevice>(&rt, alloc, &one_tally(&rt), devices, &gate);
-    assert_eq!(rt; idle, 3);
-    assert_eq!(rt; gate.ended.load(Ordering::SeqCst), 1);
-}
-
-/// How many packets a node sent in a step, and how many of them are then in boxes.
-#[derive(Clone, Copy, Debug, PartialEq, Eq)]
-struct Delivered {
-    sent: usize,
-    boxed: usize,
+    expect_eq(&rt, idle, 3);
+    expect_eq(&rt, gate.ended.load(Ordering::SeqCst), 1);
 }
 
 /// The node leads: how many of its packets are put into boxes, and how many are lost.
@@ -201,54 +204,45 @@ fn step<M: Machine, D: Device>(
     node_step(seat, alloc, &Input::Lead(None)).expect(rt, "the node leads")
 }
 
-/// Node 1 leads in one step, and each node looks into its box from node 1.
-fn delivers<R: Abort, M: Machine, D: Device>(
-    rt: &R,
-    alloc: Global,
-    program: &M::Program,
-    devices: Vec<D>,
-) -> Delivered {
-    let mut all = all_seats::<R, M, D>(rt, alloc, program, devices);
-    let sent = step(rt, all.nodes.first_mut().expect(rt, "node 1"), alloc).sent;
+/// How many of the nodes find a packet in their boxes from node 1.
+fn boxed_at<M: Machine, D: Device>(nodes: &mut [NodeSeat<M, D>]) -> usize {
     let mut boxed: usize = 0;
-    for seat in all.nodes.iter_mut() {
+    for seat in nodes.iter_mut() {
         if seat.fetch(Party::Node(NodeId::first())).is_some() {
             boxed = boxed.saturating_add(1);
         }
     }
-    Delivered { sent, boxed }
-}
-
-#[test]
-fn each_packet_of_a_step_is_put_into_its_box(rt: HostRuntime) {
-    let alloc = rt.alloc();
-    let devices = empty_devices(&rt, alloc);
-    let delivered = delivers::<_, Tally, MemDevice>(&rt, alloc, &one_tally(&rt), devices);
-    assert_eq!(rt; delivered, Delivered { sent: 3, boxed: 3 });
+    boxed
 }
 
 /// Node 1 leads twice, and no node empties its box: how many packets of each step are sent and
-/// lost.
+/// lost, and how many are then found in the boxes from node 1.
 fn leads_twice<R: Abort, M: Machine, D: Device>(
     rt: &R,
     alloc: Global,
     program: &M::Program,
     devices: Vec<D>,
-) -> [PacketCounts; 2] {
+) -> ([PacketCounts; 2], [usize; 2]) {
     let mut all = all_seats::<R, M, D>(rt, alloc, program, devices);
     let leader = all.nodes.first_mut().expect(rt, "node 1");
     let first = step(rt, leader, alloc);
-    [first, step(rt, leader, alloc)]
+    let second = step(rt, leader, alloc);
+    let boxed = boxed_at(all.nodes.as_mut_slice());
+    let left = boxed_at(all.nodes.as_mut_slice());
+    drop(all);
+    ([first, second], [boxed, left])
 }
 
+/// A packet whose box is in use is counted as lost.
 #[test]
-fn a_packet_whose_box_is_in_use_is_counted_as_lost(rt: HostRuntime) {
+fn each_packet_of_a_step_is_put_into_its_box(rt: HostRuntime) {
     let alloc = rt.alloc();
     let devices = empty_devices(&rt, alloc);
-    let counts = leads_twice::<_, Tally, MemDevice>(&rt, alloc, &one_tally(&rt), devices);
+    let (counts, boxed) = leads_twice::<_, Tally, MemDevice>(&rt, alloc, &one_tally(&rt), devices);
     let expected = [
         PacketCounts { sent: 3, lost: 0 },
         PacketCounts { sent: 3, lost: 3 },
     ];
-    assert_eq!(rt; counts.as_slice(), expected.as_slice());
+    expect_eq(&rt, counts.as_slice(), expected.as_slice());
+    expect_eq(&rt, boxed.as_slice(), [3, 0].as_slice());
 }

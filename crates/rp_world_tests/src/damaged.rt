@@ -33,14 +33,22 @@ fn end_of(records: usize) -> usize {
 fn found<D: Device>(rt: &impl Abort, alloc: Global, device: D, bytes: &[u8]) -> (Vec<Rec>, u64) {
     let device = holding(rt, device, bytes);
     let opened = Store::open(alloc, device).ok().expect(rt, "it opens");
-    (opened.records, opened.cut_bytes)
+    let Opened {
+        store,
+        records,
+        cut_bytes,
+    } = opened;
+    drop(store);
+    (records, cut_bytes)
 }
 
 /// A device with these bytes opens with at least this many of the records, unchanged.
 fn expect_kept(rt: &impl Abort, alloc: Global, bytes: &[u8], all: &[Rec], least: usize) -> u64 {
     let (records, cut_bytes) = found(rt, alloc, MemDevice::new(alloc), bytes);
     let front = all.get(..least).expect(rt, "the least records");
-    expect_at(rt, &least, records.get(..least), Some(front));
+    let same = records.get(..least) == Some(front);
+    drop(records);
+    expect_at(rt, &least, same, true);
     cut_bytes
 }
 

@@ -20,82 +20,92 @@ struct Outcome {
     applied: [u16; 3],
 }
 
-/// A cluster of three nodes, and how many of its messages were delivered.
-#[derive(Drop)]
-struct Run<M: Machine, D: CutDevice> {
-    cluster: Cluster<M, D>,
-    delivered: u64,
-    outcome: Outcome,
+/// Makes a step. A fault of a device is counted, and the run continues.
+fn makes<M: Machine, D: CutDevice>(
+    rt: &impl Abort,
+    cluster: &mut Cluster<M, D>,
+    alloc: Global,
+    event: &Event,
+    outcome: &mut Outcome,
+) {
+    match cluster.step(alloc, event) {
+        Ok(effect) => outcome.opened = effect.opened.or(outcome.opened),
+        Err(fault) => {
+            expect_eq(rt, fault, Fault::Device);
+            outcome.failures = outcome.failures.saturating_add(1);
+        }
+    }
 }
 
-impl<M: Machine, D: CutDevice> Run<M, D> {
-    fn new(alloc: Global, program: M::Program, devices: Vec<D>) -> Result<Self, Fault> {
-        let config = Config {
-            nodes: 3,
-            max_positions: 9,
-        };
-        Ok(Run {
-            cluster: Cluster::new(alloc, config, program, devices)?,
-            delivered: 0,
-            outcome: Outcome {
-                failures: 0,
-                opened: None,
-                reply: None,
-                applied: [0; 3],
-            },
-        })
+/// Delivers each message above this number, in order. Returns the number of the last one.
+fn delivers_above<M: Machine, D: CutDevice>(
+    rt: &impl Abort,
+    cluster: &mut Cluster<M, D>,
+    alloc: Global,
+    above: u64,
+    outcome: &mut Outcome,
+) -> u64 {
+    let mut delivered = above;
+    for _ in 0..100 {
+        if delivered >= cluster.messages() {
+            break;
+        }
+        delivered = delivered.saturating_add(1);
+        let event = Event::Node(Step::Deliver(delivered));
+        makes(rt, cluster, alloc, &event, outcome);
     }
+    delivered
+}
 
-    /// Makes a step. A fault of a device is counted, and the run continues.
-    fn makes(&mut self, rt: &impl Abort, alloc: Global, event: &Event) {
-        match self.cluster.step(alloc, event) {
-            Ok(effect) => self.outcome.opened = effect.opened.or(self.outcome.opened),
-            Err(fault) => {
-                expect_eq(rt, fault, Fault::Device);
-                self.outcome.failures = self.outcome.failures.saturating_add(1);
-            }
+/// Makes these steps. After each that is paired with `true`, all messages are delivered.
+fn makes_all<M: Machine, D: CutDevice>(
+    rt: &impl Abort,
+    cluster: &mut Cluster<M, D>,
+    alloc: Global,
+    events: &[(Event, bool)],
+    outcome: &mut Outcome,
+) {
+    let mut delivered = 0;
+    for (event, all) in events {
+        makes(rt, cluster, alloc, event, outcome);
+        if *all {
+            delivered = delivers_above(rt, cluster, alloc, delivered, outcome);
         }
     }
+}
 
-    /// Delivers each message that was not yet delivered, in order.
-    fn delivers_all(&mut self, rt: &impl Abort, alloc: Global) {
-        for _ in 0..100 {
-            if self.delivered >= self.cluster.messages() {
-                break;
-            }
-            self.delivered = self.delivered.saturating_add(1);
-            self.makes(rt, alloc, &Event::Node(Step::Deliver(self.delivered)));
-        }
-    }
+/// How many actions a node has applied.
+fn applied<M: Machine, D: CutDevice>(rt: &impl Abort, cluster: &Cluster<M, D>, number: u8) -> u16 {
+    let applied = cluster.applied(node(rt, number));
+    applied.expect(rt, "a node that runs")
+}
 
-    /// Makes these steps. After each that is paired with `true`, all messages are delivered.
-    fn makes_all(&mut self, rt: &impl Abort, alloc: Global, events: &[(Event, bool)]) {
-        for (event, delivered) in events {
-            self.makes(rt, alloc, event);
-            if *delivered {
-                self.delivers_all(rt, alloc);
-            }
-        }
-    }
+/// The first reply of task 1.
+fn first_reply<M: Machine, D: CutDevice>(cluster: &Cluster<M, D>) -> Option<Reply> {
+    let answer = cluster.replies(TaskId::first()).first()?;
+    Some(answer.reply)
+}
 
-    /// How many actions a node has applied.
-    fn applied(&self, rt: &impl Abort, number: u8) -> u16 {
-        let applied = self.cluster.applied(node(rt, number));
-        applied.expect(rt, "a node that runs")
-    }
-
-    fn outcome(&self, rt: &impl Abort) -> Outcome {
-        let mut outcome = self.outcome;
-        let replies = self.cluster.replies(TaskId::first());
-        if let Some(answer) = replies.first() {
-            outcome.reply = Some(answer.reply);
-        }
-        let first = self.applied(rt, 1);
-        let second = self.applied(rt, 2);
-        let third = self.applied(rt, 3);
-        outcome.applied = [first, second, third];
-        outcome
-    }
+/// The result of these events in a cluster.
+fn outcome_after<M: Machine, D: CutDevice>(
+    rt: &impl Abort,
+    cluster: &mut Cluster<M, D>,
+    alloc: Global,
+    events: &[(Event, bool)],
+) -> Outcome {
+    let mut outcome = Outcome {
+        failures: 0,
+        opened: None,
+        reply: None,
+        applied: [0; 3],
+    };
+    makes_all(rt, cluster, alloc, events, &mut outcome);
+    outcome.reply = first_reply(cluster);
+    let first = applied(rt, cluster, 1);
+    let second = applied(rt, cluster, 2);
+    let third = applied(rt, cluster, 3);
+    outcome.applied = [first, second, third];
+    outcome
 }
 
 /// Task 1 calls node 1, which leads. Then the node at this place is restarted, a second time in
@@ -126,9 +136,19 @@ fn one_call<M: Machine, D: CutDevice>(
     devices: Vec<D>,
     events: &[(Event, bool)],
 ) -> Result<Outcome, Fault> {
-    let mut run: Run<M, D> = Run::new(alloc, program, devices)?;
-    run.makes_all(rt, alloc, events);
-    Ok(run.outcome(rt))
+    let config = Config {
+        nodes: 3,
+        max_positions: 9,
+    };
+    match Cluster::<M, D>::new(alloc, config, program, devices) {
+        Ok(cluster) => {
+            let mut cluster = cluster;
+            let outcome = outcome_after(rt, &mut cluster, alloc, events);
+            drop(cluster);
+            Ok(outcome)
+        }
+        Err(fault) => Err(fault),
+    }
 }
 
 /// The call of a device that fails: its kind, its number from 1, and how many bytes of an append

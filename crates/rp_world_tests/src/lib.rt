@@ -9,10 +9,8 @@ mod damaged;
 #[cfg(test)]
 mod failing;
 #[cfg(test)]
-mod missing;
-#[cfg(test)]
-mod ranges;
-#[cfg(test)]
 mod replica;
+#[cfg(test)]
+mod runs;
 #[cfg(test)]
 mod world;

@@ -7,7 +7,7 @@ use rp_codec::{decode_front, packet_len};
 use rp_machine::{Machine, Tally};
 use rp_model::Dropped;
 use rp_replica::*;
-use rp_store::{CutDevice, Device, MemDevice};
+use rp_store::{Device, MemDevice};
 use std::alloc::Global;
 use std::process::Abort;
 
@@ -237,11 +237,11 @@ impl<M: Machine, D: Device> Nodes<M, D> {
         }
     }
 
-    /// The text of the report that node 2 sends.
-    fn report(&mut self, rt: &impl Abort, alloc: Global) -> Vec<u8> {
+    /// Node 2 sends a report with this text.
+    fn expect_report(&mut self, rt: &impl Abort, alloc: Global, text: &[u8]) {
         let second = self.nodes.get_mut(1).expect(rt, "node 2");
         let report = second.report(alloc, Position::first());
-        report.expect(rt, "the report").bytes
+        expect_text(rt, &report.expect(rt, "the report").bytes, text);
     }
 
     /// Closes the nodes, and opens them over their records in version 1 on other devices.
@@ -271,64 +271,49 @@ fn expect_texts(rt: &impl Abort, texts: &[Vec<u8>]) {
     expect_text(rt, reply, expected);
 }
 
-/// The call arrives at node 1, which then leads; all is delivered, and node 2 reports.
-fn expect_one_call<M: Machine, D: Device>(
+/// The report of node 2 after the first call.
+const REPORT: &[u8] =
+    b"\x02\x0a\x02\x20\0\x01\0\x01\x01\x01\x01\0\0\0\x01\x01\x02\x01\0\0\0\0\0\0\0\x05";
+
+/// The nodes after the first call, which has these packets and records and this report.
+fn after_one_call<M: Machine, D: Device>(
     rt: &impl Abort,
     alloc: Global,
     program: &M::Program,
     devices: Vec<D>,
-    report: &[u8],
-) {
+) -> Nodes<M, D> {
     let mut run: Nodes<M, D> = Nodes::new(rt, alloc, program, devices);
     run.decide(rt, alloc, &CALL);
     expect_texts(rt, &run.texts);
     run.expect_stored(rt, [72, 62, 62]);
     run.expect_images(rt, alloc, b"tally o1=5\n");
-    expect_text(rt, &run.report(rt, alloc), report);
+    run.expect_report(rt, alloc, REPORT);
+    run
 }
 
-#[test]
-fn one_call_is_decided_by_three_replicas(rt: HostRuntime) {
-    let alloc = rt.alloc();
-    let report =
-        b"\x02\x0a\x02\x20\0\x01\0\x01\x01\x01\x01\0\0\0\x01\x01\x02\x01\0\0\0\0\0\0\0\x05";
-    let devices = devices(&rt, alloc);
-    expect_one_call::<Tally, MemDevice>(&rt, alloc, &program(&rt), devices, report);
-}
-
-/// The nodes after the first call, opened over their records in version 1.
-fn of_version_1<M: Machine, D: Device>(
-    rt: &impl Abort,
-    alloc: Global,
-    program: &M::Program,
-    devices: Vec<D>,
-    others: Vec<D>,
-) -> Nodes<M, D> {
-    let mut run: Nodes<M, D> = Nodes::new(rt, alloc, program, devices);
-    run.decide(rt, alloc, &CALL);
-    run.reopened(rt, alloc, program, others)
-}
-
-/// The nodes continue over their records in version 1 with a second call, in a text of version 1.
-fn expect_going_on<M: Machine, D: Device>(
+/// The nodes decide the first call, and continue over their records in version 1 with a second
+/// call, in a text of version 1.
+fn expect_two_calls<M: Machine, D: Device>(
     rt: &impl Abort,
     alloc: Global,
     program: &M::Program,
     devices: Vec<D>,
     others: Vec<D>,
 ) {
-    let mut run: Nodes<M, D> = of_version_1(rt, alloc, program, devices, others);
+    let first: Nodes<M, D> = after_one_call(rt, alloc, program, devices);
+    let mut run = first.reopened(rt, alloc, program, others);
     run.expect_images(rt, alloc, b"tally o1=5\n");
     run.decide(rt, alloc, &OLD_CALL);
     run.expect_images(rt, alloc, b"tally o1=12\n");
+    drop(run);
 }
 
 #[test]
-fn replicas_go_on_from_records_of_version_1(rt: HostRuntime) {
+fn three_replicas_decide_and_go_on_from_records_of_version_1(rt: HostRuntime) {
     let alloc = rt.alloc();
     let first = devices(&rt, alloc);
     let second = devices(&rt, alloc);
-    expect_going_on::<Tally, MemDevice>(&rt, alloc, &program(&rt), first, second);
+    expect_two_calls::<Tally, MemDevice>(&rt, alloc, &program(&rt), first, second);
 }
 
 /// What a step dropped and how many packets it sent, beside how many bytes the device then holds.
@@ -435,52 +420,6 @@ fn what_is_foreign_changes_nothing(rt: HostRuntime) {
     expect_eq(&rt, unknown, Err(kind));
 }
 
-/// The node has no place for a tick.
-fn drops_tick<M: Machine, D: Device>(
-    rt: &impl Abort,
-    alloc: Global,
-    node: &mut Replica<M, D>,
-    now: u32,
-) -> bool {
-    let sent = node.turn(alloc, &Input::Tick { now });
-    let sent = sent.expect(rt, "the step");
-    sent.dropped == Dropped::Full
-}
-
-/// The first tick, counted from 1, for which a node has no place.
-fn full_tick_of<M: Machine, D: Device>(
-    rt: &impl Abort,
-    alloc: Global,
-    node: &mut Replica<M, D>,
-) -> u32 {
-    for now in 1..=100 {
-        if drops_tick(rt, alloc, node, now) {
-            return now;
-        }
-    }
-    0
-}
-
-/// The first tick, counted from 1, for which there is no place.
-fn first_full_tick<M: Machine, D: Device>(
-    rt: &impl Abort,
-    alloc: Global,
-    program: &M::Program,
-    device: D,
-) -> u32 {
-    let mut node = node_over::<M, D>(rt, alloc, (1, 1), program, device);
-    let full = full_tick_of(rt, alloc, &mut node);
-    drop(node);
-    full
-}
-
-#[test]
-fn the_33rd_tick_finds_no_place(rt: HostRuntime) {
-    let device = MemDevice::new(rt.alloc());
-    let full = first_full_tick::<Tally, MemDevice>(&rt, rt.alloc(), &program(&rt), device);
-    expect_eq(&rt, full, 33);
-}
-
 /// How many records of the device count for node 3, and how many bytes it truncates.
 fn found<M: Machine, D: Device>(
     rt: &impl Abort,
@@ -489,7 +428,9 @@ fn found<M: Machine, D: Device>(
     device: D,
 ) -> (u64, u64) {
     let opening = opened::<M, D>(rt, alloc, (3, 1), program, device);
-    (opening.records, opening.cut_bytes)
+    let counts = (opening.records, opening.cut_bytes);
+    drop(opening);
+    counts
 }
 
 /// A device in memory with these bytes.
@@ -536,35 +477,22 @@ fn of_two_votes_in_a_ballot_the_first_is_reported(rt: HostRuntime) {
     expect_text(&rt, &answer, promise);
 }
 
-/// The device of node 3 after a stop within the step in which it hears a request to vote.
-fn cut<M: Machine, D: CutDevice>(
+/// The node leads at these positions one after another, and is then refused because its log is full.
+fn leads_at<M: Machine, D: Device>(
     rt: &impl Abort,
     alloc: Global,
-    program: &M::Program,
-    device: D,
-    kept: u64,
-) -> D {
-    let node = node_over::<M, D>(rt, alloc, (3, 1), program, device);
-    let cut = node.torn(alloc, &Input::Receive(&ACCEPT), kept);
-    cut.ok().expect(rt, "a cut")
-}
-
-/// A cut that keeps this many bytes of the vote leaves these counts of records and torn bytes.
-fn expect_kept(rt: &impl Abort, alloc: Global, kept: u64, counts: (u64, u64)) {
-    let program = program(rt);
-    let device = cut::<Tally, MemDevice>(rt, alloc, &program, MemDevice::new(alloc), kept);
-    let found = found::<Tally, MemDevice>(rt, alloc, &program, device);
-    expect_eq(rt, found, counts);
-}
-
-#[test]
-fn a_cut_keeps_n_bytes_of_the_vote(rt: HostRuntime) {
-    for (kept, records, cut_bytes) in [(0, 0, 0), (28, 0, 28), (29, 1, 0), (1000, 1, 0)] {
-        expect_kept(&rt, rt.alloc(), kept, (records, cut_bytes));
+    node: &mut Replica<M, D>,
+    positions: &[u8],
+) {
+    for position in positions {
+        let sent = node.lead(alloc, None).expect(rt, "a position");
+        expect_eq(rt, sent.bytes.get(5).copied(), Some(*position));
     }
+    let full = node.lead(alloc, None).err();
+    expect_eq(rt, full, Some(Fault::LogFull));
 }
 
-/// Node 1 leads at these positions one after another, and is then refused because its log is full.
+/// Node 1 leads at these positions until its log is full.
 fn expect_led<M: Machine, D: Device>(
     rt: &impl Abort,
     alloc: Global,
@@ -573,11 +501,7 @@ fn expect_led<M: Machine, D: Device>(
     positions: &[u8],
 ) {
     let mut node = node_over::<M, D>(rt, alloc, (1, 3), program, device);
-    for position in positions {
-        let sent = node.lead(alloc, None).expect(rt, "a position");
-        expect_eq(rt, sent.bytes.get(5), Some(position));
-    }
-    expect_eq(rt, node.lead(alloc, None).err(), Some(Fault::LogFull));
+    leads_at(rt, alloc, &mut node, positions);
     drop(node);
 }
 

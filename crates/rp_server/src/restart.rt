@@ -48,9 +48,9 @@ impl<M: Machine> Server<M> {
         let acceptor = Acceptor::restore(alloc, records)?;
         let proposer = Proposer::restore(alloc, node, config.nodes, records)?;
         let mut learner = learner_of(alloc, config, records)?;
-        let mut log = log_of(alloc, records)?;
         let mut machine = Numbered::new(alloc, program)?;
         let pending = Pending::new(alloc)?;
+        let mut log = log_of(alloc, records)?;
         apply_ready(&mut machine, &mut log);
         follow(&mut learner, &log);
         Ok(Server {

@@ -11,9 +11,9 @@ returns c =
 
 pub loop-preserved : goal.loop-preserved
 loop-preserved c = (
-    c.push_reserved.ensures.items
-    ∙ ap (λ (p : Place). c.loop.places.items ++ p ∷ []) c.unheard.ensures
-    ∙ ap (λ (ps : List Place). ps ++ Unheard ∷ []) c.loop.invariant.0
-    ∙ replicate_more c.loop.counter Unheard,
-    subst (λ (n : ℕ). window ≤ n) (sym c.push_reserved.ensures.capacity) c.loop.invariant.1
+  c.push_reserved.ensures.items
+      ∙ ap (λ (p : Place). c.loop.places.items ++ p ∷ []) c.unheard.ensures
+      ∙ ap (λ (ps : List Place). ps ++ Unheard ∷ []) c.loop.invariant.0
+      ∙ replicate_more c.loop.counter Unheard,
+  subst (λ (n : ℕ). window ≤ n) (sym c.push_reserved.ensures.capacity) c.loop.invariant.1,
 )

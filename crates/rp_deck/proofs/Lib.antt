@@ -1,3 +1,2 @@
 mod DeckLemmas
 pub mod ScriptLemmas
-mod WordLemmas

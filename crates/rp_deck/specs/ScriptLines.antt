@@ -33,27 +33,6 @@ pub data CommandText : Type 0 where
   Drain : CommandText
   Show : CommandText
 
--- the first word of a line about a node by itself, or `show`
-abbrev pub node_verb : List ℕ → Option Verb
-node_verb word =
-    if bytes_eq word (codes "stop") then Some verbs.Stop
-    else if bytes_eq word (codes "restart") then Some verbs.Restart
-    else if bytes_eq word (codes "cut") then Some verbs.Cut
-    else if bytes_eq word (codes "irq") then Some verbs.Interrupt
-    else if bytes_eq word (codes "tick") then Some verbs.Tick
-    else if bytes_eq word (codes "show") then Some verbs.Show
-    else None
-
--- the first word of a line by which messages are sent, delivered or lost, or one of those
-abbrev pub message_verb : List ℕ → Option Verb
-message_verb word =
-    if bytes_eq word (codes "lead") then Some verbs.Lead
-    else if bytes_eq word (codes "range") then Some verbs.Range
-    else if bytes_eq word (codes "deliver") then Some verbs.Deliver
-    else if bytes_eq word (codes "lose") then Some verbs.Lose
-    else if bytes_eq word (codes "drain") then Some verbs.Drain
-    else node_verb word
-
 -- the first word of a line
 abbrev pub verb_named : List ℕ → Option Verb
 verb_named word =
@@ -61,7 +40,18 @@ verb_named word =
     else if bytes_eq word (codes "arm") then Some verbs.Arm
     else if bytes_eq word (codes "disarm") then Some verbs.Disarm
     else if bytes_eq word (codes "again") then Some verbs.Again
-    else message_verb word
+    else if bytes_eq word (codes "lead") then Some verbs.Lead
+    else if bytes_eq word (codes "range") then Some verbs.Range
+    else if bytes_eq word (codes "deliver") then Some verbs.Deliver
+    else if bytes_eq word (codes "lose") then Some verbs.Lose
+    else if bytes_eq word (codes "drain") then Some verbs.Drain
+    else if bytes_eq word (codes "stop") then Some verbs.Stop
+    else if bytes_eq word (codes "restart") then Some verbs.Restart
+    else if bytes_eq word (codes "cut") then Some verbs.Cut
+    else if bytes_eq word (codes "irq") then Some verbs.Interrupt
+    else if bytes_eq word (codes "tick") then Some verbs.Tick
+    else if bytes_eq word (codes "show") then Some verbs.Show
+    else None
 
 -- live mode takes calls, timing events, interrupts and ticks alone
 abbrev pub is_live : Verb → Bool

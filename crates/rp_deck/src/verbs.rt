@@ -1,7 +1,7 @@
 //! The first words of a script's lines.
 
 ghost use Rattle.std.specs.Prelude.{◌≡◌};
-ghost use Rattle.rp_deck.specs.ScriptLines.{verb_named, message_verb, node_verb, is_live, takes};
+ghost use Rattle.rp_deck.specs.ScriptLines.{verb_named, is_live, takes};
 
 use crate::deck::Mode;
 
@@ -51,31 +51,11 @@ impl Verb {
             b"arm" => Some(Verb::Arm),
             b"disarm" => Some(Verb::Disarm),
             b"again" => Some(Verb::Again),
-            _ => Verb::of_messages(word),
-        }
-    }
-
-    /// The verb of a line by which messages are sent, delivered or lost, or of one of `of_nodes`.
-    #[inline(always)]
-    fn of_messages(word: &[u8]) -> Option<Verb>
-        ensures { result ≡ message_verb word.now }
-    {
-        match word {
             b"lead" => Some(Verb::Lead),
             b"range" => Some(Verb::Range),
             b"deliver" => Some(Verb::Deliver),
             b"lose" => Some(Verb::Lose),
             b"drain" => Some(Verb::Drain),
-            _ => Verb::of_nodes(word),
-        }
-    }
-
-    /// The verb of a line about a node by itself, or `show`.
-    #[inline(always)]
-    fn of_nodes(word: &[u8]) -> Option<Verb>
-        ensures { result ≡ node_verb word.now }
-    {
-        match word {
             b"stop" => Some(Verb::Stop),
             b"restart" => Some(Verb::Restart),
             b"cut" => Some(Verb::Cut),

@@ -88,26 +88,44 @@ pub fn candidates<'a>(
     requires { length before.now + 1 < 2 ^ 32 }
 {
     let mut words = Vec::new(alloc);
+    push_candidates(alloc, &mut words, before, reason, word)?;
+    Ok(words)
+}
+
+/// Adds the words that may be near, as `candidates`.
+fn push_candidates(
+    alloc: Global,
+    words: &mut Vec<String>,
+    before: &[u8],
+    reason: DeckReason,
+    word: &str,
+) -> Result<(), AllocError>
+    requires { length before.now + 1 < 2 ^ 32 }
+{
     match reason {
         DeckReason::UnknownName => {
             let names = names_before(alloc, before)?;
-            match word.split_once('.') {
-                Some((object, operation)) => push_dotted(
-                    alloc,
-                    &mut words,
-                    &names,
-                    (object, operation),
-                )?,
-                None => {
-                    push_all(alloc, &mut words, &names)?;
-                    push_all(alloc, &mut words, &OF_EXPRESSIONS)?;
-                }
-            }
+            push_names(alloc, words, &names, word)
         }
-        DeckReason::UnknownWord => push_all(alloc, &mut words, &FIXED)?,
-        _ => {}
+        DeckReason::UnknownWord => push_all(alloc, words, &FIXED),
+        _ => Ok(()),
     }
-    Ok(words)
+}
+
+/// Adds the names, and the words of expressions, or pairs of names if the word is one.
+fn push_names(
+    alloc: Global,
+    words: &mut Vec<String>,
+    names: &[&str],
+    word: &str,
+) -> Result<(), AllocError> {
+    match word.split_once('.') {
+        Some(sides) => push_dotted(alloc, words, names, sides),
+        None => {
+            push_all(alloc, words, names)?;
+            push_all(alloc, words, &OF_EXPRESSIONS)
+        }
+    }
 }
 
 /// Adds a copy of each word.
@@ -127,8 +145,18 @@ fn push_dotted(
 ) -> Result<(), AllocError> {
     let objects = near_names(alloc, names, sides.0)?;
     let operations = near_names(alloc, names, sides.1)?;
-    for object in &objects {
-        for operation in &operations {
+    push_pairs(alloc, words, &objects, &operations)
+}
+
+/// Adds `OBJECT.OPERATION` for each of these objects and operations.
+fn push_pairs(
+    alloc: Global,
+    words: &mut Vec<String>,
+    objects: &[&str],
+    operations: &[&str],
+) -> Result<(), AllocError> {
+    for object in objects {
+        for operation in operations {
             words.push(format!(in alloc; "{object}.{operation}")?)?;
         }
     }

@@ -4,6 +4,7 @@ ghost use Rattle.std.specs.Arc.{arc_value};
 ghost use Rattle.std.specs.Prelude.{ℕ, ◌≡◌, ◌+◌, ◌<◌, ◌^◌, length, IfOk, IfSome, IsTrue, IsOkUnless};
 ghost use Rattle.rp_deck.specs.rp_base.specs.declared.fault.Fault.TheVariants as faults;
 ghost use Rattle.rp_deck.specs.rp_deck_declarations.specs.declared.deck_program.DeckProgram.TheVariants.{Objects};
+ghost use Rattle.rp_deck.specs.rp_object.specs.Image.{objects_image};
 ghost use Rattle.rp_deck.specs.rp_object.specs.declared.program.Program.{Program};
 ghost use Rattle.rp_next_deck.specs.NextDecks.{IsNextDeck, StartsAs, start_image};
 

@@ -8,7 +8,7 @@ use std::process::Abort;
 const ALL: Delivery = Above(0);
 
 /// Some of the texts of these messages, by their numbers.
-const TEXTS: [(u64, &[u8]); 6] = [
+static TEXTS: [(u64, &[u8]); 6] = [
     (2, b"\x02\x02\x01\x01\x00\x01\0\0\0\0\0\0\0\x09"),
     (6, b"\x02\x03\x02\x01\x00\x01\0\0\0\0\0\0\0\x09\x00"),
     (
@@ -53,7 +53,7 @@ fn report(rt: &impl Abort, first: u16) -> Event {
 }
 
 /// The reports of the actions from position 1 on, and from position 2 on.
-const REPORTS: [(u64, &[u8]); 2] = [
+static REPORTS: [(u64, &[u8]); 2] = [
     (
         23,
         b"\x02\x0a\x02\x20\0\x01\0\x01\x01\x01\x01\0\0\0\x01\x01\x02\x01\0\0\0\0\0\0\0\x05",
@@ -93,6 +93,9 @@ fn range(rt: &impl Abort, leader: u8, count: u8) -> Event {
     })
 }
 
+/// No text is looked at.
+static NONE: [(u64, &[u8]); 0] = [];
+
 /// The state after two calls, of 5 and 2.
 fn left_by_two(messages: u64, stored: [u64; 3]) -> Left {
     Left {
@@ -100,7 +103,7 @@ fn left_by_two(messages: u64, stored: [u64; 3]) -> Left {
         stored,
         applied: 2,
         image: b"tally o1=7\n",
-        texts: &[],
+        texts: &NONE,
     }
 }
 

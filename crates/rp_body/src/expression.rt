@@ -11,7 +11,7 @@ use crate::components::{Components, Limits};
 pub const MOST_EXPRESSION_NODES: u8 = 32;
 
 /// An expression over whole numbers.
-#[derive(Debug, Drop)]
+#[derive(Drop)]
 pub enum Expr {
     /// A number.
     Number(i64),
@@ -28,7 +28,7 @@ pub enum Expr {
 }
 
 /// A condition over whole numbers and Booleans.
-#[derive(Debug, Drop)]
+#[derive(Drop)]
 pub enum Cond {
     /// True or False.
     Constant(bool),

@@ -15,7 +15,7 @@ pub const MOST_STATEMENTS: u8 = 64;
 pub const MOST_DEPTH: u8 = 8;
 
 /// A statement of a body.
-#[derive(Debug, Drop)]
+#[derive(Drop)]
 pub enum Stmt {
     /// Gives the whole-number component of this name a value, or raises Constraint_Error where the
     /// value lies outside the component's range.
@@ -29,7 +29,7 @@ pub enum Stmt {
 }
 
 /// How a body ended.
-#[derive(Clone, Copy, Debug, PartialEq, Eq)]
+#[derive(Clone, Copy)]
 pub enum Outcome {
     /// With this out value.
     Out(i64),

@@ -4,7 +4,6 @@ ghost use Rattle.std.specs.Prelude.{◌≡◌};
 
 use rp_base::{Action, PlacedVote};
 use std::alloc::AllocError;
-use std::fmt;
 use std::marker::Model;
 
 /// Items in order, in a list, so that packets without one stay small.
@@ -53,12 +52,6 @@ impl<T: Copy> Clone for Items<T> {
         Ok(Items {
             items: Vec::from_slice(alloc, self.items.as_slice())?,
         })
-    }
-}
-
-impl<T: Copy + fmt::Debug> fmt::Debug for Items<T> {
-    fn fmt<W: fmt::Write>(&self, f: &mut fmt::Formatter<W>) -> fmt::Result {
-        write!(f, "{:?}", self.as_slice())
     }
 }
 

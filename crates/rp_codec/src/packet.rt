@@ -8,7 +8,7 @@ use rp_base::{Action, Ballot, NodeId, Position, PositionRange, TaskId, Vote};
 use std::marker::Model;
 
 /// A sender or a receiver of packets.
-#[derive(Clone, Copy, Debug, PartialEq, Eq)]
+#[derive(Clone, Copy, PartialEq, Eq)]
 pub enum Party {
     Node(NodeId),
     Task(TaskId),

@@ -5,7 +5,7 @@ ghost use Rattle.rp_codec.specs.Version.{version_of};
 
 /// Which version a text is of, which its first byte says. Texts of both are read, and those of
 /// version 2 are written. The text of a value has one length in both.
-#[derive(Clone, Copy, Debug, PartialEq, Eq)]
+#[derive(Clone, Copy, PartialEq, Eq)]
 pub enum Version {
     /// An entry's index is 0, which means entry 1. A value with another entry has no such text.
     V1,

@@ -3,7 +3,7 @@
 ghost use Rattle.std.specs.Arc.{arc_value};
 ghost use Rattle.std.specs.Prelude.{ℕ, ◌≡◌, ◌+◌, ◌<◌, ◌^◌, length, IfOk, IfSome, IsTrue, IsOkUnless};
 ghost use Rattle.rp_deck.specs.rp_base.specs.declared.fault.Fault.TheVariants as faults;
-ghost use Rattle.rp_deck.specs.rp_deck_declarations.specs.declared.deck_program.DeckProgram.TheVariants.{Objects};
+ghost use Rattle.rp_deck.specs.rp_deck_declarations.specs.declared.deck_program.DeckProgram.TheVariants as programs;
 ghost use Rattle.rp_deck.specs.rp_object.specs.Image.{objects_image};
 ghost use Rattle.rp_deck.specs.rp_object.specs.declared.program.Program.{Program};
 ghost use Rattle.rp_next_deck.specs.NextDecks.{IsNextDeck, StartsAs, start_image};
@@ -81,7 +81,7 @@ fn deck_starts_so(
     requires { length image.now + 1 < 2 ^ 32 }
     ensures same { IfOk result (λ is. IsTrue is → deck.now.config ≡ config) }
     ensures shows { IfOk result (λ is. IsTrue is → (program : Program)
-        × (deck.now.program ≡ Objects program)
+        × (deck.now.program ≡ programs.Objects program)
         × ((now : ℕ) × (start_image (arc_value program.declarations) now ≡ image.now))) }
 {
     let DeckProgram::Objects(program) = &deck.program else {

@@ -109,7 +109,7 @@ fn found<D: Device>(
     cut_bytes: u64,
 ) -> Store<D> {
     let opened = opened(rt, alloc, device);
-    assert_eq!(rt; opened.records.as_slice(), records);
+    expect_eq(rt, opened.records.as_slice(), records);
     expect_eq(rt, opened.cut_bytes, cut_bytes);
     opened.store
 }
@@ -117,7 +117,7 @@ fn found<D: Device>(
 /// Opens the device, and then again, which truncates nothing.
 fn opens<D: Device>(rt: &impl Abort, alloc: Global, device: D, records: &[Rec], cut_bytes: u64) {
     let store = found(rt, alloc, device, records, cut_bytes);
-    found(rt, alloc, store.close(), records, 0);
+    drop(found(rt, alloc, store.close(), records, 0));
 }
 
 /// Puts the record, and retries once if memory ran out.
@@ -231,7 +231,7 @@ fn a_put_refused_for_memory_writes_nothing(rt: HostRuntime) {
     let device = stops_after_a_vote(&rt, rt.alloc(), MemDevice::new(rt.alloc()));
     let device = expect_holds(&rt, rt.alloc(), device, &STARTED_AND_VOTED);
     let records = [started(&rt), voted(&rt)];
-    found(&rt, rt.alloc(), device, &records, 0);
+    drop(found(&rt, rt.alloc(), device, &records, 0));
 }
 
 /// A device in memory that holds these bytes, none of them stable, and whose sync of this number
@@ -262,7 +262,8 @@ fn fails_at_a_vote<D: Device>(rt: &impl Abort, alloc: Global, device: D) -> Stor
 fn an_opening_syncs_once_whatever_the_device_holds(rt: HostRuntime) {
     let cases: [&[u8]; 4] = [&[], &STARTED, &TORN, &WRONG];
     for bytes in &cases {
-        fails_at_a_vote(&rt, rt.alloc(), failing(&rt, rt.alloc(), bytes, 2));
+        let store = fails_at_a_vote(&rt, rt.alloc(), failing(&rt, rt.alloc(), bytes, 2));
+        drop(store);
     }
 }
 

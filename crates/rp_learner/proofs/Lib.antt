@@ -2,9 +2,7 @@ pub mod VoteCounts
 pub mod Placing
 pub mod Voters
 pub mod Writing
-pub mod Ring
 pub mod Outcomes
 pub mod Alike
 pub mod Advancing
-pub mod Opening
 pub mod Noting

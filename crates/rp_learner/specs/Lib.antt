@@ -2,5 +2,4 @@ pub mod Learning
 pub mod Casts
 pub mod Place
 pub mod Places
-pub mod Ring
 pub mod Status

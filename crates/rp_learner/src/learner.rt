@@ -1,6 +1,7 @@
 //! The learner of one node.
 
-ghost use Rattle.std.specs.Prelude.{◌≡◌, ◌≤◌, ◌-◌, ◌%◌, ℕ, nat_lt, replicate, None, Some, if◌then◌else◌, OnOk, OnErr, IfOk, IsOkUnless};
+ghost use Rattle.std.specs.Prelude.{◌≡◌, ◌≤◌, ◌-◌, ℕ, nat_lt, replicate, None, Some, if◌then◌else◌, OnOk, OnErr, IfOk, IsOkUnless};
+ghost use Rattle.circular_buffer.specs.Buffer.{buffer};
 ghost use Rattle.rp_base.specs.declared.record.Vote.{Vote};
 ghost use Rattle.rp_learner.specs.Learning.{Learning};
 ghost use Rattle.rp_base.specs.Number.{window};
@@ -8,6 +9,7 @@ ghost use Rattle.rp_learner.specs.Place.{Unheard};
 ghost use Rattle.rp_learner.specs.Status.{SameLearning, SameSizes, fresh, vote_for, status_with, decision_at, with_settled, with_vote, NotesVote, Settles, IsOneMore, Advances};
 
 use crate::position_state::{Cast, PositionState};
+use circular_buffer::HeapCircularBuffer;
 use rp_base::{Action, Ballot, Fault, NodeId, Position, WINDOW};
 use std::alloc::{AllocError, Global};
 use std::marker::Model;
@@ -40,13 +42,12 @@ pub enum Decision {
 /// Made Simple", section 2.3), in a window of 64 positions in a row; all below the window are
 /// settled. Counting is stricter than Lamport's: only votes of one ballot add up. Votes at a
 /// position are let go when it is settled. The window is a ring that `new` makes, so a learner
-/// takes the same memory however many positions there are. What is known of a position has one
-/// place in the ring, which goes by the position alone.
+/// takes the same memory however many positions there are.
 pub struct Learner {
     nodes: u8,
     max_positions: u16,
     first: u32,
-    places: Vec<PositionState>,
+    places: HeapCircularBuffer<PositionState>,
 }
 
 // Not derived, so that to drop it is one step of a proof and not one for each of its parts.
@@ -69,26 +70,26 @@ impl Model for Learner {
 
     ghost use Rattle.rp_base.specs.Number.{window};
     ghost use Rattle.rp_learner.specs.Places.{heard_from, settled_from};
-    ghost use Rattle.rp_learner.specs.Ring.{in_window};
 
     ghost view = { λ l. record {
       nodes = l.nodes;
       max_positions = l.max_positions;
       first = l.first;
-      heard = heard_from l.first (in_window l.first l.places.items);
-      settled = settled_from l.first (in_window l.first l.places.items);
+      heard = heard_from l.first l.places.items;
+      settled = settled_from l.first l.places.items;
     } };
 
-    ghost invariant = { λ l. (3 ≤ l.nodes) × (l.nodes ≤ 7) × (length l.places.items ≡ window) };
+    ghost invariant = { λ l. (3 ≤ l.nodes) × (l.nodes ≤ 7) × (length l.places.items ≡ window)
+        × (l.places.capacity ≡ window) };
 }
 
 /// The places of a window in which nothing is heard or settled.
-fn unheard_places(alloc: Global) -> Result<Vec<PositionState>, AllocError>
-    ensures empty { IfOk result (λ places. places.items ≡ replicate window Unheard) }
+fn unheard_places(alloc: Global) -> Result<HeapCircularBuffer<PositionState>, AllocError>
+    ensures empty { IfOk result (λ places. places ≡ buffer (replicate window Unheard) window) }
 {
-    let mut places = Vec::with_capacity(alloc, WINDOW as usize)?;
+    let mut places = HeapCircularBuffer::with_capacity(alloc, WINDOW as usize)?;
     for _ in 0..WINDOW {
-        places.push_reserved(PositionState::unheard(alloc));
+        places.push_back(PositionState::unheard(alloc));
     }
     Ok(places)
 }
@@ -128,15 +129,15 @@ impl Learner {
         let Some(offset) = offset_from(self.first, position) else {
             return VoteStatus::Known;
         };
-        if offset >= WINDOW {
-            return VoteStatus::Beyond;
-        }
         let cast = Cast {
             from,
             ballot,
             action,
         };
-        self.places[place_of(position)].status_with(self.nodes, cast)
+        match self.places.get(offset) {
+            Some(place) => place.status_with(self.nodes, cast),
+            None => VoteStatus::Beyond,
+        }
     }
 
     /// Counts a vote of one of the nodes. Where `vote` answers `Learned` for it, the position is
@@ -164,15 +165,15 @@ impl Learner {
         let Some(offset) = offset_from(self.first, position) else {
             return Ok(());
         };
-        if offset >= WINDOW {
+        let Some(place) = self.places.get_mut(offset) else {
             return Ok(());
-        }
+        };
         let cast = Cast {
             from,
             ballot,
             action,
         };
-        self.places[place_of(position)].hear(self.nodes, cast)
+        place.hear(self.nodes, cast)
     }
 
     /// The first position of the window.
@@ -189,13 +190,10 @@ impl Learner {
         let Some(offset) = offset_from(self.first, position) else {
             return Decision::Known;
         };
-        if offset >= WINDOW {
-            return Decision::Beyond;
-        }
-        if self.places[place_of(position)].is_settled() {
-            Decision::Known
-        } else {
-            Decision::Learned
+        match self.places.get(offset) {
+            None => Decision::Beyond,
+            Some(place) if place.is_settled() => Decision::Known,
+            Some(_) => Decision::Learned,
         }
     }
 
@@ -209,10 +207,10 @@ impl Learner {
         let Some(offset) = offset_from(self.first, position) else {
             return;
         };
-        if offset >= WINDOW {
+        let Some(place) = self.places.get_mut(offset) else {
             return;
-        }
-        self.places[place_of(position)].settle();
+        };
+        place.settle();
     }
 
     /// Moves the window on to begin at `first`, at most 65,536. All positions below are settled
@@ -226,13 +224,11 @@ impl Learner {
         //   of those that enter, those are settled whose bits say so
         ensures { Advances self.old first settled self.new }
     {
-        if first == self.first {
-            return;
-        }
         let moved = (first - self.first).min(WINDOW);
+        let alloc = *self.places.allocator();
         for offset in WINDOW - moved..WINDOW {
-            let place = (first % WINDOW + offset) % WINDOW;
-            self.places[place as usize].begin(settled, offset);
+            self.places
+                .push_back(PositionState::opened(alloc, settled, offset));
         }
         self.first = first;
     }
@@ -240,18 +236,12 @@ impl Learner {
 
 /// How far above the first position of the window a position is, `None` below it.
 #[inline(always)]
-fn offset_from(first: u32, position: Position) -> Option<u32>
+fn offset_from(first: u32, position: Position) -> Option<usize>
     ensures { result ≡ (if nat_lt position first then None else Some (position - first)) }
 {
-    u32::from(position.get()).checked_sub(first)
-}
-
-/// Where in the ring what is known of a position is.
-#[inline(always)]
-fn place_of(position: Position) -> usize
-    ensures { result ≡ position % window }
-{
-    usize::from(position.get()) % WINDOW as usize
+    u32::from(position.get())
+        .checked_sub(first)
+        .map(|offset| offset as usize)
 }
 
 /// Learners that hold the same, as sets, answer alike, and hold the same once the same is noted.

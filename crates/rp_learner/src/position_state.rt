@@ -141,17 +141,21 @@ impl PositionState {
         matches!(self.stage, Stage::Settled)
     }
 
-    /// Another position begins, at an offset of the window, settled if the offset's bit is set. No
-    /// vote counts there; what those of the position before took is freed with the next vote.
+    /// A position that enters the window at an offset: settled if the offset's bit is set, and no
+    /// vote was heard there.
     #[inline(always)]
-    pub fn begin(&mut self, settled: u64, offset: u32)
+    pub fn opened(alloc: Global, settled: u64, offset: u32) -> PositionState
         requires { offset < 64 }
-        ensures { self.new ≡ opened settled offset }
+        ensures { result ≡ opened settled offset }
     {
-        self.stage = if settled >> offset & 1 == 1 {
+        let stage = if settled >> offset & 1 == 1 {
             Stage::Settled
         } else {
             Stage::Unheard
         };
+        PositionState {
+            stage,
+            votes: VoteCounts::new(alloc),
+        }
     }
 }

@@ -1,42 +1,48 @@
--- Each turn opens the place of one position that enters the window.
-use Rattle.std.proofs.Common.{◌≡◌, ◌≤◌, ◌+◌, ◌%◌, ℕ, sym, subst, set, arith}
+-- Each push moves the window on by one place.
+use Rattle.std.proofs.Common.{◌≡◌, ◌≤◌, ◌-◌, ◌∙◌, ℕ, List, [], ◌∷◌, ◌++◌, length, sym, ap, subst, arith}
+use Rattle.circular_buffer.specs.Buffer.{keep_last}
 use Rattle.rp_learner.specs.Place.{Place}
-use Rattle.rp_learner.specs.Ring.{in_window}
-use Rattle.rp_learner.specs.Status.{Advances}
-use Rattle.rp_learner.proofs.Advancing.{advances, stands}
-use Rattle.rp_learner.proofs.Opening.{Opens, opens_more, opens_all}
-use Rattle.rp_learner.proofs.Ring.{length_window}
-use Rattle.rp_learner.proofs.Writing.{learning_of}
+use Rattle.rp_base.specs.Number.{window}
+use Rattle.rp_learner.proofs.Advancing.{moved_on, length-moved, moves_on, advances}
 use Rattle.rp_learner.proofs.learner.Learner.advance.Goals as goal
-
-pub returns-then-first-self : goal.returns-then-first-self
-returns-then-first-self c =
-    let l = c.self.inside in
-    rw (← c.self.view_is)
-    (subst (λ (start : ℕ). Advances (learning_of l.nodes l.max_positions l.first (in_window l.first l.places.items)) start c.args.settled (learning_of l.nodes l.max_positions l.first (in_window l.first l.places.items)))
-    (sym c.if-first-self.true)
-    (stands l.nodes l.max_positions l.first c.args.settled (in_window l.first l.places.items) (length_window l.first l.places.items)))
 
 pub loop-offset-preserved : goal.loop-offset-preserved
 loop-offset-preserved c =
     let inv = c.loop-offset.invariant in
     let old = c.self.inside.places.items in
-    let offset = c.loop-offset.offset in
-    let place = (c.args.first % 64 + offset) % 64 in
-    let at : place ≡ (c.args.first + offset) % 64 = omega arith in (
+    let moved = c.min-moved.result in
+    let bits = c.args.settled in
+    let n = c.loop-offset.offset - (window - moved) in (
       omega (arith, inv.0),
       inv.1,
       inv.2,
-      subst (λ (p : Place). Opens c.args.first c.args.settled c.min-moved.result old (offset + 1) (set c.loop-offset.self-inside.places.items place p)) (sym c.begin.ensures)
-          (opens_more c.args.first c.args.settled c.min-moved.result old offset place c.loop-offset.self-inside.places.items inv.0 c.loop-offset-test.true at inv.3),
+      ap (λ b. b.capacity) c.push_back.ensures.items ∙ inv.3,
+      ap (λ b. b.items) c.push_back.ensures.items
+          ∙ ap (λ (k : ℕ). keep_last k (c.loop-offset.self-inside.places.items ++ c.opened.result ∷ [])) inv.3
+          ∙ ap (λ (xs : List Place). keep_last window (xs ++ c.opened.result ∷ [])) inv.4
+          ∙ ap (λ (p : Place). keep_last window (moved_on old moved bits n ++ p ∷ [])) c.opened.ensures
+          ∙ moves_on old c.self.invariant.2 bits moved c.loop-offset.offset (omega (arith, c.min-moved.ensures)) inv.0 c.loop-offset-test.true,
+    )
+
+pub invariant_of-self : goal.invariant_of-self
+invariant_of-self c =
+    let inv = c.loop-offset.invariant in
+    let n = c.loop-offset.offset - (window - c.min-moved.result) in (
+      omega (arith, inv.1, c.self.invariant.0),
+      omega (arith, inv.1, c.self.invariant.1),
+      ap length inv.4
+          ∙ length-moved c.self.inside.places.items c.self.invariant.2 c.args.settled c.min-moved.result n (omega (arith, c.min-moved.ensures, c.loop-offset.auto.offset-end (omega arith))),
+      inv.3,
     )
 
 pub returns : goal.returns
 returns c =
     let inv = c.loop-offset.invariant in
     let l = c.self.inside in
-    let on : l.first ≤ c.args.first = subst (λ v. v.first ≤ c.args.first) (sym c.self.view_is) c.requires.on in
-    let moves = opens_all l.first c.args.first c.args.settled c.min-moved.result c.loop-offset.offset l.places.items c.loop-offset.self-inside.places.items on c.min-moved.ensures
-    (omega (arith, c.loop-offset-test.false, c.loop-offset.auto.offset-end (omega (arith, c.min-moved.ensures)))) c.self.invariant.2 inv.3 in
+    let moved = c.min-moved.result in
+    let all : c.loop-offset.offset - (window - moved) ≡ moved =
+    omega (arith, c.min-moved.ensures, c.loop-offset-test.false, c.loop-offset.auto.offset-end (omega arith)) in
     rw (← c.self.view_is, inv.1, inv.2)
-    (advances l.nodes l.max_positions l.first c.args.first c.args.settled (in_window l.first l.places.items) (in_window c.args.first c.loop-offset.self-inside.places.items) on moves)
+    (advances l.nodes l.max_positions l.first c.args.first c.args.settled l.places.items c.self.invariant.2
+    (subst (λ v. v.first ≤ c.args.first) (sym c.self.view_is) c.requires.on)
+    c.loop-offset.self-inside.places.items moved c.min-moved.ensures (inv.4 ∙ ap (λ (n : ℕ). moved_on l.places.items moved c.args.settled n) all))

@@ -105,6 +105,10 @@ abbrev pub begins_range : ProposerPart → List ℕ → ℕ → ProposerPart
 begins_range part positions b =
     record part { proposals = with_range part.proposals b positions; started = max part.started b }
 
+-- a promise for its position in this ballot is for the proposal, which did not begin with a range
+abbrev pub asks_in : ℕ → Proposal → Bool
+asks_in b p = nat_eq p.ballot b && not p.ranged
+
 -- what a promise in its ballot makes of a proposal: in phase 1 an offer, where it makes a majority
 abbrev pub progress_of : ℕ → Proposal → Promise → Progress
 progress_of nodes p promise =
@@ -112,12 +116,16 @@ progress_of nodes p promise =
     then Offer (offer_of p.own (with_promise p promise).promises)
     else Waiting
 
--- what a promise for its position in a ballot makes of the proposal that runs there, if that takes
--- it
+-- what a promise for its position in a ballot makes of the proposal that runs there, if it is for
+-- that
 abbrev pub progress_in : ℕ → ℕ → Promise → Option Proposal → Progress
 progress_in nodes b promise None = Stale
-progress_in nodes b promise (Some p) =
-    if takes_promise b p then progress_of nodes p promise else Stale
+progress_in nodes b promise (Some p) = if asks_in b p then progress_of nodes p promise else Stale
+
+-- a proposal runs, and waits for promises
+abbrev pub waits_for_promises : Option Proposal → Bool
+waits_for_promises None = false
+waits_for_promises (Some p) = is_preparing p.phase
 
 -- a proposal after a promise in its ballot, which counts while promises are waited for
 abbrev pub noted : ℕ → Proposal → Promise → Proposal

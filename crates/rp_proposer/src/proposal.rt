@@ -4,8 +4,8 @@ ghost use Rattle.std.specs.Prelude.{◌≡◌, ℕ, ◌≤◌, ◌++◌, ◌&&�
 ghost use Rattle.rp_base.specs.Records.{highest};
 ghost use Rattle.rp_base.specs.Action.{equal_items};
 ghost use Rattle.rp_base.specs.Promises.{Promise, highest_vote, offer_of};
-ghost use Rattle.rp_base.specs.Proposals.{Proposal as RunningProposal, new_proposal, range_proposal, is_preparing, with_promise, is_promised, is_prepared, is_gathering, takes_promise, takes_range_promise, once_promised, own_unless, is_given_up};
-ghost use Rattle.rp_proposer.specs.Proposing.{progress_of, once_noted, once_offered, offers_made, is_own};
+ghost use Rattle.rp_base.specs.Proposals.{Proposal as RunningProposal, new_proposal, range_proposal, is_preparing, with_promise, is_promised, is_prepared, is_gathering, takes_range_promise, once_promised, own_unless, is_given_up};
+ghost use Rattle.rp_proposer.specs.Proposing.{asks_in, progress_of, once_noted, once_offered, offers_made, is_own};
 ghost use Rattle.rp_proposer.specs.Room.{has_own, own_count};
 
 use crate::promise::{HeardPromise, HeardRange};
@@ -17,12 +17,11 @@ use std::marker::Model;
 /// What a promise makes of a proposal.
 #[derive(Clone, Copy, Debug, PartialEq, Eq)]
 pub enum Progress {
-    /// The proposal goes on: there is no majority yet.
+    /// The proposal runs on: there is no majority yet, or there was one before.
     Waiting,
     /// The promise makes a majority, and this action is to be offered to all.
     Offer(Action),
-    /// No proposal that runs at the position in the ballot waits for it: there was a majority
-    /// before, or it began with a range.
+    /// No proposal runs at the position in the ballot, or one that began with a range.
     Stale,
 }
 
@@ -116,12 +115,12 @@ impl Proposal {
         self.phase == Phase::Preparing
     }
 
-    /// Whether a promise for its position in a ballot counts for it: it waits for promises in that
-    /// ballot, and did not begin with a range.
-    pub(crate) fn takes(&self, ballot: Ballot) -> bool
-        ensures { result ≡ takes_promise ballot self.now }
+    /// Whether a promise for its position in a ballot is for it: it runs in that ballot, and did not
+    /// begin with a range.
+    pub(crate) fn asks_in(&self, ballot: Ballot) -> bool
+        ensures { result ≡ asks_in ballot self.now }
     {
-        self.ballot == ballot && (self.is_preparing() && !self.ranged)
+        self.ballot == ballot && !self.ranged
     }
 
     /// Whether a majority promised, though it still waits for promises.

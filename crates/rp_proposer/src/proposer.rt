@@ -11,7 +11,7 @@ ghost use Rattle.rp_base.specs.Ranges.{is_covered};
 ghost use Rattle.rp_base.specs.Sets.{IsSet};
 ghost use Rattle.rp_proposer.specs.Rows.{IsBusy, in_row};
 ghost use Rattle.rp_proposer.specs.Room.{own_count, own_actions_of, Rises, IsLastBelow};
-ghost use Rattle.rp_proposer.specs.Proposing.{counted_by, restored, ballot_at, HasRoom, begins, is_own, is_own_elsewhere, index_from, AreInWindow, IsInWindow, progress_in, notes_promise, notes_refusal, settles, most_running, unskipped, begins_range, notes_range, prepared_by, offers};
+ghost use Rattle.rp_proposer.specs.Proposing.{counted_by, restored, ballot_at, HasRoom, begins, is_own, is_own_elsewhere, index_from, AreInWindow, IsInWindow, progress_in, waits_for_promises, notes_promise, notes_refusal, settles, most_running, unskipped, begins_range, notes_range, prepared_by, offers};
 
 use crate::promise::{HeardPromise, HeardRange};
 use crate::proposal::{Progress, Proposal};
@@ -268,15 +268,27 @@ impl Proposer {
     ) -> Progress
         requires sender { from ≤ self.now.nodes }
         // claim: A promise is an offer exactly if its sender makes a majority in the first phase,
-        //   of the highest vote reported or else of the proposal's action
+        //   of the highest vote reported or else of the proposal's action; Stale exactly if no
+        //   proposal runs in its ballot, or one that began with a range; and else Waiting
         ensures { result ≡ progress_in self.now.nodes ballot (from, last)
             (proposal_at self.now.proposals position) }
     {
         match proposal_at(&self.proposals, self.ascending, position) {
-            Some(proposal) if proposal.takes(ballot) => {
+            Some(proposal) if proposal.asks_in(ballot) => {
                 proposal.progress(self.nodes, &HeardPromise { from, last })
             }
             _ => Progress::Stale,
+        }
+    }
+
+    /// Whether a proposal runs at a position and waits for promises.
+    #[inline(always)]
+    pub fn is_preparing(&self, position: Position) -> bool
+        ensures { result ≡ waits_for_promises (proposal_at self.now.proposals position) }
+    {
+        match proposal_at(&self.proposals, self.ascending, position) {
+            Some(proposal) => proposal.is_preparing(),
+            None => false,
         }
     }
 

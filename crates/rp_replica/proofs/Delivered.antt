@@ -36,13 +36,14 @@ use Rattle.rp_model.specs.declared.effect.Dropped.TheVariants.{No}
 use Rattle.rp_model.specs.declared.plan.CountedPromise.{CountedPromise}
 use Rattle.rp_model.specs.declared.plan.Plan.{Plan}
 use Rattle.rp_model.specs.declared.plan.Plan.TheVariants as plans
-use Rattle.rp_rules.specs.rp_proposer.specs.Proposing.{progress_in}
+use Rattle.rp_rules.specs.rp_proposer.specs.Proposing.{progress_in, waits_for_promises}
 use Rattle.rp_rules.specs.rp_proposer.specs.declared.proposal.Progress.{Progress}
+use Rattle.rp_rules.specs.rp_proposer.specs.declared.proposal.Progress.TheVariants.{Waiting}
 use Rattle.rp_rules.specs.Inputs.{running_server, packet_given}
 use Rattle.rp_rules.proofs.Accepted.{accepted_plan, status_plan}
 use Rattle.rp_rules.specs.rp_server.specs.State.{ServerState}
 use Rattle.rp_rules.specs.rp_server.specs.Status.{status_of}
-use Rattle.rp_rules.specs.rp_server.proofs.Promising.{plan_is, promise_plan}
+use Rattle.rp_rules.specs.rp_server.proofs.Promising.{plan_is, plan_waits, promise_plan}
 use Rattle.rp_rules.specs.Plans.{turn_of_plan, IsPlanOf, TakesNoMemory}
 use Rattle.rp_replica.specs.Committing.{Commits}
 use Rattle.rp_replica.specs.Inputs.{replica_effect, effect_if_given}
@@ -76,8 +77,13 @@ module _ {S : Type 0} (next : S → Action → S) (answers : S → Action → Li
 
   pub progress_plan : (promise : CountedPromise) (progress : Progress) → IsPlanOf next answers server bytes (on_promise node promise)
       → progress ≡ progress_in server.config.nodes promise.ballot (promise.from, promise.last) (proposal_at server.running.proposals promise.position)
-      → IsPlanOf next answers server bytes (promise_plan promise progress)
+      → IsPlanOf next answers server bytes (promise_plan promise (waits_for_promises (proposal_at server.running.proposals promise.position)) progress)
   progress_plan promise progress is counted = is ∙ ap Ok (sym (plan_is node promise progress counted))
+
+  pub waiting_plan : (promise : CountedPromise) (waits : Bool) → IsPlanOf next answers server bytes (on_promise node promise) → waits ≡ waits_for_promises (proposal_at server.running.proposals promise.position)
+      → Waiting ≡ progress_in server.config.nodes promise.ballot (promise.from, promise.last) (proposal_at server.running.proposals promise.position)
+      → IsPlanOf next answers server bytes (promise_plan promise waits Waiting)
+  waiting_plan promise waits is waited counted = is ∙ ap Ok (sym (plan_waits node promise waits waited counted))
 
   pub heard_plan : (from i : ℕ) (vote : CastVote) (status : VoteStatus) → IsPlanOf next answers server bytes (on_accepted node from i vote)
       → status ≡ status_of server.config.nodes server.records server.running.heard from i vote → IsPlanOf next answers server bytes (status_plan node from i vote status)

@@ -108,8 +108,10 @@ impl<M: Machine, D: Device> Replica<M, D> {
         };
         match self.server.promise(promise.from, promise.position, promise.ballot, promise.last) {
             Progress::Offer(action) => self.offer(out, &promise, &action)?,
-            Progress::Waiting => self.note_promise(&promise),
-            Progress::Stale => {}
+            Progress::Waiting if self.server.is_preparing(promise.position) => {
+                self.note_promise(&promise);
+            }
+            Progress::Waiting | Progress::Stale => {}
         }
         Ok(Dropped::No)
     }

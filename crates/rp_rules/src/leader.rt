@@ -107,7 +107,7 @@ pub(crate) fn on_promise<M: Machine>(server: &Server<M>, promise: CountedPromise
     } = promise;
     match server.promise(from, position, ballot, last) {
         Progress::Offer(action) => *plan = Plan::Offer(promise, action),
-        Progress::Waiting => *plan = Plan::CountPromise(promise),
-        Progress::Stale => *plan = Plan::Pass(Dropped::No),
+        Progress::Waiting if server.is_preparing(position) => *plan = Plan::CountPromise(promise),
+        Progress::Waiting | Progress::Stale => *plan = Plan::Pass(Dropped::No),
     }
 }

@@ -20,7 +20,7 @@ use Rattle.rp_base.specs.Ballot.{greatest_with}
 use Rattle.rp_base.specs.Proposals.{Proposal, proposal_at, with_proposal, is_in, is_preparing, takes_promise, with_promise, is_promised, is_prepared, takes_range_promise, once_promised, own_unless, as_offered, is_given_up}
 use Rattle.rp_base.proofs.Members.{has_passing, has_mapped, mapped_has}
 use Rattle.rp_proposer.proofs.Places.{noted_there}
-use Rattle.rp_proposer.specs.Proposing.{ProposerPart, progress_in, once_noted, notes_promise, notes_range, notes_refusal, once_offered, offers}
+use Rattle.rp_proposer.specs.Proposing.{ProposerPart, asks_in, progress_in, waits_for_promises, once_noted, notes_promise, notes_range, notes_refusal, once_offered, offers}
 use Rattle.rp_proposer.specs.declared.proposal.Progress.{Progress}
 use Rattle.rp_proposer.specs.declared.proposal.Progress.TheVariants.{Waiting, Offer, Stale}
 use Rattle.rp_model.specs.Leader.{on_promise_to, on_promise}
@@ -64,22 +64,24 @@ same_back ps i p e = put_back ps p (subst (λ (j : ℕ). proposal_at ps j ≡ So
 
 -- ---- the plan, by what the proposer answers
 
--- what a promise is planned for
-abbrev pub promise_plan : CountedPromise → Progress → Plan
-promise_plan promise Waiting = plans.CountPromise promise
-promise_plan promise (Offer v) = plans.Offer promise v
-promise_plan promise Stale = plans.Pass No
+-- what a promise is planned for, by whether the proposal waits for promises
+abbrev pub promise_plan : CountedPromise → Bool → Progress → Plan
+promise_plan promise prep Waiting = cond prep (plans.CountPromise promise) (plans.Pass No)
+promise_plan promise prep (Offer v) = plans.Offer promise v
+promise_plan promise prep Stale = plans.Pass No
 
 plan_by : (promise : CountedPromise) (v : Action) (same prep alone many : Bool)
-    → promise_plan promise (cond (same && (prep && alone)) (cond (prep && many) (Offer v) Waiting) Stale)
+    → promise_plan promise prep (cond (same && alone) (cond (prep && many) (Offer v) Waiting) Stale)
     ≡ cond (same && (prep && alone)) (cond many (plans.Offer promise v) (plans.CountPromise promise)) (plans.Pass No)
 plan_by promise v true true true true = refl
 plan_by promise v true true true false = refl
 plan_by promise v true true false many = refl
-plan_by promise v true false alone many = refl
+plan_by promise v true false true many = refl
+plan_by promise v true false false many = refl
 plan_by promise v false prep alone many = refl
 
-plan_to : (nodes : ℕ) (promise : CountedPromise) (o : Option Proposal) → promise_plan promise (progress_in nodes promise.ballot (promise.from, promise.last) o) ≡ on_promise_to nodes promise o
+plan_to : (nodes : ℕ) (promise : CountedPromise) (o : Option Proposal)
+    → promise_plan promise (waits_for_promises o) (progress_in nodes promise.ballot (promise.from, promise.last) o) ≡ on_promise_to nodes promise o
 plan_to nodes promise None = refl
 plan_to nodes promise (Some p) =
     let after = with_promise p (promise.from, promise.last) in
@@ -88,9 +90,17 @@ plan_to nodes promise (Some p) =
 -- the plan of a promise, by what the proposer answered
 pub plan_is : {S : Type 0} (node : RunningNode S) (promise : CountedPromise) (answer : Progress)
     → answer ≡ progress_in (nodes_of node) promise.ballot (promise.from, promise.last) (proposal_at node.running.proposals promise.position)
-    → promise_plan promise answer ≡ on_promise node promise
+    → promise_plan promise (waits_for_promises (proposal_at node.running.proposals promise.position)) answer ≡ on_promise node promise
 plan_is node promise answer is =
-    ap (promise_plan promise) is ∙ plan_to (nodes_of node) promise (proposal_at node.running.proposals promise.position)
+    let at = proposal_at node.running.proposals promise.position in
+    ap (promise_plan promise (waits_for_promises at)) is ∙ plan_to (nodes_of node) promise at
+
+-- where a promise is waited for, or not
+pub plan_waits : {S : Type 0} (node : RunningNode S) (promise : CountedPromise) (prep : Bool)
+    → prep ≡ waits_for_promises (proposal_at node.running.proposals promise.position)
+    → Waiting ≡ progress_in (nodes_of node) promise.ballot (promise.from, promise.last) (proposal_at node.running.proposals promise.position)
+    → promise_plan promise prep Waiting ≡ on_promise node promise
+plan_waits node promise prep waits is = ap (λ (b : Bool). promise_plan promise b Waiting) waits ∙ plan_is node promise Waiting is
 
 -- ---- what is offered is right
 
@@ -146,7 +156,7 @@ progress_right nodes b promise None right last = tt
 progress_right nodes b promise (Some p) right last =
     let after = with_promise p promise in
     let fine : IsRightProposal after = promised_right p promise right last in
-    offer_by (offer_of p.own after.promises) (takes_promise b p) (is_preparing p.phase && is_promised nodes after) (offer_is_right p.own after.promises fine.own fine.promises)
+    offer_by (offer_of p.own after.promises) (asks_in b p) (is_preparing p.phase && is_promised nodes after) (offer_is_right p.own after.promises fine.own fine.promises)
 
 pub all_found : (ps : List Proposal) (i : ℕ) → AllByRecursion IsRightProposal ps → IfSome (proposal_at ps i) IsRightProposal
 all_found [] i all = tt

@@ -16,7 +16,7 @@ ghost use Rattle.rp_model.specs.rp_codec.specs.Record.{record_text};
 ghost use Rattle.rp_base.specs.Number.{window};
 ghost use Rattle.rp_model.specs.Leader.{is_free_position, is_out_of_reach, least_free, starts_above, unlearned_in, begun_running, on_promise_range, on_nack};
 ghost use Rattle.rp_model.specs.Says.{notes, writes};
-ghost use Rattle.rp_proposer.specs.Proposing.{prepared_by, progress_in, unskipped};
+ghost use Rattle.rp_proposer.specs.Proposing.{prepared_by, progress_in, unskipped, waits_for_promises};
 ghost use Rattle.rp_proposer.specs.declared.proposal.Progress.TheVariants.{Offer};
 ghost use Rattle.rp_store.specs.Stored.{IsPut, IsNotPut};
 ghost use Rattle.rp_model.specs.Plans.{promised_running, started_running, offered_running};
@@ -114,6 +114,14 @@ impl<M: Machine> Server<M> {
         ensures right { (v : Action) → Offer v ≡ result → IsRight v }
     {
         self.proposer.promise(from, position, ballot, last)
+    }
+
+    /// Whether a proposal runs at the position and waits for promises.
+    #[inline(always)]
+    pub fn is_preparing(&self, position: Position) -> bool
+        ensures { result ≡ waits_for_promises (proposal_at self.now.running.proposals position) }
+    {
+        self.proposer.is_preparing(position)
     }
 
     /// Begins a proposal at an unlearned position within reach, in place of another there: its

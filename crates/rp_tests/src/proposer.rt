@@ -154,7 +154,7 @@ fn the_own_action_is_offered_once_where_no_vote_is_reported(rt: HostRuntime) {
     drop(proposer);
     expect_progress(&rt, other, Progress::Waiting);
     expect_progress(&rt, own, Progress::Offer(A));
-    expect_progress(&rt, last, Progress::Stale);
+    expect_progress(&rt, last, Progress::Waiting);
 }
 
 /// The proposal of a leader is refused in another ballot, and then in its own.

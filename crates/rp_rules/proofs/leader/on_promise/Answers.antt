@@ -1,8 +1,9 @@
-use Rattle.std.proofs.Common.{refl}
+use Rattle.std.proofs.Common.{rules, true, false, refl, sym, ◌∙◌}
 use Rattle.rp_server.specs.rp_proposer.specs.declared.proposal.Progress.TheVariants.{Waiting, Offer, Stale}
 use Rattle.rp_rules.specs.Inputs.{running_server}
-use Rattle.rp_server.proofs.Promising.{plan_is}
+use Rattle.rp_server.proofs.Promising.{plan_is, plan_waits}
 use Rattle.rp_rules.proofs.leader.on_promise.Goals as goal
+use Rattle.rp_rules.proofs.leader.on_promise.Goals.{in-Waiting+else-is_preparing, in-Stale-1}
 
 pub returns-in-Offer-clause-may : goal.returns-in-Offer-clause-may
 returns-in-Offer-clause-may g c = (c.requires.may, c.in-Offer.ensures.right c.in-Offer.action refl)
@@ -15,9 +16,12 @@ returns-in-Offer-clause-plan g c =
 pub returns-in-Waiting-clause-plan : goal.returns-in-Waiting-clause-plan
 returns-in-Waiting-clause-plan g c =
     let m = g.M.Machine in
-    plan_is (running_server m.next m.answers c.args.server.now) c.args.promise Waiting c.in-Waiting.ensures.progress
+    plan_waits (running_server m.next m.answers c.args.server.now) c.args.promise true (sym c.if-is_preparing.true ∙ c.is_preparing.ensures) c.in-Waiting.ensures.progress
 
-pub returns-in-Stale-clause-plan : goal.returns-in-Stale-clause-plan
-returns-in-Stale-clause-plan g c =
+pub returns-in-Waiting-2-clause-plan : goal.returns-in-Waiting-2-clause-plan
+returns-in-Waiting-2-clause-plan g c =
     let m = g.M.Machine in
-    plan_is (running_server m.next m.answers c.args.server.now) c.args.promise Stale c.in-Stale.ensures.progress
+    elim c.in-Waiting-2-1.branch [
+      | in-Waiting+else-is_preparing w ↦ plan_waits (running_server m.next m.answers c.args.server.now) c.args.promise false (sym w.if-is_preparing.false ∙ w.is_preparing.ensures) w.in-Waiting.ensures.progress
+      | in-Stale-1 w ↦ plan_is (running_server m.next m.answers c.args.server.now) c.args.promise Stale (search rules)
+    ]

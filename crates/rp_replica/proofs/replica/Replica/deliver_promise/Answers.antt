@@ -1,5 +1,5 @@
 -- A promise counts, or is stale; or the action is offered to all.
-use Rattle.std.proofs.Common.{refl, sym, subst, append-nil}
+use Rattle.std.proofs.Common.{rules, true, false, refl, sym, subst, ◌∙◌, append-nil}
 use Rattle.std.specs.Prelude.{slice_get}
 use Rattle.rp_codec.specs.declared.packet.Body.TheVariants as bodies
 use Rattle.rp_model.specs.declared.effect.Dropped.TheVariants.{No}
@@ -8,7 +8,7 @@ use Rattle.rp_outbox.proofs.Joined.{text_found_is}
 use Rattle.rp_rules.specs.rp_proposer.specs.declared.proposal.Progress.TheVariants as steps
 use Rattle.rp_rules.specs.Plans.{IsPlanOf}
 use Rattle.rp_replica.specs.State.{ReplicaState, server_of}
-use Rattle.rp_replica.proofs.Delivered.{HasPlan, progress_plan, carried_out, not_carried_out, takes_memory, goes_to_some}
+use Rattle.rp_replica.proofs.Delivered.{HasPlan, progress_plan, waiting_plan, carried_out, not_carried_out, takes_memory, goes_to_some}
 use Rattle.rp_replica.proofs.replica.Replica.deliver_promise.Goals as goal
 
 pub returns-in_ok-offer-in-Offer-clause-answer : goal.returns-in_ok-offer-in-Offer-clause-answer
@@ -69,12 +69,12 @@ returns-in-Waiting-clause-answer g c =
     let has : HasPlan m.next m.answers h sent c.args.place bytes plan = (
       λ message at. (text_found_is c.text.result c.unwrap.result (slice_get sent c.args.place) message c.unwrap.ensures c.text.ensures.text at, c.text.ensures.right message at),
       subst (λ (k : ReplicaState g.row.M.Denot). IsPlanOf m.next m.answers (server_of k) bytes plan) c.self.view_is
-          (progress_plan m.next m.answers server bytes c.in-Some.promise (steps.Waiting) c.in-Some.ensures.plan c.in-Waiting.ensures.progress),
+          (waiting_plan m.next m.answers server bytes c.in-Some.promise true c.in-Some.ensures.plan (sym c.if-is_preparing.true ∙ c.is_preparing.ensures) c.in-Waiting.ensures.progress),
     ) in
     carried_out m.next m.answers h sent c.args.place bytes plan has c.note_promise.new.self sent No c.requires.working (record { goes = c.note_promise.ensures; sent = sym (append-nil sent) }) refl
 
-pub returns-in-Stale-clause-answer : goal.returns-in-Stale-clause-answer
-returns-in-Stale-clause-answer g c =
+pub returns-else-is_preparing-clause-answer : goal.returns-else-is_preparing-clause-answer
+returns-else-is_preparing-clause-answer g c =
     let m = g.M.Machine in
     let h = c.args.self.now in
     let server = c.self.inside.server in
@@ -84,6 +84,21 @@ returns-in-Stale-clause-answer g c =
     let has : HasPlan m.next m.answers h sent c.args.place bytes plan = (
       λ message at. (text_found_is c.text.result c.unwrap.result (slice_get sent c.args.place) message c.unwrap.ensures c.text.ensures.text at, c.text.ensures.right message at),
       subst (λ (k : ReplicaState g.row.M.Denot). IsPlanOf m.next m.answers (server_of k) bytes plan) c.self.view_is
-          (progress_plan m.next m.answers server bytes c.in-Some.promise (steps.Stale) c.in-Some.ensures.plan c.in-Stale.ensures.progress),
+          (waiting_plan m.next m.answers server bytes c.in-Some.promise false c.in-Some.ensures.plan (sym c.if-is_preparing.false ∙ c.is_preparing.ensures) c.in-Waiting.ensures.progress),
+    ) in
+    carried_out m.next m.answers h sent c.args.place bytes plan has h sent No c.requires.working (record { goes = refl; sent = sym (append-nil sent) }) refl
+
+pub returns-in-Some-clause-answer : goal.returns-in-Some-clause-answer
+returns-in-Some-clause-answer g c =
+    let m = g.M.Machine in
+    let h = c.args.self.now in
+    let server = c.self.inside.server in
+    let sent = c.args.out.now.sent in
+    let bytes = c.unwrap.result.now in
+    let plan = plans.Pass No in
+    let has : HasPlan m.next m.answers h sent c.args.place bytes plan = (
+      λ message at. (text_found_is c.text.result c.unwrap.result (slice_get sent c.args.place) message c.unwrap.ensures c.text.ensures.text at, c.text.ensures.right message at),
+      subst (λ (k : ReplicaState g.row.M.Denot). IsPlanOf m.next m.answers (server_of k) bytes plan) c.self.view_is
+          (progress_plan m.next m.answers server bytes c.in-Some.promise (steps.Stale) c.in-Some.ensures.plan (search rules)),
     ) in
     carried_out m.next m.answers h sent c.args.place bytes plan has h sent No c.requires.working (record { goes = refl; sent = sym (append-nil sent) }) refl

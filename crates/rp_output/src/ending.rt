@@ -109,7 +109,8 @@ pub fn fail<E: Write>(errors: &mut E, fault: Fault) -> Ending
 }
 
 /// The status that a program ends with: 3 if the deck is bad, and 4 for every other fault.
-fn status(fault: &Fault) -> u8
+pub fn status(fault: &Fault) -> u8
+    // claim: The status of a fault is 3 for a bad deck, and 4 for every other
     ensures { result ≡ status_of fault.now }
 {
     match fault {

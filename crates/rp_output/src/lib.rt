@@ -16,7 +16,7 @@ mod short_line;
 mod stream;
 mod trace;
 
-pub use ending::{Ending, NoRun, Streams, fail, refuse};
+pub use ending::{Ending, NoRun, Streams, fail, refuse, status};
 pub use fault_message::{FaultMessage, is_refusal, tell};
 pub use printed::{
     AgreedLine, DrainLimitLine, NodeLine, NodeState, RefusedLine, ReplyLine, ReplyText,

@@ -1,5 +1,5 @@
 -- What goes to all nodes, and what a node sends that leads.
-use Rattle.std.proofs.Common.{◌≡◌, ℕ, suc, zero, ◌≤◌, Bool, true, false, if◌then◌else◌, Option, Some, None, Result, Ok, Err, List, [], ◌∷◌, inl, inr, refl, sym, subst, arith}
+use Rattle.std.proofs.Common.{◌≡◌, ℕ, suc, zero, ◌≤◌, Bool, true, false, if◌then◌else◌, Option, Some, None, Result, Ok, Err, List, [], ◌∷◌, inl, inr, refl, sym, ap, subst, arith}
 use Rattle.std.specs.Prelude.{is_some}
 use Rattle.rp_base.specs.Proposals.{Proposal, proposal_at, is_prepared}
 use Rattle.rp_base.specs.Promises.{offer_of}
@@ -18,7 +18,7 @@ use Rattle.rp_model.specs.Effect.{Setting, Lead, running_effect, turn_if}
 use Rattle.rp_model.specs.Leader.{on_lead, leads_at, begins_if, is_exhausted, is_out_of_reach, ballot_of, chosen_position}
 use Rattle.rp_model.specs.Node.{RunningNode, running_node, nodes_of, own_for}
 use Rattle.rp_model.specs.Parts.{Running, Turn}
-use Rattle.rp_model.specs.Plans.{turn_of}
+use Rattle.rp_model.specs.Plans.{turn_of, started_running}
 use Rattle.rp_model.specs.Says.{says, says_to_all}
 use Rattle.rp_model.specs.declared.effect.Dropped.TheVariants.{No}
 use Rattle.rp_model.specs.declared.plan.Plan.{Plan}
@@ -59,10 +59,11 @@ started_same : {b c : ℕ} → (let one : Option Rec = Some (Started b) in one) 
 started_same e = cc
 
 module _ {S : Type 0} (node : RunningNode S) (i : ℕ) where
-  -- a turn that starts a ballot starts the node's next one, and asks each node for a promise at the position
+  -- a turn that starts a ballot starts the node's next one, asks each node for a promise at the position, and begins a proposal there
   abbrev Asks : Turn → Type 0
   Asks turn = (b : ℕ) → turn.written ≡ Some (Started b)
       → (b ≡ ballot_of node) × ((k : ℕ) → 1 ≤ k → k ≤ nodes_of node → Has (says node.me (Prepare i b) k) turn.sent)
+      × (turn.running ≡ started_running node.running i b (own_for node i))
 
   abbrev AsksIf : Result Plan Fault → Type 0
   AsksIf (Ok plan) = Asks (turn_of node plan)
@@ -74,7 +75,11 @@ module _ {S : Type 0} (node : RunningNode S) (i : ℕ) where
   lead_asks : Asks (turn_of node (plans.Lead i (ballot_of node) (own_for node i)))
   lead_asks b wrote =
       let same : ballot_of node ≡ b = started_same wrote in
-      (sym same, λ k low high. subst (λ (c : ℕ). Has (says node.me (Prepare i c) k) (says_to_all (nodes_of node) node.me (Prepare i (ballot_of node)))) same (goes_to (nodes_of node) node.me (Prepare i (ballot_of node)) k low high))
+      (
+        sym same,
+        λ k low high. subst (λ (c : ℕ). Has (says node.me (Prepare i c) k) (says_to_all (nodes_of node) node.me (Prepare i (ballot_of node)))) same (goes_to (nodes_of node) node.me (Prepare i (ballot_of node)) k low high),
+        ap (λ (c : ℕ). started_running node.running i c (own_for node i)) same,
+      )
 
   begins_asks : (spent : Bool) → AsksIf (if spent then Err BallotsSpent else Ok (plans.Lead i (ballot_of node) (own_for node i)))
   begins_asks true = tt

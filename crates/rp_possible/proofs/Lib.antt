@@ -9,3 +9,16 @@ pub mod Tests
 pub mod Asked
 pub mod Refused
 pub mod Answering
+pub mod Runs
+pub mod Ballots
+pub mod Counts
+pub mod Packets
+pub mod Stepping
+pub mod Plans
+pub mod Growing
+pub mod Walking
+pub mod Leading
+pub mod Gathering
+pub mod Voting
+pub mod Round
+pub mod FreeItems

@@ -1,1 +1,3 @@
 pub mod Possible
+pub mod Rounds
+pub mod Offers

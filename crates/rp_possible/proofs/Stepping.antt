@@ -43,7 +43,7 @@ written_other now y written z other = cond-false (nat_eq z y) (with_record (now 
 -- ---- the effect
 
 module _ {S : Type 0} (s : Setting S) (w : World) (y : ℕ) (records : List Rec) (running : Running) (turn : Turn) (here : part_at w.nodes y ≡ Some (part_of records running)) where
-  gets : (number : ℕ) (m : Message) → part_at w.sent number ≡ Some m → m.to ≡ Node y → running_effect s y records running (nodes.Receive m) ≡ Ok turn
+  pub gets : (number : ℕ) (m : Message) → part_at w.sent number ≡ Some m → m.to ≡ Node y → running_effect s y records running (nodes.Receive m) ≡ Ok turn
       → event_effect s w (Makes (Deliver number)) ≡ Ok (node_done w y (turn_done (part_of records running) turn))
   gets number m sent to result =
       ap (λ (o : Option Message). chosen_effect s w (delivers w o)) sent

@@ -1,0 +1,11 @@
+pub mod BareQuorums
+pub mod Going
+pub mod Restarting
+pub mod Occurring
+pub mod TaskTurns
+pub mod NodeTurns
+pub mod Unlearned
+pub mod Ending
+pub mod Looping
+pub mod Serving
+pub mod Laws

@@ -74,8 +74,7 @@ module _ {S : Type 0} (node : RunningNode S) (i : ℕ) where
 
   lead_asks : Asks (turn_of node (plans.Lead i (ballot_of node) (own_for node i)))
   lead_asks b wrote =
-      let same : ballot_of node ≡ b = started_same wrote in
-      (
+      let same : ballot_of node ≡ b = started_same wrote in (
         sym same,
         λ k low high. subst (λ (c : ℕ). Has (says node.me (Prepare i c) k) (says_to_all (nodes_of node) node.me (Prepare i (ballot_of node)))) same (goes_to (nodes_of node) node.me (Prepare i (ballot_of node)) k low high),
         ap (λ (c : ℕ). started_running node.running i c (own_for node i)) same,

@@ -2,7 +2,6 @@ pub mod Playing
 pub mod Calling
 pub mod Cases
 pub mod Twice
-pub mod Lost
 pub mod Served
 pub mod Parts
 pub mod Tests

@@ -17,7 +17,7 @@ use Rattle.rp_base.specs.declared.record.Rec.TheVariants.{Learned}
 use Rattle.rp_model.specs.Effect.{Setting}
 use Rattle.rp_model.specs.Pending.{own_action}
 use Rattle.rp_model.specs.World.{World}
-use Rattle.rp_possible.specs.Rounds.{AreWithinRound, AreRunning, only_pending, kept_after, answers_after, left_pending, new_replies, IsRound, IsBareQuorum}
+use Rattle.rp_possible.specs.Rounds.{AreWithinRound, AreRunning, only_pending, kept_after, left_pending, new_replies, IsRound, IsBareQuorum}
 use Rattle.rp_possible.proofs.Counts.{promises_of, none_highest}
 use Rattle.rp_possible.proofs.Gathering.{offered, all_promised}
 use Rattle.rp_possible.proofs.Growing.{one_learned, learned_within}

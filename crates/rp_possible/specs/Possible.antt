@@ -1,5 +1,5 @@
 -- Histories in which tasks get replies, for every count of nodes and every task.
-use Rattle.std.specs.Prelude.{◌≡◌, ℕ, ◌+◌, pos, Bool, true, false, not, nat_eq, Some, List, []}
+use Rattle.std.specs.Prelude.{◌≡◌, ℕ, ◌+◌, Bool, true, false, nat_eq, Some, List, []}
 use Rattle.std.specs.Prelude.{◌∷◌, ◌++◌, length, map, if◌then◌else◌}
 use Rattle.std.specs.List.{list_all}
 use Rattle.rp_base.specs.Config.{IsRightConfig}
@@ -8,12 +8,11 @@ use Rattle.rp_base.specs.Records.{applied_of}
 use Rattle.rp_base.specs.Sets.{Has}
 use Rattle.rp_base.specs.declared.action.Action.{Action}
 use Rattle.rp_base.specs.declared.action.Action.TheVariants.{Noop, Call, Interrupt, Tick}
-use Rattle.rp_base.specs.declared.action.Operation.TheVariants.{Procedure}
 use Rattle.rp_base.specs.declared.reply.Answer.{Answer}
 use Rattle.rp_base.specs.declared.reply.Reply.{Reply}
 use Rattle.rp_model.specs.Answers.{Happen}
 use Rattle.rp_model.specs.Effect.{Setting}
-use Rattle.rp_model.specs.Events.{Event, IsRightEvent, Submit, Again, Makes, Stop}
+use Rattle.rp_model.specs.Events.{Event, IsRightEvent, Submit, Makes, Stop}
 use Rattle.rp_model.specs.Events.{Deliver, Lead}
 use Rattle.rp_model.specs.Parts.{NodePart, TaskPart}
 use Rattle.rp_model.specs.World.{World, opening_world, part_at}
@@ -76,25 +75,6 @@ pub record AreReplied {S : Type 0} (s : Setting S) (leader task : ℕ) (answers 
   pub led : list_all (is_led_by leader) events ≡ true
   pub reached : Reaches s (map Stop absent ++ events) world
   pub replied : HasReplies world task answers
-
--- ---- a call that is lost on its way
-
--- the event does not deliver the packet of this number
-abbrev pub is_not_delivery : ℕ → Event → Bool
-is_not_delivery number (Makes (Deliver delivered)) = not (nat_eq delivered number)
-is_not_delivery number event = true
-
--- In some history the packet by which a task asks a node for its first call is lost; it asks this
--- node once more, and gets this reply.
-pub record IsAskedAgain {S : Type 0} (s : Setting S) (task other node : ℕ) (answer : Answer)
-    : Type 0 where
-  pub events : List Event
-  pub world : World
-  pub lost : list_all (is_not_delivery 1) events ≡ true
-  pub reached : Reaches s
-      (Submit task other 1 (Procedure 1) (pos 5) ∷ Again task node ∷ events) world
-  pub plain : list_all is_plain events ≡ true
-  pub replied : HasReplies world task (answer ∷ [])
 
 -- ---- a call that waits
 

@@ -19,8 +19,6 @@ mod tasks;
 
 pub use nodes::{a_refusal_ends_a_proposal, a_waiting_caller_is_answered, all_nodes_are_asked};
 pub use offers::the_first_free_item_is_offered;
-pub use replies::{
-    a_lost_call_is_asked_for_again, a_served_caller_gets_its_reply, each_task_gets_its_replies,
-};
+pub use replies::{a_served_caller_gets_its_reply, each_task_gets_its_replies};
 pub use rounds::a_leader_decides_its_next_position;
 pub use tasks::{a_task_asks_again, a_task_makes_its_next_call, a_task_takes_its_reply};

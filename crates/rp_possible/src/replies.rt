@@ -6,7 +6,7 @@ ghost use Rattle.rp_base.specs.declared.action.Action.{Action};
 ghost use Rattle.rp_base.specs.declared.action.Action.TheVariants.{Call};
 ghost use Rattle.rp_base.specs.declared.action.Operation.TheVariants.{Procedure};
 ghost use Rattle.rp_base.specs.declared.reply.Reply.{Reply};
-ghost use Rattle.rp_possible.specs.Possible.{AreReplied, IsAskedAgain, IsServedLater};
+ghost use Rattle.rp_possible.specs.Possible.{AreReplied, IsServedLater};
 ghost use Rattle.rp_possible.specs.Possible.{answer_of, prompt_nodes, late_nodes};
 
 use rp_machine::Machine;
@@ -24,19 +24,6 @@ pub fn each_task_gets_its_replies<M: Machine>()
         AreReplied (prompt_nodes nodes 2 next replies begin) leader task
         (answer_of task 1 (replies begin first)
         ∷ answer_of task 2 (replies (next begin first) second) ∷ []) }
-{}
-
-/// With three nodes, where the packet by which a task asks a node for its call is lost, it can ask
-/// any node once more, and gets the reply.
-pub fn a_lost_call_is_asked_for_again<M: Machine>()
-    // claim: With three nodes, where the packet that asks for a task's call is lost, some history
-    //   brings the task its reply once it asks any node again
-    ensures { (next : M → Action → M) (replies : M → Action → Reply) (begin : M)
-        (task other node : ℕ)
-        → IsTask task → IsUpTo 3 other → IsUpTo 3 node
-        → let call : Action = Call task 1 1 (Procedure 1) (pos 5) in
-        IsAskedAgain (prompt_nodes 3 1 next replies begin) task other node
-        (answer_of task 1 (replies begin call)) }
 {}
 
 /// With three nodes, where a task's call waits until another one's is applied, both get their

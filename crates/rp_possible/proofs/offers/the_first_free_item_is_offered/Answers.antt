@@ -1,6 +1,6 @@
 -- A lead begins a proposal with the first free item.
-use Rattle.std.proofs.Common.{◌≡◌, ◌∙◌, ℕ, Option, Some, ap}
-use Rattle.rp_base.specs.Proposals.{Proposal, new_proposal, proposal_at, with_proposal}
+use Rattle.std.proofs.Common.{◌∙◌, Some, ap}
+use Rattle.rp_base.specs.Proposals.{new_proposal, proposal_at}
 use Rattle.rp_base.specs.declared.action.Action.{Action}
 use Rattle.rp_model.specs.Node.{own_for, running_node}
 use Rattle.rp_model.specs.Parts.{Running}

@@ -30,3 +30,4 @@ pub use joins::{split, take_in};
 pub use laws::order_laws;
 pub use looks::look;
 pub use seat::{AuditSeat, Fetch, Put, Seat};
+pub use spares::spare_room;

@@ -12,7 +12,7 @@ use atomic_table::Table;
 use rp_actors::{Task, are_empty};
 use rp_agreement::replies_follow_the_order;
 use rp_base::{Config, Fault, MOST_NODES, MOST_TASKS, NodeId, TaskId};
-use rp_board::{AuditSeat, Board, Place, Seat, Setup, Sits, split};
+use rp_board::{AuditSeat, Board, Place, Seat, Setup, Sits, spare_room, split};
 use rp_machine::Machine;
 use rp_replica::Replica;
 use rp_store::Device;
@@ -129,13 +129,14 @@ impl<M: Machine> Unseated<M> {
             self.old.program (S.number number) self.old.next 0) }
         ensures rest { OnOk result (self.new ≡ after_seats 1 self.old) }
     {
+        let spares = spare_room(alloc)?;
         let board = Arc::try_clone(&self.board)?;
         let place = self.place();
         Ok(Seat {
             number,
             place,
             board,
-            spares: Vec::new(alloc),
+            spares,
         })
     }
 

@@ -9,3 +9,4 @@ pub mod Ending
 pub mod Looping
 pub mod Serving
 pub mod Laws
+pub mod Decided

@@ -1,6 +1,6 @@
 -- A call that a task waits for: what has to be left so that it can count, and what becomes of it.
 use Rattle.std.specs.Prelude.{◌≡◌, ℕ, suc, ◌+◌, ◌-◌, ◌<◌, ◌≤◌, ◌^◌, Option, Some, None, List, []}
-use Rattle.std.specs.Prelude.{◌∷◌, ◌++◌, length}
+use Rattle.std.specs.Prelude.{◌∷◌, ◌++◌, ◌⊎◌, length}
 use Rattle.rp_base.specs.Majority.{AreNodes, majority_of}
 use Rattle.rp_base.specs.Number.{IsUpTo}
 use Rattle.rp_base.specs.Records.{applied_of, first_unlearned}
@@ -83,6 +83,26 @@ pub record CanCount {S : Type 0} (s : Setting S) (quorum : List ℕ) (leader t :
   pub replied : (answer : Answer)
       → IsAnswerOf s.next s.answers s.begin (applied_in after leader) (next_of t replies) answer
       → IsRepliedTo s t replies answer after
+
+-- The leader has applied a task's next call, and nothing that it has applied answers it: the call
+-- waits at its object.
+pub record WaitsAtItsObject {S : Type 0} (s : Setting S) (leader t : ℕ) (replies : List Answer)
+    (w : World)
+    : Type 0 where
+  pub place : ℕ
+  pub counts : IsPlace s.next s.answers s.begin (applied_in w leader) (next_of t replies) place
+  pub unanswered : (answer : Answer)
+      → ¬ IsAnswerOf s.next s.answers s.begin (applied_in w leader) (next_of t replies) answer
+
+-- A task's next call can be answered, by events as above; or it waits at its object after them.
+pub record CanBeAnswered {S : Type 0} (s : Setting S) (quorum : List ℕ) (leader t : ℕ)
+    (replies : List Answer) (w : World)
+    : Type 0 where
+  pub more : List Event
+  pub after : World
+  pub goes_on : GoesOnBy s quorum t (length w.sent) w more after
+  pub ends : ((answer : Answer) × IsRepliedTo s t replies answer after)
+      ⊎ WaitsAtItsObject s leader t replies after
 
 -- ---- a full log
 

@@ -16,7 +16,7 @@ ghost use Rattle.rp_agreement.specs.Computed.{order_of};
 ghost use Rattle.rp_agreement.specs.History.{IsHistory, AreMoments};
 ghost use Rattle.rp_possible.specs.Rounds.{GoesOnBy};
 ghost use Rattle.rp_progress.specs.Waiting.{IsQuorum, IsPositionLeft, AreBallotsLeft};
-ghost use Rattle.rp_progress.specs.Waiting.{TaskHas, CanCount, CanFill, IsFull};
+ghost use Rattle.rp_progress.specs.Waiting.{TaskHas, CanBeAnswered, CanCount, CanFill, IsFull};
 
 use rp_agreement::{
     histories_agree, histories_are_sound, records_stay_in_the_log, replies_answer_calls_that_count,
@@ -46,6 +46,24 @@ pub fn a_waiting_call_can_count<M: Machine>()
     replies_follow_the_order::<M>();
     replies_answer_calls_that_count::<M>();
     M::laws();
+}
+
+/// After any history each call that a task waits for can be answered, by events as above: they bring
+/// its task the reply that the order of all actions gives to it, unless it waits at its object then,
+/// as at a closed entry.
+pub fn a_waiting_call_can_be_answered<M: Machine>()
+    // claim: After any history any majority of the nodes, led by any of them, can go on with a task
+    //   that waits so that it gets its reply, unless its call then waits at its object
+    ensures { (config : Config) (program : M.Program) (events : List Event) (w : World)
+        (quorum : List ℕ) (leader i round t : ℕ) (replies : List Answer) (call : Action)
+        → let setting = setting_for M.next M.answers M.begin config program in
+        IsHistory setting events w → IsQuorum config.nodes quorum leader
+        → IsPositionLeft config.max_positions w quorum i
+        → AreBallotsLeft w quorum leader i round
+        → TaskHas w t replies (Some call)
+        → CanBeAnswered setting quorum leader t replies w }
+{
+    a_waiting_call_can_count::<M>();
 }
 
 /// After any history a task that waits for nothing can make any right call next, if a number is

@@ -9,6 +9,6 @@
 mod calls;
 
 pub use calls::{
-    a_call_counts_later_or_the_log_is_full, a_task_can_go_on, a_waiting_call_can_count,
-    what_goes_on_is_a_history,
+    a_call_counts_later_or_the_log_is_full, a_task_can_go_on, a_waiting_call_can_be_answered,
+    a_waiting_call_can_count, what_goes_on_is_a_history,
 };
